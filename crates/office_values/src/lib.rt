@@ -1,0 +1,6 @@
+//! The basic values of a procurement office: identifiers, lines of text, money, moments, and what is asked of the office.
+#![tactic(auto)]
+
+pub mod id;
+pub mod money;
+pub mod text;
