@@ -2,5 +2,6 @@
 #![tactic(auto)]
 
 pub mod id;
+pub mod moment;
 pub mod money;
 pub mod text;
