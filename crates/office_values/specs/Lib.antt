@@ -1,3 +1,6 @@
 pub mod Ids
 pub mod Texts
 pub mod Money
+pub mod Kinds
+pub mod Rights
+pub mod Refusals
