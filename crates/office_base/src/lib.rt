@@ -1,0 +1,8 @@
+//! The records of a procurement office, its tables, and what keeps them.
+#![tactic(auto)]
+
+pub mod memory;
+pub mod records;
+pub mod shelf;
+pub mod table;
+pub mod tables;
