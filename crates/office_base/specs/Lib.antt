@@ -6,3 +6,10 @@ pub mod MemoryTables
 pub mod Faults
 pub mod Shelves
 pub mod MemoryMeaning
+pub mod Sums
+pub mod Joined
+pub mod PotsAnswers
+pub mod Standings
+pub mod Rules
+pub mod Machine
+pub mod Looking

@@ -2,7 +2,9 @@
 #![tactic(auto)]
 
 pub mod memory;
+pub mod pots;
 pub mod records;
 pub mod shelf;
+pub mod standing;
 pub mod table;
 pub mod tables;

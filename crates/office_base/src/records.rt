@@ -63,3 +63,13 @@ impl Row for BatchRow {
         self.batch
     }
 }
+
+/// Where the money of a budget line is.
+#[derive(Clone, Copy)]
+pub struct Pots {
+    pub appropriation: Total,
+    pub free: Total,
+    pub reserved: Total,
+    pub contracted: Total,
+    pub paid: Total,
+}
