@@ -34,7 +34,8 @@ impl Model for MemoryShelf {
 impl MemoryShelf {
     /// An empty office. Takes no memory.
     pub fn new(alloc: Global) -> MemoryShelf
-        ensures { result ≡ (no_tables, 0) }
+        ensures empty { result ≡ (no_tables, 0) }
+        ensures holds { memory_meaning.holds result no_tables }
     {
         MemoryShelf {
             alloc,
@@ -56,6 +57,8 @@ impl MemoryShelf {
 
 impl Lookups for MemoryShelf {
     ghost meaning = { memory_meaning };
+
+    ghost held_sorted = { λ shelf t held. held.1 };
 
     fn get_line(&mut self, line: &Id) -> Result<Option<LineRow>, ShelfFault> {
         match self.tables.lines.copy_at(line) {

@@ -1,10 +1,12 @@
 //! What keeps an office's tables.
 ghost use Rattle.std.specs.Prelude.{◌≡◌};
-ghost use Rattle.office_base.specs.Tables.{line_at, batch_at, after_puts};
+ghost use Rattle.office_values.specs.declared.refusal.Refusal.TheVariants.{Unavailable};
+ghost use Rattle.office_base.specs.Tables.{Tables, IsSorted, line_at, batch_at, after_puts};
 ghost use Rattle.office_base.specs.Shelves.{Meaning, Keeps, LooksUp, Changes};
 
 use crate::records::{BatchRow, ClockRow, LineRow, Put};
 use office_values::id::Id;
+use office_values::refusal::Refusal;
 
 /// Why a shelf did not answer. Its content is as before.
 #[derive(Clone, Copy, Debug, PartialEq, Eq)]
@@ -13,6 +15,14 @@ pub enum ShelfFault {
     NoMemory,
     /// The store failed, or holds what no office writes.
     Store,
+}
+
+impl From<ShelfFault> for Refusal {
+    ghost from_gives = { λ _ e. e ≡ Unavailable };
+
+    fn from(_fault: ShelfFault) -> Refusal {
+        Refusal::Unavailable
+    }
 }
 
 /// What can be asked of an office's tables. No call but `Shelf::apply` changes them.
@@ -40,6 +50,9 @@ pub trait Lookups {
         ensures number { result ≡ meaning.fault_count self.old }
         ensures counted { meaning.fault_count self.new ≡ meaning.fault_count self.old }
         ensures keeps { Keeps meaning self.old self.new };
+
+    // What is held is in the order of its keys.
+    ghost held_sorted: { (shelf : Self) (t : Tables) → meaning.holds shelf t → IsSorted t };
 }
 
 /// What keeps an office's tables.

@@ -1,5 +1,5 @@
 //! A table of rows by their keys.
-ghost use Rattle.std.specs.Prelude.{◌≡◌, IfOk, IfErr, OnOk, OnErr, option_map, [], Some, None};
+ghost use Rattle.std.specs.Prelude.{◌≡◌, IfOk, IfErr, OnOk, OnErr, option_map, [], Some, None, IsSome};
 ghost use Rattle.office_base.specs.Rows.{row_at, row_put, row_drop};
 ghost use Rattle.office_base.specs.Replacing.{taken_back, CanTakeBack};
 
@@ -114,6 +114,14 @@ impl<R: Row + Drop> Table<R> {
         let key = row.key();
         let old = self.insert(row)?;
         Ok(Replaced { key, old })
+    }
+
+    /// Replaces the row with this one's key, which is there. Takes no memory.
+    pub fn replace(&mut self, row: R)
+        requires { IsSome (row_at R.Key.cmp R.key_of self.old (R.key_of row)) }
+        ensures { self.new ≡ row_put R.Key.cmp R.key_of self.old row }
+    {
+        self.insert(row).unwrap();
     }
 
     /// Takes a row back that was put: the one that it replaced comes again, or it is dropped. Takes no memory.

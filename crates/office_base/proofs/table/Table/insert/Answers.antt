@@ -28,6 +28,6 @@ returns-in-Ok-clause-old g c =
 pub returns-clause-fresh : goal.returns-clause-fresh
 returns-clause-fresh g c =
     sym (ap (λ k. get g.R.Key.Ord.cmp c.self.inside.rows k) c.key.ensures
-        ∙ lookup-row_at g.met.R.Key.Ord.total g.R.Row.key_of (g.R.Row.key_of c.args.row) c.self.inside.rows.entries c.self.invariant.rising c.self.invariant.own
-        ∙ ap (λ rows. row_at g.R.Key.Ord.cmp g.R.Row.key_of rows (g.R.Row.key_of c.args.row)) c.self.view_is)
+    ∙ lookup-row_at g.met.R.Key.Ord.total g.R.Row.key_of (g.R.Row.key_of c.args.row) c.self.inside.rows.entries c.self.invariant.rising c.self.invariant.own
+    ∙ ap (λ rows. row_at g.R.Key.Ord.cmp g.R.Row.key_of rows (g.R.Row.key_of c.args.row)) c.self.view_is)
     ∙ c.in-Err.ensures.absent
