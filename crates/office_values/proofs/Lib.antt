@@ -1,2 +1,4 @@
 pub mod Padding
 pub mod Plain
+pub mod Numerals
+pub mod WorkedNumbers

@@ -1,3 +1,4 @@
 pub mod Ids
 pub mod Texts
 pub mod Money
+pub mod Numbers

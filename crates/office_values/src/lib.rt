@@ -3,4 +3,5 @@
 
 pub mod id;
 pub mod money;
+pub mod number;
 pub mod text;
