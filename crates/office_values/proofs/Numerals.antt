@@ -1,6 +1,6 @@
 -- A numeral is plain text, and its value fits 64 bits.
-use Rattle.std.specs.Prelude.{◌≡◌, ℕ, ◌<◌, ◌≤◌, ◌&&◌, true, List, [], ◌∷◌, length, IsUtf8, All, Result, Ok}
-use Rattle.std.proofs.Common.{arith, refl, ap, ◌∙◌}
+use Rattle.std.specs.Prelude.{◌≡◌, ℕ, ◌<◌, ◌≤◌, ◌&&◌, Bool, true, false, cond, nat_le, List, [], ◌∷◌, length, IsUtf8, All, Option, Some, None, Result, Ok}
+use Rattle.std.proofs.Common.{arith, refl, sym, ap, ◌∙◌}
 use Rattle.std.specs.Char.{is_ascii_digit}
 use Rattle.std.specs.List.{list_all}
 use Rattle.std.specs.Str.{all_ascii_digits}
@@ -12,7 +12,8 @@ use Rattle.std.proofs.lemmas.Str.Ascii.{IsAscii-from_all}
 use Rattle.std.proofs.lemmas.List.Elements.{All-weaker}
 use Rattle.std.proofs.lemmas.List.Sums.{AllPass-from_list_all}
 use Rattle.std.proofs.lemmas.Str.Parse.{IsNumeralModel, numerals_by_value, tells_all_ascii_digits, parse_gives, digits_value_short}
-use Rattle.office_values.specs.Numbers.{is_numeral}
+use Rattle.office_values.specs.Numbers.{is_numeral, number_of}
+use Rattle.office_values.specs.Money.{total_limit}
 
 -- std's two words for a text of digits
 same_test : (text : List ℕ) → all_ascii_digits text ≡ list_all is_ascii_digit text
@@ -50,3 +51,14 @@ numeral_parses text r h p =
     let digits = same_test text ∙ n.digits in
     let small = digits_value_short digits_are_numerals text 16 digits n.short in
     parse_gives digits_are_numerals 64 text r p digits n.not_empty (omega arith)
+
+-- a number is at most 10^15
+pub number_of_small : (text : List ℕ) (n : ℕ) → number_of text ≡ Some n → n ≤ total_limit
+number_of_small text n h = by (is_numeral text && nat_le (digits_value 10 text) total_limit) refl h
+  where
+    by : (b : Bool) → (is_numeral text && nat_le (digits_value 10 text) total_limit) ≡ b → cond b (Some (digits_value 10 text)) None ≡ Some n → n ≤ total_limit
+    by true e q =
+        let small : digits_value 10 text ≤ total_limit = leb-true _ _ (and_parts _ _ e).1 in
+        let same : digits_value 10 text ≡ n = cc q in
+        rw (sym same) small
+    by false e q = cc q

@@ -5,3 +5,4 @@ pub mod Numbers
 pub mod Kinds
 pub mod Rights
 pub mod Refusals
+pub mod Fields

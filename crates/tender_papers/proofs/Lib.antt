@@ -1,0 +1,3 @@
+pub mod RecordSteps
+pub mod ReaderSteps
+pub mod FourSteps

@@ -1,0 +1,5 @@
+//! Papers of a procurement office: files that come in, as CSV.
+#![tactic(auto)]
+
+pub mod budget;
+mod records;
