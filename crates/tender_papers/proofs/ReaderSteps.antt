@@ -2,7 +2,6 @@
 use Rattle.std.proofs.Common.{◌≡◌, ℕ, ◌+◌, List, [], ◌∷◌, length, Some, refl, sym, ap, ◌∙◌, Bor, true, false, inl}
 use Rattle.std.specs.Prelude.{Bool, IsTrue}
 use Rattle.std.specs.Bool.{MatchBool}
-use Rattle.csv.specs.Machine.{next_record}
 use Rattle.csv.specs.Reading.{Reached, ReadRecord, default_config, reader_state, records_from, source_of, took_first}
 use Rattle.csv.specs.declared.reader.Reader.{Reader}
 use Rattle.csv.proofs.ReadFacts.{rows-end, rows-more}
@@ -37,9 +36,9 @@ reads_one old new fields h first r =
         source = source;
       };
       read =
-        left_is old h.unread h.source ∙ (records_more old.state h.unread p h.between read
-        ∙ (ap (λ f. f ∷ records_from default_config (length p.2 + 1) p.1 p.2) (sym same)
-        ∙ (rw (state, rest) (ap (λ rs. fields ∷ rs) (sym (left_is new bytes source))))));
+          left_is old h.unread h.source ∙ (records_more old.state h.unread p h.between read
+          ∙ (ap (λ f. f ∷ records_from default_config (length p.2 + 1) p.1 p.2) (sym same)
+          ∙ (rw (state, rest) (ap (λ rs. fields ∷ rs) (sym (left_is new bytes source))))));
     }
 
 reads_none : (old new : Reader (Bor (List ℕ))) (fields : List (List ℕ)) → IsReading old → ReadRecord (λ s. Some s.now) old new false fields → records_left old ≡ []

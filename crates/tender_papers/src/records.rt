@@ -42,10 +42,5 @@ pub(crate) fn four_fields(row: &ByteRecord) -> Option<(&[u8], &[u8], &[u8], &[u8
     if row.len() != 4 {
         return None;
     }
-    Some((
-        row.get(0)?,
-        row.get(1)?,
-        row.get(2)?,
-        row.get(3)?,
-    ))
+    Some((row.get(0)?, row.get(1)?, row.get(2)?, row.get(3)?))
 }
