@@ -3,3 +3,5 @@
 
 pub mod budget;
 mod records;
+#[cfg(test)]
+mod tests;
