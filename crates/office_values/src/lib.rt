@@ -6,5 +6,6 @@ pub mod command;
 pub mod id;
 pub mod moment;
 pub mod money;
+pub mod number;
 pub mod refusal;
 pub mod text;

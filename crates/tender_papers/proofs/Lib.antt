@@ -1,0 +1,5 @@
+pub mod RecordSteps
+pub mod ReaderSteps
+pub mod FourSteps
+pub mod BudgetSteps
+pub mod WorkedBudgets

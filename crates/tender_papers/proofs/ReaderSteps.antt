@@ -1,0 +1,52 @@
+-- What one read of a record does to the records that a reader has left.
+use Rattle.std.proofs.Common.{◌≡◌, ℕ, ◌+◌, List, [], ◌∷◌, length, Some, refl, sym, ap, ◌∙◌, Bor, true, false, inl}
+use Rattle.std.specs.Prelude.{Bool, IsTrue}
+use Rattle.std.specs.Bool.{MatchBool}
+use Rattle.csv.specs.Reading.{Reached, ReadRecord, default_config, reader_state, records_from, source_of, took_first}
+use Rattle.csv.specs.declared.reader.Reader.{Reader}
+use Rattle.csv.proofs.ReadFacts.{rows-end, rows-more}
+use Rattle.tender_papers.specs.Reading.{IsReading, records_left}
+use Rattle.tender_papers.proofs.RecordSteps.{record_shortens, records_more, records_end}
+
+-- the records left, by the bytes left
+pub left_is : (reader : Reader (Bor (List ℕ))) (bytes : List ℕ) → source_of (λ s. Some s.now) reader ≡ Some bytes → records_left reader ≡ records_from default_config (length bytes + 1) (reader_state reader) bytes
+unfolding records_left
+left_is reader bytes e = rw e refl
+
+-- the next record has these fields
+record StepsTo (old new : Reader (Bor (List ℕ))) (fields : List (List ℕ)) : Type 0 where
+  reading : IsReading new
+  read : records_left old ≡ fields ∷ records_left new
+
+reads_one : (old new : Reader (Bor (List ℕ))) (fields : List (List ℕ)) → IsReading old → took_first new ≡ true → ReadRecord (λ s. Some s.now) old new true fields → StepsTo old new fields
+unfolding Reached
+reads_one old new fields h first r =
+    let m = rows-more (λ (s : Bor (List ℕ)). Some s.now) old new fields default_config old.state h.unread h.unread [] h.config h.source (refl, refl) r in
+    let (bytes, source, step) = m in
+    let (p, read, same, ends) = step in
+    let (state, rest) = ends in
+    let t = record_shortens old.state h.unread p h.between read in
+    record {
+      reading = record {
+        trim = r.3 ∙ h.trim;
+        config = r.2 ∙ h.config;
+        ready = inl first;
+        between = rw state at t.between;
+        unread = bytes;
+        source = source;
+      };
+      read =
+          left_is old h.unread h.source ∙ (records_more old.state h.unread p h.between read
+          ∙ (ap (λ f. f ∷ records_from default_config (length p.2 + 1) p.1 p.2) (sym same)
+          ∙ (rw (state, rest) (ap (λ rs. fields ∷ rs) (sym (left_is new bytes source))))));
+    }
+
+reads_none : (old new : Reader (Bor (List ℕ))) (fields : List (List ℕ)) → IsReading old → ReadRecord (λ s. Some s.now) old new false fields → records_left old ≡ []
+reads_none old new fields h r =
+    left_is old h.unread h.source ∙ records_end (length h.unread) old.state h.unread (rows-end (λ (s : Bor (List ℕ)). Some s.now) old new fields default_config h.unread h.config h.source r)
+
+-- a read gives the next record, or tells that there is none
+pub reads_next : (found : Bool) (old new : Reader (Bor (List ℕ))) (fields : List (List ℕ)) → IsReading old → took_first new ≡ true → ReadRecord (λ s. Some s.now) old new found fields
+    → (IsTrue found → IsReading new) × MatchBool found (records_left old ≡ fields ∷ records_left new) (records_left old ≡ [])
+reads_next true old new fields h first r = let steps = reads_one old new fields h first r in (λ _. steps.reading, steps.read)
+reads_next false old new fields h first r = (λ e. cc e, reads_none old new fields h r)

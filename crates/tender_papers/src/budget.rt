@@ -1,0 +1,163 @@
+//! Budget files.
+ghost use Rattle.std.specs.Prelude.{◌≡◌, ◌+◌, ◌<◌, ◌^◌, length, IfOk};
+ghost use Rattle.csv.specs.Records.{fields_of};
+ghost use Rattle.office_values.specs.Numbers.{number_of};
+ghost use Rattle.tender_papers.specs.Files.{csv_records};
+ghost use Rattle.tender_papers.specs.Reading.{IsReading, records_left};
+ghost use Rattle.tender_papers.specs.Budget.{Gives, budget_of, is_head, kind_of, row_of, row_of_four, rows_from};
+
+use crate::records::{four_fields, next_record, records_of};
+use csv::{ByteRecord, Reader};
+use office_values::budget::{BudgetKind, BudgetRow, BudgetRows};
+use office_values::id::Id;
+use office_values::money::Total;
+use office_values::number::read_number;
+use office_values::text::TextLine;
+use std::alloc::{AllocError, AllocFailed, Global};
+use thiserror::Error;
+
+/// Why a budget file gives no rows.
+#[derive(Debug, Drop, Error)]
+pub enum BudgetFault {
+    /// Memory was refused.
+    #[error("no memory")]
+    NoMemory,
+    /// The number of the first faulty record, counted from 1 with the head; 1 also for an empty file.
+    #[error("row {0}")]
+    BadRow(u32),
+}
+
+impl From<AllocError> for BudgetFault {
+    ghost use Rattle.tender_papers.specs.declared.budget.BudgetFault.TheVariants.{NoMemory};
+
+    ghost from_gives = { λ _ e. e ≡ NoMemory };
+
+    fn from(_error: AllocError) -> BudgetFault {
+        BudgetFault::NoMemory
+    }
+}
+
+impl<T: Drop> From<AllocFailed<T>> for BudgetFault {
+    ghost use Rattle.tender_papers.specs.declared.budget.BudgetFault.TheVariants.{NoMemory};
+
+    ghost from_gives = { λ _ e. e ≡ NoMemory };
+
+    fn from(_error: AllocFailed<T>) -> BudgetFault {
+        BudgetFault::NoMemory
+    }
+}
+
+// The kind of row that a word names.
+fn kind_in(word: &[u8]) -> Option<BudgetKind>
+    ensures { result ≡ kind_of word.now }
+{
+    if word == b"add".as_slice() {
+        Some(BudgetKind::Add)
+    } else if word == b"cut".as_slice() {
+        Some(BudgetKind::Cut)
+    } else {
+        None
+    }
+}
+
+// The sum that a field writes.
+fn total_in(field: &[u8]) -> Option<Total>
+    ensures { result ≡ number_of field.now }
+{
+    Total::read(read_number(field)?)
+}
+
+// The row that four fields are.
+fn row_in_fields(
+    alloc: Global,
+    line: &[u8],
+    kind: &[u8],
+    amount: &[u8],
+    title: &[u8],
+) -> Result<Option<BudgetRow>, AllocError>
+    ensures { IfOk result (λ found. found ≡ row_of_four (line.now, kind.now, amount.now, title.now)) }
+{
+    let Some(line) = Id::read(line) else {
+        return Ok(None);
+    };
+    let Some(kind) = kind_in(kind) else {
+        return Ok(None);
+    };
+    let Some(amount) = total_in(amount) else {
+        return Ok(None);
+    };
+    if amount.units() == 0 {
+        return Ok(None);
+    }
+    let Some(title) = TextLine::read(alloc, title)? else {
+        return Ok(None);
+    };
+    Ok(Some(BudgetRow {
+        line,
+        kind,
+        amount,
+        title,
+    }))
+}
+
+// The row that a record is.
+fn row_in(alloc: Global, row: &ByteRecord) -> Result<Option<BudgetRow>, AllocError>
+    ensures { IfOk result (λ found. found ≡ row_of (fields_of row.now)) }
+{
+    match four_fields(row) {
+        Some((line, kind, amount, title)) => row_in_fields(alloc, line, kind, amount, title),
+        None => Ok(None),
+    }
+}
+
+// Whether a record is the head.
+fn is_head(row: &ByteRecord) -> bool
+    ensures { result ≡ is_head (fields_of row.now) }
+{
+    match four_fields(row) {
+        Some((line, kind, amount, title)) => {
+            line == b"line".as_slice()
+                && kind == b"kind".as_slice()
+                && amount == b"amount".as_slice()
+                && title == b"title".as_slice()
+        }
+        None => false,
+    }
+}
+
+// The rows behind the head, each read into the one `row`.
+fn read_rows(
+    alloc: Global,
+    reader: &mut Reader<&[u8]>,
+    row: &mut ByteRecord,
+) -> Result<BudgetRows, BudgetFault>
+    requires reading { IsReading reader.old }
+    requires few { length (records_left reader.old) + 1 < 2 ^ 32 }
+    ensures { Gives result (rows_from 2 (records_left reader.old)) }
+{
+    let mut rows = Vec::new(alloc);
+    let mut number = 1;
+    'records: while next_record(reader, row)? {
+        number += 1;
+        match row_in(alloc, row)? {
+            Some(row) => rows.push(row)?,
+            None => return Err(BudgetFault::BadRow(number)),
+        }
+    }
+    Ok(BudgetRows::from_vec(rows))
+}
+
+/// The rows of a budget file: CSV (RFC 4180) in records that end in LF, CR LF or CR, with one byte order mark dropped from the front. Record 1
+/// is `line,kind,amount,title`. Each other is a row: an identifier, `add` or `cut`, a number of 1 to 10^15 and a line of
+/// text. `BadRow` comes exactly where a record is none of these, for the first such record; `NoMemory` where memory was refused.
+pub fn read_budget(alloc: Global, text: &[u8]) -> Result<BudgetRows, BudgetFault>
+    requires { length text.now < 2 ^ 32 }
+    ensures { Gives result (budget_of (csv_records text.now)) }
+{
+    let mut reader = records_of(alloc, text);
+    let mut row = ByteRecord::new(alloc);
+    if !next_record(&mut reader, &mut row)? || !is_head(&row) {
+        return Err(BudgetFault::BadRow(1));
+    }
+    read_rows(alloc, &mut reader, &mut row)
+}

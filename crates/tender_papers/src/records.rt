@@ -1,0 +1,46 @@
+//! The records of a CSV file, one at a time.
+ghost use Rattle.std.specs.Prelude.{◌≡◌, ◌∷◌, [], IfOk, IsTrue, option_map};
+ghost use Rattle.std.specs.Bool.{MatchBool};
+ghost use Rattle.csv.specs.Records.{fields_of};
+ghost use Rattle.tender_papers.specs.Files.{csv_records, four_of};
+ghost use Rattle.tender_papers.specs.Reading.{IsReading, records_left};
+
+use csv::{ByteRecord, Reader, ReaderBuilder, Trim};
+use std::alloc::{AllocError, Global};
+
+/// A reader of the records of a text, before the first.
+pub(crate) fn records_of(alloc: Global, text: &[u8]) -> Reader<&[u8]>
+    ensures reading { IsReading result }
+    ensures records { records_left result ≡ csv_records text.now }
+{
+    ReaderBuilder::new()
+        .has_headers(false)
+        .flexible(true)
+        .trim(Trim::None)
+        .from_reader(alloc, text)
+}
+
+/// The next record into `row`, and whether there was one.
+pub(crate) fn next_record(
+    reader: &mut Reader<&[u8]>,
+    row: &mut ByteRecord,
+) -> Result<bool, AllocError>
+    requires { IsReading reader.old }
+    ensures reading { IfOk result (λ found. IsTrue found → IsReading reader.new) }
+    ensures read { IfOk result (λ found. MatchBool found (records_left reader.old ≡ fields_of row.new ∷ records_left reader.new) (records_left reader.old ≡ [])) }
+{
+    let Ok(found) = reader.read_byte_record(row) else {
+        return Err(AllocError);
+    };
+    Ok(found)
+}
+
+/// The fields of a record of four.
+pub(crate) fn four_fields(row: &ByteRecord) -> Option<(&[u8], &[u8], &[u8], &[u8])>
+    ensures { option_map (λ f. (f.0.now, f.1.now, f.2.now, f.3.now)) result ≡ four_of (fields_of row.now) }
+{
+    if row.len() != 4 {
+        return None;
+    }
+    Some((row.get(0)?, row.get(1)?, row.get(2)?, row.get(3)?))
+}
