@@ -2,3 +2,4 @@ pub mod Padding
 pub mod Plain
 pub mod CivilDates
 pub mod MomentTexts
+pub mod PlainTexts

@@ -5,3 +5,4 @@ pub mod Money
 pub mod Kinds
 pub mod Rights
 pub mod Refusals
+pub mod SettingTexts

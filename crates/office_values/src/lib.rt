@@ -7,4 +7,5 @@ pub mod id;
 pub mod moment;
 pub mod money;
 pub mod refusal;
+pub mod settings;
 pub mod text;
