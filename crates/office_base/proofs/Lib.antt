@@ -1,0 +1,4 @@
+pub mod Orders
+pub mod KeyedTrees
+pub mod Undone
+pub mod Undoing
