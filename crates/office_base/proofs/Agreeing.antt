@@ -11,7 +11,7 @@ use Rattle.office_values.specs.declared.budget.BudgetRow.{BudgetRow}
 use Rattle.office_values.specs.declared.refusal.Refusal.{Refusal}
 use Rattle.office_base.specs.Rows.{by_order, row_at, row_put}
 use Rattle.office_base.specs.Tables.{Tables, line_key, find_line, line_at}
-use Rattle.office_base.specs.Standings.{find_standing, put_standing, columns_at, standing_key, standing_of, standings}
+use Rattle.office_base.specs.Standings.{find_standing, put_standing, columns_at, columns_of_row, standing_key, standing_of, standings}
 use Rattle.office_base.specs.Rules.Import.{columns_after, after_row, after_rows, some_row, line_put, appropriation_of, free_of, cuts_nothing, cuts_too_much, passes_limit, import_tests, import_puts}
 use Rattle.office_base.specs.declared.records.LineRow.{LineRow}
 use Rattle.office_base.specs.declared.records.ClockRow.{ClockRow}
@@ -78,10 +78,6 @@ pub puts-agree : (clock : ClockRow) (t : ℕ) (batch : List ℕ) (m n : List Sta
 puts-agree clock t batch m n rows h =
     ap (λ ps. ps ++ (puts.Batch (record { batch = batch; moment = t; rows = length rows }) ∷ puts.Clock (record clock { moment = t }) ∷ []))
     (lines_put-agree (after_rows m rows) (after_rows n rows) rows (agree_after_rows m n rows rows h h))
-
--- the columns of a row
-abbrev pub columns_of_row : LineRow → Columns
-columns_of_row row = record { appropriation = row.appropriation; free = row.free }
 
 standing_step : (q : List ℕ) (x : LineRow) (found : Option LineRow) (rest : Option Standing) → rest ≡ option_map standing_of found
     → (c : Ordering) → by_order c None (Some (standing_of x)) rest ≡ option_map standing_of (by_order c None (Some x) found)

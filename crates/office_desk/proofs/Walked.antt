@@ -42,7 +42,7 @@ columns_at-bound n m line h = columns_bound n (find_standing m line) (all-found 
 
 columns_for : (b : Bool) (a f n amount : ℕ) → amount ≤ 10 ^ 15 → a ≤ n → f ≤ n
     → let c : Columns = cond b (record { appropriation = a - amount; free = f - amount }) (record { appropriation = a + amount; free = f + amount }) in
-      (c.appropriation ≤ n + 10 ^ 15) × (c.free ≤ n + 10 ^ 15)
+    (c.appropriation ≤ n + 10 ^ 15) × (c.free ≤ n + 10 ^ 15)
 columns_for true a f n amount small ha hf = (omega arith, omega arith)
 columns_for false a f n amount small ha hf = (omega arith, omega arith)
 
