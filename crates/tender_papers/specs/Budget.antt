@@ -13,7 +13,10 @@ use Rattle.tender_papers.specs.declared.budget.BudgetFault.TheVariants as fault
 
 -- the kind of row that a word names: `add` or `cut`
 abbrev pub kind_of : List ℕ → Option BudgetKind
-kind_of word = if is_word (codes "add") word then Some kind.Add else if is_word (codes "cut") word then Some kind.Cut else None
+kind_of word =
+    if is_word (codes "add") word then Some kind.Add
+    else if is_word (codes "cut") word then Some kind.Cut
+    else None
 
 -- the row of these parts, where the amount is at least 1
 abbrev pub row_with : List ℕ → List ℕ → BudgetKind → ℕ → Option BudgetRow
@@ -23,7 +26,8 @@ row_with line title kind (suc n) = Some (record { line = line; kind = kind; amou
 -- the row that four fields are: an identifier, a kind, a number of at least 1 and a line of text
 abbrev pub row_of_four : Four → Option BudgetRow
 row_of_four (line, kind, amount, title) =
-    if is_id line && is_text_line title then option_and_then (λ k. option_and_then (row_with line title k) (number_of amount)) (kind_of kind)
+    if is_id line && is_text_line title
+    then option_and_then (λ k. option_and_then (row_with line title k) (number_of amount)) (kind_of kind)
     else None
 
 -- the row that a record is
@@ -32,7 +36,8 @@ row_of fields = option_and_then row_of_four (four_of fields)
 
 -- whether four fields are `line,kind,amount,title`
 abbrev pub names_columns : Four → Bool
-names_columns (line, kind, amount, title) = is_word (codes "line") line && is_word (codes "kind") kind && is_word (codes "amount") amount && is_word (codes "title") title
+names_columns (line, kind, amount, title) =
+    is_word (codes "line") line && is_word (codes "kind") kind && is_word (codes "amount") amount && is_word (codes "title") title
 
 -- whether a record is the head
 abbrev pub is_head : List (List ℕ) → Bool
