@@ -1,8 +1,10 @@
 pub mod Ids
 pub mod Texts
+pub mod Moments
 pub mod Money
 pub mod Numbers
 pub mod Kinds
 pub mod Rights
 pub mod Refusals
 pub mod Fields
+pub mod SettingTexts

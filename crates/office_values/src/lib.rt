@@ -4,7 +4,9 @@
 pub mod budget;
 pub mod command;
 pub mod id;
+pub mod moment;
 pub mod money;
 pub mod number;
 pub mod refusal;
+pub mod settings;
 pub mod text;
