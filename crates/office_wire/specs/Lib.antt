@@ -1,0 +1,5 @@
+pub mod Fields
+pub mod Head
+pub mod HeadBytes
+pub mod Reading
+pub mod Request

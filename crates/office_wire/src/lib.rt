@@ -1,0 +1,7 @@
+//! From a stream of bytes to HTTP requests (RFC 9112), and bytes out again.
+#![tactic(auto)]
+
+pub mod fault;
+mod head;
+mod lines;
+mod reading;
