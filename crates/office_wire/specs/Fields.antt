@@ -5,6 +5,8 @@ use Rattle.std.specs.Char.{is_ascii_digit}
 use Rattle.std.specs.Str.{str_eq_ignore_ascii_case}
 use Rattle.std.specs.Str.Parse.{digits_value}
 use Rattle.office_wire.specs.Head.{HeadView}
+use Rattle.office_wire.specs.declared.fields.FieldValue.{FieldValue}
+use Rattle.office_wire.specs.declared.fields.FieldValue.TheVariants as found
 use Rattle.office_wire.specs.declared.fault.ReadFault.{ReadFault}
 use Rattle.office_wire.specs.declared.fault.ReadFault.TheVariants as fault
 
@@ -34,3 +36,9 @@ framing (Some len) count codings =
 -- the same of a head
 abbrev pub framing_of : HeadView → Result ℕ ReadFault
 framing_of head = framing (length_of (values_of (codes "content-length") head.fields)) (length head.fields) (values_of (codes "transfer-encoding") head.fields)
+
+-- what a look-up tells of the values that it found: none, the one, or that there are several
+abbrev pub Tells : FieldValue → List (List ℕ) → Type 0
+Tells found.Absent values = values ≡ []
+Tells (found.Once value) values = values ≡ value.now ∷ []
+Tells found.Repeated values = 2 ≤ length values

@@ -1,11 +1,13 @@
 //! Reading the head of a request.
 ghost use Rattle.std.specs.Prelude.{◌≡◌, ◌≢◌, ◌≤◌, ◌<◌, ℕ, List, length, take, IfOk, IfSome, IsNone, IsErrOf, Some};
 ghost use Rattle.httparse.specs.Spans.{IsRequestWithin};
+ghost use Rattle.office_wire.specs.Fields.{values_of, Tells};
 ghost use Rattle.office_wire.specs.Head.{IsBadHead, IsLongHead};
 ghost use Rattle.office_wire.specs.HeadBytes.{Parses, spans_view};
 ghost use Rattle.office_wire.specs.Reading.{IsHeadRead, IsCutHead};
 
 use crate::fault::ReadFault;
+use crate::fields::{FieldValue, find_value};
 use crate::lines::{HeadLines, first_line_has_ended};
 use crate::reading::next_byte;
 use httparse::spans::{EMPTY_HEADER_SPAN, HeaderSpan, RequestSpans, Span, parse_request};
@@ -121,6 +123,13 @@ impl Head {
         ensures { result.now ≡ self.now.target }
     {
         self.target.of(&self.bytes)
+    }
+
+    /// Looks up the fields with this name, in any case of ASCII letters.
+    pub fn value(&self, name: &[u8]) -> FieldValue<'_>
+        ensures { Tells result (values_of name.now self.now.fields) }
+    {
+        find_value(&self.bytes, &self.fields, name)
     }
 
     /// How many fields there are.

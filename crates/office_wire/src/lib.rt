@@ -2,6 +2,8 @@
 #![tactic(auto)]
 
 pub mod fault;
+pub mod fields;
+mod framing;
 mod head;
 mod lines;
 mod reading;
