@@ -1,4 +1,4 @@
-use Rattle.std.proofs.Common.{◌≡◌, ℕ, ◌+◌, ◌<◌, ◌≤◌, zero, suc, List, [], ◌∷◌, length, map, take, get_or, refl, arith, Bool, true, false}
+use Rattle.std.proofs.Common.{◌≡◌, ℕ, ◌<◌, zero, suc, List, [], ◌∷◌, length, map, take, get_or, arith, Bool, true, false}
 use Rattle.std.specs.Prelude.{cond}
 use Rattle.std.specs.List.{filter}
 use Rattle.std.specs.Str.{str_eq_ignore_ascii_case}
@@ -20,6 +20,6 @@ values_more name f (x ∷ xs) (suc i) d h same = by (str_eq_ignore_ascii_case (f
   where
     by : (t : Bool) → length (values_of name (map f (take i xs))) < length (values_of name (map f xs))
         → length (map (λ (v : List ℕ × List ℕ). v.1) (cond t (f x ∷ filter (λ v. str_eq_ignore_ascii_case v.0 name) (map f (take i xs))) (filter (λ v. str_eq_ignore_ascii_case v.0 name) (map f (take i xs)))))
-            < length (map (λ (v : List ℕ × List ℕ). v.1) (cond t (f x ∷ filter (λ v. str_eq_ignore_ascii_case v.0 name) (map f xs)) (filter (λ v. str_eq_ignore_ascii_case v.0 name) (map f xs))))
+        < length (map (λ (v : List ℕ × List ℕ). v.1) (cond t (f x ∷ filter (λ v. str_eq_ignore_ascii_case v.0 name) (map f xs)) (filter (λ v. str_eq_ignore_ascii_case v.0 name) (map f xs))))
     by true less = omega arith
     by false less = less

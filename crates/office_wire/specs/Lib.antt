@@ -3,3 +3,4 @@ pub mod Head
 pub mod HeadBytes
 pub mod Reading
 pub mod Request
+pub mod Sending

@@ -1,5 +1,5 @@
 -- What one request at the front of an input is, and why there is none.
-use Rattle.std.specs.Prelude.{◌≡◌, ℕ, ◌<◌, ◌⊎◌, List, length, ◌++◌, Option, Some, Result, Ok, Err, ⊤}
+use Rattle.std.specs.Prelude.{◌≡◌, ℕ, ◌<◌, ◌⊎◌, Bool, true, false, IsTrue, List, length, ◌++◌, Option, Some, Ok, Err, ⊤}
 use Rattle.httparse.specs.Grammar.{RequestHead}
 use Rattle.office_wire.specs.Head.{StandsHead, IsLongHead, IsBadHead, HeadView, view_of}
 use Rattle.office_wire.specs.Fields.{framing_of}
@@ -48,10 +48,30 @@ IsRefused input fault.Coding = IsMisframed input fault.Coding
 IsRefused input fault.Unavailable = ⊤
 IsRefused input fault.Read = ⊤
 
+-- this request was read, and what follows it is left
+pub record IsRequestRead (input : List ℕ) (now : Option (List ℕ)) (r : RequestView) : Type 0 where
+  pub rest : List ℕ
+  pub now_is : now ≡ Some rest
+  pub whole : IsRequest input r rest
+
 -- what was read, up to what the reader has left, holds no whole request
 pub record IsCutRequest (input : List ℕ) (now : Option (List ℕ)) : Type 0 where
   pub part : List ℕ
-  pub left : List ℕ
-  pub parts : input ≡ part ++ left
-  pub now_is : now ≡ Some left
+  pub rest : List ℕ
+  pub now_is : now ≡ Some rest
+  pub parts : input ≡ part ++ rest
   pub none : HasNoWhole part
+
+-- faults that the input itself shows
+abbrev pub is_shown : ReadFault → Bool
+is_shown fault.BadHead = true
+is_shown fault.TooLong = true
+is_shown fault.Coding = true
+is_shown fault.Unavailable = false
+is_shown fault.Read = false
+
+-- no input holds two requests at its front, a request and a refusal, or two refusals
+pub record HasOneMeaning (input : List ℕ) : Type 0 where
+  pub one_request : (r s : RequestView) (rest more : List ℕ) → IsRequest input r rest → IsRequest input s more → (r ≡ s) × (rest ≡ more)
+  pub no_refusal : (r : RequestView) (rest : List ℕ) (why : ReadFault) → IsTrue (is_shown why) → IsRequest input r rest → ¬ (IsRefused input why)
+  pub one_refusal : (why other : ReadFault) → IsTrue (is_shown why) → IsTrue (is_shown other) → IsRefused input why → IsRefused input other → why ≡ other

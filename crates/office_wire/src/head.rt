@@ -1,5 +1,5 @@
 //! Reading the head of a request.
-ghost use Rattle.std.specs.Prelude.{◌≡◌, ◌≢◌, ◌≤◌, ◌<◌, ℕ, List, length, take, IfOk, IfSome, IsNone, IsErrOf, Some};
+ghost use Rattle.std.specs.Prelude.{◌≡◌, ◌≢◌, ◌≤◌, ◌<◌, ℕ, List, length, take, slice_get, IfOk, IfSome, IsNone, IsErrOf, Some};
 ghost use Rattle.httparse.specs.Spans.{IsRequestWithin};
 ghost use Rattle.office_wire.specs.Fields.{values_of, Tells};
 ghost use Rattle.office_wire.specs.Head.{IsBadHead, IsLongHead};
@@ -123,6 +123,15 @@ impl Head {
         ensures { result.now ≡ self.now.target }
     {
         self.target.of(&self.bytes)
+    }
+
+    /// A field's name and value, by its place.
+    pub fn field(&self, index: usize) -> (&[u8], &[u8])
+        requires { index < length self.now.fields }
+        ensures { slice_get self.now.fields index ≡ Some (result.0.now, result.1.now) }
+    {
+        let field = &self.fields[index];
+        (field.name.of(&self.bytes), field.value.of(&self.bytes))
     }
 
     /// Looks up the fields with this name, in any case of ASCII letters.

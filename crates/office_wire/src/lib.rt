@@ -7,3 +7,5 @@ mod framing;
 mod head;
 mod lines;
 mod reading;
+pub mod request;
+pub mod sending;

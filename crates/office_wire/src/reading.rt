@@ -1,7 +1,7 @@
 //! Reads that are counted.
-ghost use Rattle.std.specs.Prelude.{◌≡◌, ◌<◌, ◌≤◌, length, take, IfOk, OnErr, Err};
+ghost use Rattle.std.specs.Prelude.{◌≡◌, ◌<◌, ◌≤◌, length, take, IfOk, OnErr, Ok, Err, true, false};
 ghost use Rattle.std.specs.Io.KnownBytes.{Keeps, Consumes, IsAtEnd};
-ghost use Rattle.office_wire.specs.Reading.{GivesByte};
+ghost use Rattle.office_wire.specs.Reading.{GivesByte, GivesPart};
 
 use crate::fault::ReadFault;
 use std::io::{ErrorKind, Read};
@@ -48,4 +48,22 @@ pub fn next_byte<R: Read>(reader: &mut R, left: &mut u32) -> Result<Option<u8>, 
         0 => Ok(None),
         _ => Ok(Some(one[0])),
     }
+}
+
+/// Fills the buffer. False where the input ends before.
+pub fn fill<R: Read>(reader: &mut R, left: &mut u32, buf: &mut [u8]) -> Result<bool, ReadFault>
+    ensures full { result ≡ Ok true → Consumes (R.remaining reader.old) (R.remaining reader.new) buf.new }
+    ensures ended { result ≡ Ok false → GivesPart (R.remaining reader.old) (R.remaining reader.new) (length buf.new) × IsAtEnd (R.remaining reader.new) }
+    ensures cut { OnErr result (GivesPart (R.remaining reader.old) (R.remaining reader.new) (length buf.new)) }
+    ensures fault { OnErr result (result ≡ Err ReadFault.Read) }
+    ensures spent { left.new ≤ left.old }
+{
+    let mut at = 0;
+    'parts: while at < buf.len() {
+        match read_some(reader, left, &mut buf[at..])? {
+            0 => return Ok(false),
+            count => at += count,
+        }
+    }
+    Ok(true)
 }

@@ -1,4 +1,4 @@
-use Rattle.std.proofs.Common.{◌≡◌, List, ℕ, take, true}
+use Rattle.std.proofs.Common.{◌≡◌, take, true}
 use Rattle.std.specs.Prelude.{min}
 use Rattle.std.specs.List.{list_all}
 use Rattle.std.specs.Char.{is_ascii_digit}
