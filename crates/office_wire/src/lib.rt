@@ -9,3 +9,5 @@ mod lines;
 mod reading;
 pub mod request;
 pub mod sending;
+#[cfg(test)]
+mod tests;
