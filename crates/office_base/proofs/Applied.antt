@@ -1,0 +1,18 @@
+-- All changes made in memory.
+use Rattle.std.specs.Prelude.{◌≡◌, ℕ, List, Result, Ok}
+use Rattle.std.proofs.Common.{sym, ap, ◌∙◌, inl, inr}
+use Rattle.office_base.specs.Tables.{Tables, IsSorted, after_puts}
+use Rattle.office_base.specs.Shelves.{Alters, CountsFaults}
+use Rattle.office_base.specs.MemoryMeaning.{memory_meaning}
+use Rattle.office_base.specs.declared.records.Put.{Put}
+use Rattle.office_base.specs.declared.shelf.ShelfFault.{ShelfFault}
+use Rattle.office_base.proofs.SortedTables.{sorted-puts}
+
+pub all_made : (old new : Tables × ℕ) (ps : List Put) → new.0 ≡ after_puts ps old.0 → Alters {T = Unit {0}} {E = ShelfFault} memory_meaning old new (Ok tt) (after_puts ps)
+all_made old new ps made = record {
+  before = λ h. tt;
+  all = λ h t held. (made ∙ ap (after_puts ps) held.0, sorted-puts ps t held.1);
+  none = λ h t held. tt;
+  stop_all = λ h t held u left. sym left ∙ made ∙ ap (after_puts ps) held.0;
+  stop_none = λ h t held. tt;
+}

@@ -1,0 +1,10 @@
+use Rattle.std.proofs.Common.{sym, ap, ◌∙◌}
+use Rattle.office_base.specs.Tables.{after_puts}
+use Rattle.office_base.proofs.Applied.{all_made}
+use Rattle.office_base.proofs.memory.MemoryShelfShelf.apply.Goals as goal
+
+pub returns-in-Ok : goal.returns-in-Ok
+returns-in-Ok c = (
+  all_made c.args.self.now _ c.args.puts.now (c.in-Ok.ensures.all ∙ ap (λ s. after_puts c.args.puts.now s.0) c.self.view_is),
+  record { counted = ap (λ s. s.1) c.self.view_is; cause = tt },
+)

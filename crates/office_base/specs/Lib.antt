@@ -1,0 +1,15 @@
+pub mod Rows
+pub mod Keyed
+pub mod Replacing
+pub mod Tables
+pub mod MemoryTables
+pub mod Faults
+pub mod Shelves
+pub mod MemoryMeaning
+pub mod Sums
+pub mod Joined
+pub mod PotsAnswers
+pub mod Standings
+pub mod Rules
+pub mod Machine
+pub mod Looking

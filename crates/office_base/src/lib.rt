@@ -1,0 +1,10 @@
+//! The records of a procurement office, its tables, and what keeps them.
+#![tactic(auto)]
+
+pub mod memory;
+pub mod pots;
+pub mod records;
+pub mod shelf;
+pub mod standing;
+pub mod table;
+pub mod tables;

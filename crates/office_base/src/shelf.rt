@@ -1,0 +1,63 @@
+//! What keeps an office's tables.
+ghost use Rattle.std.specs.Prelude.{◌≡◌};
+ghost use Rattle.office_values.specs.declared.refusal.Refusal.TheVariants.{Unavailable};
+ghost use Rattle.office_base.specs.Tables.{Tables, IsSorted, line_at, batch_at, after_puts};
+ghost use Rattle.office_base.specs.Shelves.{Meaning, Keeps, LooksUp, Changes};
+
+use crate::records::{BatchRow, ClockRow, LineRow, Put};
+use office_values::id::Id;
+use office_values::refusal::Refusal;
+
+/// Why a shelf did not answer. Its content is as before.
+#[derive(Clone, Copy, Debug, PartialEq, Eq)]
+pub enum ShelfFault {
+    /// Memory was refused.
+    NoMemory,
+    /// The store failed, or holds what no office writes.
+    Store,
+}
+
+impl From<ShelfFault> for Refusal {
+    ghost from_gives = { λ _ e. e ≡ Unavailable };
+
+    fn from(_fault: ShelfFault) -> Refusal {
+        Refusal::Unavailable
+    }
+}
+
+/// What can be asked of an office's tables. No call but `Shelf::apply` changes them.
+pub trait Lookups {
+    ghost meaning: { Meaning Self };
+
+    /// The budget line of this identifier.
+    fn get_line(&mut self, line: &Id) -> Result<Option<LineRow>, ShelfFault>
+        ensures { LooksUp meaning self.old self.new result (λ t row. row ≡ line_at line.now t) };
+
+    /// The batch of this identifier.
+    fn get_batch(&mut self, batch: &Id) -> Result<Option<BatchRow>, ShelfFault>
+        ensures { LooksUp meaning self.old self.new result (λ t row. row ≡ batch_at batch.now t) };
+
+    /// The clock; moment 0 and no numbers where nothing was accepted yet.
+    fn get_clock(&mut self) -> Result<ClockRow, ShelfFault>
+        ensures { LooksUp meaning self.old self.new result (λ t row. row ≡ t.clock) };
+
+    /// All budget lines, in the order of their identifiers.
+    fn list_lines(&mut self) -> Result<Vec<LineRow>, ShelfFault>
+        ensures { LooksUp meaning self.old self.new result (λ t rows. rows.items ≡ t.lines) };
+
+    /// How many calls were answered with a fault: from 0, one more for each, up to 2^64 - 1.
+    fn faults(&mut self) -> u64
+        ensures number { result ≡ meaning.fault_count self.old }
+        ensures counted { meaning.fault_count self.new ≡ meaning.fault_count self.old }
+        ensures keeps { Keeps meaning self.old self.new };
+
+    // What is held is in the order of its keys.
+    ghost held_sorted: { (shelf : Self) (t : Tables) → meaning.holds shelf t → IsSorted t };
+}
+
+/// What keeps an office's tables.
+pub trait Shelf: Lookups {
+    /// Makes all changes, in order, or none.
+    fn apply(&mut self, puts: &[Put]) -> Result<(), ShelfFault>
+        ensures { Changes Self.meaning self.old self.new result (after_puts puts.now) };
+}

@@ -1,0 +1,146 @@
+//! A table of rows by their keys.
+ghost use Rattle.std.specs.Prelude.{◌≡◌, IfOk, IfErr, OnOk, OnErr, option_map, [], Some, None, IsSome};
+ghost use Rattle.office_base.specs.Rows.{row_at, row_put, row_drop};
+ghost use Rattle.office_base.specs.Replacing.{taken_back, CanTakeBack};
+
+use std::alloc::{AllocError, Global};
+use std::collections::BTreeMap;
+use std::marker::Model;
+
+/// A row that has its key in it.
+pub trait Row: Clone {
+    type Key: Ord + Copy;
+
+    ghost key_of: { Self → Self.Key };
+
+    /// Its key.
+    fn key(&self) -> Self::Key
+        ensures { result ≡ key_of self.now };
+
+    // A copy of a row is that row.
+    ghost clone_same: { (a b : Self) → Self.is_clone a b → b ≡ a };
+}
+
+/// What a row that was put replaced: the row that had its key, or none.
+#[derive(Drop)]
+pub struct Replaced<R: Row + Drop> {
+    pub key: R::Key,
+    pub old: Option<R>,
+}
+
+/// A table: its rows in the order of their keys. A look-up and a change cost the logarithm of the rows.
+#[derive(Drop)]
+pub struct Table<R: Row + Drop> {
+    rows: BTreeMap<R::Key, R>,
+}
+
+impl<R: Row + Drop> Model for Table<R> {
+    ghost use Rattle.std.specs.Prelude.{List};
+    ghost use Rattle.std.specs.BTreeMap.{values};
+    ghost use Rattle.office_base.specs.Keyed.{IsKeyed};
+
+    ghost Value = { List R };
+
+    ghost view = { λ t. values t.rows };
+
+    ghost invariant = { λ t. IsKeyed R.Key.cmp R.key_of t.rows.entries };
+}
+
+impl<R: Row + Drop> Table<R> {
+    /// A table without rows. Takes no memory.
+    pub fn new(alloc: Global) -> Table<R>
+        ensures { result ≡ [] }
+    {
+        Table {
+            rows: BTreeMap::new(alloc),
+        }
+    }
+
+    /// The row with this key.
+    pub fn get(&self, key: &R::Key) -> Option<&R>
+        ensures { option_map (λ row. row.now) result ≡ row_at R.Key.cmp R.key_of self.now key.now }
+    {
+        self.rows.get(key)
+    }
+
+    /// The row with this key, copied.
+    pub fn copy_at(&self, key: &R::Key) -> Result<Option<R>, AllocError>
+        ensures { IfOk result (λ row. row ≡ row_at R.Key.cmp R.key_of self.now key.now) }
+    {
+        match self.get(key) {
+            Some(row) => Ok(Some(copy_of(row)?)),
+            None => Ok(None),
+        }
+    }
+
+    /// All rows, copied, in the order of their keys.
+    pub fn copy_all(&self, alloc: Global) -> Result<Vec<R>, AllocError>
+        ensures { IfOk result (λ rows. rows.items ≡ self.now) }
+    {
+        let mut rows = Vec::new(alloc);
+        for row in self.rows.values() {
+            rows.push(copy_of(row)?)?;
+        }
+        Ok(rows)
+    }
+
+    // Adds the row, or replaces the one with its key, and answers that one. Only a new row can find no memory.
+    fn insert(&mut self, row: R) -> Result<Option<R>, AllocError>
+        ensures rows { OnOk result (self.new ≡ row_put R.Key.cmp R.key_of self.old row) }
+        ensures old { IfOk result (λ old. old ≡ row_at R.Key.cmp R.key_of self.old (R.key_of row)) }
+        ensures kept { OnErr result (self.new ≡ self.old) }
+        ensures fresh { OnErr result (row_at R.Key.cmp R.key_of self.old (R.key_of row) ≡ None) }
+    {
+        match self.rows.insert(row.key(), row) {
+            Ok(old) => Ok(old),
+            Err(_) => Err(AllocError),
+        }
+    }
+
+    // Drops the row with this key, if there is one.
+    fn remove(&mut self, key: &R::Key)
+        ensures { self.new ≡ row_drop R.Key.cmp R.key_of self.old key.now }
+    {
+        self.rows.remove(key);
+    }
+
+    /// Adds the row, or replaces the one with its key, and tells how to take that back.
+    pub fn put(&mut self, row: R) -> Result<Replaced<R>, AllocError>
+        ensures rows { OnOk result (self.new ≡ row_put R.Key.cmp R.key_of self.old row) }
+        ensures back { IfOk result (λ replaced. taken_back R.Key.cmp R.key_of replaced self.new ≡ self.old) }
+        ensures can { IfOk result (λ replaced. CanTakeBack R.Key.cmp R.key_of replaced self.new) }
+        ensures kept { OnErr result (self.new ≡ self.old) }
+    {
+        let key = row.key();
+        let old = self.insert(row)?;
+        Ok(Replaced { key, old })
+    }
+
+    /// Replaces the row with this one's key, which is there. Takes no memory.
+    pub fn replace(&mut self, row: R)
+        requires { IsSome (row_at R.Key.cmp R.key_of self.old (R.key_of row)) }
+        ensures { self.new ≡ row_put R.Key.cmp R.key_of self.old row }
+    {
+        self.insert(row).unwrap();
+    }
+
+    /// Takes a row back that was put: the one that it replaced comes again, or it is dropped. Takes no memory.
+    pub fn take_back(&mut self, replaced: Replaced<R>)
+        requires { CanTakeBack R.Key.cmp R.key_of replaced self.old }
+        ensures { self.new ≡ taken_back R.Key.cmp R.key_of replaced self.old }
+    {
+        match replaced.old {
+            Some(row) => {
+                self.insert(row).unwrap();
+            }
+            None => self.remove(&replaced.key),
+        }
+    }
+}
+
+/// A copy of the row.
+pub fn copy_of<R: Row>(row: &R) -> Result<R, AllocError>
+    ensures { IfOk result (λ copy. copy ≡ row.now) }
+{
+    row.clone()
+}

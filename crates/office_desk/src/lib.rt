@@ -1,0 +1,4 @@
+//! The office's desk: it decides commands and looks things up, over any shelf.
+#![tactic(auto)]
+
+mod decide;

@@ -1,0 +1,4 @@
+pub mod Padding
+pub mod Plain
+pub mod CivilDates
+pub mod MomentTexts
