@@ -1,6 +1,8 @@
+pub mod Blocks
 pub mod Fields
 pub mod Head
 pub mod HeadBytes
 pub mod Reading
 pub mod Request
+pub mod Runs
 pub mod Sending

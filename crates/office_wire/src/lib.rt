@@ -1,6 +1,7 @@
 //! From a stream of bytes to HTTP requests (RFC 9112), and bytes out again.
 #![tactic(auto)]
 
+pub mod blocks;
 pub mod fault;
 pub mod fields;
 mod framing;
