@@ -1,7 +1,7 @@
 -- What a loop over blocks carries from step to step, and how it ends, for any answers.
 use Rattle.std.proofs.Common.{◌≡◌, ℕ, ◌+◌, ◌<◌, ◌⊎◌, inl, inr, List, [], ◌∷◌, ◌++◌, length, map, Option, Some, Result, Ok, Err, refl, sym, ap, subst, arith, ◌∙◌, append_assoc, length-append}
 use Rattle.std.proofs.lemmas.List.{append-nil, map-append}
-use Rattle.std.specs.Io.KnownBytes.{Appends}
+use Rattle.std.specs.Io.KnownBytes.{Appends, Keeps}
 use Rattle.office_wire.specs.Request.{IsRequest, IsRefused, HasNoWhole, IsCutRequest}
 use Rattle.office_wire.specs.Reading.{IsCutShort}
 use Rattle.office_wire.specs.Blocks.{Block, IsLine, HasLine, HasNoLine, IsBlock, AreBlocks, IsLost, IsCutBlock}
@@ -10,7 +10,7 @@ use Rattle.office_wire.specs.Runs.{Answers, Step, blocks_of, written, office_lef
 use Rattle.office_wire.specs.declared.fault.ReadFault.{ReadFault}
 use Rattle.office_wire.specs.declared.fault.RunFault.{RunFault}
 use Rattle.office_wire.specs.declared.fault.RunFault.TheVariants as ends
-use Rattle.office_wire.proofs.SendLemmas.{appends_more, appends_none}
+use Rattle.office_wire.proofs.SendLemmas.{appends_more, appends_keep, appends_none}
 use Rattle.office_wire.proofs.BlockLemmas.{short_line, same_line}
 
 -- ---- one step more
@@ -143,3 +143,29 @@ ran_cut_reply A input rest after end now s steps x a b c h line r p = record {
   sent = appends_more a b c (written A s steps) p.part h.sent p.more;
   ends_so = inl (record { earlier = steps; last = x; are = refl; part = p.part; front = p.front; told_is = refl });
 }
+
+-- no line was read
+pub ran_no_line : {S : Type 0} (A : Answers S) (e : RunFault) (input rest : List ℕ) (now : Option (List ℕ)) (s : S) (steps : List Step) (a b : Option (List ℕ)) → Answered A input s steps rest a b
+    → (e ≡ ends.BadBlock) ⊎ (e ≡ ends.Read) → (e ≡ ends.BadBlock → HasNoLine rest) → (e ≡ ends.Read → IsCutShort rest now 24) → Ran A (Err e) input now s steps a b
+ran_no_line A e input rest now s steps a b h (inl is) bad cut = subst (λ t. Ran A (Err t) input now s steps a b) (sym is) (ran_bad_block A input rest now s steps a b h (bad is))
+ran_no_line A e input rest now s steps a b h (inr is) bad cut = subst (λ t. Ran A (Err t) input now s steps a b) (sym is) (ran_cut A input rest now s steps a b h (cut_line rest now (cut is)))
+
+-- the writer could not hand on what it holds
+pub ran_flush_failed : {S : Type 0} (A : Answers S) (result : Result ℕ RunFault) (input : List ℕ) (now : Option (List ℕ)) (s : S) (steps : List Step) (a b : Option (List ℕ)) → Ran A result input now s steps a b
+    → Ran A (Err ends.Write) input now s steps a b
+ran_flush_failed A (Ok n) input now s steps a b r = record { rest = r.rest; told = r.told; blocks = r.blocks; sent = r.sent; ends_so = inr (inr r.ends_so.2) }
+ran_flush_failed A (Err ends.BadBlock) input now s steps a b r = record { rest = r.rest; told = r.told; blocks = r.blocks; sent = r.sent; ends_so = inr (inr r.ends_so.1) }
+ran_flush_failed A (Err ends.Read) input now s steps a b r = record { rest = r.rest; told = r.told; blocks = r.blocks; sent = r.sent; ends_so = inr (inr r.ends_so.1) }
+ran_flush_failed A (Err ends.LostPlace) input now s steps a b r = record {
+  rest = r.rest;
+  told = r.told;
+  blocks = r.blocks;
+  sent = r.sent;
+  ends_so = inr (inl (record { why = r.ends_so.0; lost = r.ends_so.1; part = A.refusal r.ends_so.0; front = ([], sym (append-nil (A.refusal r.ends_so.0))); told_is = r.ends_so.2 }));
+}
+ran_flush_failed A (Err ends.Write) input now s steps a b r = r
+
+-- flushing leaves what was sent
+pub ran_kept : {S : Type 0} (A : Answers S) (result : Result ℕ RunFault) (input : List ℕ) (now : Option (List ℕ)) (s : S) (steps : List Step) (a b c : Option (List ℕ)) → Ran A result input now s steps a b → Keeps b c
+    → Ran A result input now s steps a c
+ran_kept A result input now s steps a b c r keeps = record { rest = r.rest; told = r.told; blocks = r.blocks; sent = appends_keep a b c r.told r.sent keeps; ends_so = r.ends_so }

@@ -4,5 +4,6 @@ pub mod Head
 pub mod HeadBytes
 pub mod Reading
 pub mod Request
+pub mod Responders
 pub mod Runs
 pub mod Sending

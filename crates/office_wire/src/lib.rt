@@ -1,6 +1,7 @@
 //! From a stream of bytes to HTTP requests (RFC 9112), and bytes out again.
 #![tactic(auto)]
 
+pub mod answer;
 pub mod blocks;
 pub mod fault;
 pub mod fields;
@@ -9,6 +10,7 @@ mod head;
 mod lines;
 mod reading;
 pub mod request;
+pub mod runs;
 pub mod sending;
 #[cfg(test)]
 mod tests;
