@@ -1,5 +1,5 @@
 -- What a loop over blocks carries from step to step, and how it ends, for any answers.
-use Rattle.std.proofs.Common.{◌≡◌, ℕ, ◌+◌, ◌<◌, ◌⊎◌, inl, inr, List, [], ◌∷◌, ◌++◌, length, map, Option, Some, Result, Ok, Err, refl, sym, ap, subst, arith, ◌∙◌, append_assoc, length-append}
+use Rattle.std.proofs.Common.{◌≡◌, ◌≢◌, ℕ, ◌+◌, ◌<◌, ◌⊎◌, inl, inr, List, [], ◌∷◌, ◌++◌, length, map, Option, Some, Result, Ok, Err, refl, sym, ap, subst, arith, ◌∙◌, append_assoc, length-append}
 use Rattle.std.proofs.lemmas.List.{append-nil, map-append}
 use Rattle.std.specs.Io.KnownBytes.{Appends, Keeps}
 use Rattle.office_wire.specs.Request.{IsRequest, IsRefused, HasNoWhole, IsCutRequest}
@@ -8,6 +8,7 @@ use Rattle.office_wire.specs.Blocks.{Block, IsLine, HasLine, HasNoLine, IsBlock,
 use Rattle.office_wire.specs.Sending.{IsPrefix, AppendsPart}
 use Rattle.office_wire.specs.Runs.{Answers, Step, blocks_of, written, office_left, CutsReply, CutsRefusal, Ends, Ran}
 use Rattle.office_wire.specs.declared.fault.ReadFault.{ReadFault}
+use Rattle.office_wire.specs.declared.fault.ReadFault.TheVariants as fault
 use Rattle.office_wire.specs.declared.fault.RunFault.{RunFault}
 use Rattle.office_wire.specs.declared.fault.RunFault.TheVariants as ends
 use Rattle.office_wire.proofs.SendLemmas.{appends_more, appends_keep, appends_none}
@@ -113,24 +114,24 @@ ran_cut A input rest now s steps a b h cut = record { rest = rest; told = writte
 
 -- what comes behind a line is refused, and the refusal was sent
 pub ran_lost : {S : Type 0} (A : Answers S) (input rest after : List ℕ) (moment : ℕ) (why : ReadFault) (now : Option (List ℕ)) (s : S) (steps : List Step) (a b c : Option (List ℕ)) → Answered A input s steps rest a b
-    → HasLine rest moment after → IsRefused after why → Appends b c (A.refusal why) → Ran A (Err ends.LostPlace) input now s steps a c
-ran_lost A input rest after moment why now s steps a b c h line refused more = record {
+    → HasLine rest moment after → IsRefused after why → why ≢ fault.Read → Appends b c (A.refusal why) → Ran A (Err ends.LostPlace) input now s steps a c
+ran_lost A input rest after moment why now s steps a b c h line refused other more = record {
   rest = rest;
   told = written A s steps ++ A.refusal why;
   blocks = h.blocks;
   sent = appends_more a b c (written A s steps) (A.refusal why) h.sent more;
-  ends_so = (why, record { moment = moment; after = after; line = line; refused = refused }, refl);
+  ends_so = (why, record { moment = moment; after = after; line = line; refused = refused; was_read = other }, refl);
 }
 
 -- a front of that refusal was sent
 pub ran_cut_refusal : {S : Type 0} (A : Answers S) (input rest after : List ℕ) (moment : ℕ) (why : ReadFault) (now : Option (List ℕ)) (s : S) (steps : List Step) (a b c : Option (List ℕ)) → Answered A input s steps rest a b
-    → HasLine rest moment after → IsRefused after why → AppendsPart b c (A.refusal why) → Ran A (Err ends.Write) input now s steps a c
-ran_cut_refusal A input rest after moment why now s steps a b c h line refused x = record {
+    → HasLine rest moment after → IsRefused after why → why ≢ fault.Read → AppendsPart b c (A.refusal why) → Ran A (Err ends.Write) input now s steps a c
+ran_cut_refusal A input rest after moment why now s steps a b c h line refused other x = record {
   rest = rest;
   told = written A s steps ++ x.part;
   blocks = h.blocks;
   sent = appends_more a b c (written A s steps) x.part h.sent x.more;
-  ends_so = inr (inl (record { why = why; lost = record { moment = moment; after = after; line = line; refused = refused }; part = x.part; front = x.front; told_is = refl }));
+  ends_so = inr (inl (record { why = why; lost = record { moment = moment; after = after; line = line; refused = refused; was_read = other }; part = x.part; front = x.front; told_is = refl }));
 }
 
 -- the last step's response was sent in part

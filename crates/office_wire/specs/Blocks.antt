@@ -3,6 +3,7 @@ use Rattle.std.specs.Prelude.{◌≡◌, ◌≢◌, ℕ, List, [], ◌∷◌, �
 use Rattle.office_values.specs.Moments.{IsMomentText}
 use Rattle.office_wire.specs.Request.{RequestView, IsRequest, IsRefused}
 use Rattle.office_wire.specs.declared.fault.ReadFault.{ReadFault}
+use Rattle.office_wire.specs.declared.fault.ReadFault.TheVariants as fault
 
 -- the 24 bytes `at YYYY-MM-DDTHH:MM:SSZ` and a line feed
 pub record IsLine (line : List ℕ) (moment : ℕ) : Type 0 where
@@ -36,12 +37,13 @@ pub record HasNoLine (input : List ℕ) : Type 0 where
   pub some : input ≢ []
   pub none : (moment : ℕ) (after : List ℕ) → ¬ (HasLine input moment after)
 
--- a line, and behind it what is refused as a request
+-- a line, and behind it what is refused as a request; a reader that fails refuses nothing
 pub record IsLost (input : List ℕ) (why : ReadFault) : Type 0 where
   pub moment : ℕ
   pub after : List ℕ
   pub line : HasLine input moment after
   pub refused : IsRefused after why
+  pub was_read : why ≢ fault.Read
 
 -- what was read, up to what the reader has left, holds no whole block
 pub record IsCutBlock (input : List ℕ) (now : Option (List ℕ)) : Type 0 where

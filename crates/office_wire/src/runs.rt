@@ -47,11 +47,13 @@ fn answer_blocks<D: Responder, R: Read, W: Write>(
                 let answer = desk.answer(alloc, moment, &request);
                 send(writer, answer.bytes())?;
             }
-            Err(ReadFault::Read) => return Err(RunFault::Read),
-            Err(fault) => {
-                send(writer, desk.refusal(fault))?;
-                return Err(RunFault::LostPlace);
-            }
+            Err(fault) => match fault {
+                ReadFault::Read => return Err(RunFault::Read),
+                _ => {
+                    send(writer, desk.refusal(fault))?;
+                    return Err(RunFault::LostPlace);
+                }
+            },
         }
     }
     Err(RunFault::Read)

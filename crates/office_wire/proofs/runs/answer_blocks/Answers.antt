@@ -57,26 +57,26 @@ returns-in_err-send-in-Ok-clause-ran g c h input e s holds =
      rw (p.1, p.2) (ran_cut_reply A input inv.rest after read.rest _ s inv.steps x _ _ _ inv.answered line read.whole (rw (c.bytes.ensures, text) at c.in_err-send-in-Ok.ensures.err)),
      subst (g.D.Responder.meaning.holds _) (sym (office_push A inv.steps s x)) held)
 
-pub returns-in-Err-Read-clause-ran : goal.returns-in-Err-Read-clause-ran
-returns-in-Err-Read-clause-ran g c h input e s holds =
+pub returns-in-Read-clause-ran : goal.returns-in-Read-clause-ran
+returns-in-Read-clause-ran g c h input e s holds =
     let inv = c.rounds.invariant.ran h input e s holds in
     let (after, at, line) = (rw c.in-Some.is at c.in_ok-moment.ensures.line) inv.rest inv.now in
-    (inv.steps, ran_cut g.D.Responder.meaning.answers input inv.rest _ s inv.steps _ _ inv.answered (cut_request inv.rest after c.in-Some.moment _ line (c.in-Err-Read.ensures.cut (ap (λ t. Err t) c.in-Err-Read.field-0-is) after at)), inv.holds)
+    (inv.steps, ran_cut g.D.Responder.meaning.answers input inv.rest _ s inv.steps _ _ inv.answered (cut_request inv.rest after c.in-Some.moment _ line (c.in-Err.ensures.cut (ap (λ t. Err t) c.in-Read.is) after at)), inv.holds)
 
-pub returns-in_err-send-in-Err-clause-ran : goal.returns-in_err-send-in-Err-clause-ran
-returns-in_err-send-in-Err-clause-ran g c h input e s holds =
+pub returns-in_err-send-in_default-fault-clause-ran : goal.returns-in_err-send-in_default-fault-clause-ran
+returns-in_err-send-in_default-fault-clause-ran g c h input e s holds =
     let A = g.D.Responder.meaning.answers in
     let inv = c.rounds.invariant.ran h input e s holds in
     let (after, at, line) = (rw c.in-Some.is at c.in_ok-moment.ensures.line) inv.rest inv.now in
-    let p = err_from_is_err_and c.from_residual-in_err-send-in-Err.result c.from_residual-in_err-send-in-Err.ensures.1 in
-    (inv.steps, rw (p.1, p.2) (ran_cut_refusal A input inv.rest after c.in-Some.moment c.in-Err.fault _ s inv.steps _ _ _ inv.answered line (c.in-Err.ensures.refused after at) (rw c.refusal.ensures at c.in_err-send-in-Err.ensures.err)), inv.holds)
+    let p = err_from_is_err_and c.from_residual-in_err-send-in_default-fault.result c.from_residual-in_err-send-in_default-fault.ensures.1 in
+    (inv.steps, rw (p.1, p.2) (ran_cut_refusal A input inv.rest after c.in-Some.moment c.in-Err.fault _ s inv.steps _ _ _ inv.answered line (c.in-Err.ensures.refused after at) c.in_default-fault.not-Read (rw c.refusal.ensures at c.in_err-send-in_default-fault.ensures.err)), inv.holds)
 
-pub returns-in-Err-clause-ran : goal.returns-in-Err-clause-ran
-returns-in-Err-clause-ran g c h input e s holds =
+pub returns-in_default-fault-clause-ran : goal.returns-in_default-fault-clause-ran
+returns-in_default-fault-clause-ran g c h input e s holds =
     let A = g.D.Responder.meaning.answers in
     let inv = c.rounds.invariant.ran h input e s holds in
     let (after, at, line) = (rw c.in-Some.is at c.in_ok-moment.ensures.line) inv.rest inv.now in
-    (inv.steps, ran_lost A input inv.rest after c.in-Some.moment c.in-Err.fault _ s inv.steps _ _ _ inv.answered line (c.in-Err.ensures.refused after at) (rw c.refusal.ensures at c.in_ok-send-in-Err.ensures.ok), inv.holds)
+    (inv.steps, ran_lost A input inv.rest after c.in-Some.moment c.in-Err.fault _ s inv.steps _ _ _ inv.answered line (c.in-Err.ensures.refused after at) c.in_default-fault.not-Read (rw c.refusal.ensures at c.in_ok-send-in_default-fault.ensures.ok), inv.holds)
 
 pub returns-clause-ran : goal.returns-clause-ran
 returns-clause-ran g c h input e s holds =
