@@ -1,12 +1,13 @@
 -- What a loop over blocks carries from step to step, and how it ends, for any answers.
 use Rattle.std.proofs.Common.{◌≡◌, ◌≢◌, ℕ, ◌+◌, ◌<◌, ◌⊎◌, inl, inr, List, [], ◌∷◌, ◌++◌, length, map, Option, Some, Result, Ok, Err, refl, sym, ap, subst, arith, ◌∙◌, append_assoc, length-append}
 use Rattle.std.proofs.lemmas.List.{append-nil, map-append}
+use Rattle.std.specs.Prelude.{⊤}
 use Rattle.std.specs.Io.KnownBytes.{Appends, Keeps}
 use Rattle.office_wire.specs.Request.{IsRequest, IsRefused, HasNoWhole, IsCutRequest}
 use Rattle.office_wire.specs.Reading.{IsCutShort}
 use Rattle.office_wire.specs.Blocks.{Block, IsLine, HasLine, HasNoLine, IsBlock, AreBlocks, IsLost, IsCutBlock}
 use Rattle.office_wire.specs.Sending.{IsPrefix, AppendsPart}
-use Rattle.office_wire.specs.Runs.{Answers, Step, blocks_of, written, office_left, CutsReply, CutsRefusal, Ends, Ran}
+use Rattle.office_wire.specs.Runs.{Answers, Step, blocks_of, written, office_left, CutsReply, CutsRefusal, Ends, Ran, Served}
 use Rattle.office_wire.specs.declared.fault.ReadFault.{ReadFault}
 use Rattle.office_wire.specs.declared.fault.ReadFault.TheVariants as fault
 use Rattle.office_wire.specs.declared.fault.RunFault.{RunFault}
@@ -170,3 +171,13 @@ ran_flush_failed A (Err ends.Write) input now s steps a b r = r
 pub ran_kept : {S : Type 0} (A : Answers S) (result : Result ℕ RunFault) (input : List ℕ) (now : Option (List ℕ)) (s : S) (steps : List Step) (a b c : Option (List ℕ)) → Ran A result input now s steps a b → Keeps b c
     → Ran A result input now s steps a c
 ran_kept A result input now s steps a b c r keeps = record { rest = r.rest; told = r.told; blocks = r.blocks; sent = appends_keep a b c r.told r.sent keeps; ends_so = r.ends_so }
+
+-- one request was served, and flushing leaves what was sent
+pub served_kept : {S : Type 0} (A : Answers S) (result : Result ⊤ RunFault) (input : List ℕ) (now : Option (List ℕ)) (moment : ℕ) (s t : S) (a b c : Option (List ℕ)) → Served A result input now moment s t a b → Keeps b c
+    → Served A result input now moment s t a c
+served_kept A result input now moment s t a b c r keeps = record { told = r.told; sent = appends_keep a b c r.told r.sent keeps; served = r.served }
+
+-- it was served, and the writer could not hand on what it holds
+pub served_unflushed : {S : Type 0} (A : Answers S) (done : ⊤) (input : List ℕ) (now : Option (List ℕ)) (moment : ℕ) (s t : S) (a b : Option (List ℕ)) → Served A (Ok done) input now moment s t a b
+    → Served A (Err ends.Write) input now moment s t a b
+served_unflushed A done input now moment s t a b r = record { told = r.told; sent = r.sent; served = (r.told, r.served, ([], sym (append-nil r.told))) }

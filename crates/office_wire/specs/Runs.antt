@@ -1,9 +1,11 @@
 -- What a run over blocks writes, whatever answers them: an office of any type that has a response to each block and a state after it.
-use Rattle.std.specs.Prelude.{◌≡◌, ℕ, ◌⊎◌, Bool, List, [], ◌∷◌, ◌++◌, length, map, Option, Result, Ok, Err}
+use Rattle.std.specs.Prelude.{◌≡◌, ◌≢◌, ⊤, ℕ, ◌⊎◌, Bool, List, [], ◌∷◌, ◌++◌, length, map, Option, Result, Ok, Err}
 use Rattle.std.specs.Io.KnownBytes.{Appends}
 use Rattle.office_wire.specs.Blocks.{Block, AreBlocks, HasNoLine, IsLost, IsCutBlock}
+use Rattle.office_wire.specs.Request.{RequestView, IsRequestRead, IsRefused, IsCutRequest}
 use Rattle.office_wire.specs.Sending.{IsPrefix}
 use Rattle.office_wire.specs.declared.fault.ReadFault.{ReadFault}
+use Rattle.office_wire.specs.declared.fault.ReadFault.TheVariants as fault
 use Rattle.office_wire.specs.declared.fault.RunFault.{RunFault}
 use Rattle.office_wire.specs.declared.fault.RunFault.TheVariants as ends
 
@@ -67,3 +69,33 @@ pub record Ran {S : Type 0} (A : Answers S) (result : Result ℕ RunFault) (inpu
   pub blocks : AreBlocks input (blocks_of steps) rest
   pub sent : Appends before after told
   pub ends_so : Ends A result s steps rest now told
+
+-- a request was read and answered with this text at the moment handed in, and t is the office after it
+pub record AnswersOne {S : Type 0} (A : Answers S) (input : List ℕ) (now : Option (List ℕ)) (moment : ℕ) (s t : S) (text : List ℕ) : Type 0 where
+  pub request : RequestView
+  pub read : IsRequestRead input now request
+  pub busy : Bool
+  pub text_is : text ≡ A.reply busy s (record { moment = moment; request = request })
+  pub left : t ≡ A.after busy s (record { moment = moment; request = request })
+
+-- what came was refused with this text, and the office stays
+pub record RefusesOne {S : Type 0} (A : Answers S) (input : List ℕ) (s t : S) (text : List ℕ) : Type 0 where
+  pub why : ReadFault
+  pub refused : IsRefused input why
+  pub was_read : why ≢ fault.Read
+  pub text_is : text ≡ A.refusal why
+  pub left : t ≡ s
+
+-- how one request is served: the response is told, a front of it where the writer fails, and nothing where the reader fails
+abbrev pub Serves : {S : Type 0} → Answers S → Result ⊤ RunFault → List ℕ → Option (List ℕ) → ℕ → S → S → List ℕ → Type 0
+Serves A (Ok done) input now moment s t told = AnswersOne A input now moment s t told ⊎ RefusesOne A input s t told
+Serves A (Err ends.Write) input now moment s t told = (text : List ℕ) × (AnswersOne A input now moment s t text ⊎ RefusesOne A input s t text) × IsPrefix told text
+Serves A (Err ends.Read) input now moment s t told = IsCutRequest input now × (told ≡ []) × (t ≡ s)
+Serves A (Err ends.BadBlock) input now moment s t told = ⊥
+Serves A (Err ends.LostPlace) input now moment s t told = ⊥
+
+-- one request from office s to office t; before and after are the writer's contents
+pub record Served {S : Type 0} (A : Answers S) (result : Result ⊤ RunFault) (input : List ℕ) (now : Option (List ℕ)) (moment : ℕ) (s t : S) (before after : Option (List ℕ)) : Type 0 where
+  pub told : List ℕ
+  pub sent : Appends before after told
+  pub served : Serves A result input now moment s t told

@@ -1,7 +1,7 @@
 //! Runs: blocks in, responses out.
 ghost use Rattle.std.specs.Prelude.{◌≡◌, ℕ, List, Some};
 ghost use Rattle.office_wire.specs.Responders.{Meaning, Responds};
-ghost use Rattle.office_wire.specs.Runs.{Step, Ran, office_left};
+ghost use Rattle.office_wire.specs.Runs.{Step, Ran, Served, office_left};
 
 use crate::answer::Answer;
 use crate::blocks::read_block_line;
@@ -76,4 +76,51 @@ pub fn run<D: Responder, R: Read, W: Write>(
         return Err(RunFault::Write);
     }
     outcome
+}
+
+/// Reads one request and sends the response to it.
+fn answer_one<D: Responder, R: Read, W: Write>(
+    alloc: Global,
+    desk: &mut D,
+    moment: Moment,
+    reader: &mut R,
+    writer: &mut W,
+) -> Result<(), RunFault>
+    ensures before { D.meaning.honest desk.new → D.meaning.honest desk.old }
+    ensures served { D.meaning.honest desk.new → (input : List ℕ) → R.remaining reader.old ≡ Some input → (s : D.meaning.Office) → D.meaning.holds desk.old s
+        → (t : D.meaning.Office) × Served D.meaning.answers result input (R.remaining reader.new) moment s t (W.contents writer.old) (W.contents writer.new) × D.meaning.holds desk.new t }
+{
+    let mut left = u32::MAX;
+    match read_request(alloc, reader, &mut left) {
+        Ok(request) => {
+            let answer = desk.answer(alloc, moment, &request);
+            send(writer, answer.bytes())?;
+            Ok(())
+        }
+        Err(fault) => match fault {
+            ReadFault::Read => Err(RunFault::Read),
+            _ => {
+                send(writer, desk.refusal(fault))?;
+                Ok(())
+            }
+        },
+    }
+}
+
+/// Reads one request, and sends and flushes the response to it. The only faults are `Read` and `Write`.
+/// At most 4,294,967,295 reads are made.
+pub fn serve_one<D: Responder, R: Read, W: Write>(
+    alloc: Global,
+    desk: &mut D,
+    moment: Moment,
+    reader: &mut R,
+    writer: &mut W,
+) -> Result<(), RunFault>
+    ensures before { D.meaning.honest desk.new → D.meaning.honest desk.old }
+    ensures served { D.meaning.honest desk.new → (input : List ℕ) → R.remaining reader.old ≡ Some input → (s : D.meaning.Office) → D.meaning.holds desk.old s
+        → (t : D.meaning.Office) × Served D.meaning.answers result input (R.remaining reader.new) moment s t (W.contents writer.old) (W.contents writer.new) × D.meaning.holds desk.new t }
+{
+    answer_one(alloc, desk, moment, reader, writer)?;
+    flush(writer)?;
+    Ok(())
 }
