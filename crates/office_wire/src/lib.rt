@@ -3,6 +3,8 @@
 
 pub mod answer;
 pub mod blocks;
+#[cfg(test)]
+mod fakes;
 pub mod fault;
 pub mod fields;
 mod framing;
@@ -10,6 +12,8 @@ mod head;
 mod lines;
 mod reading;
 pub mod request;
+#[cfg(test)]
+mod run_tests;
 pub mod runs;
 pub mod sending;
 #[cfg(test)]

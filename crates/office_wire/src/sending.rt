@@ -12,6 +12,7 @@ pub struct WriteFault;
 
 impl From<WriteFault> for RunFault {
     ghost use Rattle.office_wire.specs.declared.fault.RunFault.TheVariants.{Write};
+
     ghost from_gives = { λ _ e. e ≡ Write };
 
     fn from(_fault: WriteFault) -> RunFault {

@@ -52,10 +52,11 @@ returns-in_err-send-in-Ok-clause-ran g c h input e s holds =
     let read = c.in-Ok.ensures.request after at in
     let (busy, text, held) = c.answer-answer.ensures.step h (office_left A s inv.steps) inv.holds in
     let x : Step = record { busy = busy; block = record { moment = c.in-Some.moment; request = c.in-Ok.request } } in
-    let p = err_from_is_err_and c.from_residual-in_err-send-in-Ok.result c.from_residual-in_err-send-in-Ok.ensures.1 in
-    (inv.steps ++ x ∷ [],
-     rw (p.1, p.2) (ran_cut_reply A input inv.rest after read.rest _ s inv.steps x _ _ _ inv.answered line read.whole (rw (c.bytes.ensures, text) at c.in_err-send-in-Ok.ensures.err)),
-     subst (g.D.Responder.meaning.holds _) (sym (office_push A inv.steps s x)) held)
+    let p = err_from_is_err_and c.from_residual-in_err-send-in-Ok.result c.from_residual-in_err-send-in-Ok.ensures.1 in (
+      inv.steps ++ x ∷ [],
+      rw (p.1, p.2) (ran_cut_reply A input inv.rest after read.rest _ s inv.steps x _ _ _ inv.answered line read.whole (rw (c.bytes.ensures, text) at c.in_err-send-in-Ok.ensures.err)),
+      subst (g.D.Responder.meaning.holds _) (sym (office_push A inv.steps s x)) held,
+    )
 
 pub returns-in-Read-clause-ran : goal.returns-in-Read-clause-ran
 returns-in-Read-clause-ran g c h input e s holds =
