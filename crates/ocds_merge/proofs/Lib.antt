@@ -5,3 +5,5 @@ pub mod MergeLaw
 pub mod CodeLemmas
 pub mod StorableLaw
 pub mod DateLemmas
+pub mod Settled
+pub mod OrderLaw

@@ -15,7 +15,7 @@ use Rattle.ocds_merge.proofs.ItemLaw.{HaveIds, among, has, tied, among_self, amo
 abbrev pub list_of : ℕ → List Data → List Data
 list_of n s = merge_items (merge_within n) s
 
-named : (n : ℕ) (s : List Data) → HaveIds s → Below n s → Named (merge_item (merge_within n) s) (ids_in s)
+pub named : (n : ℕ) (s : List Data) → HaveIds s → Below n s → Named (merge_item (merge_within n) s) (ids_in s)
 named n s have low = named_all (merge_item (merge_within n) s) (ids_in s) (λ j e. ap (λ (o : Option (List ℕ)). unwrap_or o []) (picked n s have low j e).id)
 
 find_at : (n : ℕ) (i : List ℕ) (s : List Data) (b : Bool) → among i s ≡ b → HaveIds s → Below n s → cond b (Some (merge_item (merge_within n) s i)) None ≡ merge_within n (filter (has i) s)
@@ -71,11 +71,11 @@ items_law n steps (item d ds) s all low p have below =
 
 -- ---- what the columns of id lists owe
 
-onto_below : (n : ℕ) (ds : Items) (s : List Data) → items_depth ds < n → Below n s → Below n (items_ahead ds s)
+pub onto_below : (n : ℕ) (ds : Items) (s : List Data) → items_depth ds < n → Below n s → Below n (items_ahead ds s)
 onto_below n no_items s h g = g
 onto_below n (item d ds) s h g = onto_below n ds (d ∷ s) (omega (arith, le-max_right (depth d) (items_depth ds))) (omega (arith, le-max_left (depth d) (items_depth ds)), g)
 
-onto_have : (ds : Items) (s : List Data) → all_have_id ds ≡ true → HaveIds s → HaveIds (items_ahead ds s)
+pub onto_have : (ds : Items) (s : List Data) → all_have_id ds ≡ true → HaveIds s → HaveIds (items_ahead ds s)
 onto_have no_items s h g = g
 onto_have (item d ds) s h g = onto_have ds (d ∷ s) (and_right (is_some (text_id d)) (all_have_id ds) h) (and_left (is_some (text_id d)) (all_have_id ds) h, g)
 
@@ -93,7 +93,7 @@ lists_below n (object b ∷ vs) h = tt
 lists_below n (array ds ∷ vs) h =
     elim (is_id_list ds) as (λ b. Below n (items_in (cond b (ds ∷ id_list_run vs) []))) [ true ↦ onto_below n ds _ (omega arith) (lists_below n vs h.1) | false ↦ tt ]
 
-lists_have : (vs : List Data) → HaveIds (items_in (id_list_run vs))
+pub lists_have : (vs : List Data) → HaveIds (items_in (id_list_run vs))
 lists_have [] = tt
 lists_have (null ∷ vs) = tt
 lists_have (boolean b ∷ vs) = tt
@@ -128,7 +128,7 @@ merged_id_list n s j have low h =
 onto_among : (d : Data) (ds : Items) (s : List Data) → among (id_of d) (items_ahead ds (d ∷ s)) ≡ true
 onto_among d ds s = among_onto (id_of d) ds (d ∷ s) (among_self d s)
 
-list_is : (n : ℕ) (ds : Items) (s : List Data) → is_id_list ds ≡ true → HaveIds (items_ahead ds s) → Below n (items_ahead ds s) → is_id_list (items_of (list_of n (items_ahead ds s))) ≡ true
+pub list_is : (n : ℕ) (ds : Items) (s : List Data) → is_id_list ds ≡ true → HaveIds (items_ahead ds s) → Below n (items_ahead ds s) → is_id_list (items_of (list_of n (items_ahead ds s))) ≡ true
 list_is n no_items s e have low = absurd (true≢false (sym e))
 list_is n (item d ds) s e have low = merged_id_list n _ (id_of d) have low (onto_among d ds s)
 
@@ -186,7 +186,7 @@ law_at (suc n) (object ms) vs low p below =
 
 -- ---- more levels change nothing
 
-abbrev Agree : ℕ → (List Data → Option Data) → (List Data → Option Data) → Type 0
+abbrev pub Agree : ℕ → (List Data → Option Data) → (List Data → Option Data) → Type 0
 Agree n M N = (vs : List Data) → Below n vs → M vs ≡ N vs
 
 names_agree : (n : ℕ) (M N : List Data → Option Data) → Agree n M N → (run : List Members) → AllBelow n run → (ks : List (List ℕ)) → merge_names M run ks ≡ merge_names N run ks
@@ -213,7 +213,7 @@ zero_agrees : (m : ℕ) (vs : List Data) → Below 0 vs → merge_within 0 vs �
 zero_agrees m [] low = sym (empty_to m)
 zero_agrees m (v ∷ vs) low = absurd (omega (arith, low.0))
 
-agree : (n m : ℕ) → n ≤ m → Agree n (merge_within n) (merge_within m)
+pub agree : (n m : ℕ) → n ≤ m → Agree n (merge_within n) (merge_within m)
 agree zero m h vs low = zero_agrees m vs low
 agree (suc n) zero h vs low = absurd (omega arith)
 agree (suc n) (suc m) h vs low = level_agrees n (merge_within n) (merge_within m) (agree n m (omega arith)) vs low
@@ -222,7 +222,7 @@ below_more : (n m : ℕ) → n ≤ m → (vs : List Data) → Below n vs → Bel
 below_more n m h [] low = tt
 below_more n m h (v ∷ vs) low = (omega (arith, low.0), below_more n m h vs low.1)
 
-below_deepest : (vs : List Data) → Below (suc (deepest_of vs)) vs
+pub below_deepest : (vs : List Data) → Below (suc (deepest_of vs)) vs
 below_deepest [] = tt
 below_deepest (v ∷ vs) =
     (omega (arith, le-max_left (depth v) (deepest_of vs)), below_more (suc (deepest_of vs)) (suc (max (depth v) (deepest_of vs))) (omega (arith, le-max_right (depth v) (deepest_of vs))) vs (below_deepest vs))

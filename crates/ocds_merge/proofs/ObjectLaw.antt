@@ -102,7 +102,7 @@ at_any M none q run false e = sym (ap M (no_column q run e) ∙ none)
 pub get_objects : (M : List Data → Option Data) → M [] ≡ None → (run : List Members) (q : List ℕ) → get_member q (merge_objects M run) ≡ M (column_at q run)
 get_objects M none run q = get_names M run q (names_in run) ∙ at_any M none q run _ refl
 
-sorted_names : (M : List Data → Option Data) (run : List Members) (ks : List (List ℕ)) → IsSorted (merge_names M run ks)
+pub sorted_names : (M : List Data → Option Data) (run : List Members) (ks : List (List ℕ)) → IsSorted (merge_names M run ks)
 sorted_names M run [] = tt
 sorted_names M run (k ∷ ks) = sorted_put_some k (M (column_at k run)) (merge_names M run ks) (sorted_names M run ks)
 
