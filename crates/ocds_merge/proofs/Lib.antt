@@ -7,3 +7,4 @@ pub mod StorableLaw
 pub mod DateLemmas
 pub mod Settled
 pub mod OrderLaw
+pub mod KindLaw

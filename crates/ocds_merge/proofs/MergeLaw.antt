@@ -193,7 +193,7 @@ names_agree : (n : ℕ) (M N : List Data → Option Data) → Agree n M N → (r
 names_agree n M N a run low [] = refl
 names_agree n M N a run low (k ∷ ks) = rw (a (column_at k run) (column_below n k run low), names_agree n M N a run low ks)
 
-items_agree : (n : ℕ) (M N : List Data → Option Data) → Agree n M N → (s : List Data) → Below n s → (js : List (List ℕ)) → map (merge_item M s) js ≡ map (merge_item N s) js
+pub items_agree : (n : ℕ) (M N : List Data → Option Data) → Agree n M N → (s : List Data) → Below n s → (js : List (List ℕ)) → map (merge_item M s) js ≡ map (merge_item N s) js
 items_agree n M N a s low [] = refl
 items_agree n M N a s low (j ∷ js) = rw (a (filter (has j) s) (filter_below n j s low), items_agree n M N a s low js)
 

@@ -1,5 +1,5 @@
 -- A merge nests no deeper than its values, and has a float only where one of them has.
-use Rattle.std.proofs.Common.{◌≡◌, ◌<◌, ◌≤◌, ℕ, zero, suc, max, List, All, [], ◌∷◌, ◌++◌, map, filter, reverse, Bool, true, false, cond, ◌||◌, Option, Some, None, option_to_list, unwrap_or, Ordering, Less, Equal, Greater, refl, sym, subst, arith, true≢false, Result, Ok, Err, is_err, OnOk}
+use Rattle.std.proofs.Common.{◌≡◌, ◌<◌, ◌≤◌, ℕ, zero, suc, max, List, All, [], ◌∷◌, ◌++◌, map, filter, reverse, Bool, true, false, cond, ◌||◌, Option, Some, None, option_to_list, unwrap_or, Ordering, Less, Equal, Greater, refl, sym, subst, arith, codes}
 use Rattle.std.specs.Ordering.{match_ordering}
 use Rattle.std.proofs.lemmas.List.{reverse-append}
 use Rattle.std.proofs.Math.Nat.{le-max_left, le-max_right, max-le}
@@ -9,6 +9,7 @@ use Rattle.serde_json.specs.View.{items_of}
 use Rattle.serde_json.specs.Written.{has_float, items_have_float, members_have_float}
 use Rattle.ocds_merge.specs.Identified.{is_id_list}
 use Rattle.ocds_merge.specs.Merge.{object_run, id_list_run, column_at, items_ahead, items_in, ids_in, names_in, put_present, merge_names, merge_item, merge_items, merge_within, deepest_of, merge_of, merge_or_null}
+use Rattle.ocds_merge.specs.Compile.{without, body_of}
 use Rattle.ocds_merge.specs.Stored.{IsStorable}
 use Rattle.serde_json.specs.Read.{max_depth}
 use Rattle.ocds_merge.proofs.MemberLemmas.{bytes_cmp}
@@ -20,7 +21,7 @@ abbrev pub OptBelow : ℕ → Option Data → Type 0
 OptBelow n None = Unit {0}
 OptBelow n (Some d) = depth d < n
 
-max_lt : (a b n : ℕ) → a < n → b < n → max a b < n
+pub max_lt : (a b n : ℕ) → a < n → b < n → max a b < n
 max_lt a b zero p q = absurd (omega arith)
 max_lt a b (suc n) p q =
     let c : a ≤ n = omega arith in
@@ -220,3 +221,46 @@ merge_shallow vs h = let d : depth (merge_or_null vs) < 128 = or_null_below 128 
 
 pub merge_no_float : (vs : List Data) → All IsStorable vs → has_float (merge_or_null vs) ≡ false
 merge_no_float vs h = or_null_plain (merge_of vs) (merged_plain vs (storable_plain vs h))
+
+pub merge_storable : (vs : List Data) → All IsStorable vs → IsStorable (merge_or_null vs)
+merge_storable vs h = record { no_float = merge_no_float vs h; shallow = merge_shallow vs h }
+
+-- ---- a release without its head
+
+without_below_at : (o : Ordering) (n : ℕ) (l : List ℕ) (e : Data) (ms r : Members) → max (depth e) (members_depth ms) < n → members_depth r < n
+    → members_depth (match_ordering o (member l e r) ms (member l e r)) < n
+without_below_at Less n l e ms r h q = max_lt (depth e) (members_depth r) n (omega (arith, le-max_left (depth e) (members_depth ms))) q
+without_below_at Equal n l e ms r h q = omega (arith, le-max_right (depth e) (members_depth ms))
+without_below_at Greater n l e ms r h q = max_lt (depth e) (members_depth r) n (omega (arith, le-max_left (depth e) (members_depth ms))) q
+
+without_below : (n : ℕ) (k : List ℕ) (ms : Members) → members_depth ms < n → members_depth (without k ms) < n
+without_below n k no_members h = h
+without_below n k (member l e ms) h =
+    without_below_at (bytes_cmp k l) n l e ms (without k ms) h (without_below n k ms (omega (arith, le-max_right (depth e) (members_depth ms))))
+
+without_plain_at : (o : Ordering) (l : List ℕ) (e : Data) (ms r : Members) → (has_float e || members_have_float ms) ≡ false → members_have_float r ≡ false
+    → members_have_float (match_ordering o (member l e r) ms (member l e r)) ≡ false
+without_plain_at Less l e ms r h q = either _ _ (or_left _ (members_have_float ms) h) q
+without_plain_at Equal l e ms r h q = or_right (has_float e) _ h
+without_plain_at Greater l e ms r h q = either _ _ (or_left _ (members_have_float ms) h) q
+
+without_plain : (k : List ℕ) (ms : Members) → members_have_float ms ≡ false → members_have_float (without k ms) ≡ false
+without_plain k no_members h = h
+without_plain k (member l e ms) h = without_plain_at (bytes_cmp k l) l e ms (without k ms) h (without_plain k ms (or_right (has_float e) _ h))
+
+pub body_storable : (v : Data) → IsStorable v → IsStorable (body_of v)
+body_storable null h = h
+body_storable (boolean b) h = h
+body_storable (number b) h = h
+body_storable (string b) h = h
+body_storable (array b) h = h
+body_storable (object ms) h =
+    let untagged : Members = without (codes "tag") ms in
+    let undated : Members = without (codes "date") untagged in
+    let low : members_depth ms < 127 = (let s : depth (object ms) ≤ 127 = h.shallow in omega (arith, s)) in
+    let less : members_depth (without (codes "id") undated) < 127 =
+    without_below 127 (codes "id") undated (without_below 127 (codes "date") untagged (without_below 127 (codes "tag") ms low)) in
+    record {
+      no_float = without_plain (codes "id") undated (without_plain (codes "date") untagged (without_plain (codes "tag") ms h.no_float));
+      shallow = omega (arith, less);
+    }

@@ -6,6 +6,7 @@
 mod compiling;
 mod head;
 mod identified;
+mod laws;
 mod members;
 mod merging;
 mod release_order;
@@ -14,5 +15,8 @@ mod stored;
 
 pub use compiling::compile;
 pub use head::{with_compiled_head, without_head};
+pub use laws::{
+    dates_order_releases, last_value_decides, merge_carries_on, merge_stays_storable,
+};
 pub use merging::{NoMemory, merge_all, merge_into};
 pub use stored::{StoredFault, merge_from_text, merge_into_text, merge_to_text};
