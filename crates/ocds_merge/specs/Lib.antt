@@ -4,3 +4,4 @@ pub mod Compile
 pub mod Stored
 pub mod Step
 pub mod Laws
+pub mod Examples

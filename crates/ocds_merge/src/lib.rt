@@ -4,6 +4,7 @@
 #![tactic(auto)]
 
 mod compiling;
+mod examples;
 mod head;
 mod identified;
 mod laws;
@@ -14,6 +15,7 @@ mod step;
 mod stored;
 
 pub use compiling::compile;
+pub use examples::{worked_columns, worked_compilations, worked_merges};
 pub use head::{with_compiled_head, without_head};
 pub use laws::{
     dates_order_releases, last_value_decides, merge_carries_on, merge_stays_storable,

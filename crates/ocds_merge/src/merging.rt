@@ -3,6 +3,7 @@ ghost use Rattle.serde_json.specs.Data.{Data};
 ghost use Rattle.serde_json.specs.View.{view};
 ghost use Rattle.ocds_merge.specs.Merge.{merge_of, merge_or_null};
 ghost use Rattle.ocds_merge.specs.Step.{not_null};
+ghost use Rattle.ocds_merge.specs.Laws.{IsProper};
 
 use crate::step::merge_value;
 use serde_json::Value;
@@ -38,6 +39,8 @@ pub fn merge_into(alloc: Global, target: &mut Value, value: &Value) -> Result<()
     ensures merges { OnOk result ((vs : List Data) → view target.old ≡ merge_or_null vs
         → view target.new ≡ merge_or_null (vs ++ view value.now ∷ [])) }
     ensures err { OnErr result (target.new ≡ target.old) }
+    // Each `Value` is; the law of `merge_carries_on` asks for it.
+    ensures proper { OnOk result (IsProper (view value.now)) }
 {
     // All memory is taken on a copy, so that a refusal leaves the target alone.
     let before = present(target.clone()?);
