@@ -22,8 +22,7 @@ pub fn worked_columns()
         ≡ codes "{\"id\":\"A\",\"v\":1}" ∷ codes "{\"id\":\"B\"}" ∷ codes "{\"id\":\"A\"}" ∷ [] }
     ensures ids_by_first_appearance { id_texts (codes "[{\"id\":\"B\"},{\"id\":\"A\"}]" ∷ codes "[{\"id\":\"A\"},{\"id\":\"C\"}]" ∷ [])
         ≡ codes "B" ∷ codes "A" ∷ codes "C" ∷ [] }
-{
-}
+{}
 
 /// The merge of a column, from `specs/Merge.antt`.
 pub fn worked_merges()
@@ -41,8 +40,7 @@ pub fn worked_merges()
         ≡ codes "{\"a\":[{\"id\":\"y\"}]}" }
     ensures same_id_twice { merge_text (codes "[{\"id\":\"A\",\"v\":1,\"w\":1},{\"id\":\"B\"},{\"id\":\"A\",\"v\":2}]" ∷ [])
         ≡ codes "[{\"id\":\"A\",\"v\":2,\"w\":1},{\"id\":\"B\"}]" }
-{
-}
+{}
 
 /// The compiled release, from `specs/Compile.antt`.
 pub fn worked_compilations()
@@ -56,5 +54,4 @@ pub fn worked_compilations()
         (codes "{\"date\":\"2026-01-05T09:00:00Z\",\"id\":\"ocds-a1b2c3-N1-0001\",\"ocid\":\"ocds-a1b2c3-N1\",\"tag\":[\"tender\"],\"tender\":{\"eligibilityCriteria\":\"any\",\"id\":\"N1\"}}"
         ∷ codes "{\"date\":\"2026-01-06T09:00:00Z\",\"id\":\"ocds-a1b2c3-N1-0002\",\"ocid\":\"ocds-a1b2c3-N1\",\"tag\":[\"tenderUpdate\"],\"tender\":{\"eligibilityCriteria\":null}}" ∷ [])
         ≡ codes "{\"date\":\"2026-01-06T09:00:00Z\",\"id\":\"ocds-a1b2c3-N1-2026-01-06T09:00:00Z\",\"ocid\":\"ocds-a1b2c3-N1\",\"tag\":[\"compiled\"],\"tender\":{\"id\":\"N1\"}}" }
-{
-}
+{}

@@ -24,28 +24,24 @@ pub fn last_value_decides()
         → get name (merge_or_null (vs ++ object ms ∷ [])) ≡ merge_newest_first (column_at name (ms ∷ object_run (reverse vs))) }
     ensures id_lists_merge_by_id { (vs : List Data) (ds : Items) → is_id_list ds ≡ true
         → merge_of (vs ++ array ds ∷ []) ≡ Some (array (items_of (merge_items merge_newest_first (items_in (ds ∷ id_list_run (reverse vs)))))) }
-{
-}
+{}
 
 /// A merge can be carried on: the merge of some values and one more is the merge of two, of the former's merge and that one. So a tree that is kept
 /// and changed release by release is the merge of all of them.
 pub fn merge_carries_on()
     ensures alone { (vs : List Data) → merge_of (merge_or_null vs ∷ []) ≡ merge_of vs }
     ensures one_more { (vs : List Data) (v : Data) → IsProper v → merge_of (vs ++ v ∷ []) ≡ merge_of (merge_or_null vs ∷ v ∷ []) }
-{
-}
+{}
 
 /// What the order of the releases is, and that it leaves releases alone which are in order already.
 pub fn dates_order_releases()
     ensures ordered { (releases : List Data) → IsInDateOrder (date_order releases) }
     ensures same_dates_stay { (releases : List Data) (date : List ℕ) → filter (is_dated date) (date_order releases) ≡ filter (is_dated date) releases }
     ensures ordered_stays { (releases : List Data) → IsInDateOrder releases → date_order releases ≡ releases }
-{
-}
+{}
 
 /// Merging and taking the head off keep what a text needs to be read back: no float, and at most 127 levels.
 pub fn merge_stays_storable()
     ensures merge { (vs : List Data) → All IsStorable vs → IsStorable (merge_or_null vs) }
     ensures body { (release : Data) → IsStorable release → IsStorable (body_of release) }
-{
-}
+{}
