@@ -1,6 +1,17 @@
 #!/bin/sh
-# Runs the test `refused_memory_leaves_the_target` of `ocds_merge` with the Nth allocation refused, N counting up until the test meets no
-# refusal. A refusal inside `merge_into` must leave the target as it was: the test then passes. One outside it ends the test with
-# the allocator's error. Any other end is a fault.
+# Merges `{"p":null}` into `{"p":1,"q":2}` with the Nth allocation refused, N counting up until none is. Where `merge_into` was refused memory the target
+# must be what it was; where another step was, the program ends with that error. About half a minute for each N.
 set -eu
-cd "$(dirname "$0")/../../crates/ocds_merge"
+set -- refused.rt
+. "$(dirname "$0")/workspace.sh"
+refused=0
+for n in $(seq 1 200); do
+    said=$(rt try --fail-alloc "$n" 2> log || true)
+    case $said in
+        'merged: {"q":2}'*) echo "$n: $said"; [ "$refused" -gt 0 ]; echo "refused inside the merge: $refused times, the target as before"; exit 0 ;;
+        'refused: {"p":1,"q":2}'*) echo "$n: $said"; refused=$((refused + 1)) ;;
+        '') echo "$n: refused outside the merge" ;;
+        *) echo "$n: $said"; exit 1 ;;
+    esac
+done
+exit 1
