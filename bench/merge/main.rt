@@ -57,6 +57,20 @@ fn early_and_late(rt: &HostRuntime, releases: &[Value]) -> anyhow::Result<(u128,
     Ok(least)
 }
 
+/// The time of a hundred copies of the merge of the first 950 releases, the tree halfway through the late merges.
+fn copying(rt: &HostRuntime, releases: &[Value]) -> anyhow::Result<u128> {
+    let merge = merge_all(rt.alloc(), part(releases, 0, 950))?;
+    let mut least = u128::MAX;
+    for _ in 0..ROUNDS {
+        let start = Instant::now(rt)?;
+        for _ in 0..100 {
+            let _copy = merge.clone()?;
+        }
+        least = least.min(start.elapsed(rt)?.as_nanos());
+    }
+    Ok(least)
+}
+
 fn part(releases: &[Value], start: usize, end: usize) -> &[Value] {
     releases.get(start..end).unwrap_or(&[])
 }
@@ -76,6 +90,8 @@ fn main(rt: HostRuntime) -> anyhow::Result<()> {
     print_ratio(&rt, "same tree: the 1,000th merge to the 100th", late, early)?;
     let (early, late) = early_and_late(&rt, &amendments)?;
     print_ratio(&rt, "tree that grows 9.5 times: the 1,000th merge to the 100th", late, early)?;
+    let copied = copying(&rt, &amendments)?;
+    print_ratio(&rt, "tree that grows: copying it to the 1,000th merge", copied, late)?;
 
     let mut least = (u128::MAX, u128::MAX, u128::MAX, u128::MAX);
     for _ in 0..ROUNDS {
