@@ -1,4 +1,4 @@
--- The compiled release of a contracting process.
+-- The compiled release of a contracting process. `src/examples.rt` has the worked examples that are named below.
 use Rattle.std.specs.Prelude.{ℕ, ◌-◌, length, get_or, List, [], ◌∷◌, ◌++◌, map, codes, unwrap_or, option_and_then}
 use Rattle.std.specs.Ordering.{nat_cmp, match_ordering}
 use Rattle.std.specs.Cmp.Lexicographic.{slice_cmp}
@@ -17,7 +17,7 @@ abbrev pub insert_by_date : Data → List Data → List Data
 insert_by_date d [] = d ∷ []
 insert_by_date d (e ∷ es) = match_ordering (slice_cmp nat_cmp (date_of e) (date_of d)) (e ∷ insert_by_date d es) (d ∷ e ∷ es) (d ∷ e ∷ es)
 
--- "The releases in order of date, equal dates in list order": dates are compared by bytes.
+-- "The releases in order of date, equal dates in list order": dates are compared by bytes. Example: `order`.
 abbrev pub date_order : List Data → List Data
 date_order [] = []
 date_order (d ∷ ds) = insert_by_date d (date_order ds)
@@ -33,7 +33,7 @@ abbrev pub without : List ℕ → Members → Members
 without k no_members = no_members
 without k (member l e ms) = match_ordering (slice_cmp nat_cmp k l) (member l e (without k ms)) ms (member l e (without k ms))
 
--- "A release without its own `id`, `date` and `tag`."
+-- "A release without its own `id`, `date` and `tag`." Example: `body`.
 abbrev pub body_of : Data → Data
 body_of null = null
 body_of (boolean b) = boolean b
@@ -51,7 +51,7 @@ abbrev pub put_head : List ℕ → List ℕ → Members → Members
 put_head ocid date ms =
     put (codes "id") (string (ocid ++ 45 ∷ date)) (put (codes "date") (string date) (put (codes "tag") compiled_tag ms))
 
--- a merge with the head of a compiled release; what is no object has no head
+-- a merge with the head of a compiled release; what is no object has no head. Example: `head`.
 abbrev pub with_head : List ℕ → List ℕ → Data → Data
 with_head ocid date null = null
 with_head ocid date (boolean b) = boolean b
@@ -62,6 +62,6 @@ with_head ocid date (object ms) = object (put_head ocid date ms)
 
 -- ---- the whole
 
--- "The compiled release is the merge of the releases, in order of date, without their own heads, with the head of its own."
+-- "The compiled release is the merge of the releases, in order of date, without their own heads, with a head of its own." Example: `compiled`.
 abbrev pub compiled_release : List ℕ → List Data → Data
 compiled_release ocid rs = with_head ocid (last_date (date_order rs)) (merge_or_null (map body_of (date_order rs)))

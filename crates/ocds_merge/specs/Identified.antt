@@ -16,7 +16,7 @@ abbrev pub all_have_id : Items → Bool
 all_have_id no_items = true
 all_have_id (item d ds) = is_some (text_id d) && all_have_id ds
 
--- "An id list is a non-empty array of objects that each have a text `id`."
+-- "An id list is a non-empty array of objects that each have a text `id`." Examples: `id_list`, `empty_array_is_none`, `number_ids_make_none`.
 abbrev pub is_id_list : Items → Bool
 is_id_list no_items = false
 is_id_list (item d ds) = all_have_id (item d ds)

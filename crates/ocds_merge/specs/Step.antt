@@ -5,9 +5,8 @@ use Rattle.std.specs.Cmp.Lexicographic.{slice_cmp}
 use Rattle.serde_json.specs.Data.{Data, null, boolean, number, string, array, object, Items, no_items, item, Members, no_members, member}
 use Rattle.serde_json.specs.Find.{get_member}
 use Rattle.serde_json.specs.View.{items_of}
-use Rattle.std.specs.List.Sorted.{IsStrictlySortedBy}
 use Rattle.ocds_merge.specs.Identified.{id_of, is_id_list}
-use Rattle.ocds_merge.specs.Merge.{put_present, names_of}
+use Rattle.ocds_merge.specs.Merge.{put_present}
 use Rattle.ocds_merge.specs.Compile.{without, date_of}
 
 abbrev pub items_list : Items → List Data

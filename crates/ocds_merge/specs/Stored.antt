@@ -1,5 +1,5 @@
 -- A merge that is kept as text, and carried on from there.
-use Rattle.std.specs.Prelude.{ℕ, ◌≡◌, ◌≤◌, List, Some, false, All}
+use Rattle.std.specs.Prelude.{ℕ, ◌≡◌, ◌≤◌, List, Some, false}
 use Rattle.serde_json.specs.Data.{Data, depth}
 use Rattle.serde_json.specs.Read.{read, max_depth}
 use Rattle.serde_json.specs.Written.{compact_text, has_float}

@@ -12,10 +12,12 @@ use std::alloc::Global;
 
 /// The compiled release of a contracting process from its releases, in any order.
 ///
-/// It is meant for a list that isn't empty, of objects that each have a text `date`. What it answers elsewhere is stated too: a release without such
-/// a date counts as one with an empty date, and a merge that is no object gets no head.
+/// It is meant for a list that isn't empty, of objects that each have a text `date`. What it
+/// answers elsewhere is stated too: a release without such a date counts as one with an empty date,
+/// and a merge that is no object gets no head.
 pub fn compile(alloc: Global, ocid: &str, releases: &[Value]) -> Result<Value, NoMemory>
-    ensures { IfOk result (λ release. view release ≡ compiled_release ocid.now (map view releases.now)) }
+    ensures { IfOk result (λ release. view release
+        ≡ compiled_release ocid.now (map view releases.now)) }
 {
     let order = in_date_order(alloc, releases)?;
     let merge = merge_bodies(alloc, &order)?;
@@ -24,7 +26,8 @@ pub fn compile(alloc: Global, ocid: &str, releases: &[Value]) -> Result<Value, N
 
 // The merge of these releases without their heads.
 fn merge_bodies(alloc: Global, order: &[&Value]) -> Result<Value, NoMemory>
-    ensures { IfOk result (λ merge. view merge ≡ merge_or_null (map (λ r. body_of (view r.now)) order.now)) }
+    ensures { IfOk result (λ merge. view merge
+        ≡ merge_or_null (map (λ r. body_of (view r.now)) order.now)) }
 {
     let mut merge = None;
     for release in order {

@@ -8,7 +8,8 @@ use crate::merging::NoMemory;
 use serde_json::{Map, Value, json};
 use std::alloc::{AllocError, Global};
 
-/// The release without its own `id`, `date` and `tag`: what a compiled release takes from it. It takes no memory.
+/// The release without its own `id`, `date` and `tag`: what a compiled release takes from it. It
+/// takes no memory.
 pub fn without_head(release: Value) -> Value
     ensures { view result ≡ body_of (view release) }
 {
@@ -19,7 +20,8 @@ pub fn without_head(release: Value) -> Value
 }
 
 fn members_without_head(mut members: Map<String, Value>) -> Map<String, Value>
-    ensures { members_view result.entries ≡ without (codes "id") (without (codes "date") (without (codes "tag") (members_view members.entries))) }
+    ensures { members_view result.entries
+        ≡ without (codes "id") (without (codes "date") (without (codes "tag") (members_view members.entries))) }
 {
     let _tag = take_member(&mut members, "tag");
     let _date = take_member(&mut members, "date");
@@ -27,8 +29,9 @@ fn members_without_head(mut members: Map<String, Value>) -> Map<String, Value>
     members
 }
 
-/// The merge of releases without heads, with the head of the compiled release: `date` as given, `id` made of `ocid` and that date, and `tag`
-/// `["compiled"]`. A value that is no object has no head and stays as it is.
+/// The merge of releases without heads, with the head of the compiled release: `date` as given,
+/// `id` made of `ocid` and that date, and `tag` `["compiled"]`. A value that is no object has no
+/// head and stays as it is.
 pub fn with_compiled_head(
     alloc: Global,
     ocid: &str,
@@ -67,7 +70,8 @@ fn put_head(
     date: &str,
     mut members: Map<String, Value>,
 ) -> Result<Map<String, Value>, AllocError>
-    ensures { IfOk result (λ m. members_view m.entries ≡ with_members_of_head ocid.now date.now (members_view members.entries)) }
+    ensures { IfOk result (λ m. members_view m.entries
+        ≡ with_members_of_head ocid.now date.now (members_view members.entries)) }
 {
     let tag = compiled_tag(alloc)?;
     let id = id_value(alloc, ocid, date)?;

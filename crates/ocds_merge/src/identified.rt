@@ -40,7 +40,8 @@ pub(crate) fn is_id_list(items: &[Value]) -> bool
 /// The place of the first item with this id.
 pub(crate) fn place_of(items: &[Value], id: &str) -> Option<usize>
     ensures { MatchOption result (Lacks id.now (map view items.now))
-        (λ p. (p < length items.now) × Lacks id.now (take p (map view items.now)) × (bytes_eq (id_named (get_or (map view items.now) p null)) id.now ≡ true)) }
+        (λ p. (p < length items.now) × Lacks id.now (take p (map view items.now))
+        × (bytes_eq (id_named (get_or (map view items.now) p null)) id.now ≡ true)) }
 {
     for (place, item) in items.iter().enumerate() {
         if id_of(item) == id {

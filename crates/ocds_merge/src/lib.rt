@@ -1,6 +1,7 @@
 //! The merge of OCDS releases: from the releases of a contracting process to its compiled release.
 //!
-//! The rule is this project's profile of the merge of OCDS 1.1. `specs/Merge.antt` and `specs/Compile.antt` state it; values hold no floats.
+//! The rule is this project's profile of the merge of OCDS 1.1. `specs/Merge.antt` and
+//! `specs/Compile.antt` state it; values hold no floats.
 #![tactic(auto)]
 
 mod compiling;

@@ -10,7 +10,8 @@ use std::alloc::{AllocError, Global};
 /// Takes out the member with this name.
 pub(crate) fn take_member(target: &mut Map<String, Value>, name: &str) -> Option<Value>
     ensures found { option_map view result ≡ get_member name.now (members_view target.old.entries) }
-    ensures left { members_view target.new.entries ≡ without name.now (members_view target.old.entries) }
+    ensures left { members_view target.new.entries
+        ≡ without name.now (members_view target.old.entries) }
 {
     target.remove(name)
 }
@@ -22,7 +23,8 @@ pub(crate) fn put_present(
     name: &str,
     value: Option<Value>,
 ) -> Result<(), AllocError>
-    ensures { OnOk result (members_view target.new.entries ≡ with_present name.now (option_map view value) (members_view target.old.entries)) }
+    ensures { OnOk result (members_view target.new.entries
+        ≡ with_present name.now (option_map view value) (members_view target.old.entries)) }
 {
     if let Some(value) = value {
         serde_json::put(target, alloc, name, value)?;

@@ -20,7 +20,8 @@ impl From<AllocError> for NoMemory {
     }
 }
 
-/// The merge of the values that the releases, oldest first, give for one place; `Null` where they leave it absent.
+/// The merge of the values that the releases, oldest first, give for one place; `Null` where they
+/// leave it absent.
 pub fn merge_all(alloc: Global, values: &[Value]) -> Result<Value, NoMemory>
     ensures { IfOk result (λ merge. view merge ≡ merge_or_null (map view values.now)) }
 {
@@ -33,8 +34,9 @@ pub fn merge_all(alloc: Global, values: &[Value]) -> Result<Value, NoMemory>
 
 /// The merge of some values becomes the merge of these and one more.
 ///
-/// A `Null` target is the merge of no values. Where the target is no merge of any values the call returns as well, and what it leaves is not stated.
-/// It takes time and memory in proportion to the target and the value together, however many values the target is the merge of.
+/// A `Null` target is the merge of no values. Where the target is no merge of any values the call
+/// returns as well, and what it leaves is not stated. It works on a copy of the target, so its time
+/// and memory grow with the target and the value, and not with how many values were merged before.
 pub fn merge_into(alloc: Global, target: &mut Value, value: &Value) -> Result<(), NoMemory>
     ensures merges { OnOk result ((vs : List Data) → view target.old ≡ merge_or_null vs
         → view target.new ≡ merge_or_null (vs ++ view value.now ∷ [])) }

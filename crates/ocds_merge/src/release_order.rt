@@ -36,7 +36,9 @@ pub(crate) fn last_date<'a>(order: &[&'a Value]) -> &'a str
 fn place_for(order: &[&Value], date: &str) -> usize
     ensures within { result ≤ length order.now }
     ensures before { AreEarlier date.now (take result (map (λ r. view r.now) order.now)) }
-    ensures after { result < length order.now → is_lt (slice_cmp nat_cmp (date_in (get_or (map (λ r. view r.now) order.now) result null)) date.now) ≡ false }
+    ensures after { result < length order.now
+        → is_lt (slice_cmp nat_cmp (date_in (get_or (map (λ r. view r.now) order.now) result null)) date.now)
+        ≡ false }
 {
     for (place, release) in order.iter().enumerate() {
         let earlier = date_of(release) < date;
@@ -49,12 +51,14 @@ fn place_for(order: &[&Value], date: &str) -> usize
 
 /// The releases in order of their dates, equal dates in list order.
 ///
-/// They go in from the last to the first, so that releases which are in order already take one comparison each.
+/// They go in from the last to the first, so that releases which are in order already take one
+/// comparison each.
 pub(crate) fn in_date_order<'a>(
     alloc: Global,
     releases: &'a [Value],
 ) -> Result<Vec<&'a Value>, AllocError>
-    ensures { IfOk result (λ order. map (λ r. view r.now) order.items ≡ date_order (map view releases.now)) }
+    ensures { IfOk result (λ order. map (λ r. view r.now) order.items
+        ≡ date_order (map view releases.now)) }
 {
     let mut order = Vec::new(alloc);
     let mut left = releases.len();

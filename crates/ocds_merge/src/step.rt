@@ -42,14 +42,16 @@ fn id_list_of(alloc: Global, value: Option<Value>) -> Vec<Value>
     }
 }
 
-/// The merge of some values and one more; `target` is the merge of the former, `None` where it is absent.
+/// The merge of some values and one more; `target` is the merge of the former, `None` where it is
+/// absent.
 #[cycle(merging)]
 pub(crate) fn merge_value(
     alloc: Global,
     value: &Value,
     target: Option<Value>,
 ) -> Result<Option<Value>, AllocError>
-    ensures step { IfOk result (λ o. option_map view o ≡ step_of (option_map view target) (view value.now)) }
+    ensures step { IfOk result (λ o. option_map view o
+        ≡ step_of (option_map view target) (view value.now)) }
     ensures proper { OnOk result (IsProper (view value.now)) }
 {
     match value {
@@ -76,7 +78,8 @@ fn merge_items(
     items: &Vec<Value>,
     mut target: Vec<Value>,
 ) -> Result<Vec<Value>, AllocError>
-    ensures step { IfOk result (λ v. map view v.items ≡ step_items (map view target.items) (items_view items.now.items)) }
+    ensures step { IfOk result (λ v. map view v.items
+        ≡ step_items (map view target.items) (items_view items.now.items)) }
     ensures proper { OnOk result (AreItemsProper (items_view items.now.items)) }
 {
     for item in items {
@@ -101,7 +104,8 @@ fn merge_members(
     members: &Map<String, Value>,
     mut target: Map<String, Value>,
 ) -> Result<Map<String, Value>, AllocError>
-    ensures step { IfOk result (λ m. members_view m.entries ≡ step_members (members_view target.entries) (members_view members.now.entries)) }
+    ensures step { IfOk result (λ m. members_view m.entries
+        ≡ step_members (members_view target.entries) (members_view members.now.entries)) }
     ensures proper { OnOk result (IsProper (object (members_view members.now.entries))) }
 {
     for (key, member) in members.iter() {

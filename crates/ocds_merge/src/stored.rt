@@ -28,18 +28,21 @@ impl From<NoMemory> for StoredFault {
     }
 }
 
-/// The compact text of a merge, from which `merge_from_text` gives that merge again. `Null`, the merge of no values, is the text `null`.
+/// The compact text of a merge, from which `merge_from_text` gives that merge again. `Null`, the
+/// merge of no values, is the text `null`.
 pub fn merge_to_text(alloc: Global, merge: &Value) -> Result<String, NoMemory>
-    ensures keeps { IfOk result (λ text. (vs : List Data) → view merge.now ≡ merge_or_null vs → All IsStorable vs
-        → KeepsMerge (string_bytes text) vs) }
+    ensures keeps { IfOk result (λ text. (vs : List Data) → view merge.now ≡ merge_or_null vs
+        → All IsStorable vs → KeepsMerge (string_bytes text) vs) }
 {
     Ok(merge.to_string(alloc)?)
 }
 
-/// The merge that a stored text keeps. `Unreadable` comes only where the text is no JSON, or nests deeper than 127 levels.
+/// The merge that a stored text keeps. `Unreadable` comes only where the text is no JSON, or nests
+/// deeper than 127 levels.
 pub fn merge_from_text(alloc: Global, stored: &str) -> Result<Value, StoredFault>
     ensures reads { IfOk result (λ merge. read stored.now ≡ Some (view merge)) }
-    ensures memory { IfErr result (λ fault. (merge : Data) → read stored.now ≡ Some merge → fault ≡ StoredFault.NoMemory) }
+    ensures memory { IfErr result (λ fault. (merge : Data) → read stored.now ≡ Some merge
+        → fault ≡ StoredFault.NoMemory) }
 {
     match Value::from_str(alloc, stored) {
         Ok(merge) => Ok(merge),
@@ -53,9 +56,11 @@ pub fn merge_from_text(alloc: Global, stored: &str) -> Result<Value, StoredFault
 
 /// The text that keeps the merge of some values, after one value more.
 pub fn merge_into_text(alloc: Global, stored: &str, value: &Value) -> Result<String, StoredFault>
-    ensures keeps { IfOk result (λ text. (vs : List Data) → KeepsMerge stored.now vs → All IsStorable (vs ++ view value.now ∷ [])
+    ensures keeps { IfOk result (λ text. (vs : List Data) → KeepsMerge stored.now vs
+        → All IsStorable (vs ++ view value.now ∷ [])
         → KeepsMerge (string_bytes text) (vs ++ view value.now ∷ [])) }
-    ensures memory { IfErr result (λ fault. (vs : List Data) → KeepsMerge stored.now vs → fault ≡ StoredFault.NoMemory) }
+    ensures memory { IfErr result (λ fault. (vs : List Data) → KeepsMerge stored.now vs
+        → fault ≡ StoredFault.NoMemory) }
 {
     let mut merge = merge_from_text(alloc, stored)?;
     merge_into(alloc, &mut merge, value)?;

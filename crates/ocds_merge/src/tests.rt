@@ -146,7 +146,8 @@ fn reads_stored_merges(rt: HostRuntime) -> Result<(), Fail> {
     Ok(())
 }
 
-// `rt try --test --fail-alloc N` refuses the Nth allocation; `bench/merge/refused.sh` does so for each.
+// `rt try --test --fail-alloc N` refuses the Nth allocation; `bench/merge/refused.sh` does so for
+// each.
 #[test]
 fn refused_memory_leaves_the_target(rt: HostRuntime) -> Result<(), Fail> {
     let alloc = rt.alloc();
