@@ -1,5 +1,5 @@
 # Read by the scripts beside it: makes a workspace with `ocds_merge` and the program crate of $1, and stands in that program's folder. The programs
-# are no crates of the repository, so that its gate doesn't prove and run them.
+# are no crates of the repository, so that its gate does not prove and run them; they end in `.in`, since the gate refuses a `.rt` file of no crate.
 here=$(cd "$(dirname "$0")" && pwd)
 root=$(cd "$here/../.." && pwd)
 work=$(mktemp -d)
