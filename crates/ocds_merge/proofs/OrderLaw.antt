@@ -1,10 +1,11 @@
 -- The order of the releases: no later date before an earlier one, and releases of one date as they were.
-use Rattle.std.proofs.Common.{◌≡◌, ℕ, List, [], ◌∷◌, filter, Bool, true, false, cond, Ordering, Less, Equal, Greater, refl, sym, ap, ◌∙◌, true≢false}
+use Rattle.std.proofs.Common.{◌≡◌, ℕ, List, [], ◌∷◌, filter, map, Bool, true, false, cond, Ordering, Less, Equal, Greater, refl, sym, ap, ◌∙◌, true≢false}
 use Rattle.std.specs.Ordering.{match_ordering, is_lt, ordering_reverse}
 use Rattle.std.proofs.lemmas.Slice.Eq.{bytes_eq-Decides}
 use Rattle.std.proofs.lemmas.Cmp.{nat_list_cmp_total, tied_itself}
 use Rattle.serde_json.specs.Data.{Data}
-use Rattle.ocds_merge.specs.Compile.{date_of, insert_by_date, date_order}
+use Rattle.ocds_merge.specs.Merge.{merge_or_null}
+use Rattle.ocds_merge.specs.Compile.{date_of, insert_by_date, date_order, last_date, body_of, with_head, compiled_release}
 use Rattle.ocds_merge.specs.Laws.{IsInDateOrder, is_dated}
 use Rattle.ocds_merge.proofs.MemberLemmas.{bytes_cmp}
 
@@ -29,6 +30,9 @@ tail_ordered d (e ∷ es) h = h.1
 pub order_stays : (ds : List Data) → IsInDateOrder ds → date_order ds ≡ ds
 order_stays [] h = refl
 order_stays (d ∷ ds) h = ap (insert_by_date d) (order_stays ds (tail_ordered d ds h)) ∙ head_stays d ds h
+
+pub kept_tree_compiles : (ocid : List ℕ) (ds : List Data) → IsInDateOrder ds → compiled_release ocid ds ≡ with_head ocid (last_date ds) (merge_or_null (map body_of ds))
+kept_tree_compiles ocid ds h = ap (λ (xs : List Data). with_head ocid (last_date xs) (merge_or_null (map body_of xs))) (order_stays ds h)
 
 -- ---- what goes in stays in order
 

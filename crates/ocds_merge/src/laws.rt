@@ -1,13 +1,13 @@
 //! Laws of the definitions in `specs/`, for the crates above: each function does nothing, and its
 //! contract is the law.
 
-ghost use Rattle.std.specs.Prelude.{◌≡◌, ℕ, List, [], ◌∷◌, ◌++◌, filter, reverse, Bool, true, false, None, Some, All};
+ghost use Rattle.std.specs.Prelude.{◌≡◌, ℕ, List, [], ◌∷◌, ◌++◌, filter, map, reverse, Bool, true, false, None, Some, All};
 ghost use Rattle.serde_json.specs.Data.{Data, Num, Items, Members, null, boolean, number, string, array, object};
 ghost use Rattle.serde_json.specs.Find.{get};
 ghost use Rattle.serde_json.specs.View.{items_of};
 ghost use Rattle.ocds_merge.specs.Identified.{is_id_list};
 ghost use Rattle.ocds_merge.specs.Merge.{merge_of, merge_or_null, merge_newest_first, column_at, object_run, id_list_run, items_in, merge_items};
-ghost use Rattle.ocds_merge.specs.Compile.{body_of, date_order};
+ghost use Rattle.ocds_merge.specs.Compile.{body_of, date_order, last_date, with_head, compiled_release};
 ghost use Rattle.ocds_merge.specs.Stored.{IsStorable};
 ghost use Rattle.ocds_merge.specs.Laws.{IsProper, IsInDateOrder, is_dated};
 
@@ -44,13 +44,18 @@ pub fn merge_carries_on()
         → merge_of (vs ++ v ∷ []) ≡ merge_of (merge_or_null vs ∷ v ∷ []) }
 {}
 
-/// What the order of the releases is, and that it leaves releases alone which are in order already.
+/// What the order of the releases is, and that it leaves releases alone which are in order already:
+/// of these the compiled release is the merge of their bodies, perhaps one that was kept and carried
+/// on, with its head.
 pub fn dates_order_releases()
     ensures ordered { (releases : List Data) → IsInDateOrder (date_order releases) }
     ensures same_dates_stay { (releases : List Data) (date : List ℕ)
         → filter (is_dated date) (date_order releases) ≡ filter (is_dated date) releases }
     ensures ordered_stays { (releases : List Data) → IsInDateOrder releases
         → date_order releases ≡ releases }
+    ensures kept_tree_compiles { (ocid : List ℕ) (releases : List Data) → IsInDateOrder releases
+        → compiled_release ocid releases
+        ≡ with_head ocid (last_date releases) (merge_or_null (map body_of releases)) }
 {}
 
 /// Merging and taking the head off keep what a text needs to be read back: no float, and at most

@@ -6,7 +6,7 @@ use serde_json::Value;
 use std::alloc::Global;
 use std::test::Fail;
 
-const BUYER: &str = r#"{"p":[{"id":"A","roles":["tenderer"]}]}"#;
+const TENDERER: &str = r#"{"p":[{"id":"A","roles":["tenderer"]}]}"#;
 
 const NO_PARTIES: &str = r#"{"p":null}"#;
 
@@ -19,11 +19,11 @@ const MERGES: [(&[&str], &str); 13] = [
     (&[], "null"),
     (&[r#"{"a":null}"#], "{}"),
     (
-        &[BUYER, OTHER, SUPPLIER],
+        &[TENDERER, OTHER, SUPPLIER],
         r#"{"p":[{"id":"A","roles":["tenderer","supplier"]},{"id":"B"}]}"#,
     ),
     (
-        &[BUYER, NO_PARTIES, OTHER, SUPPLIER],
+        &[TENDERER, NO_PARTIES, OTHER, SUPPLIER],
         r#"{"p":[{"id":"B"},{"id":"A","roles":["tenderer","supplier"]}]}"#,
     ),
     (
