@@ -1,0 +1,10 @@
+pub mod MemberLemmas
+pub mod ObjectLaw
+pub mod ItemLaw
+pub mod MergeLaw
+pub mod CodeLemmas
+pub mod StorableLaw
+pub mod DateLemmas
+pub mod Settled
+pub mod OrderLaw
+pub mod KindLaw

@@ -1,0 +1,7 @@
+use Rattle.std.proofs.Common.{◌≡◌, drop}
+use Rattle.serde_json.specs.View.{items_view}
+use Rattle.ocds_merge.specs.Identified.{all_have_id}
+use Rattle.ocds_merge.proofs.identified.is_id_list.Given as goal
+
+abbrev pub invariant-loop-item : goal.invariant-loop-item
+invariant-loop-item l = all_have_id (items_view (drop l.item-index l.items)) ≡ all_have_id (items_view l.items)

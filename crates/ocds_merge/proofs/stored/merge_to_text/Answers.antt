@@ -1,0 +1,18 @@
+use Rattle.std.proofs.Common.{◌≡◌, ◌≤◌, ◌∙◌, Some, false, sym, ap, subst}
+use Rattle.serde_json.specs.Data.{Data, depth}
+use Rattle.serde_json.specs.Read.{max_depth}
+use Rattle.serde_json.specs.Written.{compact_text, has_float}
+use Rattle.serde_json.specs.View.{view}
+use Rattle.ocds_merge.proofs.StorableLaw.{merge_shallow, merge_no_float}
+use Rattle.ocds_merge.proofs.stored.merge_to_text.Goals as goal
+
+pub returns : goal.returns
+returns c = record {
+  keeps = λ vs is storable.
+      let plain : has_float (view c.args.merge.now) ≡ false = ap has_float is ∙ merge_no_float vs storable in
+      let shallow : depth (view c.args.merge.now) ≤ max_depth = subst (λ (d : Data). depth d ≤ max_depth) (sym is) (merge_shallow vs storable) in
+      record {
+        is = c.in_ok-to_string.ensures.text plain ∙ ap compact_text is;
+        reads = c.in_ok-to_string.ensures.reads_back shallow ∙ ap Some is;
+      };
+}

@@ -1,0 +1,38 @@
+ghost use Rattle.std.specs.Prelude.{◌≡◌, map, IfOk};
+ghost use Rattle.serde_json.specs.View.{view};
+ghost use Rattle.ocds_merge.specs.Merge.{merge_or_null};
+ghost use Rattle.ocds_merge.specs.Compile.{body_of, compiled_release};
+
+use crate::head::{with_compiled_head, without_head};
+use crate::merging::NoMemory;
+use crate::release_order::{in_date_order, last_date};
+use crate::step::merge_value;
+use serde_json::Value;
+use std::alloc::Global;
+
+/// The compiled release of a contracting process from its releases, in any order.
+///
+/// It is meant for a list that isn't empty, of objects that each have a text `date`. What it
+/// answers elsewhere is stated too: a release without such a date counts as one with an empty date,
+/// and a merge that is no object gets no head.
+pub fn compile(alloc: Global, ocid: &str, releases: &[Value]) -> Result<Value, NoMemory>
+    ensures { IfOk result (λ release. view release
+        ≡ compiled_release ocid.now (map view releases.now)) }
+{
+    let order = in_date_order(alloc, releases)?;
+    let merge = merge_bodies(alloc, &order)?;
+    with_compiled_head(alloc, ocid, last_date(&order), merge)
+}
+
+// The merge of these releases without their heads.
+fn merge_bodies(alloc: Global, order: &[&Value]) -> Result<Value, NoMemory>
+    ensures { IfOk result (λ merge. view merge
+        ≡ merge_or_null (map (λ r. body_of (view r.now)) order.now)) }
+{
+    let mut merge = None;
+    for release in order {
+        let body = without_head((*release).clone()?);
+        merge = merge_value(alloc, &body, merge)?;
+    }
+    Ok(merge.unwrap_or(Value::Null))
+}

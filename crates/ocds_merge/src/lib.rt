@@ -1,0 +1,25 @@
+//! The merge of OCDS releases: from the releases of a contracting process to its compiled release.
+//!
+//! The rule is this project's profile of the merge of OCDS 1.1. `specs/Merge.antt` and
+//! `specs/Compile.antt` state it; values hold no floats.
+#![tactic(auto)]
+
+mod compiling;
+mod examples;
+mod head;
+mod identified;
+mod laws;
+mod members;
+mod merging;
+mod release_order;
+mod step;
+mod stored;
+#[cfg(test)]
+mod tests;
+
+pub use compiling::compile;
+pub use examples::{worked_columns, worked_compilations, worked_merges};
+pub use head::{with_compiled_head, without_head};
+pub use laws::{dates_order_releases, last_value_decides, merge_carries_on, merge_stays_storable};
+pub use merging::{NoMemory, merge_all, merge_into};
+pub use stored::{StoredFault, merge_from_text, merge_into_text, merge_to_text};

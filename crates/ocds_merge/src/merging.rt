@@ -1,0 +1,62 @@
+ghost use Rattle.std.specs.Prelude.{◌≡◌, List, [], ◌∷◌, ◌++◌, map, option_map, IfOk, OnOk, OnErr};
+ghost use Rattle.serde_json.specs.Data.{Data};
+ghost use Rattle.serde_json.specs.View.{view};
+ghost use Rattle.ocds_merge.specs.Merge.{merge_of, merge_or_null};
+ghost use Rattle.ocds_merge.specs.Step.{not_null};
+ghost use Rattle.ocds_merge.specs.Laws.{IsProper};
+
+use crate::step::merge_value;
+use serde_json::Value;
+use std::alloc::{AllocError, Global};
+
+/// No memory was to be had; nothing was changed.
+#[derive(Clone, Copy, Debug, PartialEq, Eq, thiserror::Error)]
+#[error("no memory")]
+pub struct NoMemory;
+
+impl From<AllocError> for NoMemory {
+    fn from(_error: AllocError) -> NoMemory {
+        NoMemory
+    }
+}
+
+/// The merge of the values that the releases, oldest first, give for one place; `Null` where they
+/// leave it absent.
+pub fn merge_all(alloc: Global, values: &[Value]) -> Result<Value, NoMemory>
+    ensures { IfOk result (λ merge. view merge ≡ merge_or_null (map view values.now)) }
+{
+    let mut merge = None;
+    for value in values {
+        merge = merge_value(alloc, value, merge)?;
+    }
+    Ok(merge.unwrap_or(Value::Null))
+}
+
+/// The merge of some values becomes the merge of these and one more.
+///
+/// A `Null` target is the merge of no values. Where the target is no merge of any values the call
+/// returns as well, and what it leaves is not stated. It works on a copy of the target, so its time
+/// and memory grow with the target and the value, and not with how many values were merged before.
+pub fn merge_into(alloc: Global, target: &mut Value, value: &Value) -> Result<(), NoMemory>
+    ensures merges { OnOk result ((vs : List Data) → view target.old ≡ merge_or_null vs
+        → view target.new ≡ merge_or_null (vs ++ view value.now ∷ [])) }
+    ensures err { OnErr result (target.new ≡ target.old) }
+    // Each `Value` is; the law of `merge_carries_on` asks for it.
+    ensures proper { OnOk result (IsProper (view value.now)) }
+{
+    // All memory is taken on a copy, so that a refusal leaves the target alone.
+    let before = present(target.clone()?);
+    let after = merge_value(alloc, value, before)?;
+    *target = after.unwrap_or(Value::Null);
+    Ok(())
+}
+
+// `Null` stands for absent.
+fn present(value: Value) -> Option<Value>
+    ensures { option_map view result ≡ not_null (view value) }
+{
+    match value {
+        Value::Null => None,
+        other => Some(other),
+    }
+}
