@@ -4,7 +4,7 @@ use Rattle.std.specs.List.{list_all}
 use Rattle.std.specs.Option.{option_map_or}
 use Rattle.std.specs.Result.{result_ok}
 use Rattle.std.specs.Str.{is_utf8}
-use Rattle.toml.specs.Data.{Data, Items, no_items, item, Members, no_members, as_str, as_array, as_table, get_member}
+use Rattle.toml.specs.Data.{Items, no_items, item, Members, no_members, as_str, as_array, as_table, get_member}
 use Rattle.toml.specs.Parse.{parse_document}
 use Rattle.hex.specs.Hex.{decode_sized}
 use Rattle.office_values.specs.Ids.{is_id_byte}

@@ -1,5 +1,5 @@
 -- How a program's faults are told.
-use Rattle.std.specs.Prelude.{codes, ◌≡◌, ℕ, List, ◌++◌, Option, Some, None}
+use Rattle.std.specs.Prelude.{codes, ◌≡◌, ◌≢◌, ℕ, List, ◌++◌, Option, Some, None}
 use Rattle.clap.specs.Words.{kind_of}
 use Rattle.clap.specs.declared.error.Error.{Error}
 use Rattle.clap.specs.declared.error.kind.ErrorKind.TheVariants.{OutOfMemory}
@@ -36,8 +36,8 @@ of_settings NoMemory = no_memory
 of_settings NotToml = Settings None
 of_settings (Member member) = Settings (Some member)
 
--- the fault of a program whose words clap refused
+-- the fault of a program whose words clap refused, or had no memory to read
 abbrev pub IsOfParse : Error → ProgramFault → Type 0
-IsOfParse error (Arguments told) = told ≡ error
+IsOfParse error (Arguments told) = (told ≡ error) × (kind_of error ≢ OutOfMemory)
 IsOfParse error (Refused refusal) = (kind_of error ≡ OutOfMemory) × (refusal ≡ Unavailable)
 IsOfParse error _ = ⊥

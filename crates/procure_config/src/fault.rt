@@ -2,8 +2,8 @@
 ghost use Rattle.std.specs.Prelude.{◌≡◌};
 ghost use Rattle.procure_config.specs.Faults as spec;
 
-use clap::error::ErrorKind;
 use crate::settings::{SettingName, SettingsFault};
+use clap::error::ErrorKind;
 use office_values::refusal::Refusal;
 use std::alloc::AllocError;
 use std::fmt;
@@ -96,5 +96,50 @@ pub fn exit_code(fault: &ProgramFault) -> u8
     match fault {
         ProgramFault::Arguments(_) => 2,
         _ => 1,
+    }
+}
+
+#[cfg(test)]
+mod tests {
+    use super::*;
+    use std::test::Fail;
+
+    #[test]
+    fn tells_each_fault(rt: HostRuntime) -> Result<(), Fail> {
+        let faults = [
+            (ProgramFault::Settings(None), "procure: settings"),
+            (
+                ProgramFault::Settings(Some(SettingName::BuyerId)),
+                "procure: settings buyer.id",
+            ),
+            (ProgramFault::Store, "procure: store"),
+            (ProgramFault::Input, "procure: input"),
+            (ProgramFault::Output, "procure: output"),
+            (
+                ProgramFault::Refused(Refusal::NotOpened),
+                "procure: NotOpened",
+            ),
+        ];
+        for (fault, line) in faults {
+            assert_eq!(rt; format!(in rt.alloc(); "{fault}")?.as_str(), line);
+            assert_eq!(rt; exit_code(&fault), 1);
+        }
+        Ok(())
+    }
+
+    #[test]
+    fn tells_the_settings_faults(rt: HostRuntime) -> Result<(), Fail> {
+        for (fault, line) in [
+            (
+                SettingsFault::Member(SettingName::ClerkKey),
+                "procure: settings clerk_key",
+            ),
+            (SettingsFault::NotToml, "procure: settings"),
+            (SettingsFault::NoMemory, "procure: Unavailable"),
+        ] {
+            let told = ProgramFault::from(fault);
+            assert_eq!(rt; format!(in rt.alloc(); "{told}")?.as_str(), line);
+        }
+        Ok(())
     }
 }
