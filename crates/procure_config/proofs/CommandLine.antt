@@ -1,0 +1,63 @@
+-- From clap's words on a command line to the program's own.
+use Rattle.std.proofs.Common.{◌≡◌, true, List, [], Option, Some, None, option_map, refl, sym, ap, ◌∙◌}
+use Rattle.std.specs.Prelude.{Box}
+use Rattle.std.specs.Box.{box_value}
+use Rattle.std.specs.Prelude.{Result, Ok, Err, IfErr, IsSome}
+use Rattle.std.specs.Result.{IsErrAnd}
+use Rattle.clap.specs.declared.error.Error.{Error}
+use Rattle.clap.specs.declared.error.kind.ErrorKind.TheVariants.{OutOfMemory}
+use Rattle.procure_config.specs.declared.fault.ProgramFault.{ProgramFault}
+use Rattle.procure_config.specs.declared.fault.ProgramFault.TheVariants.{Arguments, Settings, Store, Input, Output, Refused}
+use Rattle.procure_config.specs.Faults.{IsOfParse, no_memory}
+use Rattle.clap.specs.Words.{App, kind_of, Row, Text, is_simple, is_simple_and_free, fault_of, HasMatchesOf, subcommand_of, subcommand_name_of, subcommand_rows, subcommand_rows_of, takes}
+use Rattle.clap.specs.declared.parser.matches.ArgMatches.{ArgMatches}
+use Rattle.clap.specs.declared.parser.matches.SubCommand.{SubCommand}
+use Rattle.clap.specs.declared.parser.matches.ArgMatches.TheViews.{out-ArgMatches, out-SubCommand}
+use Rattle.clap.proofs.OnLiterals.{clap_on_literals}
+use Rattle.procure_config.specs.Jobs.{procure}
+
+pub procure_is_simple : is_simple procure ≡ true
+unfolding clap_on_literals procure
+procure_is_simple = refl
+
+pub procure_is_free : is_simple_and_free procure ≡ true
+unfolding clap_on_literals procure
+procure_is_free = refl
+
+-- the subcommand that was met, from its name and its rows
+pub met : (s : Option (Text × List Row)) (name : Text) (rows : List Row) → option_map (λ p. p.0) s ≡ Some name → option_map (λ p. p.1) s ≡ Some rows → s ≡ Some (name, rows)
+met None name rows n r = cc
+met (Some (n, r)) name rows is_name is_rows =
+    let a : n ≡ name = cc in
+    let b : r ≡ rows = cc in
+    rw (a, b) refl
+
+pub name_met : (m : ArgMatches) → option_map (λ p. p.0) (subcommand_rows_of m) ≡ subcommand_name_of m
+name_met m = by (out-ArgMatches m).subcommand
+  where
+    by : {Z : Type 0} (met : Option (Box SubCommand Z)) → option_map (λ p. p.0) (subcommand_rows met) ≡ option_map (λ b. (out-SubCommand (box_value b)).name.now) met
+    by None = refl
+    by (Some b) = refl
+
+-- where clap had no memory, the program says so
+pub memory_fault : {T : Type 0} (error : Error) (r : Result T ProgramFault) → kind_of error ≡ OutOfMemory → IsErrAnd r (IsOfParse error) → IfErr r (λ fault. fault ≡ no_memory)
+memory_fault error (Ok value) kind is = tt
+memory_fault error (Err (Arguments told)) kind is = absurd (is.1 kind)
+memory_fault error (Err (Settings name)) kind is = absurd is
+memory_fault error (Err Store) kind is = absurd is
+memory_fault error (Err Input) kind is = absurd is
+memory_fault error (Err Output) kind is = absurd is
+memory_fault error (Err (Refused refusal)) kind is = rw is.1 refl
+
+pub stated : (command : App) (words : List Text) (m : ArgMatches) → command ≡ procure → HasMatchesOf command words m → subcommand_rows_of m ≡ subcommand_of procure words
+stated command words m e h = (h (ap is_simple e ∙ procure_is_simple)).1 ∙ ap (λ a. subcommand_of a words) e
+
+pub is_right : (command : App) (words : List Text) → command ≡ procure → (is_simple_and_free command ≡ true → fault_of command words ≡ []) → fault_of procure words ≡ []
+is_right command words e h = ap (λ a. fault_of a words) (sym e) ∙ h (ap is_simple_and_free e ∙ procure_is_free)
+
+pub is_taken : (command : App) (words : List Text) → command ≡ procure → takes procure words ≡ true → takes command words ≡ true
+is_taken command words e h = ap (λ a. takes a words) e ∙ h
+
+pub nothing_there : {P : Type 0} (o : Option Text) → None ≡ o → IsSome o → P
+nothing_there None e there = cc
+nothing_there (Some text) e there = cc

@@ -1,0 +1,48 @@
+-- The lines of an array, one more at a time.
+use Rattle.std.proofs.Common.{◌≡◌, ℕ, ◌+◌, ◌≤◌, ◌<◌, List, [], ◌∷◌, ◌++◌, length, drop, Option, Some, None, refl, sym, ap, ◌∙◌, append_assoc, get_or}
+use Rattle.std.specs.Prelude.{option_map}
+use Rattle.std.proofs.lemmas.List.{drop_all, append-nil}
+use Rattle.toml.specs.Data.{Data, Items, item, as_str}
+use Rattle.toml.specs.View.{items_view, view}
+use Rattle.toml.proofs.Views.{items_view-drop}
+use Rattle.toml.specs.declared.value.Value.{Value}
+use Rattle.procure_config.specs.Configuration.{is_line_text, lines_of, passing}
+
+-- the value at a place, and the values after it
+from_here : (values : List Value) (i : ℕ) (value : Value) → i < length values → value ≡ get_or values i value
+    → items_view (drop i values) ≡ item (view value) (items_view (drop (i + 1) values))
+from_here values i value h is = items_view-drop values i value h ∙ ap (λ v. item (view v) (items_view (drop (i + 1) values))) (sym is)
+
+-- the next value is a line
+pub one_more : (values : List Value) (i : ℕ) (value : Value) (done : List (List ℕ)) (line : List ℕ) → i < length values → value ≡ get_or values i value
+    → Some line ≡ passing is_line_text (as_str (view value))
+    → option_map (λ more. done ++ more) (lines_of (items_view (drop i values))) ≡ lines_of (items_view values)
+    → option_map (λ more. (done ++ line ∷ []) ++ more) (lines_of (items_view (drop (i + 1) values))) ≡ lines_of (items_view values)
+unfolding lines_of
+one_more values i value done line h at is so_far =
+    step (view value) (items_view (drop (i + 1) values)) is (rw (from_here values i value h at) at so_far)
+  where
+    append : (more : Option (List (List ℕ))) → option_map (λ more. (done ++ line ∷ []) ++ more) more ≡ option_map (λ more. done ++ more) (option_map (λ lines. line ∷ lines) more)
+    append None = refl
+    append (Some lines) = ap Some (append_assoc done (line ∷ []) lines)
+
+    step : (first : Data) (rest : Items) → Some line ≡ passing is_line_text (as_str first) → option_map (λ more. done ++ more) (lines_of (item first rest)) ≡ lines_of (items_view values)
+        → option_map (λ more. (done ++ line ∷ []) ++ more) (lines_of rest) ≡ lines_of (items_view values)
+    step first rest passed all = append (lines_of rest) ∙ (rw (← passed) at all)
+
+-- the next value is none
+pub no_more : (values : List Value) (i : ℕ) (value : Value) (done : List (List ℕ)) → i < length values → value ≡ get_or values i value
+    → None ≡ passing is_line_text (as_str (view value))
+    → option_map (λ more. done ++ more) (lines_of (items_view (drop i values))) ≡ lines_of (items_view values) → None ≡ lines_of (items_view values)
+unfolding lines_of
+no_more values i value done h at is so_far = step (view value) (items_view (drop (i + 1) values)) is (rw (from_here values i value h at) at so_far)
+  where
+    step : (first : Data) (rest : Items) → None ≡ passing is_line_text (as_str first) → option_map (λ more. done ++ more) (lines_of (item first rest)) ≡ lines_of (items_view values)
+        → None ≡ lines_of (items_view values)
+    step first rest passed all = rw (← passed) at all
+
+-- no value is left
+pub all_done : (values : List Value) (i : ℕ) (done : List (List ℕ)) → length values ≤ i
+    → option_map (λ more. done ++ more) (lines_of (items_view (drop i values))) ≡ lines_of (items_view values) → Some done ≡ lines_of (items_view values)
+unfolding lines_of
+all_done values i done past so_far = sym (ap Some (append-nil done)) ∙ (rw (drop_all i values past) at so_far)

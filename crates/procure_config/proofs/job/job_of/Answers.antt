@@ -1,0 +1,19 @@
+use Rattle.std.proofs.Common.{◌∙◌, ap, sym}
+use Rattle.procure_config.specs.Jobs.{desk_in}
+use Rattle.procure_config.proofs.CommandLine.{stated, is_right, is_taken, memory_fault, nothing_there}
+use Rattle.procure_config.proofs.job.job_of.Goals as goal
+
+pub returns-in_err-matches-clause-taken : goal.returns-in_err-matches-clause-taken
+returns-in_err-matches-clause-taken g c taken there =
+    memory_fault _ _ (c.in_err-matches.ensures.passes (is_taken _ _ c.in_ok-command.ensures taken)) c.from_residual-in_err-matches.ensures.1
+
+pub returns-in-Some-clause-asked : goal.returns-in-Some-clause-asked
+returns-in-Some-clause-asked g c = sym (c.in-Some.ensures ∙ ap desk_in (stated _ _ _ c.in_ok-command.ensures c.in_ok-matches.ensures.ok.2))
+
+pub returns-in-Some-clause-right : goal.returns-in-Some-clause-right
+returns-in-Some-clause-right g c = is_right _ _ c.in_ok-command.ensures c.in_ok-matches.ensures.kinds
+
+pub returns-clause-taken : goal.returns-clause-taken
+returns-clause-taken g c taken there =
+    let nothing = c.in-None.ensures ∙ ap desk_in (stated _ _ _ c.in_ok-command.ensures c.in_ok-matches.ensures.ok.2) in
+    nothing_there _ nothing there

@@ -1,0 +1,3 @@
+pub mod Configuration
+pub mod Faults
+pub mod Jobs

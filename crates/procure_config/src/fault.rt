@@ -1,0 +1,145 @@
+//! Why a program ends without having done its work.
+ghost use Rattle.std.specs.Prelude.{◌≡◌};
+ghost use Rattle.procure_config.specs.Faults as spec;
+
+use crate::settings::{SettingName, SettingsFault};
+use clap::error::ErrorKind;
+use office_values::refusal::Refusal;
+use std::alloc::AllocError;
+use std::fmt;
+
+/// Why a program ends. Its `Display` is the line for the standard error, without the end of line; of `Arguments` it is the text by `clap`, with its ends of lines.
+#[derive(Debug, Drop)]
+pub enum ProgramFault {
+    /// The command line is none of the program's, or asks for help.
+    Arguments(clap::Error),
+    /// The first faulty member of the settings; None where their file isn't read or isn't TOML.
+    Settings(Option<SettingName>),
+    /// The store failed, or its file is no office.
+    Store,
+    /// The input failed, or a port or a clock.
+    Input,
+    /// The output failed.
+    Output,
+    /// The office refused what it was asked.
+    Refused(Refusal),
+}
+
+impl fmt::Display for ProgramFault {
+    ghost output = { spec.line_of };
+
+    fn fmt<W: fmt::Write>(&self, f: &mut fmt::Formatter<W>) -> fmt::Result {
+        match self {
+            ProgramFault::Arguments(error) => write!(f, "{error}"),
+            ProgramFault::Settings(None) => f.write_str("procure: settings"),
+            ProgramFault::Settings(Some(member)) => {
+                f.write_str("procure: settings ")?;
+                f.write_str(member.name())
+            }
+            ProgramFault::Store => f.write_str("procure: store"),
+            ProgramFault::Input => f.write_str("procure: input"),
+            ProgramFault::Output => f.write_str("procure: output"),
+            ProgramFault::Refused(refusal) => {
+                f.write_str("procure: ")?;
+                f.write_str(refusal.name())
+            }
+        }
+    }
+}
+
+impl std::error::Error for ProgramFault {}
+
+impl From<SettingsFault> for ProgramFault {
+    ghost use Rattle.std.specs.Prelude.{◌≡◌};
+    ghost use Rattle.procure_config.specs.Faults.{of_settings};
+
+    ghost from_gives = { λ fault told. told ≡ of_settings fault };
+
+    fn from(fault: SettingsFault) -> ProgramFault {
+        match fault {
+            SettingsFault::NoMemory => ProgramFault::Refused(Refusal::Unavailable),
+            SettingsFault::NotToml => ProgramFault::Settings(None),
+            SettingsFault::Member(member) => ProgramFault::Settings(Some(member)),
+        }
+    }
+}
+
+impl From<AllocError> for ProgramFault {
+    ghost use Rattle.std.specs.Prelude.{◌≡◌};
+    ghost use Rattle.procure_config.specs.Faults.{no_memory};
+
+    ghost from_gives = { λ _ told. told ≡ no_memory };
+
+    fn from(_: AllocError) -> ProgramFault {
+        ProgramFault::Refused(Refusal::Unavailable)
+    }
+}
+
+impl From<clap::Error> for ProgramFault {
+    ghost use Rattle.procure_config.specs.Faults.{IsOfParse};
+
+    ghost from_gives = { IsOfParse };
+
+    fn from(error: clap::Error) -> ProgramFault {
+        if error.kind() == ErrorKind::OutOfMemory {
+            ProgramFault::Refused(Refusal::Unavailable)
+        } else {
+            ProgramFault::Arguments(error)
+        }
+    }
+}
+
+/// The program's exit status: 2 for its arguments, else 1.
+pub fn exit_code(fault: &ProgramFault) -> u8
+    ensures { result ≡ spec.exit_of fault.now }
+{
+    match fault {
+        ProgramFault::Arguments(_) => 2,
+        _ => 1,
+    }
+}
+
+#[cfg(test)]
+mod tests {
+    use super::*;
+    use std::test::Fail;
+
+    #[test]
+    fn tells_each_fault(rt: HostRuntime) -> Result<(), Fail> {
+        let faults = [
+            (ProgramFault::Settings(None), "procure: settings"),
+            (
+                ProgramFault::Settings(Some(SettingName::BuyerId)),
+                "procure: settings buyer.id",
+            ),
+            (ProgramFault::Store, "procure: store"),
+            (ProgramFault::Input, "procure: input"),
+            (ProgramFault::Output, "procure: output"),
+            (
+                ProgramFault::Refused(Refusal::NotOpened),
+                "procure: NotOpened",
+            ),
+        ];
+        for (fault, line) in faults {
+            assert_eq!(rt; format!(in rt.alloc(); "{fault}")?.as_str(), line);
+            assert_eq!(rt; exit_code(&fault), 1);
+        }
+        Ok(())
+    }
+
+    #[test]
+    fn tells_the_settings_faults(rt: HostRuntime) -> Result<(), Fail> {
+        for (fault, line) in [
+            (
+                SettingsFault::Member(SettingName::ClerkKey),
+                "procure: settings clerk_key",
+            ),
+            (SettingsFault::NotToml, "procure: settings"),
+            (SettingsFault::NoMemory, "procure: Unavailable"),
+        ] {
+            let told = ProgramFault::from(fault);
+            assert_eq!(rt; format!(in rt.alloc(); "{told}")?.as_str(), line);
+        }
+        Ok(())
+    }
+}

@@ -1,0 +1,421 @@
+//! The settings of an office, read from a text of TOML.
+ghost use Rattle.std.specs.Prelude.{◌≡◌, ◌⊎◌, Ok, Err, IfOk, IfErr, codes, option_map, option_and_then};
+ghost use Rattle.toml.specs.Data.{as_str, as_array, as_table, get_member};
+ghost use Rattle.toml.specs.Errors.{IsMemory};
+ghost use Rattle.toml.specs.View.{table_view, array_view, items_view, view};
+ghost use Rattle.office_values.specs.SettingTexts.{is_prefix_text, is_currency_code, is_language_code};
+ghost use Rattle.procure_config.specs.Configuration as spec;
+ghost use Rattle.procure_config.specs.Configuration.{ReadsAs, name_text, passing, is_id_text, is_line_text, text_at, text_in, lines_of, lines_at, digest_at, table_at, settings_in};
+
+use hex::FromHex;
+use office_values::id::Id;
+use office_values::settings::{Buyer, Currency, Extensions, Language, Prefix, Settings};
+use office_values::text::TextLine;
+use std::alloc::{AllocError, Global};
+use toml::{Table, Value};
+
+/// A member of the settings, in the order in which they are read.
+#[derive(Clone, Copy, Debug, PartialEq, Eq)]
+pub enum SettingName {
+    Prefix,
+    Currency,
+    Language,
+    Base,
+    Publisher,
+    Extensions,
+    ClerkKey,
+    BuyerId,
+    BuyerName,
+}
+
+impl SettingName {
+    /// How it is called, as in `buyer.id`.
+    pub fn name(self) -> &'static str
+        ensures { result.now ≡ name_text self }
+    {
+        match self {
+            SettingName::Prefix => "prefix",
+            SettingName::Currency => "currency",
+            SettingName::Language => "language",
+            SettingName::Base => "base",
+            SettingName::Publisher => "publisher",
+            SettingName::Extensions => "extensions",
+            SettingName::ClerkKey => "clerk_key",
+            SettingName::BuyerId => "buyer.id",
+            SettingName::BuyerName => "buyer.name",
+        }
+    }
+}
+
+/// Why a text gives no settings.
+#[derive(Clone, Copy, Debug, PartialEq, Eq)]
+pub enum SettingsFault {
+    NoMemory,
+    /// The text isn't UTF-8 or isn't TOML.
+    NotToml,
+    /// The first member that is missing or wrong.
+    Member(SettingName),
+}
+
+impl From<AllocError> for SettingsFault {
+    ghost use Rattle.std.specs.Prelude.{◌≡◌};
+    ghost use Rattle.procure_config.specs.declared.settings.SettingsFault.TheVariants.{NoMemory};
+
+    ghost from_gives = { λ _ fault. fault ≡ NoMemory };
+
+    fn from(_: AllocError) -> SettingsFault {
+        SettingsFault::NoMemory
+    }
+}
+
+// The value at a key.
+fn find<'a>(table: &'a Table, key: &str) -> Option<&'a Value>
+    ensures { option_map (λ v. view v.now) result ≡ get_member key.now (table_view table.now) }
+{
+    table.get(key)
+}
+
+// The text at a key.
+fn find_text<'a>(table: &'a Table, key: &str) -> Option<&'a str>
+    ensures { option_map (λ s. s.now) result ≡ text_at key.now (table_view table.now) }
+{
+    match find(table, key) {
+        Some(value) => value.as_str(),
+        None => None,
+    }
+}
+
+fn read_prefix(table: &Table) -> Option<Prefix>
+    ensures { result ≡ text_in is_prefix_text (codes "prefix") (table_view table.now) }
+{
+    match find_text(table, "prefix") {
+        Some(text) => Prefix::read(text.as_bytes()),
+        None => None,
+    }
+}
+
+fn read_currency(table: &Table) -> Option<Currency>
+    ensures { result ≡ text_in is_currency_code (codes "currency") (table_view table.now) }
+{
+    match find_text(table, "currency") {
+        Some(text) => Currency::read(text.as_bytes()),
+        None => None,
+    }
+}
+
+fn read_language(table: &Table) -> Option<Language>
+    ensures { result ≡ text_in is_language_code (codes "language") (table_view table.now) }
+{
+    match find_text(table, "language") {
+        Some(text) => Language::read(text.as_bytes()),
+        None => None,
+    }
+}
+
+fn read_id(table: &Table) -> Option<Id>
+    ensures { result ≡ text_in is_id_text (codes "id") (table_view table.now) }
+{
+    match find_text(table, "id") {
+        Some(text) => Id::read(text.as_bytes()),
+        None => None,
+    }
+}
+
+fn read_line(alloc: Global, table: &Table, key: &str) -> Result<Option<TextLine>, AllocError>
+    ensures { IfOk result (λ line. line ≡ text_in is_line_text key.now (table_view table.now)) }
+{
+    match find_text(table, key) {
+        Some(text) => TextLine::read(alloc, text.as_bytes()),
+        None => Ok(None),
+    }
+}
+
+fn read_clerk_key(table: &Table) -> Option<[u8; 32]>
+    ensures { result ≡ digest_at (codes "clerk_key") (table_view table.now) }
+{
+    match find_text(table, "clerk_key") {
+        Some(text) => <[u8; 32] as FromHex>::from_hex(text).ok(),
+        None => None,
+    }
+}
+
+// The text of a value, where it is a line.
+fn line_of(alloc: Global, value: &Value) -> Result<Option<TextLine>, AllocError>
+    ensures { IfOk result (λ line. line ≡ passing is_line_text (as_str (view value.now))) }
+{
+    match value.as_str() {
+        Some(text) => TextLine::read(alloc, text.as_bytes()),
+        None => Ok(None),
+    }
+}
+
+// The lines that the values are; None where one isn't a line.
+fn read_lines(alloc: Global, values: &[Value]) -> Result<Option<Vec<TextLine>>, AllocError>
+    ensures { IfOk result (λ lines. option_map (λ l. l.items) lines ≡ lines_of (items_view values.now)) }
+{
+    let mut lines = Vec::new(alloc);
+    'values: for value in values {
+        match line_of(alloc, value)? {
+            Some(line) => lines.push(line)?,
+            None => return Ok(None),
+        }
+    }
+    Ok(Some(lines))
+}
+
+// The array at a key.
+fn find_array<'a>(table: &'a Table, key: &str) -> Option<&'a Vec<Value>>
+    ensures { option_map (λ v. array_view v.now) result ≡ option_and_then as_array (get_member key.now (table_view table.now)) }
+{
+    match find(table, key) {
+        Some(value) => value.as_array(),
+        None => None,
+    }
+}
+
+fn read_extensions(alloc: Global, table: &Table) -> Result<Option<Extensions>, AllocError>
+    ensures { IfOk result (λ extensions. extensions ≡ lines_at (codes "extensions") (table_view table.now)) }
+{
+    let Some(values) = find_array(table, "extensions") else {
+        return Ok(None);
+    };
+    match read_lines(alloc, values.as_slice())? {
+        Some(lines) => Ok(Extensions::from_vec(lines)),
+        None => Ok(None),
+    }
+}
+
+// The value, or that the member of this name is faulty.
+#[tactic(auto, unfolding(crate::specs::Configuration::needed))]
+fn needed<T: Drop>(name: SettingName, value: Option<T>) -> Result<T, SettingsFault>
+    ensures { result ≡ spec.needed name value }
+{
+    match value {
+        Some(value) => Ok(value),
+        None => Err(SettingsFault::Member(name)),
+    }
+}
+
+// The table at a key.
+fn find_table<'a>(table: &'a Table, key: &str) -> Option<&'a Table>
+    ensures { option_map (λ t. table_view t.now) result ≡ option_and_then as_table (get_member key.now (table_view table.now)) }
+{
+    match find(table, key) {
+        Some(value) => value.as_table(),
+        None => None,
+    }
+}
+
+// The buyer that a table gives.
+#[tactic(auto, unfolding(crate::specs::Configuration::buyer_of))]
+fn buyer_of(alloc: Global, table: &Table) -> Result<Buyer, SettingsFault>
+    ensures { ReadsAs result (spec.buyer_of (table_view table.now)) }
+{
+    let id = needed(SettingName::BuyerId, read_id(table))?;
+    let name = needed(SettingName::BuyerName, read_line(alloc, table, "name")?)?;
+    Ok(Buyer { id, name })
+}
+
+#[tactic(auto, unfolding(crate::specs::Configuration::buyer_of, crate::specs::Configuration::needed))]
+fn read_buyer(alloc: Global, table: &Table) -> Result<Buyer, SettingsFault>
+    ensures { ReadsAs result (spec.buyer_of (table_at (codes "buyer") (table_view table.now))) }
+{
+    match find_table(table, "buyer") {
+        Some(buyer) => buyer_of(alloc, buyer),
+        None => Err(SettingsFault::Member(SettingName::BuyerId)),
+    }
+}
+
+// The settings that a table gives.
+#[tactic(auto, unfolding(crate::specs::Configuration::settings_of))]
+fn settings_of(alloc: Global, table: &Table) -> Result<Settings, SettingsFault>
+    ensures { ReadsAs result (spec.settings_of (table_view table.now)) }
+{
+    let prefix = needed(SettingName::Prefix, read_prefix(table))?;
+    let currency = needed(SettingName::Currency, read_currency(table))?;
+    let language = needed(SettingName::Language, read_language(table))?;
+    let base = needed(SettingName::Base, read_line(alloc, table, "base")?)?;
+    let publisher = needed(
+        SettingName::Publisher,
+        read_line(alloc, table, "publisher")?,
+    )?;
+    let extensions = needed(SettingName::Extensions, read_extensions(alloc, table)?)?;
+    let clerk_key = needed(SettingName::ClerkKey, read_clerk_key(table))?;
+    let buyer = read_buyer(alloc, table)?;
+    Ok(Settings {
+        prefix,
+        currency,
+        language,
+        base,
+        publisher,
+        extensions,
+        clerk_key,
+        buyer,
+    })
+}
+
+// What a text that gives no table lacks.
+fn document_fault(error: &toml::de::Error) -> SettingsFault
+    ensures { (result ≡ SettingsFault.NoMemory) ⊎ ((result ≡ SettingsFault.NotToml) × (¬ (IsMemory error.now))) }
+{
+    if error.is_memory() {
+        SettingsFault::NoMemory
+    } else {
+        SettingsFault::NotToml
+    }
+}
+
+/// The settings that a text of TOML gives; members of other names are ignored.
+/// `NotToml` also where the text isn't UTF-8; else the first member in their order that is missing or wrong.
+pub fn read_settings(alloc: Global, text: &[u8]) -> Result<Settings, SettingsFault>
+    ensures settings { IfOk result (λ settings. settings_in text.now ≡ Ok settings) }
+    ensures fault { IfErr result (λ fault. (fault ≡ SettingsFault.NoMemory) ⊎ (settings_in text.now ≡ Err fault)) }
+{
+    match toml::table_from_slice(alloc, text) {
+        Ok(table) => settings_of(alloc, &table),
+        Err(error) => Err(document_fault(&error)),
+    }
+}
+
+#[cfg(test)]
+mod tests {
+    use super::*;
+    use std::test::Fail;
+
+    const TOP: [(&str, &str); 7] = [
+        ("prefix", "\"ocds-a1b2c3\""),
+        ("currency", "\"EUR\""),
+        ("language", "\"en\""),
+        ("base", "\"http://127.0.0.1:8080\""),
+        ("publisher", "\"City Office\""),
+        ("extensions", "[]"),
+        (
+            "clerk_key",
+            "\"ba7816bf8f01cfea414140de5dae2223b00361a396177a9cb410ff61f20015ad\"",
+        ),
+    ];
+
+    const BUYER: [(&str, &str); 2] = [("id", "\"city\""), ("name", "\"City Office\"")];
+
+    // The settings of the worked rows, where the member of this place has another value, or where that is empty none.
+    fn text_with(alloc: Global, place: usize, value: &str) -> Result<String, AllocError> {
+        let mut text = String::new(alloc);
+        let mut at = 0usize;
+        for (name, usual) in TOP {
+            push_member(&mut text, name, if at == place { value } else { usual })?;
+            at = at.saturating_add(1);
+        }
+        text.push_str("other = 1\n[buyer]\n")?;
+        for (name, usual) in BUYER {
+            push_member(&mut text, name, if at == place { value } else { usual })?;
+            at = at.saturating_add(1);
+        }
+        Ok(text)
+    }
+
+    fn push_member(text: &mut String, name: &str, value: &str) -> Result<(), AllocError> {
+        if value.is_empty() {
+            return Ok(());
+        }
+        text.push_str(name)?;
+        text.push_str(" = ")?;
+        text.push_str(value)?;
+        text.push_str("\n")?;
+        Ok(())
+    }
+
+    #[test]
+    fn reads_settings(rt: HostRuntime) -> Result<(), Fail> {
+        let text = text_with(rt.alloc(), 99, "")?;
+        let settings = read_settings(rt.alloc(), text.as_bytes())
+            .ok()
+            .ok_or("settings")?;
+        assert_eq!(rt; settings.prefix.as_str(), "ocds-a1b2c3");
+        assert_eq!(rt; settings.currency.as_str(), "EUR");
+        assert_eq!(rt; settings.language.as_str(), "en");
+        assert_eq!(rt; settings.base.as_str(), "http://127.0.0.1:8080");
+        assert_eq!(rt; settings.publisher.as_str(), "City Office");
+        assert_eq!(rt; settings.extensions.as_slice().len(), 0);
+        assert_eq!(rt; settings.clerk_key[0], 0xba);
+        assert_eq!(rt; settings.clerk_key[31], 0xad);
+        assert_eq!(rt; settings.buyer.id.as_str(), "city");
+        assert_eq!(rt; settings.buyer.name.as_str(), "City Office");
+        Ok(())
+    }
+
+    #[test]
+    fn reads_extensions_in_order(rt: HostRuntime) -> Result<(), Fail> {
+        let text = text_with(rt.alloc(), 5, "[\"a\", \"b\"]")?;
+        let settings = read_settings(rt.alloc(), text.as_bytes())
+            .ok()
+            .ok_or("settings")?;
+        let lines = settings.extensions.as_slice();
+        assert!(rt; lines.len() == 2 && lines[0].as_str() == "a" && lines[1].as_str() == "b");
+        Ok(())
+    }
+
+    #[test]
+    fn names_the_faulty_member(rt: HostRuntime) -> Result<(), Fail> {
+        for (place, value, name) in [
+            (0, "", "prefix"),
+            (0, "\"ocds-a1b2c\"", "prefix"),
+            (1, "\"eur\"", "currency"),
+            (1, "978", "currency"),
+            (2, "\"eng\"", "language"),
+            (3, "\"\"", "base"),
+            (4, "\"City\\tOffice\"", "publisher"),
+            (5, "", "extensions"),
+            (5, "\"lots\"", "extensions"),
+            (5, "[\"lots\", 1]", "extensions"),
+            (
+                5,
+                "[\"1\", \"2\", \"3\", \"4\", \"5\", \"6\", \"7\", \"8\", \"9\", \"10\", \"11\"]",
+                "extensions",
+            ),
+            (6, "\"00\"", "clerk_key"),
+            (
+                6,
+                "\"ga7816bf8f01cfea414140de5dae2223b00361a396177a9cb410ff61f20015ad\"",
+                "clerk_key",
+            ),
+            (7, "\"the city\"", "buyer.id"),
+            (8, "", "buyer.name"),
+        ] {
+            let text = text_with(rt.alloc(), place, value)?;
+            match read_settings(rt.alloc(), text.as_bytes()) {
+                Err(SettingsFault::Member(member)) => assert_eq!(rt;
+                    member.name(),
+                    name,
+                    "at {value}"
+                ),
+                _ => panic!(rt; "no faulty member at {value}"),
+            }
+        }
+        Ok(())
+    }
+
+    #[test]
+    fn names_the_first_faulty_member(rt: HostRuntime) {
+        for (text, name) in [
+            ("", "prefix"),
+            ("buyer = 1\nprefix = \"ocds-a1b2c3\"", "currency"),
+        ] {
+            match read_settings(rt.alloc(), text.as_bytes()) {
+                Err(SettingsFault::Member(member)) => assert_eq!(rt; member.name(), name),
+                _ => panic!(rt; "no faulty member"),
+            }
+        }
+    }
+
+    #[test]
+    fn reads_toml_alone(rt: HostRuntime) {
+        for text in [
+            b"prefix = ".as_slice(),
+            b"{}",
+            b"prefix = \"\xff\"",
+            b"a = 1\na = 2",
+        ] {
+            assert!(rt; matches!(read_settings(rt.alloc(), text), Err(SettingsFault::NotToml)));
+        }
+    }
+}
