@@ -16,6 +16,11 @@ fn named(refusal: Refusal) -> Option<&'static str> {
     }
 }
 
+// Whether the refusal has this number, name and status.
+fn is_told(refusal: Refusal, number: u8, name: &str, status: u16) -> bool {
+    refusal.number() == number && refusal.name() == name && refusal.status() == status
+}
+
 #[test]
 fn refusals_have_their_numbers_names_and_statuses(rt: HostRuntime) {
     for (refusal, number, name, status) in [
@@ -52,13 +57,11 @@ fn refusals_have_their_numbers_names_and_statuses(rt: HostRuntime) {
         (Refusal::LimitReached, 31, "LimitReached", 409),
         (Refusal::Unavailable, 32, "Unavailable", 503),
     ] {
-        assert_eq!(rt; refusal.number(), number, "{name}");
-        assert_eq!(rt; refusal.name(), name);
-        assert_eq!(rt; refusal.status(), status, "{name}");
+        assert!(rt; is_told(refusal, number, name, status), "{number}");
         assert_eq!(rt;
             refusal.what().is_some(),
             number == 8 || number == 9,
-            "{name}"
+            "{number}"
         );
     }
 }
