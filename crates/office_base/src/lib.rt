@@ -8,3 +8,5 @@ pub mod shelf;
 pub mod standing;
 pub mod table;
 pub mod tables;
+#[cfg(test)]
+mod tests;

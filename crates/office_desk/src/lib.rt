@@ -8,3 +8,5 @@ mod load;
 mod plan;
 pub mod planned;
 mod reply;
+#[cfg(test)]
+mod tests;

@@ -9,4 +9,6 @@ pub mod money;
 pub mod number;
 pub mod refusal;
 pub mod settings;
+#[cfg(test)]
+mod tests;
 pub mod text;
