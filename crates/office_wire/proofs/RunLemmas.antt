@@ -1,13 +1,13 @@
 -- What a loop over blocks carries from step to step, and how it ends, for any answers.
-use Rattle.std.proofs.Common.{◌≡◌, ◌≢◌, ℕ, ◌+◌, ◌<◌, ◌⊎◌, inl, inr, List, [], ◌∷◌, ◌++◌, length, map, Option, Some, Result, Ok, Err, refl, sym, ap, subst, arith, ◌∙◌, append_assoc, length-append}
+use Rattle.std.proofs.Common.{◌≡◌, ◌≢◌, ℕ, ◌+◌, ◌<◌, ◌⊎◌, inl, inr, List, [], ◌∷◌, ◌++◌, length, Option, Some, Result, Ok, Err, refl, sym, ap, subst, arith, ◌∙◌, append_assoc, length-append}
 use Rattle.std.proofs.lemmas.List.{append-nil, map-append}
 use Rattle.std.specs.Prelude.{⊤}
 use Rattle.std.specs.Io.KnownBytes.{Appends, Keeps}
 use Rattle.office_wire.specs.Request.{IsRequest, IsRefused, HasNoWhole, IsCutRequest}
 use Rattle.office_wire.specs.Reading.{IsCutShort}
-use Rattle.office_wire.specs.Blocks.{Block, IsLine, HasLine, HasNoLine, IsBlock, AreBlocks, IsLost, IsCutBlock}
-use Rattle.office_wire.specs.Sending.{IsPrefix, AppendsPart}
-use Rattle.office_wire.specs.Runs.{Answers, Step, blocks_of, written, office_left, CutsReply, CutsRefusal, Ends, Ran, Served}
+use Rattle.office_wire.specs.Blocks.{Block, HasLine, HasNoLine, IsBlock, AreBlocks, IsCutBlock}
+use Rattle.office_wire.specs.Sending.{AppendsPart}
+use Rattle.office_wire.specs.Runs.{Answers, Step, blocks_of, written, office_left, Ran, Served}
 use Rattle.office_wire.specs.declared.fault.ReadFault.{ReadFault}
 use Rattle.office_wire.specs.declared.fault.ReadFault.TheVariants as fault
 use Rattle.office_wire.specs.declared.fault.RunFault.{RunFault}

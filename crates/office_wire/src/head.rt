@@ -97,7 +97,7 @@ impl Model for Head {
 
 impl Head {
     /// Keeps the parsed fields alone.
-    fn new(bytes: Vec<u8>, headers: Vec<HeaderSpan>, spans: RequestSpans) -> Head
+    fn of_spans(bytes: Vec<u8>, headers: Vec<HeaderSpan>, spans: RequestSpans) -> Head
         requires { IsRequestWithin bytes.items headers.items spans }
         ensures { result ≡ spans_view bytes.items (take spans.headers headers.items) spans }
     {
@@ -159,7 +159,7 @@ pub fn read_head<R: Read>(alloc: Global, reader: &mut R, left: &mut u32) -> Resu
     ensures counted { IfOk result (λ _. left.new < left.old) }
     ensures spent { left.new ≤ left.old }
 {
-    let mut lines = HeadLines::new(alloc);
+    let mut lines = HeadLines::new(alloc)?;
     let mut headers = vec![in alloc; EMPTY_HEADER_SPAN; FEW_FIELDS]?;
     'bytes: for _count in 0..MOST_BYTES {
         let Some(byte) = next_byte(reader, left)? else {
@@ -167,7 +167,11 @@ pub fn read_head<R: Read>(alloc: Global, reader: &mut R, left: &mut u32) -> Resu
         };
         if lines.push(byte)? {
             match parse(lines.bytes(), &mut headers)? {
-                Parsed::Whole(spans) => return Ok(Head::new(lines.into_bytes(), headers, spans)),
+                Parsed::Whole(spans) => return Ok(Head::of_spans(
+                    lines.into_bytes(),
+                    headers,
+                    spans,
+                )),
                 Parsed::Open => {}
                 Parsed::Bad => return Err(ReadFault::BadHead),
             }

@@ -1,9 +1,9 @@
 //! The lines of a head while it is read.
-ghost use Rattle.std.specs.Prelude.{◌≡◌, ◌≤◌, ◌∷◌, ◌++◌, [], ℕ, List, length, take, IsTrue, OnOk, OnErr, Ok, false};
+ghost use Rattle.std.specs.Prelude.{◌≡◌, ◌≤◌, ◌∷◌, ◌++◌, [], ℕ, List, length, take, IsTrue, IfOk, OnOk, OnErr, Ok, false};
 ghost use Rattle.office_wire.specs.Head.{first_line_ends, skip_empty};
 ghost use Rattle.httparse.specs.Grammar.{HasNoRequest, LineEnd, print_end};
 
-use std::alloc::{AllocFailed, Global};
+use std::alloc::{AllocError, AllocFailed, Global};
 use std::marker::Model;
 
 /// What is behind the empty lines at the front.
@@ -37,6 +37,9 @@ fn ends_in_empty_line(bytes: &[u8]) -> bool
     bytes.ends_with(b"\n\n") || bytes.ends_with(b"\n\r\n")
 }
 
+/// For how many bytes there is room at first.
+const USUAL_BYTES: usize = 512;
+
 /// The bytes of a head so far.
 #[derive(Drop)]
 pub struct HeadLines {
@@ -59,15 +62,15 @@ impl Model for HeadLines {
 }
 
 impl HeadLines {
-    /// No bytes.
-    pub fn new(alloc: Global) -> HeadLines
-        ensures { result ≡ [] }
+    /// No bytes, with room for those of a usual head.
+    pub fn new(alloc: Global) -> Result<HeadLines, AllocError>
+        ensures { IfOk result (λ lines. lines ≡ []) }
     {
-        HeadLines {
-            bytes: Vec::new(alloc),
+        Ok(HeadLines {
+            bytes: Vec::with_capacity(alloc, USUAL_BYTES)?,
             blank: 0,
             started: false,
-        }
+        })
     }
 
     /// The bytes.

@@ -1,7 +1,7 @@
 use Rattle.std.proofs.Common.{◌≡◌, ℕ, List, [], ◌∷◌, ◌++◌, length, Ok, arith, sym, ap, subst, refl, length-append, ◌∙◌}
 use Rattle.std.proofs.lemmas.List.{append-nil}
 use Rattle.httparse.specs.Grammar.{HasNoRequest}
-use Rattle.office_wire.specs.Head.{StandsHead, IsBadHead, IsLongHead}
+use Rattle.office_wire.specs.Head.{StandsHead, IsBadHead, IsLongHead, view_of}
 use Rattle.office_wire.proofs.HeadLemmas.{no_head_nil, eof_bad, never_bad, open_long, whole_stands}
 use Rattle.office_wire.proofs.ReadLemmas.{next_some, next_none, read_more}
 use Rattle.office_wire.proofs.head.read_head.Goals.{then-branch+in_ok-spans+in-Open, else-branch}
@@ -9,10 +9,10 @@ use Rattle.office_wire.proofs.head.read_head.Goals as goal
 
 pub bytes-init : goal.bytes-init
 bytes-init g c = record {
-  len = ap length c.new-lines.ensures;
-  none = subst HasNoRequest (sym c.new-lines.ensures) no_head_nil;
+  len = ap length c.in_ok-lines.ensures;
+  none = subst HasNoRequest (sym c.in_ok-lines.ensures) no_head_nil;
   left = omega arith;
-  read = λ input e. (input, e, rw c.new-lines.ensures refl);
+  read = λ input e. (input, e, rw c.in_ok-lines.ensures refl);
 }
 
 pub returns-in_default-clause-bad : goal.returns-in_default-clause-bad
@@ -55,7 +55,7 @@ returns-in-Whole-clause-whole g c input e =
       rest = more;
       now_is = now;
       stands = subst (λ t. StandsHead t stands.head more) (sym all) stands.stands;
-      view_is = (rw (c.into_bytes.ensures, items) at c.new.ensures) ∙ stands.view;
+      view_is = ◌∙◌ {c = view_of stands.head} (rw (c.into_bytes.ensures, items) at c.of_spans.ensures) stands.view;
     }
 
 pub returns-in-Bad-clause-bad : goal.returns-in-Bad-clause-bad

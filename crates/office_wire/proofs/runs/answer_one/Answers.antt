@@ -1,4 +1,4 @@
-use Rattle.std.proofs.Common.{◌≡◌, List, ℕ, [], Err, sym, ap, subst, refl, inl, inr, ◌∙◌}
+use Rattle.std.proofs.Common.{[], Err, ap, subst, refl, inl, inr}
 use Rattle.std.proofs.lemmas.Result.{err_from_is_err_and}
 use Rattle.std.specs.Io.KnownBytes.{Appends}
 use Rattle.office_wire.proofs.SendLemmas.{appends_none}
