@@ -1,6 +1,8 @@
 //! The office's desk: it decides commands and looks things up, over any shelf.
 #![tactic(auto)]
 
+#[cfg(test)]
+mod broken_shelf;
 mod callers;
 mod decide;
 pub mod desk;
