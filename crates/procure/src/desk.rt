@@ -1,7 +1,7 @@
 //! `procure desk CONFIG`: an empty office in memory, over the standard streams.
 use office_base::memory::MemoryShelf;
 use office_desk::desk::Desk;
-use office_http::answering::Clerkship;
+use office_http::office::{Office, run};
 use office_values::refusal::Refusal;
 use office_values::settings::Settings;
 use office_wire::fault::RunFault;
@@ -24,4 +24,31 @@ fn settings_at(rt: &HostRuntime, path: &str) -> Result<Settings, ProgramFault> {
             _ => Err(ProgramFault::Settings(None)),
         },
     }
+}
+
+// A buffer round a stream is refused for want of memory alone.
+fn answer_input(rt: &HostRuntime, office: &mut Office<MemoryShelf>) -> Result<(), ProgramFault> {
+    let alloc = rt.alloc();
+    let Ok(mut reader) = BufReader::new(alloc, rt.stdin()) else {
+        return Err(no_memory());
+    };
+    let Ok(mut writer) = BufWriter::new(alloc, rt.stdout()) else {
+        return Err(no_memory());
+    };
+    match run(alloc, office, &mut reader, &mut writer) {
+        Ok(_) => Ok(()),
+        Err(RunFault::Write) => Err(ProgramFault::Output),
+        Err(_) => Err(ProgramFault::Input),
+    }
+}
+
+/// Answers the blocks of the standard input on the standard output, from an empty office in memory.
+pub fn run_desk(rt: &HostRuntime, config: &str) -> Result<(), ProgramFault> {
+    let alloc = rt.alloc();
+    let settings = settings_at(rt, config)?;
+    let desk = Desk::new(alloc, settings, MemoryShelf::new(alloc));
+    let Ok(mut office) = Office::new(alloc, desk) else {
+        return Err(no_memory());
+    };
+    answer_input(rt, &mut office)
 }
