@@ -1,0 +1,5 @@
+pub mod FieldLemmas
+pub mod HeadLemmas
+pub mod ReadLemmas
+pub mod SendLemmas
+pub mod RequestLemmas

@@ -1,0 +1,27 @@
+use Rattle.std.proofs.Common.{◌≡◌, ℕ, ◌+◌, ◌-◌, ◌≤◌, List, ◌++◌, rules, arith, length, take, drop, sym, ap, ◌∙◌, subst, le_refl, drop_at, length-take-le}
+use Rattle.std.proofs.lemmas.Slice.{take-put_mid_below}
+use Rattle.std.specs.Io.KnownBytes.{Consumes}
+use Rattle.std.proofs.KnownBytes.{Consumes-trans}
+use borrow.Rule.Slice.PartMut.{put_mid, post_of}
+use lib.Seq.{take-add, take-append-le}
+use Rattle.office_wire.proofs.reading.fill.Goals as goal
+
+-- what stands at the front once n bytes of a part were written behind the first at
+front_then : (at k n : ℕ) (xs ys : List ℕ) → at ≤ length xs → n ≤ length ys → take (at + n) (put_mid at k xs ys) ≡ take at xs ++ take n ys
+front_then at k n xs ys within fits =
+    take-add at n (put_mid at k xs ys)
+    ∙ ap (λ (l : List ℕ). l ++ take n (drop at (put_mid at k xs ys))) (take-put_mid_below at k xs ys at (le_refl at) within)
+    ∙ ap (λ (l : List ℕ). take at xs ++ take n l) (drop_at (take at xs) (ys ++ post_of at k xs) at (length-take-le at xs within))
+    ∙ ap (λ (l : List ℕ). take at xs ++ l) (take-append-le n ys (post_of at k xs) fits)
+
+pub parts-preserved : goal.parts-preserved
+parts-preserved g c =
+    let at = c.parts.at in
+    let room = length c.parts.buf - at in
+    let inv = c.parts.invariant in
+    let given = c.in_ok-count.ensures in
+    record {
+      within = search rules;
+      left = omega (arith, inv.left, given.spent);
+      given = subst (Consumes _ _) (sym (front_then at room c.in_ok-count.count c.parts.buf c.read_some.new.buf inv.within given.bound)) (Consumes-trans _ _ _ _ _ inv.given given.given);
+    }

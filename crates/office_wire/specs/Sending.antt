@@ -1,0 +1,13 @@
+-- What a writer holds after it was sent bytes.
+use Rattle.std.specs.Prelude.{◌≡◌, ℕ, List, ◌++◌, Option}
+use Rattle.std.specs.Io.KnownBytes.{Appends}
+
+-- a front of the text
+abbrev pub IsPrefix : List ℕ → List ℕ → Type 0
+IsPrefix part text = (rest : List ℕ) × (text ≡ part ++ rest)
+
+-- known contents grew by a front of the text
+pub record AppendsPart (old new : Option (List ℕ)) (text : List ℕ) : Type 0 where
+  pub part : List ℕ
+  pub front : IsPrefix part text
+  pub more : Appends old new part

@@ -1,0 +1,39 @@
+//! Why there is no request.
+ghost use Rattle.std.specs.Prelude.{◌≡◌};
+
+use std::alloc::{AllocError, AllocFailed};
+
+/// Why no request was read. The first three are said by the input alone.
+#[derive(Clone, Copy, Debug, PartialEq, Eq)]
+pub enum ReadFault {
+    /// The grammar refuses the head, a `Content-Length` is repeated or is no number, or the input ends before the request does.
+    BadHead,
+    /// No head ends within 8,192 bytes, it has more than 64 fields, or the body's length is above 65,536.
+    TooLong,
+    /// The body has a transfer coding, which is not taken (RFC 9112, section 6.1).
+    Coding,
+    /// Memory is wanting.
+    Unavailable,
+    /// The reader failed, or the count of reads is used up.
+    Read,
+}
+
+impl From<AllocError> for ReadFault {
+    ghost use Rattle.office_wire.specs.declared.fault.ReadFault.TheVariants.{Unavailable};
+
+    ghost from_gives = { λ _ e. e ≡ Unavailable };
+
+    fn from(_error: AllocError) -> ReadFault {
+        ReadFault::Unavailable
+    }
+}
+
+impl<T: Drop> From<AllocFailed<T>> for ReadFault {
+    ghost use Rattle.office_wire.specs.declared.fault.ReadFault.TheVariants.{Unavailable};
+
+    ghost from_gives = { λ _ e. e ≡ Unavailable };
+
+    fn from(_error: AllocFailed<T>) -> ReadFault {
+        ReadFault::Unavailable
+    }
+}

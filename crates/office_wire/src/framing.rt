@@ -1,0 +1,60 @@
+//! Where the body of a request ends (RFC 9112, section 6).
+ghost use Rattle.std.specs.Prelude.{◌≡◌, min, option_map, codes};
+ghost use Rattle.office_wire.specs.Fields.{number_of, length_of, values_of, framing_of};
+
+use crate::fault::ReadFault;
+use crate::fields::FieldValue;
+use crate::head::Head;
+
+/// How many fields a head may have.
+const MOST_FIELDS: usize = 64;
+
+/// How many bytes a body may have.
+const MOST_BODY: u32 = 65_536;
+
+/// The number that one or more ASCII digits write, and one more than the most bytes of a body where it is above these.
+fn capped_number(text: &[u8]) -> Option<u32>
+    ensures { result ≡ option_map (min 65537) (number_of text.now) }
+{
+    if text.is_empty() {
+        return None;
+    }
+    let mut number = 0u32;
+    'digits: for digit in text {
+        if !digit.is_ascii_digit() {
+            return None;
+        }
+        number = number * 10 + (*digit - b'0') as u32;
+        if number > MOST_BODY {
+            number = MOST_BODY + 1;
+        }
+    }
+    Some(number)
+}
+
+/// The length that `Content-Length` writes, capped likewise: 0 without such a field, none where it is repeated or no number.
+fn capped_length(head: &Head) -> Option<u32>
+    ensures { result ≡ option_map (min 65537) (length_of (values_of (codes "content-length") head.now.fields)) }
+{
+    match head.value(b"content-length") {
+        FieldValue::Absent => Some(0),
+        FieldValue::Once(text) => capped_number(text),
+        FieldValue::Repeated => None,
+    }
+}
+
+/// How many bytes the body has, or why the request is refused.
+pub fn framing(head: &Head) -> Result<usize, ReadFault>
+    ensures { result ≡ framing_of head.now }
+{
+    let Some(length) = capped_length(head) else {
+        return Err(ReadFault::BadHead);
+    };
+    if head.field_count() > MOST_FIELDS || length > MOST_BODY {
+        return Err(ReadFault::TooLong);
+    }
+    match head.value(b"transfer-encoding") {
+        FieldValue::Absent => Ok(length as usize),
+        _ => Err(ReadFault::Coding),
+    }
+}

@@ -1,0 +1,181 @@
+//! Reading the head of a request.
+ghost use Rattle.std.specs.Prelude.{◌≡◌, ◌≢◌, ◌≤◌, ◌<◌, ℕ, List, length, take, slice_get, IfOk, IfSome, IsNone, IsErrOf, Some};
+ghost use Rattle.httparse.specs.Spans.{IsRequestWithin};
+ghost use Rattle.office_wire.specs.Fields.{values_of, Tells};
+ghost use Rattle.office_wire.specs.Head.{IsBadHead, IsLongHead};
+ghost use Rattle.office_wire.specs.HeadBytes.{Parses, spans_view};
+ghost use Rattle.office_wire.specs.Reading.{IsHeadRead, IsCutHead};
+
+use crate::fault::ReadFault;
+use crate::fields::{FieldValue, find_value};
+use crate::lines::{HeadLines, first_line_has_ended};
+use crate::reading::next_byte;
+use httparse::spans::{EMPTY_HEADER_SPAN, HeaderSpan, RequestSpans, Span, parse_request};
+use httparse::{Error, Status};
+use std::alloc::{AllocError, Global};
+use std::io::Read;
+use std::marker::Model;
+
+/// How many bytes a head may have, empty lines in front of it included.
+const MOST_BYTES: u32 = 8192;
+
+/// How many fields 8,192 bytes can hold, as a field has 3 bytes at least.
+const MOST_FIELDS: usize = 2731;
+
+/// For how many fields there is room at first, so that a usual head costs no more.
+const FEW_FIELDS: usize = 16;
+
+/// What the bytes so far are.
+pub enum Parsed {
+    /// A head.
+    Whole(RequestSpans),
+    /// No head, but more bytes may make them one, or their first line isn't at its end.
+    Open,
+    /// No head, whatever follows.
+    Bad,
+}
+
+/// Parses at most 8,192 bytes; none where the fields want more room.
+fn parse_within(bytes: &[u8], headers: &mut Vec<HeaderSpan>) -> Option<Parsed>
+    requires { length bytes.now ≤ 8192 }
+    ensures parsed { IfSome result (Parses bytes.now headers.new.items) }
+    ensures crowded { IsNone result → length headers.old.items < 2731 }
+    ensures room { length headers.new.items ≡ length headers.old.items }
+{
+    match parse_request(bytes, headers) {
+        Ok(Status::Complete(spans)) => Some(Parsed::Whole(spans)),
+        Ok(Status::Partial) => Some(Parsed::Open),
+        Err(error) => match error {
+            Error::TooManyHeaders => None,
+            _ => {
+                if first_line_has_ended(bytes) {
+                    Some(Parsed::Bad)
+                } else {
+                    Some(Parsed::Open)
+                }
+            }
+        },
+    }
+}
+
+/// Parses at most 8,192 bytes, with more room where the fields want it.
+fn parse(bytes: &[u8], headers: &mut Vec<HeaderSpan>) -> Result<Parsed, AllocError>
+    requires { length bytes.now ≤ 8192 }
+    ensures { IfOk result (Parses bytes.now headers.new.items) }
+{
+    if let Some(parsed) = parse_within(bytes, headers) {
+        return Ok(parsed);
+    }
+    headers.resize(MOST_FIELDS, EMPTY_HEADER_SPAN)?;
+    match parse_within(bytes, headers) {
+        Some(parsed) => Ok(parsed),
+        None => unreachable!(),
+    }
+}
+
+/// The head of a request: its bytes, and where its parts are.
+#[derive(Drop)]
+pub struct Head {
+    bytes: Vec<u8>,
+    method: Span,
+    target: Span,
+    fields: Vec<HeaderSpan>,
+}
+
+impl Model for Head {
+    ghost use Rattle.std.specs.Prelude.{map};
+    ghost use Rattle.httparse.specs.Spans.{span_bytes, header_bytes};
+    ghost use Rattle.office_wire.specs.Head.{HeadView};
+    ghost use Rattle.office_wire.specs.HeadBytes.{IsKept};
+
+    ghost Value = { HeadView };
+
+    ghost view = { λ s. record { method = span_bytes s.bytes.items s.method; target = span_bytes s.bytes.items s.target; fields = map (header_bytes s.bytes.items) s.fields.items } };
+
+    ghost invariant = { λ s. IsKept s.bytes.items s.method s.target s.fields.items };
+}
+
+impl Head {
+    /// Keeps the parsed fields alone.
+    fn new(bytes: Vec<u8>, headers: Vec<HeaderSpan>, spans: RequestSpans) -> Head
+        requires { IsRequestWithin bytes.items headers.items spans }
+        ensures { result ≡ spans_view bytes.items (take spans.headers headers.items) spans }
+    {
+        let mut fields = headers;
+        fields.truncate(spans.headers);
+        Head {
+            bytes,
+            method: spans.method,
+            target: spans.path,
+            fields,
+        }
+    }
+
+    /// The method.
+    pub fn method(&self) -> &[u8]
+        ensures { result.now ≡ self.now.method }
+    {
+        self.method.of(&self.bytes)
+    }
+
+    /// The target.
+    pub fn target(&self) -> &[u8]
+        ensures { result.now ≡ self.now.target }
+    {
+        self.target.of(&self.bytes)
+    }
+
+    /// A field's name and value, by its place.
+    pub fn field(&self, index: usize) -> (&[u8], &[u8])
+        requires { index < length self.now.fields }
+        ensures { slice_get self.now.fields index ≡ Some (result.0.now, result.1.now) }
+    {
+        let field = &self.fields[index];
+        (field.name.of(&self.bytes), field.value.of(&self.bytes))
+    }
+
+    /// Looks up the fields with this name, in any case of ASCII letters.
+    pub fn value(&self, name: &[u8]) -> FieldValue<'_>
+        ensures { Tells result (values_of name.now self.now.fields) }
+    {
+        find_value(&self.bytes, &self.fields, name)
+    }
+
+    /// How many fields there are.
+    pub fn field_count(&self) -> usize
+        ensures { result ≡ length self.now.fields }
+    {
+        self.fields.len()
+    }
+}
+
+/// Reads a head, and no byte behind it.
+pub fn read_head<R: Read>(alloc: Global, reader: &mut R, left: &mut u32) -> Result<Head, ReadFault>
+    ensures whole { IfOk result (λ head. (input : List ℕ) → R.remaining reader.old ≡ Some input → IsHeadRead input (R.remaining reader.new) head) }
+    ensures bad { IsErrOf result ReadFault.BadHead → (input : List ℕ) → R.remaining reader.old ≡ Some input → IsBadHead input }
+    ensures long { IsErrOf result ReadFault.TooLong → (input : List ℕ) → R.remaining reader.old ≡ Some input → IsLongHead input }
+    ensures other { IsErrOf result ReadFault.Coding → ⊥ }
+    ensures cut { IsErrOf result ReadFault.Read → (input : List ℕ) → R.remaining reader.old ≡ Some input → IsCutHead input (R.remaining reader.new) }
+    ensures counted { IfOk result (λ _. left.new < left.old) }
+    ensures spent { left.new ≤ left.old }
+{
+    let mut lines = HeadLines::new(alloc);
+    let mut headers = vec![in alloc; EMPTY_HEADER_SPAN; FEW_FIELDS]?;
+    'bytes: for _count in 0..MOST_BYTES {
+        let Some(byte) = next_byte(reader, left)? else {
+            return Err(ReadFault::BadHead);
+        };
+        if lines.push(byte)? {
+            match parse(lines.bytes(), &mut headers)? {
+                Parsed::Whole(spans) => return Ok(Head::new(lines.into_bytes(), headers, spans)),
+                Parsed::Open => {}
+                Parsed::Bad => return Err(ReadFault::BadHead),
+            }
+        }
+    }
+    match parse(lines.bytes(), &mut headers)? {
+        Parsed::Whole(_) => unreachable!(),
+        Parsed::Open => Err(ReadFault::TooLong),
+        Parsed::Bad => Err(ReadFault::BadHead),
+    }
+}

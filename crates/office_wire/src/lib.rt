@@ -1,0 +1,13 @@
+//! From a stream of bytes to HTTP requests (RFC 9112), and bytes out again.
+#![tactic(auto)]
+
+pub mod fault;
+pub mod fields;
+mod framing;
+mod head;
+mod lines;
+mod reading;
+pub mod request;
+pub mod sending;
+#[cfg(test)]
+mod tests;

@@ -1,0 +1,337 @@
+use crate::fault::ReadFault;
+use crate::fields::FieldValue;
+use crate::request::{Request, one_meaning, read_request};
+use crate::sending::{WriteFault, flush, send};
+use std::alloc::Global;
+use std::io;
+use std::io::{ErrorKind, Read, Write};
+use std::process::Abort;
+use std::test::Fail;
+
+/// Gives at most so many bytes a read, is interrupted before each where asked, and fails once so many reads were made.
+#[derive(Drop)]
+struct Drip<'a> {
+    rest: &'a [u8],
+    most: usize,
+    is_interrupted: bool,
+    was_interrupted: bool,
+    reads: u32,
+}
+
+impl Drip<'_> {
+    fn over(rest: &[u8], most: usize) -> Drip<'_> {
+        Drip {
+            rest,
+            most,
+            is_interrupted: false,
+            was_interrupted: false,
+            reads: u32::MAX,
+        }
+    }
+}
+
+impl Read for Drip<'_> {
+    fn read(&mut self, buf: &mut [u8]) -> io::Result<usize> {
+        if self.reads == 0 {
+            return Err(io::Error::from(ErrorKind::BrokenPipe));
+        }
+        self.reads -= 1;
+        if self.is_interrupted && !self.was_interrupted {
+            self.was_interrupted = true;
+            return Err(io::Error::from(ErrorKind::Interrupted));
+        }
+        self.was_interrupted = false;
+        let limit = if buf.len() < self.most {
+            buf.len()
+        } else {
+            self.most
+        };
+        for count in 0..limit {
+            match self.rest.split_first() {
+                Some((first, rest)) => {
+                    buf[count] = *first;
+                    self.rest = rest;
+                }
+                None => return Ok(count),
+            }
+        }
+        Ok(limit)
+    }
+}
+
+/// Takes at most so many bytes a write, and so many writes.
+#[derive(Drop)]
+struct Narrow {
+    bytes: Vec<u8>,
+    most: usize,
+    writes: u32,
+    kind: ErrorKind,
+}
+
+impl Write for Narrow {
+    fn write(&mut self, buf: &[u8]) -> io::Result<usize> {
+        if self.writes == 0 {
+            return Err(io::Error::from(self.kind));
+        }
+        self.writes -= 1;
+        let count = if buf.len() < self.most {
+            buf.len()
+        } else {
+            self.most
+        };
+        self.bytes.extend_from_slice(&buf[..count])?;
+        Ok(count)
+    }
+
+    fn flush(&mut self) -> io::Result<()> {
+        if self.writes == 0 {
+            return Err(io::Error::from(self.kind));
+        }
+        Ok(())
+    }
+}
+
+const POST: &[u8] =
+    b"POST /budget/B1?x=y HTTP/1.1\r\nOffice-Caller: clerk\r\nCONTENT-length:  5 \r\nA:\r\n\r\nhello";
+
+fn is_post(request: &Request) -> bool {
+    request.method() == b"POST".as_slice()
+        && request.target() == b"/budget/B1?x=y".as_slice()
+        && request.field_count() == 3
+        && request.body() == b"hello".as_slice()
+}
+
+/// The refusal of an input of this request alone.
+fn refusal_of(alloc: Global, input: &[u8]) -> Option<ReadFault> {
+    let mut reader = input;
+    let mut left = u32::MAX;
+    read_request(alloc, &mut reader, &mut left).err()
+}
+
+/// A head with so many short fields, and then the text.
+fn crowd(alloc: Global, fields: u32, end: &[u8]) -> Result<Vec<u8>, Fail> {
+    let mut bytes = b"GET / HTTP/1.1\r\n".to_vec(alloc)?;
+    for _ in 0..fields {
+        bytes.extend_from_slice(b"a: b\r\n")?;
+    }
+    bytes.extend_from_slice(end)?;
+    Ok(bytes)
+}
+
+#[test]
+fn reads_one_request_and_no_more(rt: HostRuntime) -> Result<(), Fail> {
+    let mut input = POST.to_vec(rt.alloc())?;
+    input.extend_from_slice(b"GET / HTTP/1.0\n\nrest")?;
+    let mut reader = input.as_slice();
+    let mut left = u32::MAX;
+    let first = read_request(rt.alloc(), &mut reader, &mut left)?;
+    assert!(rt; is_post(&first));
+    assert_eq!(rt; reader, b"GET / HTTP/1.0\n\nrest".as_slice());
+    let second = read_request(rt.alloc(), &mut reader, &mut left)?;
+    assert_eq!(rt; second.method(), b"GET".as_slice());
+    assert_eq!(rt; second.target(), b"/".as_slice());
+    assert_eq!(rt; second.field_count(), 0);
+    assert_eq!(rt; second.body(), b"".as_slice());
+    assert_eq!(rt; reader, b"rest".as_slice());
+    Ok(())
+}
+
+#[test]
+fn tells_fields(rt: HostRuntime) -> Result<(), Fail> {
+    let mut reader = b"GET / HTTP/1.1\r\nOffice-Key: abc\r\nX: 1\r\nx: 2\r\n\r\n".as_slice();
+    let mut left = u32::MAX;
+    let request = read_request(rt.alloc(), &mut reader, &mut left)?;
+    assert!(rt; request.value(b"office-KEY") == FieldValue::Once(b"abc"));
+    assert!(rt; request.value(b"X") == FieldValue::Repeated);
+    assert!(rt; request.value(b"office") == FieldValue::Absent);
+    assert_eq!(rt; request.field_count(), 3);
+    let (name, value) = request.field(2);
+    assert_eq!(rt; name, b"x".as_slice());
+    assert_eq!(rt; value, b"2".as_slice());
+    Ok(())
+}
+
+#[test]
+fn reads_whatever_a_read_gives(rt: HostRuntime) -> Result<(), Fail> {
+    for most in 1..9usize {
+        let mut reader = Drip::over(POST, most);
+        reader.is_interrupted = most % 2 == 0;
+        let mut left = u32::MAX;
+        let request = read_request(rt.alloc(), &mut reader, &mut left)?;
+        assert!(rt; is_post(&request));
+        assert_eq!(rt; reader.rest.len(), 0);
+    }
+    Ok(())
+}
+
+#[test]
+fn fails_where_the_reader_fails(rt: HostRuntime) -> Result<(), Fail> {
+    for reads in 0..POST.len() {
+        let mut reader = Drip::over(POST, 1);
+        reader.reads = reads as u32;
+        let mut left = u32::MAX;
+        let outcome = read_request(rt.alloc(), &mut reader, &mut left);
+        assert!(rt; outcome.err() == Some(ReadFault::Read));
+    }
+    Ok(())
+}
+
+#[test]
+fn counts_reads(rt: HostRuntime) -> Result<(), Fail> {
+    let mut reader = Drip::over(POST, 1);
+    reader.is_interrupted = true;
+    let mut left = 2 * POST.len() as u32;
+    let request = read_request(rt.alloc(), &mut reader, &mut left)?;
+    assert!(rt; is_post(&request));
+    assert_eq!(rt; left, 0);
+    let mut again = Drip::over(POST, 1);
+    assert!(rt; read_request(rt.alloc(), &mut again, &mut left).err() == Some(ReadFault::Read));
+    assert_eq!(rt; again.rest.len(), POST.len());
+    let mut few = POST.len() as u32 - 1;
+    assert!(rt; read_request(rt.alloc(), &mut again, &mut few).err() == Some(ReadFault::Read));
+    Ok(())
+}
+
+#[test]
+fn reads_a_large_body_in_few_reads(rt: HostRuntime) -> Result<(), Fail> {
+    let head = b"PUT / HTTP/1.1\r\ncontent-length: 65536\r\n\r\n".as_slice();
+    let mut input = head.to_vec(rt.alloc())?;
+    input.resize(head.len() + 65_536, b'.')?;
+    let mut reader = input.as_slice();
+    let mut left = head.len() as u32 + 1;
+    let request = read_request(rt.alloc(), &mut reader, &mut left)?;
+    assert_eq!(rt; request.body().len(), 65_536);
+    assert_eq!(rt; left, 0);
+    Ok(())
+}
+
+#[test]
+fn refuses_bad_heads(rt: HostRuntime) -> Result<(), Fail> {
+    let alloc = rt.alloc();
+    let bad = Some(ReadFault::BadHead);
+    assert!(rt; refusal_of(alloc, b"") == bad);
+    assert!(rt; refusal_of(alloc, b"GET / HTTP/1.1\r\n") == bad);
+    assert!(rt; refusal_of(alloc, b"GET / HTTP/2.0\r\n\r\n") == bad);
+    assert!(rt; refusal_of(alloc, b"GET / HTTP/1.1\r\nno colon\r\n\r\n") == bad);
+    assert!(rt; refusal_of(alloc, b"POST / HTTP/1.1\r\nContent-Length: 5\r\n\r\nhell") == bad);
+    assert!(rt;
+        refusal_of(
+            alloc,
+            b"POST / HTTP/1.1\r\nContent-Length: 1\r\ncontent-length: 1\r\n\r\n."
+        ) == bad
+    );
+    assert!(rt; refusal_of(alloc, b"POST / HTTP/1.1\r\nContent-Length: +1\r\n\r\n.") == bad);
+    assert!(rt; refusal_of(alloc, b"POST / HTTP/1.1\r\nContent-Length: 1, 1\r\n\r\n.") == bad);
+    assert!(rt; refusal_of(alloc, b"POST / HTTP/1.1\r\nContent-Length:\r\n\r\n") == bad);
+    Ok(())
+}
+
+#[test]
+fn refuses_garbage_at_its_first_line(rt: HostRuntime) -> Result<(), Fail> {
+    let mut reader = b"\r\n\x16\x03\x01 hello\nand more".as_slice();
+    let mut left = u32::MAX;
+    let outcome = read_request(rt.alloc(), &mut reader, &mut left);
+    assert!(rt; outcome.err() == Some(ReadFault::BadHead));
+    assert_eq!(rt; reader, b"and more".as_slice());
+    Ok(())
+}
+
+#[test]
+fn takes_empty_lines_and_leading_zeros(rt: HostRuntime) -> Result<(), Fail> {
+    let mut reader =
+        b"\r\n\n\r\nPOST / HTTP/1.1\nContent-Length: 000000000000000000000000000005\n\nhello!".as_slice();
+    let mut left = u32::MAX;
+    let request = read_request(rt.alloc(), &mut reader, &mut left)?;
+    assert_eq!(rt; request.body(), b"hello".as_slice());
+    assert_eq!(rt; reader, b"!".as_slice());
+    Ok(())
+}
+
+#[test]
+fn refuses_long_requests(rt: HostRuntime) -> Result<(), Fail> {
+    let alloc = rt.alloc();
+    let long = Some(ReadFault::TooLong);
+    assert!(rt; refusal_of(alloc, b"POST / HTTP/1.1\r\nContent-Length: 65537\r\n\r\n") == long);
+    assert!(rt;
+        refusal_of(
+            alloc,
+            b"POST / HTTP/1.1\r\nContent-Length: 99999999999999999999999\r\n\r\n"
+        ) == long
+    );
+    assert!(rt; refusal_of(alloc, &crowd(alloc, 65, b"\r\n")?) == long);
+    assert!(rt; refusal_of(alloc, &crowd(alloc, 64, b"\r\n")?).is_none());
+    assert!(rt; refusal_of(alloc, &crowd(alloc, 2000, b"\r\n")?) == long);
+    let mut line = Vec::new(alloc);
+    line.resize(8191, b'x')?;
+    assert!(rt; refusal_of(alloc, &line) == Some(ReadFault::BadHead));
+    line.push(b'x')?;
+    assert!(rt; refusal_of(alloc, &line) == long);
+    Ok(())
+}
+
+#[test]
+fn takes_a_head_of_8192_bytes(rt: HostRuntime) -> Result<(), Fail> {
+    let alloc = rt.alloc();
+    for over in 0..2usize {
+        let mut input = b"GET / HTTP/1.1\r\nlong:".to_vec(alloc)?;
+        input.resize(8188 + over, b'x')?;
+        input.extend_from_slice(b"\r\n\r\n")?;
+        let wanted = if over == 0 {
+            None
+        } else {
+            Some(ReadFault::TooLong)
+        };
+        assert!(rt; refusal_of(alloc, &input) == wanted);
+    }
+    Ok(())
+}
+
+#[test]
+fn refuses_codings_last(rt: HostRuntime) -> Result<(), Fail> {
+    let alloc = rt.alloc();
+    let chunked = b"POST / HTTP/1.1\r\nTransfer-Encoding: chunked\r\n\r\n0\r\n\r\n";
+    assert!(rt; refusal_of(alloc, chunked) == Some(ReadFault::Coding));
+    let cut = b"POST / HTTP/1.1\r\ntransfer-encoding: x\r\nContent-Length: 5\r\n\r\n";
+    assert!(rt; refusal_of(alloc, cut) == Some(ReadFault::Coding));
+    let long = b"POST / HTTP/1.1\r\ntransfer-encoding: x\r\nContent-Length: 65537\r\n\r\n";
+    assert!(rt; refusal_of(alloc, long) == Some(ReadFault::TooLong));
+    let bad = b"POST / HTTP/1.1\r\ntransfer-encoding: x\r\nContent-Length: x\r\n\r\n";
+    assert!(rt; refusal_of(alloc, bad) == Some(ReadFault::BadHead));
+    let crowded = crowd(alloc, 64, b"transfer-encoding: x\r\n\r\n")?;
+    assert!(rt; refusal_of(alloc, &crowded) == Some(ReadFault::TooLong));
+    let crowded_and_bad = crowd(alloc, 64, b"content-length: x\r\n\r\n")?;
+    assert!(rt; refusal_of(alloc, &crowded_and_bad) == Some(ReadFault::BadHead));
+    one_meaning();
+    Ok(())
+}
+
+fn make_narrow(alloc: Global, most: usize, writes: u32, kind: ErrorKind) -> Narrow {
+    Narrow {
+        bytes: Vec::new(alloc),
+        most,
+        writes,
+        kind,
+    }
+}
+
+#[test]
+fn sends_all_or_a_front(rt: HostRuntime) -> Result<(), Fail> {
+    let alloc = rt.alloc();
+    let mut writer = make_narrow(alloc, 2, 9, ErrorKind::BrokenPipe);
+    assert!(rt; send(&mut writer, b"hello") == Ok(()));
+    assert_eq!(rt; writer.bytes.as_slice(), b"hello".as_slice());
+    assert!(rt; flush(&mut writer) == Ok(()));
+    let mut short = make_narrow(alloc, 2, 2, ErrorKind::BrokenPipe);
+    assert!(rt; send(&mut short, b"hello") == Err(WriteFault));
+    assert_eq!(rt; short.bytes.as_slice(), b"hell".as_slice());
+    assert!(rt; flush(&mut short) == Err(WriteFault));
+    let mut interrupted = make_narrow(alloc, 9, 0, ErrorKind::Interrupted);
+    assert!(rt; send(&mut interrupted, b"hello") == Err(WriteFault));
+    let mut full = make_narrow(alloc, 0, 9, ErrorKind::BrokenPipe);
+    assert!(rt; send(&mut full, b"hello") == Err(WriteFault));
+    assert!(rt; send(&mut full, b"") == Ok(()));
+    let mut list = Vec::new(alloc);
+    assert!(rt; send(&mut list, b"hello") == Ok(()));
+    assert_eq!(rt; list.as_slice(), b"hello".as_slice());
+    Ok(())
+}
