@@ -1,0 +1,5 @@
+//! From a request to what is asked of the office, and from its reply to the bytes of a response.
+#![tactic(auto)]
+
+pub mod reply;
+pub mod response;
