@@ -1,1 +1,3 @@
 pub mod Response
+pub mod Paths
+pub mod Routing
