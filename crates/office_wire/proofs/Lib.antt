@@ -3,3 +3,5 @@ pub mod HeadLemmas
 pub mod ReadLemmas
 pub mod SendLemmas
 pub mod RequestLemmas
+pub mod BlockLemmas
+pub mod RunLemmas

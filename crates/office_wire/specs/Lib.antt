@@ -1,6 +1,9 @@
+pub mod Blocks
 pub mod Fields
 pub mod Head
 pub mod HeadBytes
 pub mod Reading
 pub mod Request
+pub mod Responders
+pub mod Runs
 pub mod Sending

@@ -1,4 +1,4 @@
-//! Why there is no request.
+//! Why there is no request, and why a run ends.
 ghost use Rattle.std.specs.Prelude.{◌≡◌};
 
 use std::alloc::{AllocError, AllocFailed};
@@ -36,4 +36,17 @@ impl<T: Drop> From<AllocFailed<T>> for ReadFault {
     fn from(_error: AllocFailed<T>) -> ReadFault {
         ReadFault::Unavailable
     }
+}
+
+/// Why a run ended before its input.
+#[derive(Clone, Copy, Debug, PartialEq, Eq)]
+pub enum RunFault {
+    /// The reader failed, or the count of reads is used up.
+    Read,
+    /// The writer failed, took no more or was interrupted.
+    Write,
+    /// Something else than an `at` line stands where a block should begin.
+    BadBlock,
+    /// What follows an `at` line can't be read as a request, so the next block can't be found.
+    LostPlace,
 }

@@ -1,5 +1,5 @@
 //! Reads that are counted.
-ghost use Rattle.std.specs.Prelude.{◌≡◌, ◌<◌, ◌≤◌, length, take, IfOk, OnErr, Ok, Err, true, false};
+ghost use Rattle.std.specs.Prelude.{◌≡◌, ◌<◌, ◌≤◌, length, take, IfOk, OnErr, Err};
 ghost use Rattle.std.specs.Io.KnownBytes.{Keeps, Consumes, IsAtEnd};
 ghost use Rattle.office_wire.specs.Reading.{GivesByte, GivesPart};
 
@@ -50,10 +50,11 @@ pub fn next_byte<R: Read>(reader: &mut R, left: &mut u32) -> Result<Option<u8>, 
     }
 }
 
-/// Fills the buffer. False where the input ends before.
-pub fn fill<R: Read>(reader: &mut R, left: &mut u32, buf: &mut [u8]) -> Result<bool, ReadFault>
-    ensures full { result ≡ Ok true → Consumes (R.remaining reader.old) (R.remaining reader.new) buf.new }
-    ensures ended { result ≡ Ok false → GivesPart (R.remaining reader.old) (R.remaining reader.new) (length buf.new) × IsAtEnd (R.remaining reader.new) }
+/// Fills the front of the buffer, and answers how many bytes it has got: fewer than it holds where the input ends before.
+pub fn fill<R: Read>(reader: &mut R, left: &mut u32, buf: &mut [u8]) -> Result<usize, ReadFault>
+    ensures bound { IfOk result (λ n. n ≤ length buf.new) }
+    ensures given { IfOk result (λ n. Consumes (R.remaining reader.old) (R.remaining reader.new) (take n buf.new)) }
+    ensures ended { IfOk result (λ n. n < length buf.new → IsAtEnd (R.remaining reader.new)) }
     ensures cut { OnErr result (GivesPart (R.remaining reader.old) (R.remaining reader.new) (length buf.new)) }
     ensures fault { OnErr result (result ≡ Err ReadFault.Read) }
     ensures spent { left.new ≤ left.old }
@@ -61,9 +62,9 @@ pub fn fill<R: Read>(reader: &mut R, left: &mut u32, buf: &mut [u8]) -> Result<b
     let mut at = 0;
     'parts: while at < buf.len() {
         match read_some(reader, left, &mut buf[at..])? {
-            0 => return Ok(false),
+            0 => return Ok(at),
             count => at += count,
         }
     }
-    Ok(true)
+    Ok(at)
 }

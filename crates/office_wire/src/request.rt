@@ -86,11 +86,10 @@ fn read_body<R: Read>(
     ensures spent { left.new ≤ left.old }
 {
     let mut body = vec![in alloc; 0u8; length]?;
-    if fill(reader, left, &mut body)? {
-        Ok(Some(body))
-    } else {
-        Ok(None)
+    if fill(reader, left, &mut body)? < length {
+        return Ok(None);
     }
+    Ok(Some(body))
 }
 
 /// Reads one request, and no byte behind it. `left` is how many reads may still be made, and each takes one of them;

@@ -1,13 +1,24 @@
 //! Bytes out.
-ghost use Rattle.std.specs.Prelude.{OnOk, OnErr};
+ghost use Rattle.std.specs.Prelude.{◌≡◌, OnOk, OnErr};
 ghost use Rattle.std.specs.Io.KnownBytes.{Appends, Keeps};
 ghost use Rattle.office_wire.specs.Sending.{AppendsPart};
 
+use crate::fault::RunFault;
 use std::io::Write;
 
 /// The writer failed or took no more; an interrupted write is a failure too.
 #[derive(Clone, Copy, Debug, PartialEq, Eq)]
 pub struct WriteFault;
+
+impl From<WriteFault> for RunFault {
+    ghost use Rattle.office_wire.specs.declared.fault.RunFault.TheVariants.{Write};
+
+    ghost from_gives = { λ _ e. e ≡ Write };
+
+    fn from(_fault: WriteFault) -> RunFault {
+        RunFault::Write
+    }
+}
 
 /// Writes all of the bytes; where the writer fails, a front of them was written. Nothing is flushed.
 pub fn send<W: Write>(writer: &mut W, bytes: &[u8]) -> Result<(), WriteFault>

@@ -1,0 +1,85 @@
+use Rattle.std.proofs.Common.{◌≡◌, ◌<◌, List, ℕ, length, take, [], ◌∷◌, ◌++◌, Err, arith, sym, ap, subst, refl, inl, inr, ◌∙◌}
+use Rattle.std.proofs.lemmas.Result.{err_from_is_err_and}
+use Rattle.std.specs.Io.KnownBytes.{Appends}
+use Rattle.office_wire.specs.Runs.{Step, office_left}
+use Rattle.office_wire.proofs.RunLemmas.{answered_none, answered_on, office_push, count_on, cut_request, cut_none, ran_done, ran_cut, ran_lost, ran_cut_refusal, ran_cut_reply, ran_no_line}
+use Rattle.office_wire.proofs.runs.answer_blocks.Goals as goal
+
+pub rounds-init : goal.rounds-init
+rounds-init g c = record {
+  before = λ h. h;
+  ran = λ h input e s holds. record { steps = []; rest = input; now = e; count = refl; answered = answered_none g.D.Responder.meaning.answers input s (g.W.Write.contents c.args.writer.now); holds = holds };
+}
+
+pub rounds-preserved : goal.rounds-preserved
+rounds-preserved g c = record {
+  before = λ h. c.rounds.invariant.before (c.answer-answer.ensures.before h);
+  ran = λ h input e s holds.
+      let A = g.D.Responder.meaning.answers in
+      let inv = c.rounds.invariant.ran (c.answer-answer.ensures.before h) input e s holds in
+      let (after, at, line) = (rw c.in-Some.is at c.in_ok-moment.ensures.line) inv.rest inv.now in
+      let read = c.in-Ok.ensures.request after at in
+      let (busy, text, held) = c.answer-answer.ensures.step h (office_left A s inv.steps) inv.holds in
+      let x : Step = record { busy = busy; block = record { moment = c.in-Some.moment; request = c.in-Ok.request } } in
+      record {
+        steps = inv.steps ++ x ∷ [];
+        rest = read.rest;
+        now = read.now_is;
+        count = count_on inv.steps x c.rounds.count inv.count;
+        answered = answered_on A input s inv.steps inv.rest after read.rest x _ _ _ inv.answered line read.whole (subst (Appends _ _) (c.bytes.ensures ∙ text) c.in_ok-send-in-Ok.ensures.ok);
+        holds = subst (g.D.Responder.meaning.holds _) (sym (office_push A inv.steps s x)) held;
+      };
+}
+
+pub returns-in_err-moment-clause-ran : goal.returns-in_err-moment-clause-ran
+returns-in_err-moment-clause-ran g c h input e s holds =
+    let A = g.D.Responder.meaning.answers in
+    let inv = c.rounds.invariant.ran h input e s holds in
+    let p = err_from_is_err_and c.from_residual.result c.from_residual.ensures.1 in
+    let failed = c.in_err-moment.ensures in
+    (inv.steps, rw (p.1, p.2) (ran_no_line A c.in_err-moment.field-0.0 input inv.rest _ s inv.steps _ _ inv.answered failed.fault (λ is. failed.bad (ap (λ t. Err t) is) inv.rest inv.now) (λ is. failed.cut (ap (λ t. Err t) is) inv.rest inv.now)), inv.holds)
+
+pub returns-in_default-clause-ran : goal.returns-in_default-clause-ran
+returns-in_default-clause-ran g c h input e s holds =
+    let inv = c.rounds.invariant.ran h input e s holds in
+    (inv.steps, ran_done g.D.Responder.meaning.answers c.rounds.count input inv.rest _ s inv.steps _ _ inv.answered ((rw c.in_default.is at c.in_ok-moment.ensures.line) inv.rest inv.now) inv.count, inv.holds)
+
+pub returns-in_err-send-in-Ok-clause-ran : goal.returns-in_err-send-in-Ok-clause-ran
+returns-in_err-send-in-Ok-clause-ran g c h input e s holds =
+    let A = g.D.Responder.meaning.answers in
+    let inv = c.rounds.invariant.ran (c.answer-answer.ensures.before h) input e s holds in
+    let (after, at, line) = (rw c.in-Some.is at c.in_ok-moment.ensures.line) inv.rest inv.now in
+    let read = c.in-Ok.ensures.request after at in
+    let (busy, text, held) = c.answer-answer.ensures.step h (office_left A s inv.steps) inv.holds in
+    let x : Step = record { busy = busy; block = record { moment = c.in-Some.moment; request = c.in-Ok.request } } in
+    let p = err_from_is_err_and c.from_residual-in_err-send-in-Ok.result c.from_residual-in_err-send-in-Ok.ensures.1 in (
+      inv.steps ++ x ∷ [],
+      rw (p.1, p.2) (ran_cut_reply A input inv.rest after read.rest _ s inv.steps x _ _ _ inv.answered line read.whole (rw (c.bytes.ensures, text) at c.in_err-send-in-Ok.ensures.err)),
+      subst (g.D.Responder.meaning.holds _) (sym (office_push A inv.steps s x)) held,
+    )
+
+pub returns-in-Read-clause-ran : goal.returns-in-Read-clause-ran
+returns-in-Read-clause-ran g c h input e s holds =
+    let inv = c.rounds.invariant.ran h input e s holds in
+    let (after, at, line) = (rw c.in-Some.is at c.in_ok-moment.ensures.line) inv.rest inv.now in
+    (inv.steps, ran_cut g.D.Responder.meaning.answers input inv.rest _ s inv.steps _ _ inv.answered (cut_request inv.rest after c.in-Some.moment _ line (c.in-Err.ensures.cut (ap (λ t. Err t) c.in-Read.is) after at)), inv.holds)
+
+pub returns-in_err-send-in_default-fault-clause-ran : goal.returns-in_err-send-in_default-fault-clause-ran
+returns-in_err-send-in_default-fault-clause-ran g c h input e s holds =
+    let A = g.D.Responder.meaning.answers in
+    let inv = c.rounds.invariant.ran h input e s holds in
+    let (after, at, line) = (rw c.in-Some.is at c.in_ok-moment.ensures.line) inv.rest inv.now in
+    let p = err_from_is_err_and c.from_residual-in_err-send-in_default-fault.result c.from_residual-in_err-send-in_default-fault.ensures.1 in
+    (inv.steps, rw (p.1, p.2) (ran_cut_refusal A input inv.rest after c.in-Some.moment c.in-Err.fault _ s inv.steps _ _ _ inv.answered line (c.in-Err.ensures.refused after at) c.in_default-fault.not-Read (rw c.refusal.ensures at c.in_err-send-in_default-fault.ensures.err)), inv.holds)
+
+pub returns-in_default-fault-clause-ran : goal.returns-in_default-fault-clause-ran
+returns-in_default-fault-clause-ran g c h input e s holds =
+    let A = g.D.Responder.meaning.answers in
+    let inv = c.rounds.invariant.ran h input e s holds in
+    let (after, at, line) = (rw c.in-Some.is at c.in_ok-moment.ensures.line) inv.rest inv.now in
+    (inv.steps, ran_lost A input inv.rest after c.in-Some.moment c.in-Err.fault _ s inv.steps _ _ _ inv.answered line (c.in-Err.ensures.refused after at) c.in_default-fault.not-Read (rw c.refusal.ensures at c.in_ok-send-in_default-fault.ensures.ok), inv.holds)
+
+pub returns-clause-ran : goal.returns-clause-ran
+returns-clause-ran g c h input e s holds =
+    let inv = c.rounds.invariant.ran h input e s holds in
+    (inv.steps, ran_cut g.D.Responder.meaning.answers input inv.rest _ s inv.steps _ _ inv.answered (cut_none inv.rest _ inv.now), inv.holds)

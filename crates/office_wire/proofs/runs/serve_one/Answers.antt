@@ -1,0 +1,22 @@
+use Rattle.std.proofs.Common.{Err, Ok}
+use Rattle.std.proofs.lemmas.Result.{err_from_is_err_and}
+use Rattle.office_wire.proofs.RunLemmas.{served_kept, served_unflushed}
+use Rattle.office_wire.proofs.runs.serve_one.Goals as goal
+
+pub returns-in_err-answer_one-clause-served : goal.returns-in_err-answer_one-clause-served
+returns-in_err-answer_one-clause-served g c h input e s holds =
+    let p = err_from_is_err_and c.from_residual.result c.from_residual.ensures.1 in
+    rw (p.1, p.2) (c.in_err-answer_one.ensures.served h input e s holds)
+
+pub returns-in_err-flush-clause-served : goal.returns-in_err-flush-clause-served
+returns-in_err-flush-clause-served g c h input e s holds =
+    let A = g.D.Responder.meaning.answers in
+    let (t, served, held) = c.in_ok-answer_one.ensures.served h input e s holds in
+    let p = err_from_is_err_and c.from_residual-in_err-flush.result c.from_residual-in_err-flush.ensures.1 in
+    (t, rw (p.1, p.2) (served_unflushed A tt input _ c.args.moment s t _ _ (served_kept A (Ok tt) input _ c.args.moment s t _ _ _ served c.flush.ensures)), held)
+
+pub returns-clause-served : goal.returns-clause-served
+returns-clause-served g c h input e s holds =
+    let A = g.D.Responder.meaning.answers in
+    let (t, served, held) = c.in_ok-answer_one.ensures.served h input e s holds in
+    (t, served_kept A (Ok tt) input _ c.args.moment s t _ _ _ served c.flush.ensures, held)

@@ -1,0 +1,52 @@
+//! A response.
+ghost use Rattle.std.specs.Prelude.{◌≡◌};
+
+use std::marker::Model;
+
+/// A response: bytes that were built, or constant ones where memory was wanting.
+#[derive(Drop)]
+pub struct Answer {
+    built: Option<Vec<u8>>,
+    constant: &'static [u8],
+}
+
+impl Model for Answer {
+    ghost use Rattle.std.specs.Prelude.{ℕ, List, option_map};
+    ghost use Rattle.office_wire.specs.Responders.{answer_text};
+
+    ghost Value = { List ℕ };
+
+    ghost view = { λ s. answer_text (option_map (λ v. v.items) s.built) s.constant.now };
+}
+
+impl Answer {
+    /// A response that takes no memory.
+    pub fn constant(text: &'static [u8]) -> Answer
+        ensures { result ≡ text.now }
+    {
+        Answer {
+            built: None,
+            constant: text,
+        }
+    }
+
+    /// A response that was built.
+    pub fn built(text: Vec<u8>) -> Answer
+        ensures { result ≡ text.items }
+    {
+        Answer {
+            built: Some(text),
+            constant: &[],
+        }
+    }
+
+    /// Its bytes.
+    pub fn bytes(&self) -> &[u8]
+        ensures { result.now ≡ self.now }
+    {
+        match &self.built {
+            Some(text) => text,
+            None => self.constant,
+        }
+    }
+}

@@ -1,0 +1,49 @@
+//! The lines that begin the blocks of a run.
+ghost use Rattle.std.specs.Prelude.{◌≡◌, ◌≤◌, ◌⊎◌, ℕ, List, length, IfOk, IfErr, IfSome, IfNone, IsErrOf, Some, option_map};
+ghost use Rattle.office_wire.specs.Blocks.{IsLine, HasNoLine, LineRead};
+ghost use Rattle.office_wire.specs.Reading.{IsCutShort};
+
+use crate::fault::RunFault;
+use crate::reading::fill;
+use office_values::moment::Moment;
+use std::io::Read;
+
+/// How many bytes a line has: `at `, the moment's 20 and a line feed.
+const LINE: usize = 24;
+
+/// The moment that a line says.
+fn moment_in(line: &[u8]) -> Option<Moment>
+    requires { length line.now ≡ 24 }
+    ensures found { IfSome result (IsLine line.now) }
+    ensures none { IfNone result ((moment : ℕ) → ¬ (IsLine line.now moment)) }
+{
+    if line[0] != b'a' || line[1] != b't' || line[2] != b' ' || line[LINE - 1] != b'\n' {
+        return None;
+    }
+    Moment::read(&line[3..LINE - 1])
+}
+
+/// Reads the line that begins a block, and no byte behind it; none at the end of the input. 24 bytes, or all up to the end,
+/// are read before they are judged. `left` is how many reads may still be made, as at `read_request`.
+pub fn read_block_line<R: Read>(reader: &mut R, left: &mut u32) -> Result<Option<Moment>, RunFault>
+    ensures line { IfOk result (λ o. (input : List ℕ) → R.remaining reader.old ≡ Some input → LineRead input (R.remaining reader.new) o) }
+    ensures bad { IsErrOf result RunFault.BadBlock → (input : List ℕ) → R.remaining reader.old ≡ Some input → HasNoLine input }
+    ensures cut { IsErrOf result RunFault.Read → (input : List ℕ) → R.remaining reader.old ≡ Some input → IsCutShort input (R.remaining reader.new) 24 }
+    ensures fault { IfErr result (λ e. (e ≡ RunFault.BadBlock) ⊎ (e ≡ RunFault.Read)) }
+    ensures spent { left.new ≤ left.old }
+{
+    let mut line = [0u8; LINE];
+    let Ok(count) = fill(reader, left, &mut line) else {
+        return Err(RunFault::Read);
+    };
+    if count == 0 {
+        return Ok(None);
+    }
+    if count < LINE {
+        return Err(RunFault::BadBlock);
+    }
+    match moment_in(&line) {
+        Some(moment) => Ok(Some(moment)),
+        None => Err(RunFault::BadBlock),
+    }
+}

@@ -1,0 +1,98 @@
+//! Readers and writers that give little, are interrupted or fail.
+
+use std::alloc::Global;
+use std::io;
+use std::io::{ErrorKind, Read, Write};
+
+/// Gives at most so many bytes a read, is interrupted before each where asked, and fails once so many reads were made.
+#[derive(Drop)]
+pub struct Drip<'a> {
+    pub rest: &'a [u8],
+    pub most: usize,
+    pub is_interrupted: bool,
+    was_interrupted: bool,
+    pub reads: u32,
+}
+
+impl Drip<'_> {
+    pub fn over(rest: &[u8], most: usize) -> Drip<'_> {
+        Drip {
+            rest,
+            most,
+            is_interrupted: false,
+            was_interrupted: false,
+            reads: u32::MAX,
+        }
+    }
+}
+
+impl Read for Drip<'_> {
+    fn read(&mut self, buf: &mut [u8]) -> io::Result<usize> {
+        if self.reads == 0 {
+            return Err(io::Error::from(ErrorKind::BrokenPipe));
+        }
+        self.reads -= 1;
+        if self.is_interrupted && !self.was_interrupted {
+            self.was_interrupted = true;
+            return Err(io::Error::from(ErrorKind::Interrupted));
+        }
+        self.was_interrupted = false;
+        let limit = if buf.len() < self.most {
+            buf.len()
+        } else {
+            self.most
+        };
+        for count in 0..limit {
+            match self.rest.split_first() {
+                Some((first, rest)) => {
+                    buf[count] = *first;
+                    self.rest = rest;
+                }
+                None => return Ok(count),
+            }
+        }
+        Ok(limit)
+    }
+}
+
+/// Takes at most so many bytes a write, and so many writes.
+#[derive(Drop)]
+pub struct Narrow {
+    pub bytes: Vec<u8>,
+    pub most: usize,
+    pub writes: u32,
+    pub kind: ErrorKind,
+}
+
+impl Write for Narrow {
+    fn write(&mut self, buf: &[u8]) -> io::Result<usize> {
+        if self.writes == 0 {
+            return Err(io::Error::from(self.kind));
+        }
+        self.writes -= 1;
+        let count = if buf.len() < self.most {
+            buf.len()
+        } else {
+            self.most
+        };
+        self.bytes.extend_from_slice(&buf[..count])?;
+        Ok(count)
+    }
+
+    fn flush(&mut self) -> io::Result<()> {
+        if self.writes == 0 {
+            return Err(io::Error::from(self.kind));
+        }
+        Ok(())
+    }
+}
+
+/// Takes nothing yet.
+pub fn make_narrow(alloc: Global, most: usize, writes: u32, kind: ErrorKind) -> Narrow {
+    Narrow {
+        bytes: Vec::new(alloc),
+        most,
+        writes,
+        kind,
+    }
+}
