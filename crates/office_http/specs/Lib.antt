@@ -1,3 +1,4 @@
 pub mod Response
 pub mod Paths
 pub mod Routing
+pub mod Asking
