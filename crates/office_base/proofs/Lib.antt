@@ -5,3 +5,4 @@ pub mod Undoing
 pub mod RowLaws
 pub mod SortedTables
 pub mod Applied
+pub mod Agreeing

@@ -20,9 +20,13 @@ put_standing m s = row_put id_cmp standing_key m s
 abbrev pub columns_at : List Standing → List ℕ → Option Columns
 columns_at m line = option_and_then (λ (s : Standing). s.columns) (find_standing m line)
 
--- the columns of a held line
+-- the columns of a row
+abbrev pub columns_of_row : LineRow → Columns
+columns_of_row row = record { appropriation = row.appropriation; free = row.free }
+
+-- where the line of a row stands
 abbrev pub standing_of : LineRow → Standing
-standing_of row = record { line = row.line; columns = Some (record { appropriation = row.appropriation; free = row.free }) }
+standing_of row = record { line = row.line; columns = Some (columns_of_row row) }
 
 -- where all lines of the office stand
 abbrev pub standings : Tables → List Standing

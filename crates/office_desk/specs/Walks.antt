@@ -1,5 +1,6 @@
 -- What the decision on an import needs of the lines that were loaded for it.
 use Rattle.std.specs.Prelude.{◌≡◌, ℕ, ◌≤◌, List, Option, Some, None, All, IsSome}
+use Rattle.std.specs.List.{AllByRecursion}
 use Rattle.office_values.specs.declared.budget.BudgetRow.{BudgetRow}
 use Rattle.office_base.specs.Standings.{find_standing}
 use Rattle.office_base.specs.declared.standing.Columns.{Columns}
@@ -15,4 +16,4 @@ IsAtMost n None = Unit {0}
 IsAtMost n (Some c) = (c.appropriation ≤ n) × (c.free ≤ n)
 
 abbrev pub AreAtMost : ℕ → List Standing → Type 0
-AreAtMost n m = All (λ (s : Standing). IsAtMost n s.columns) m
+AreAtMost n m = AllByRecursion (λ (s : Standing). IsAtMost n s.columns) m

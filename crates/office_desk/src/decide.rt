@@ -1,10 +1,10 @@
 //! The decision on an import, over the rows that it speaks of.
-ghost use Rattle.std.specs.Prelude.{◌≡◌, ◌+◌, ◌^◌, ◌≤◌, ◌<◌, IfOk, IfErr, IsSome, length, nat_lt};
+ghost use Rattle.std.specs.Prelude.{◌≡◌, ◌+◌, ◌^◌, ◌||◌, ◌≤◌, ◌<◌, IfOk, IfErr, IsSome, length, nat_lt};
 ghost use Rattle.office_values.specs.Money.{total_limit};
 ghost use Rattle.office_values.specs.declared.refusal.Refusal.TheVariants.{Unavailable};
 ghost use Rattle.office_base.specs.Standings.{columns_at, find_standing};
 ghost use Rattle.office_base.specs.Rules.{Decides, first_of};
-ghost use Rattle.office_base.specs.Rules.Import.{is_cut, columns_after, after_row, after_rows, some_row, cuts_nothing, cuts_too_much, passes_limit, import_tests, import_puts, line_put};
+ghost use Rattle.office_base.specs.Rules.Import.{is_cut, columns_after, after_row, after_rows, some_row, cuts_nothing, cuts_too_much, passes_limit, import_tests, import_puts, line_put, puts_after, appropriation_of, free_of};
 ghost use Rattle.office_desk.specs.Walks.{AreNamed, IsAtMost, AreAtMost};
 
 use office_base::records::{BatchRow, ClockRow, LineRow, Put};
@@ -21,6 +21,7 @@ use std::alloc::Global;
 const ROW_LIMIT: usize = 500;
 
 // What was found while the rows were taken in order.
+#[derive(Clone, Copy)]
 struct Findings {
     unknown: bool,
     short: bool,
@@ -46,4 +47,179 @@ fn amounts(held: Option<Columns>) -> (u128, u128)
         Some(columns) => (columns.appropriation, columns.free),
         None => (0, 0),
     }
+}
+
+// Both columns of a line after a row of it.
+fn columns_after(held: Option<Columns>, row: &BudgetRow) -> Columns
+    requires { IsAtMost (2 ^ 126) held }
+    ensures { result ≡ columns_after held row.now }
+{
+    let (appropriation, free) = amounts(held);
+    let amount = row.amount.units() as u128;
+    match row.kind {
+        BudgetKind::Add => Columns {
+            appropriation: appropriation + amount,
+            free: free + amount,
+        },
+        BudgetKind::Cut => Columns {
+            appropriation: appropriation.saturating_sub(amount),
+            free: free.saturating_sub(amount),
+        },
+    }
+}
+
+// What is found at one row.
+fn findings_at(held: Option<Columns>, row: &BudgetRow) -> Findings
+    requires { IsAtMost (2 ^ 126) held }
+    ensures unknown { result.unknown ≡ cuts_nothing held row.now }
+    ensures short { result.short ≡ cuts_too_much held row.now }
+    ensures past { result.past ≡ passes_limit held row.now }
+    ensures small { row.now.amount ≤ total_limit }
+{
+    let (appropriation, free) = amounts(held);
+    let amount = row.amount.units() as u128;
+    match row.kind {
+        BudgetKind::Add => Findings {
+            unknown: false,
+            short: false,
+            past: appropriation + amount > TOTAL_LIMIT as u128,
+        },
+        BudgetKind::Cut => Findings {
+            unknown: held.is_none(),
+            short: free < amount,
+            past: false,
+        },
+    }
+}
+
+// What was found at either.
+fn joined(first: Findings, second: Findings) -> Findings
+    ensures unknown { result.unknown ≡ (first.unknown || second.unknown) }
+    ensures short { result.short ≡ (first.short || second.short) }
+    ensures past { result.past ≡ (first.past || second.past) }
+{
+    Findings {
+        unknown: first.unknown || second.unknown,
+        short: first.short || second.short,
+        past: first.past || second.past,
+    }
+}
+
+// Takes one row.
+fn take_row(lines: &mut Table<Standing>, row: &BudgetRow)
+    requires there { IsSome (find_standing lines.old row.now.line) }
+    requires fits { IsAtMost (2 ^ 126) (columns_at lines.old row.now.line) }
+    ensures { lines.new ≡ after_row lines.old row.now }
+{
+    let held = columns_at(lines, &row.line);
+    lines.replace(Standing {
+        line: row.line,
+        columns: Some(columns_after(held, row)),
+    });
+}
+
+// Takes the rows in order.
+fn take_rows(lines: &mut Table<Standing>, rows: &[BudgetRow]) -> Findings
+    requires named { AreNamed lines.old rows.now }
+    requires fit { AreAtMost total_limit lines.old }
+    ensures lines { lines.new ≡ after_rows lines.old rows.now }
+    ensures unknown { result.unknown ≡ some_row cuts_nothing lines.old rows.now }
+    ensures short { result.short ≡ some_row cuts_too_much lines.old rows.now }
+    ensures past { result.past ≡ some_row passes_limit lines.old rows.now }
+{
+    let mut all = Findings {
+        unknown: false,
+        short: false,
+        past: false,
+    };
+    for row in rows {
+        let here = findings_at(columns_at(lines, &row.line), row);
+        all = joined(all, here);
+        take_row(lines, row);
+    }
+    all
+}
+
+// A sum of money; a sum that is none is a fault of the store, since no office that commands lead to has it.
+fn total_of(units: u128) -> Result<Total, Refusal>
+    ensures found { IfOk result (λ total. total ≡ units) }
+    ensures fault { IfErr result (λ e. e ≡ Unavailable) }
+{
+    match u64::try_from(units).ok().and_then(Total::read) {
+        Some(total) => Ok(total),
+        None => Err(Refusal::Unavailable),
+    }
+}
+
+// The line of a row, with its columns after all rows.
+fn line_put(after: &Table<Standing>, row: &BudgetRow) -> Result<Put, Refusal>
+    ensures put { IfOk result (λ put. put ≡ line_put after.now row.now) }
+    ensures fault { IfErr result (λ e. e ≡ Unavailable) }
+{
+    let (appropriation, free) = amounts(columns_at(after, &row.line));
+    Ok(Put::Line(LineRow {
+        line: row.line,
+        title: row.title.clone()?,
+        appropriation: total_of(appropriation)?,
+        free: total_of(free)?,
+    }))
+}
+
+// Each row's line, the batch and the clock.
+fn import_puts(
+    alloc: Global,
+    t: Moment,
+    clock: &ClockRow,
+    batch: Id,
+    after: &Table<Standing>,
+    rows: &[BudgetRow],
+) -> Result<Vec<Put>, Refusal>
+    ensures puts { IfOk result (λ puts. puts.items ≡ puts_after clock.now t batch after.now rows.now) }
+    ensures fault { IfErr result (λ e. e ≡ Unavailable) }
+{
+    let mut puts = Vec::new(alloc);
+    puts.reserve(rows.len().saturating_add(2))?;
+    for row in rows {
+        puts.push(line_put(after, row)?)?;
+    }
+    puts.push(Put::Batch(BatchRow {
+        batch,
+        moment: t,
+        rows: rows.len() as u64,
+    }))?;
+    puts.push(Put::Clock(ClockRow {
+        moment: t,
+        ..*clock
+    }))?;
+    Ok(puts)
+}
+
+/// Decides the import of a budget file: its refusal, or what it puts. The lines are those that the file names.
+pub(crate) fn decide_import(
+    alloc: Global,
+    t: Moment,
+    clock: &ClockRow,
+    batch: Id,
+    exists: bool,
+    mut lines: Table<Standing>,
+    rows: &[BudgetRow],
+) -> Result<Vec<Put>, Refusal>
+    requires named { AreNamed lines rows.now }
+    requires fit { AreAtMost total_limit lines }
+    ensures { Decides result (first_of (import_tests lines exists rows.now)) (import_puts clock.now t batch lines rows.now) }
+{
+    let found = take_rows(&mut lines, rows);
+    if found.unknown {
+        return Err(Refusal::NoSuch(Thing::Line));
+    }
+    if exists {
+        return Err(Refusal::Exists);
+    }
+    if found.short {
+        return Err(Refusal::InsufficientFunds);
+    }
+    if rows.len() > ROW_LIMIT || found.past {
+        return Err(Refusal::LimitReached);
+    }
+    import_puts(alloc, t, clock, batch, &lines, rows)
 }

@@ -5,3 +5,4 @@ pub mod MomentTexts
 pub mod Numerals
 pub mod WorkedNumbers
 pub mod FieldTests
+pub mod PlainTexts

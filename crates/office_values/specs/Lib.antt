@@ -7,3 +7,4 @@ pub mod Kinds
 pub mod Rights
 pub mod Refusals
 pub mod Fields
+pub mod SettingTexts

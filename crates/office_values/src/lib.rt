@@ -8,4 +8,5 @@ pub mod moment;
 pub mod money;
 pub mod number;
 pub mod refusal;
+pub mod settings;
 pub mod text;

@@ -18,4 +18,6 @@ pub record IsReading (reader : Reader (Bor (List ℕ))) : Type 0 where
 
 -- the records that a reader has yet to give
 unfoldable pub records_left : Reader (Bor (List ℕ)) → List (List (List ℕ))
-records_left reader = option_map_or (λ bytes. records_from default_config (length bytes + 1) (reader_state reader) bytes) (source_of (λ s. Some s.now) reader) []
+records_left reader =
+    option_map_or (λ bytes. records_from default_config (length bytes + 1) (reader_state reader) bytes)
+    (source_of (λ s. Some s.now) reader) []

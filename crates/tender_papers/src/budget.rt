@@ -75,7 +75,8 @@ fn row_in_fields(
     amount: &[u8],
     title: &[u8],
 ) -> Result<Option<BudgetRow>, AllocError>
-    ensures { IfOk result (λ found. found ≡ row_of_four (line.now, kind.now, amount.now, title.now)) }
+    ensures { IfOk result (λ found.
+        found ≡ row_of_four (line.now, kind.now, amount.now, title.now)) }
 {
     let Some(line) = Id::read(line) else {
         return Ok(None);
@@ -147,9 +148,10 @@ fn read_rows(
     Ok(BudgetRows::from_vec(rows))
 }
 
-/// The rows of a budget file: CSV (RFC 4180) in records that end in LF, CR LF or CR, with one byte order mark dropped from the front. Record 1
-/// is `line,kind,amount,title`. Each other is a row: an identifier, `add` or `cut`, a number of 1 to 10^15 and a line of
-/// text. `BadRow` comes exactly where a record is none of these, for the first such record; `NoMemory` where memory was refused.
+/// The rows of a budget file: CSV (RFC 4180), comma separated, in records that end in LF, CR LF or CR, with one byte order
+/// mark dropped from the front. Record 1 is `line,kind,amount,title`. Each other is a row: an identifier, `add` or `cut`,
+/// a number of 1 to 10^15 and a line of text. `BadRow` comes exactly where a record is none of these, for the first such
+/// record; `NoMemory` where memory was refused.
 pub fn read_budget(alloc: Global, text: &[u8]) -> Result<BudgetRows, BudgetFault>
     requires { length text.now < 2 ^ 32 }
     ensures { Gives result (budget_of (csv_records text.now)) }

@@ -27,7 +27,9 @@ pub(crate) fn next_record(
 ) -> Result<bool, AllocError>
     requires { IsReading reader.old }
     ensures reading { IfOk result (λ found. IsTrue found → IsReading reader.new) }
-    ensures read { IfOk result (λ found. MatchBool found (records_left reader.old ≡ fields_of row.new ∷ records_left reader.new) (records_left reader.old ≡ [])) }
+    ensures read { IfOk result (λ found. MatchBool found
+        (records_left reader.old ≡ fields_of row.new ∷ records_left reader.new)
+        (records_left reader.old ≡ [])) }
 {
     let Ok(found) = reader.read_byte_record(row) else {
         return Err(AllocError);
@@ -37,7 +39,8 @@ pub(crate) fn next_record(
 
 /// The fields of a record of four.
 pub(crate) fn four_fields(row: &ByteRecord) -> Option<(&[u8], &[u8], &[u8], &[u8])>
-    ensures { option_map (λ f. (f.0.now, f.1.now, f.2.now, f.3.now)) result ≡ four_of (fields_of row.now) }
+    ensures { option_map (λ f. (f.0.now, f.1.now, f.2.now, f.3.now)) result
+        ≡ four_of (fields_of row.now) }
 {
     if row.len() != 4 {
         return None;

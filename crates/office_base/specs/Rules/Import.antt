@@ -82,7 +82,10 @@ line_put after row =
     })
 
 -- each row's line, the batch and the clock
+abbrev pub puts_after : ClockRow → ℕ → List ℕ → List Standing → List BudgetRow → List Put
+puts_after clock t batch after rows =
+    map (line_put after) rows ++ (puts.Batch (record { batch = batch; moment = t; rows = length rows }) ∷ puts.Clock (record clock { moment = t }) ∷ [])
+
+-- what an import puts
 abbrev pub import_puts : ClockRow → ℕ → List ℕ → List Standing → List BudgetRow → List Put
-import_puts clock t batch m rows =
-    map (line_put (after_rows m rows)) rows
-    ++ (puts.Batch (record { batch = batch; moment = t; rows = length rows }) ∷ puts.Clock (record clock { moment = t }) ∷ [])
+import_puts clock t batch m rows = puts_after clock t batch (after_rows m rows) rows

@@ -1,0 +1,90 @@
+-- A decision on loaded lines is the machine's.
+use Rattle.std.specs.Prelude.{◌≡◌, ℕ, ◌⊎◌, List, [], ◌∷◌, Option, Some, None, Result, Ok, Err, Vec, IsSome, All, is_some, not, option_map, length}
+use Rattle.std.proofs.Math.Nat.{zero-lt-suc}
+use Rattle.std.proofs.Common.{refl, sym, ap, ◌∙◌, inl, inr, subst}
+use Rattle.std.specs.declared.alloc.Global.{Global}
+use Rattle.std.proofs.lemmas.List.Elements.{All-tail}
+use Rattle.office_values.specs.declared.budget.BudgetRow.{BudgetRow}
+use Rattle.office_values.specs.declared.refusal.Refusal.{Refusal}
+use Rattle.office_values.specs.declared.refusal.Refusal.TheVariants.{NoSuch, Unavailable}
+use Rattle.office_values.specs.declared.refusal.Thing.TheVariants as things
+use Rattle.office_base.specs.Tables.{Tables, batch_at}
+use Rattle.office_base.specs.Standings.{find_standing, standings}
+use Rattle.office_base.specs.Rules.{Decides, first_of}
+use Rattle.office_base.specs.Rules.Import.{import_tests, import_puts}
+use Rattle.office_base.specs.Machine.{refusal_of, time_of, puts_of}
+use Rattle.office_values.specs.declared.command.Caller.{Caller}
+use Rattle.office_values.specs.declared.command.Query.TheVariants as queries
+use Rattle.office_base.specs.Tables.{line_at}
+use Rattle.office_base.specs.Joined.{pots_of}
+use Rattle.office_base.specs.Looking.{LineSeen, line_sight}
+use Rattle.office_base.specs.declared.records.LineRow.{LineRow}
+use Rattle.office_base.specs.declared.records.Pots.{Pots}
+use Rattle.office_base.specs.declared.records.Put.{Put}
+use Rattle.office_desk.specs.Replies.{sight_text}
+use Rattle.office_base.specs.declared.standing.Standing.{Standing}
+use Rattle.office_base.proofs.Agreeing.{Agree, tests-agree, puts-agree}
+use Rattle.office_desk.specs.Walks.{AreNamed}
+use Rattle.office_desk.specs.Loaded.{AreFrom}
+use Rattle.office_desk.specs.Loading.{IsLoaded}
+use Rattle.office_desk.specs.declared.load.Loaded.{Loaded}
+use Rattle.office_desk.specs.Steps.{imports, reply_of, IsPlan, IsPlanned, IsSeen}
+use Rattle.office_desk.specs.Plans.{Plan}
+
+pub all_here : (m : List Standing) (row : BudgetRow) (rows : List BudgetRow) → AreNamed m (row ∷ rows) → IsSome (find_standing m row.line)
+all_here m row rows named = named 0 row (zero-lt-suc (length rows))
+
+-- lines that were loaded for all rows agree with the office's
+pub agree_loaded : (t : Tables) (m : List Standing) (rows : List BudgetRow) → AreFrom t m → AreNamed m rows → Agree m (standings t) rows
+agree_loaded t m [] all named = tt
+agree_loaded t m (row ∷ rows) all named =
+    (all row.line (all_here m row rows named), agree_loaded t m rows all (All-tail (λ (r : BudgetRow). IsSome (find_standing m r.line)) row rows named))
+
+decided_err : (guard : Option Refusal) (puts : List Put) (why : Refusal) → Decides (Err why) guard puts → (guard ≡ Some why) ⊎ (why ≡ Unavailable)
+decided_err None puts why h = inr h.1
+decided_err (Some w) puts why h = let same : w ≡ why = cc in inl (ap Some same)
+
+decided_none : (guard : Option Refusal) (puts : List Put) (made : Vec Put Global) → Decides (Ok made) guard puts → guard ≡ None
+decided_none None puts made h = refl
+decided_none (Some w) puts made h = cc
+
+decided_puts : (guard : Option Refusal) (puts : List Put) (made : Vec Put Global) → Decides (Ok made) guard puts → made.items ≡ puts
+decided_puts None puts made h = h.0
+decided_puts (Some w) puts made h = cc
+
+module _ (s : Tables) (moment : ℕ) (batch : List ℕ) (rows : List BudgetRow) (loaded : Loaded) (from : IsLoaded s batch loaded) (named : AreNamed loaded.lines rows) where
+  same_tests : import_tests loaded.lines loaded.«exists» rows ≡ import_tests (standings s) (is_some (batch_at batch s)) rows
+  same_tests = tests-agree loaded.lines (standings s) loaded.«exists» rows (agree_loaded s loaded.lines rows from.lines_are named) ∙ ap (λ b. import_tests (standings s) b rows) from.exists_is
+
+  -- its refusal is the machine's
+  pub refused : (t : ℕ) (why : Refusal) → Decides (Err why) (first_of (import_tests loaded.lines loaded.«exists» rows)) (import_puts loaded.clock t batch loaded.lines rows)
+      → (refusal_of (imports s moment batch rows) ≡ Some why) ⊎ (why ≡ Unavailable)
+  refused t why h =
+      let guard : Option Refusal → Type 0 = λ g. (g ≡ Some why) ⊎ (why ≡ Unavailable) in
+      subst guard (ap first_of same_tests) (decided_err (first_of (import_tests loaded.lines loaded.«exists» rows)) (import_puts loaded.clock t batch loaded.lines rows) why h)
+
+  -- where there is none, its puts are the machine's
+  pub planned : (t : ℕ) (made : Vec Put Global) (plan : Plan) → t ≡ time_of (imports s moment batch rows)
+      → Decides (Ok made) (first_of (import_tests loaded.lines loaded.«exists» rows)) (import_puts loaded.clock t batch loaded.lines rows)
+      → plan.puts ≡ made.items → plan.reply ≡ reply_of (imports s moment batch rows) → IsPlan (imports s moment batch rows) plan
+  planned t made plan time h puts reply = record {
+    allowed = ap first_of (sym same_tests) ∙ decided_none (first_of (import_tests loaded.lines loaded.«exists» rows)) (import_puts loaded.clock t batch loaded.lines rows) made h;
+    puts =
+        puts
+        ∙ decided_puts (first_of (import_tests loaded.lines loaded.«exists» rows)) (import_puts loaded.clock t batch loaded.lines rows) made h
+        ∙ puts-agree loaded.clock t batch loaded.lines (standings s) rows (agree_loaded s loaded.lines rows from.lines_are named)
+        ∙ ap (λ clock. import_puts clock t batch (standings s) rows) from.clock_is
+        ∙ ap (λ at. import_puts s.clock at batch (standings s) rows) time;
+    reply = reply;
+  }
+
+seen_guard : (found : Option LineRow) (row : LineRow) → found ≡ Some row → first_of ((not (is_some found), NoSuch things.Line) ∷ []) ≡ None
+seen_guard found row e = rw e refl
+
+-- a line that was found is seen
+pub seen_line : (caller : Caller) (line : List ℕ) (s : Tables) (row : LineRow) (pots : Pots) (text : List ℕ) → line_at line s ≡ Some row → pots ≡ pots_of row s
+    → text ≡ sight_text (LineSeen row.line row.title pots) → IsSeen caller (queries.Line line) s (Ok text)
+seen_line caller line s row pots text found sums written = (
+  seen_guard (line_at line s) row found,
+  (line_sight s row, ap (option_map (line_sight s)) found, written ∙ ap (λ p. sight_text (LineSeen row.line row.title p)) sums),
+)
