@@ -4,7 +4,7 @@ ghost use Rattle.http.specs.StatusCode.{IsStatusCode};
 ghost use Rattle.office_values.specs.Refusals.{told, Record};
 ghost use Rattle.office_values.specs.declared.refusal.Refusal.TheVariants.{Unavailable};
 ghost use Rattle.office_http.specs.Response.{head_start, response_with, response_of, refusal_body, what_member, allow_field, challenge_field, NamesMethod, phrase_of};
-ghost use Rattle.office_http.specs.declared.reply.Reply.TheVariants.{Refused};
+ghost use Rattle.office_http.specs.declared.reply.Reply.TheVariants.{Json, Refused};
 
 use crate::reply::{Allow, Reply};
 use http::StatusCode;
@@ -134,6 +134,27 @@ fn refusal_body(alloc: Global, refusal: Refusal) -> Result<Vec<u8>, AllocError>
     Ok(out)
 }
 
+// The response to what is accepted or seen, as a JSON text.
+pub(crate) fn accepted_response(alloc: Global, text: &[u8]) -> Result<Vec<u8>, AllocError>
+    ensures { IfOk result (λ out. out.items ≡ response_of (Json text.now)) }
+{
+    response(alloc, 200, JSON, "", "", text)
+}
+
+// The response to a refusal.
+pub(crate) fn refusal_response(
+    alloc: Global,
+    refusal: Refusal,
+    method: Option<Allow>,
+) -> Result<Vec<u8>, AllocError>
+    ensures { IfOk result (λ out. out.items ≡ response_of (Refused refusal method)) }
+{
+    let body = refusal_body(alloc, refusal)?;
+    let status = refusal.status();
+    let allow = allow_field(method);
+    response(alloc, status, JSON, allow, challenge_field(status), &body)
+}
+
 /// The response's bytes: an HTTP/1.1 response whose connection is closed behind it (RFC 9112, section 9.6). The body of a refusal
 /// is a JSON object, its members in the byte order of their names.
 pub fn respond(alloc: Global, reply: &Reply) -> Result<Vec<u8>, AllocError>
@@ -141,14 +162,9 @@ pub fn respond(alloc: Global, reply: &Reply) -> Result<Vec<u8>, AllocError>
     ensures { IfOk result (λ response. response.items ≡ response_of reply.now) }
 {
     match reply {
-        Reply::Json(body) => response(alloc, 200, JSON, "", "", body.as_slice()),
+        Reply::Json(body) => accepted_response(alloc, body.as_slice()),
         Reply::Text(body) => response(alloc, 200, PLAIN_TEXT, "", "", body.as_slice()),
-        Reply::Refused(refusal, method) => {
-            let body = refusal_body(alloc, *refusal)?;
-            let status = refusal.status();
-            let allow = allow_field(*method);
-            response(alloc, status, JSON, allow, challenge_field(status), &body)
-        }
+        Reply::Refused(refusal, method) => refusal_response(alloc, *refusal, *method),
     }
 }
 

@@ -1,0 +1,90 @@
+//! Requests answered in bytes.
+ghost use Rattle.std.specs.Prelude.{◌≡◌, ◌⊎◌, None, Ok, Err};
+ghost use Rattle.office_values.specs.declared.refusal.Refusal.TheVariants.{Unavailable};
+ghost use Rattle.office_base.specs.Shelves.{Looks};
+ghost use Rattle.office_http.specs.Asking.{credentials_of};
+ghost use Rattle.office_http.specs.Meaning.{Gives, Sees, meant, who};
+ghost use Rattle.office_http.specs.Answering.{AnswersRequest, IsAnswered, RefusesBytes, fault_text, unavailable_text};
+ghost use Rattle.office_http.specs.Response.{response_of};
+ghost use Rattle.office_http.specs.declared.reply.Reply.TheVariants.{Refused};
+
+use crate::asked::{Asked, command_of, credentials_of};
+use crate::reply::Allow;
+use crate::response::{accepted_response, refusal_response, unavailable};
+use crate::routes::Routes;
+use office_base::shelf::{Lookups, Shelf};
+use office_desk::desk::Desk;
+use office_values::command::{Caller, Command, Query};
+use office_values::moment::Moment;
+use office_values::refusal::Refusal;
+use office_wire::answer::Answer;
+use office_wire::fault::ReadFault;
+use office_wire::request::{Request, read_request};
+use std::alloc::Global;
+
+// The response to a refusal, or Unavailable where no memory is left for it.
+fn refuse(alloc: Global, refusal: Refusal, method: Option<Allow>) -> Answer
+    ensures { (result ≡ response_of (Refused refusal method)) ⊎ (result ≡ unavailable_text) }
+{
+    match refusal_response(alloc, refusal, method) {
+        Ok(response) => Answer::built(response),
+        Err(_) => Answer::constant(unavailable()),
+    }
+}
+
+// Answers a command. The response is built whole before anything changes.
+fn answer_command<H: Shelf + Drop>(
+    alloc: Global,
+    desk: &mut Desk<H>,
+    moment: Moment,
+    caller: &Caller,
+    command: Command,
+) -> Answer
+    ensures before { H.meaning.honest desk.new.shelf → H.meaning.honest desk.old.shelf }
+    ensures settings { desk.new.settings ≡ desk.old.settings }
+    ensures answered { IsAnswered H.meaning desk.old.shelf desk.new.shelf moment (λ s. Gives caller.now command) result }
+{
+    let planned = match desk.plan(moment, caller, command) {
+        Ok(planned) => planned,
+        Err(refusal) => return refuse(alloc, refusal, None),
+    };
+    let Ok(response) = accepted_response(alloc, planned.reply()) else {
+        return Answer::constant(unavailable());
+    };
+    match desk.commit(planned) {
+        Ok(_) => Answer::built(response),
+        Err(_) => Answer::constant(unavailable()),
+    }
+}
+
+// Answers a query.
+fn answer_query<H: Shelf + Drop>(
+    alloc: Global,
+    desk: &mut Desk<H>,
+    moment: Moment,
+    caller: &Caller,
+    query: Query,
+) -> Answer
+    ensures before { H.meaning.honest desk.new.shelf → H.meaning.honest desk.old.shelf }
+    ensures settings { desk.new.settings ≡ desk.old.settings }
+    ensures answered { IsAnswered H.meaning desk.old.shelf desk.new.shelf moment (λ s. Sees caller.now query) result }
+{
+    let text = match desk.look(caller, query) {
+        Ok(text) => text,
+        Err(refusal) => return refuse(alloc, refusal, None),
+    };
+    match accepted_response(alloc, &text) {
+        Ok(response) => Answer::built(response),
+        Err(_) => Answer::constant(unavailable()),
+    }
+}
+
+// Who asks.
+fn caller_of<H: Shelf + Drop>(desk: &mut Desk<H>, request: &Request) -> Result<Caller, Refusal>
+    ensures looks { Looks H.meaning desk.old.shelf desk.new.shelf (λ s.
+        (result ≡ who desk.old.settings s (credentials_of request.now.head.fields)) ⊎ (result ≡ Err Unavailable)) }
+    ensures settings { desk.new.settings ≡ desk.old.settings }
+{
+    let credentials = credentials_of(request)?;
+    desk.caller(credentials.name, credentials.key)
+}
