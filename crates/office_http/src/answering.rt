@@ -3,7 +3,7 @@ ghost use Rattle.std.specs.Prelude.{◌≡◌, ◌⊎◌, None, Ok, Err};
 ghost use Rattle.office_values.specs.declared.refusal.Refusal.TheVariants.{Unavailable};
 ghost use Rattle.office_base.specs.Shelves.{Looks};
 ghost use Rattle.office_http.specs.Asking.{credentials_of};
-ghost use Rattle.office_http.specs.Meaning.{Gives, Sees, meant, who};
+ghost use Rattle.office_http.specs.Meaning.{Gives, Sees, meant, meant_asked, who};
 ghost use Rattle.office_http.specs.Answering.{AnswersRequest, IsAnswered, RefusesBytes, fault_text, unavailable_text};
 ghost use Rattle.office_http.specs.Response.{response_of};
 ghost use Rattle.office_http.specs.declared.reply.Reply.TheVariants.{Refused};
@@ -87,4 +87,48 @@ fn caller_of<H: Shelf + Drop>(desk: &mut Desk<H>, request: &Request) -> Result<C
 {
     let credentials = credentials_of(request)?;
     desk.caller(credentials.name, credentials.key)
+}
+
+// Answers what a caller asks by a route.
+fn answer_asked<H: Shelf + Drop>(
+    alloc: Global,
+    desk: &mut Desk<H>,
+    moment: Moment,
+    caller: &Caller,
+    asked: Result<Asked, Refusal>,
+) -> Answer
+    ensures before { H.meaning.honest desk.new.shelf → H.meaning.honest desk.old.shelf }
+    ensures settings { desk.new.settings ≡ desk.old.settings }
+    ensures answered { IsAnswered H.meaning desk.old.shelf desk.new.shelf moment (λ s. meant_asked caller.now asked) result }
+{
+    match asked {
+        Ok(Asked::Does(command)) => answer_command(alloc, desk, moment, caller, command),
+        Ok(Asked::Looks(query)) => answer_query(alloc, desk, moment, caller, query),
+        Err(refusal) => refuse(alloc, refusal, None),
+    }
+}
+
+/// Answers a request that was read. The response is built whole before anything changes; where memory or the store is wanting, it
+/// is the constant response to `Unavailable`, and nothing changes.
+pub fn answer_request<H: Shelf + Drop>(
+    alloc: Global,
+    routes: &Routes,
+    desk: &mut Desk<H>,
+    moment: Moment,
+    request: &Request,
+) -> Answer
+    ensures before { H.meaning.honest desk.new.shelf → H.meaning.honest desk.old.shelf }
+    ensures settings { desk.new.settings ≡ desk.old.settings }
+    ensures answered { IsAnswered H.meaning desk.old.shelf desk.new.shelf moment (meant desk.old.settings request.now) result }
+{
+    let route = match routes.route_of(request) {
+        Ok(route) => route,
+        Err((refusal, method)) => return refuse(alloc, refusal, method),
+    };
+    let caller = match caller_of(desk, request) {
+        Ok(caller) => caller,
+        Err(refusal) => return refuse(alloc, refusal, None),
+    };
+    let asked = command_of(alloc, &caller, &route, request);
+    answer_asked(alloc, desk, moment, &caller, asked)
 }
