@@ -10,6 +10,7 @@ use Rattle.office_base.specs.Tables.{Tables}
 use Rattle.office_base.specs.Shelves.{Meaning}
 use Rattle.office_base.specs.Machine.{Given, refusal_of, next}
 use Rattle.office_base.specs.Looking.{Sight, look_guard, sight}
+use Rattle.office_desk.specs.Plans.{DeskOf}
 use Rattle.office_desk.specs.Replies.{sight_text}
 use Rattle.office_desk.specs.Steps.{reply_of}
 use Rattle.office_wire.specs.Blocks.{Block}
@@ -78,11 +79,28 @@ fault_refusal fault.Read = refusals.Unavailable
 abbrev pub fault_text : ReadFault → List ℕ
 fault_text why = response_of (Refused (fault_refusal why) None)
 
--- how an office with these settings answers the blocks of a run
-abbrev pub office_answers : Settings → Answers Tables
-office_answers settings = record {
-  reply = λ busy s b. answer_bytes busy s b.moment (meant settings b.request s);
-  after = λ busy s b. office_left busy s b.moment (meant settings b.request s);
+-- an office as it answers requests: its settings and its tables
+pub record Held : Type 0 where
+  pub settings : Settings
+  pub tables : Tables
+
+-- a desk over a shelf holds this
+abbrev pub IsHeld : {S : Type 0} → Meaning S → DeskOf S → Held → Type 0
+IsHeld M desk h = (desk.settings ≡ h.settings) × M.holds desk.shelf h.tables
+
+-- what a desk over a shelf holds, where the shelf holds these tables
+abbrev pub held_by : {S : Type 0} → DeskOf S → Tables → Held
+held_by desk s = record { settings = desk.settings; tables = s }
+
+-- what a block's request means to it
+abbrev pub meant_in : Held → Block → Meant
+meant_in h b = meant h.settings b.request h.tables
+
+-- how it answers the blocks of a run
+abbrev pub office_answers : Answers Held
+office_answers = record {
+  reply = λ busy h b. answer_bytes busy h.tables b.moment (meant_in h b);
+  after = λ busy h b. record h { tables = office_left busy h.tables b.moment (meant_in h b) };
   refusal = fault_text;
 }
 

@@ -10,7 +10,7 @@ ghost use Rattle.office_http.specs.declared.reply.Reply.TheVariants.{Refused};
 
 use crate::asked::{Asked, command_of, credentials_of};
 use crate::reply::Allow;
-use crate::response::{accepted_response, refusal_response, unavailable};
+use crate::response::{accepted_response, bad_head, coding, refusal_response, too_long, unavailable};
 use crate::routes::Routes;
 use office_base::shelf::{Lookups, Shelf};
 use office_desk::desk::Desk;
@@ -131,4 +131,38 @@ pub fn answer_request<H: Shelf + Drop>(
     };
     let asked = command_of(alloc, &caller, &route, request);
     answer_asked(alloc, desk, moment, &caller, asked)
+}
+
+/// The response to what can't be read as a request. Takes no memory; a reader that fails is answered as want of memory.
+pub fn fault_response(fault: ReadFault) -> &'static [u8]
+    ensures { result.now ≡ fault_text fault }
+{
+    match fault {
+        ReadFault::BadHead => bad_head(),
+        ReadFault::TooLong => too_long(),
+        ReadFault::Coding => coding(),
+        ReadFault::Unavailable | ReadFault::Read => unavailable(),
+    }
+}
+
+/// Answers the request at the front of these bytes. Bytes behind it are ignored, and bytes that hold no request are refused. Where
+/// memory or the store is wanting, the answer is the constant response to `Unavailable`, and nothing changes.
+pub fn answer<H: Shelf + Drop>(
+    alloc: Global,
+    routes: &Routes,
+    desk: &mut Desk<H>,
+    moment: Moment,
+    bytes: &[u8],
+) -> Answer
+    ensures before { H.meaning.honest desk.new.shelf → H.meaning.honest desk.old.shelf }
+    ensures settings { desk.new.settings ≡ desk.old.settings }
+    ensures answered { AnswersRequest H.meaning desk.old.settings desk.old.shelf desk.new.shelf moment bytes.now result
+        ⊎ RefusesBytes H.meaning desk.old.shelf desk.new.shelf bytes.now result }
+{
+    let mut reader = bytes;
+    let mut left = u32::MAX;
+    match read_request(alloc, &mut reader, &mut left) {
+        Ok(request) => answer_request(alloc, routes, desk, moment, &request),
+        Err(fault) => Answer::constant(fault_response(fault)),
+    }
 }

@@ -2,7 +2,7 @@
 ghost use Rattle.std.specs.Prelude.{◌≡◌, ◌++◌, IfOk, None, Some, option_map};
 ghost use Rattle.http.specs.StatusCode.{IsStatusCode};
 ghost use Rattle.office_values.specs.Refusals.{told, Record};
-ghost use Rattle.office_values.specs.declared.refusal.Refusal.TheVariants.{Unavailable};
+ghost use Rattle.office_values.specs.declared.refusal.Refusal.TheVariants.{BadHead, TooLong, Coding, Unavailable};
 ghost use Rattle.office_http.specs.Response.{head_start, response_with, response_of, refusal_body, what_member, allow_field, challenge_field, NamesMethod, phrase_of};
 ghost use Rattle.office_http.specs.declared.reply.Reply.TheVariants.{Json, Refused};
 
@@ -173,4 +173,25 @@ pub fn unavailable() -> &'static [u8]
     ensures { result.now ≡ response_of (Refused Unavailable None) }
 {
     b"HTTP/1.1 503 Service Unavailable\r\nContent-Type: application/json\r\nContent-Length: 35\r\nConnection: close\r\n\r\n{\"name\":\"Unavailable\",\"refusal\":32}"
+}
+
+// The response to what is no request. Takes no memory.
+pub(crate) fn bad_head() -> &'static [u8]
+    ensures { result.now ≡ response_of (Refused BadHead None) }
+{
+    b"HTTP/1.1 400 Bad Request\r\nContent-Type: application/json\r\nContent-Length: 30\r\nConnection: close\r\n\r\n{\"name\":\"BadHead\",\"refusal\":1}"
+}
+
+// The response to what passes a bound. Takes no memory.
+pub(crate) fn too_long() -> &'static [u8]
+    ensures { result.now ≡ response_of (Refused TooLong None) }
+{
+    b"HTTP/1.1 413 Payload Too Large\r\nContent-Type: application/json\r\nContent-Length: 30\r\nConnection: close\r\n\r\n{\"name\":\"TooLong\",\"refusal\":2}"
+}
+
+// The response to a transfer coding. Takes no memory.
+pub(crate) fn coding() -> &'static [u8]
+    ensures { result.now ≡ response_of (Refused Coding None) }
+{
+    b"HTTP/1.1 501 Not Implemented\r\nContent-Type: application/json\r\nContent-Length: 29\r\nConnection: close\r\n\r\n{\"name\":\"Coding\",\"refusal\":3}"
 }
