@@ -1,0 +1,24 @@
+-- Texts that are put one behind another.
+use Rattle.std.proofs.Common.{◌≡◌, ℕ, List, [], ◌++◌, refl, append_assoc}
+
+-- a text behind what was there, where it is known otherwise
+pub put_as : (old new text shown : List ℕ) → new ≡ old ++ text → text ≡ shown → new ≡ old ++ shown
+put_as old new text shown put is = rw is at put
+
+-- three texts behind what was there
+pub three_behind : (out first second third a b c : List ℕ) → first ≡ out ++ a → second ≡ first ++ b → third ≡ second ++ c → third ≡ out ++ (a ++ b ++ c)
+three_behind out first second third a b c at_first at_second at_third = rw (at_third, at_second, at_first) (simp append_assoc)
+
+-- a head in a new list, two texts together behind it, and then two more
+pub five_in_new : (out head first second third fourth a b c d e : List ℕ) → out ≡ [] → head ≡ out ++ a → first ≡ head ++ b → second ≡ first ++ c
+    → third ≡ second ++ d → fourth ≡ third ++ e → fourth ≡ a ++ (b ++ c) ++ d ++ e
+five_in_new out head first second third fourth a b c d e is_new at_head at_first at_second at_third at_fourth =
+    rw (at_fourth, at_third, at_second, at_first, at_head, is_new) (simp append_assoc)
+
+-- eight texts behind what was there
+pub eight_behind : (out first second third fourth fifth sixth seventh eighth a b c d e f g h : List ℕ)
+    → first ≡ out ++ a → second ≡ first ++ b → third ≡ second ++ c → fourth ≡ third ++ d
+    → fifth ≡ fourth ++ e → sixth ≡ fifth ++ f → seventh ≡ sixth ++ g → eighth ≡ seventh ++ h
+    → eighth ≡ out ++ (a ++ b ++ c ++ d ++ e ++ f ++ g ++ h)
+eight_behind out first second third fourth fifth sixth seventh eighth a b c d e f g h at_first at_second at_third at_fourth at_fifth at_sixth at_seventh at_eighth =
+    rw (at_eighth, at_seventh, at_sixth, at_fifth, at_fourth, at_third, at_second, at_first) (simp append_assoc)

@@ -1,0 +1,5 @@
+pub mod Joining
+pub mod SegmentSteps
+pub mod RouteSteps
+pub mod AnswerSteps
+pub mod RequestSteps

@@ -1,0 +1,9 @@
+use Rattle.office_http.proofs.RouteSteps.{id_read}
+use Rattle.office_http.proofs.routes.id_in.Goals as goal
+
+pub returns : goal.returns
+returns c =
+    let found = rw c.segment.ensures at c.read.ensures.found in
+    let right = rw c.segment.ensures at c.read.ensures.right in
+    let none = rw c.segment.ensures at c.read.ensures.none in
+    id_read _ _ found right none

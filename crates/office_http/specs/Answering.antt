@@ -1,0 +1,125 @@
+-- How an office answers what is meant: the reply, its bytes, and the office after it.
+use Rattle.std.specs.Prelude.{◌≡◌, ℕ, ◌⊎◌, Bool, List, Option, Some, None, if◌then◌else◌}
+use Rattle.office_values.specs.declared.command.Caller.{Caller}
+use Rattle.office_values.specs.declared.command.Command.{Command}
+use Rattle.office_values.specs.declared.command.Query.{Query}
+use Rattle.office_values.specs.declared.refusal.Refusal.{Refusal}
+use Rattle.office_values.specs.declared.refusal.Refusal.TheVariants as refusals
+use Rattle.office_values.specs.declared.settings.Settings.{Settings}
+use Rattle.office_base.specs.Tables.{Tables}
+use Rattle.office_base.specs.Shelves.{Meaning}
+use Rattle.office_base.specs.Machine.{Given, refusal_of, next}
+use Rattle.office_base.specs.Looking.{Sight, look_guard, sight}
+use Rattle.office_desk.specs.Plans.{DeskOf}
+use Rattle.office_desk.specs.Replies.{sight_text}
+use Rattle.office_desk.specs.Steps.{reply_of}
+use Rattle.office_wire.specs.Blocks.{Block}
+use Rattle.office_wire.specs.Request.{RequestView, IsRequest, IsRefused}
+use Rattle.office_wire.specs.Runs.{Answers}
+use Rattle.office_wire.specs.declared.fault.ReadFault.{ReadFault}
+use Rattle.office_wire.specs.declared.fault.ReadFault.TheVariants as fault
+use Rattle.office_http.specs.Meaning.{Meant, Refuses, Gives, Sees, meant}
+use Rattle.office_http.specs.Response.{response_of}
+use Rattle.office_http.specs.declared.reply.Reply.{Reply}
+use Rattle.office_http.specs.declared.reply.Reply.TheVariants.{Json, Refused}
+
+-- a command that is given to an office
+abbrev pub given_to : Tables → ℕ → Caller → Command → Given
+given_to s moment caller command = record { before = s; moment = moment; caller = caller; command = command }
+
+-- the reply to a command, by its refusal, and the office after it
+abbrev pub command_reply : Given → Option Refusal → Reply
+command_reply x (Some why) = Refused why None
+command_reply x None = Json (reply_of x)
+
+abbrev pub command_office : Given → Option Refusal → Tables
+command_office x (Some why) = x.before
+command_office x None = next x
+
+-- the reply to a query, by its refusal and what is seen; where it isn't refused, something is seen
+abbrev pub sight_reply : Option Sight → Reply
+sight_reply None = Refused refusals.Unavailable None
+sight_reply (Some seen) = Json (sight_text seen)
+
+abbrev pub query_reply : Option Refusal → Option Sight → Reply
+query_reply (Some why) seen = Refused why None
+query_reply None seen = sight_reply seen
+
+-- the reply to what is meant, at this moment
+abbrev pub reply_to : Tables → ℕ → Meant → Reply
+reply_to s moment (Refuses why method) = Refused why method
+reply_to s moment (Gives caller command) = command_reply (given_to s moment caller command) (refusal_of (given_to s moment caller command))
+reply_to s moment (Sees caller query) = query_reply (look_guard s caller query) (sight s query)
+
+-- the office after it
+abbrev pub office_after : Tables → ℕ → Meant → Tables
+office_after s moment (Refuses why method) = s
+office_after s moment (Gives caller command) = command_office (given_to s moment caller command) (refusal_of (given_to s moment caller command))
+office_after s moment (Sees caller query) = s
+
+-- the response where memory or the store is wanting
+abbrev pub unavailable_text : List ℕ
+unavailable_text = response_of (Refused refusals.Unavailable None)
+
+-- the response's bytes, and the office after it; what is answered Unavailable changes nothing
+abbrev pub answer_bytes : Bool → Tables → ℕ → Meant → List ℕ
+answer_bytes busy s moment m = if busy then unavailable_text else response_of (reply_to s moment m)
+
+abbrev pub office_left : Bool → Tables → ℕ → Meant → Tables
+office_left busy s moment m = if busy then s else office_after s moment m
+
+-- the refusal of what can't be read as a request
+abbrev pub fault_refusal : ReadFault → Refusal
+fault_refusal fault.BadHead = refusals.BadHead
+fault_refusal fault.TooLong = refusals.TooLong
+fault_refusal fault.Coding = refusals.Coding
+fault_refusal fault.Unavailable = refusals.Unavailable
+fault_refusal fault.Read = refusals.Unavailable
+
+abbrev pub fault_text : ReadFault → List ℕ
+fault_text why = response_of (Refused (fault_refusal why) None)
+
+-- an office as it answers requests: its settings and its tables
+pub record Held : Type 0 where
+  pub settings : Settings
+  pub tables : Tables
+
+-- a desk over a shelf holds this
+abbrev pub IsHeld : {S : Type 0} → Meaning S → DeskOf S → Held → Type 0
+IsHeld M desk h = (desk.settings ≡ h.settings) × M.holds desk.shelf h.tables
+
+-- what a desk over a shelf holds, where the shelf holds these tables
+abbrev pub held_by : {S : Type 0} → DeskOf S → Tables → Held
+held_by desk s = record { settings = desk.settings; tables = s }
+
+-- what a block's request means to it
+abbrev pub meant_in : Held → Block → Meant
+meant_in h b = meant h.settings b.request h.tables
+
+-- how it answers the blocks of a run
+abbrev pub office_answers : Answers Held
+office_answers = record {
+  reply = λ busy h b. answer_bytes busy h.tables b.moment (meant_in h b);
+  after = λ busy h b. record h { tables = office_left busy h.tables b.moment (meant_in h b) };
+  refusal = fault_text;
+}
+
+-- what is meant was answered with this text, perhaps with Unavailable, and the shelf holds the office after it
+abbrev pub IsAnswered : {S : Type 0} → Meaning S → S → S → ℕ → (Tables → Meant) → List ℕ → Type 0
+IsAnswered M old new moment m text =
+    M.honest new → (s : Tables) → M.holds old s
+    → (busy : Bool) × (text ≡ answer_bytes busy s moment (m s)) × M.holds new (office_left busy s moment (m s))
+
+-- the request at the front of the bytes was answered
+pub record AnswersRequest {S : Type 0} (M : Meaning S) (settings : Settings) (old new : S) (moment : ℕ) (input text : List ℕ) : Type 0 where
+  pub request : RequestView
+  pub rest : List ℕ
+  pub stands : IsRequest input request rest
+  pub answered : IsAnswered M old new moment (meant settings request) text
+
+-- the bytes were refused, and nothing changed
+pub record RefusesBytes {S : Type 0} (M : Meaning S) (old new : S) (input text : List ℕ) : Type 0 where
+  pub why : ReadFault
+  pub refused : IsRefused input why
+  pub text_is : text ≡ fault_text why
+  pub same : M.honest new → (s : Tables) → M.holds old s → M.holds new s

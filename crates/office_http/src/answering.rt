@@ -1,0 +1,168 @@
+//! Requests answered in bytes.
+ghost use Rattle.std.specs.Prelude.{◌≡◌, ◌⊎◌, None, Ok, Err};
+ghost use Rattle.office_values.specs.declared.refusal.Refusal.TheVariants.{Unavailable};
+ghost use Rattle.office_base.specs.Shelves.{Looks};
+ghost use Rattle.office_http.specs.Asking.{credentials_of};
+ghost use Rattle.office_http.specs.Meaning.{Gives, Sees, meant, meant_asked, who};
+ghost use Rattle.office_http.specs.Answering.{AnswersRequest, IsAnswered, RefusesBytes, fault_text, unavailable_text};
+ghost use Rattle.office_http.specs.Response.{response_of};
+ghost use Rattle.office_http.specs.declared.reply.Reply.TheVariants.{Refused};
+
+use crate::asked::{Asked, command_of, credentials_of};
+use crate::reply::Allow;
+use crate::response::{accepted_response, bad_head, coding, refusal_response, too_long, unavailable};
+use crate::routes::Routes;
+use office_base::shelf::{Lookups, Shelf};
+use office_desk::desk::Desk;
+use office_values::command::{Caller, Command, Query};
+use office_values::moment::Moment;
+use office_values::refusal::Refusal;
+use office_wire::answer::Answer;
+use office_wire::fault::ReadFault;
+use office_wire::request::{Request, read_request};
+use std::alloc::Global;
+
+// The response to a refusal, or Unavailable where no memory is left for it.
+fn refuse(alloc: Global, refusal: Refusal, method: Option<Allow>) -> Answer
+    ensures { (result ≡ response_of (Refused refusal method)) ⊎ (result ≡ unavailable_text) }
+{
+    match refusal_response(alloc, refusal, method) {
+        Ok(response) => Answer::built(response),
+        Err(_) => Answer::constant(unavailable()),
+    }
+}
+
+// Answers a command. The response is built whole before anything changes.
+fn answer_command<H: Shelf + Drop>(
+    alloc: Global,
+    desk: &mut Desk<H>,
+    moment: Moment,
+    caller: &Caller,
+    command: Command,
+) -> Answer
+    ensures before { H.meaning.honest desk.new.shelf → H.meaning.honest desk.old.shelf }
+    ensures settings { desk.new.settings ≡ desk.old.settings }
+    ensures answered { IsAnswered H.meaning desk.old.shelf desk.new.shelf moment (λ s. Gives caller.now command) result }
+{
+    let planned = match desk.plan(moment, caller, command) {
+        Ok(planned) => planned,
+        Err(refusal) => return refuse(alloc, refusal, None),
+    };
+    let Ok(response) = accepted_response(alloc, planned.reply()) else {
+        return Answer::constant(unavailable());
+    };
+    match desk.commit(planned) {
+        Ok(_) => Answer::built(response),
+        Err(_) => Answer::constant(unavailable()),
+    }
+}
+
+// Answers a query.
+fn answer_query<H: Shelf + Drop>(
+    alloc: Global,
+    desk: &mut Desk<H>,
+    moment: Moment,
+    caller: &Caller,
+    query: Query,
+) -> Answer
+    ensures before { H.meaning.honest desk.new.shelf → H.meaning.honest desk.old.shelf }
+    ensures settings { desk.new.settings ≡ desk.old.settings }
+    ensures answered { IsAnswered H.meaning desk.old.shelf desk.new.shelf moment (λ s. Sees caller.now query) result }
+{
+    let text = match desk.look(caller, query) {
+        Ok(text) => text,
+        Err(refusal) => return refuse(alloc, refusal, None),
+    };
+    match accepted_response(alloc, &text) {
+        Ok(response) => Answer::built(response),
+        Err(_) => Answer::constant(unavailable()),
+    }
+}
+
+// Who asks.
+fn caller_of<H: Shelf + Drop>(desk: &mut Desk<H>, request: &Request) -> Result<Caller, Refusal>
+    ensures looks { Looks H.meaning desk.old.shelf desk.new.shelf (λ s.
+        (result ≡ who desk.old.settings s (credentials_of request.now.head.fields)) ⊎ (result ≡ Err Unavailable)) }
+    ensures settings { desk.new.settings ≡ desk.old.settings }
+{
+    let credentials = credentials_of(request)?;
+    desk.caller(credentials.name, credentials.key)
+}
+
+// Answers what a caller asks by a route.
+fn answer_asked<H: Shelf + Drop>(
+    alloc: Global,
+    desk: &mut Desk<H>,
+    moment: Moment,
+    caller: &Caller,
+    asked: Result<Asked, Refusal>,
+) -> Answer
+    ensures before { H.meaning.honest desk.new.shelf → H.meaning.honest desk.old.shelf }
+    ensures settings { desk.new.settings ≡ desk.old.settings }
+    ensures answered { IsAnswered H.meaning desk.old.shelf desk.new.shelf moment (λ s. meant_asked caller.now asked) result }
+{
+    match asked {
+        Ok(Asked::Does(command)) => answer_command(alloc, desk, moment, caller, command),
+        Ok(Asked::Looks(query)) => answer_query(alloc, desk, moment, caller, query),
+        Err(refusal) => refuse(alloc, refusal, None),
+    }
+}
+
+/// Answers a request that was read. The response is built whole before anything changes; where memory or the store is wanting, it
+/// is the constant response to `Unavailable`, and nothing changes.
+pub fn answer_request<H: Shelf + Drop>(
+    alloc: Global,
+    routes: &Routes,
+    desk: &mut Desk<H>,
+    moment: Moment,
+    request: &Request,
+) -> Answer
+    ensures before { H.meaning.honest desk.new.shelf → H.meaning.honest desk.old.shelf }
+    ensures settings { desk.new.settings ≡ desk.old.settings }
+    ensures answered { IsAnswered H.meaning desk.old.shelf desk.new.shelf moment (meant desk.old.settings request.now) result }
+{
+    let route = match routes.route_of(request) {
+        Ok(route) => route,
+        Err((refusal, method)) => return refuse(alloc, refusal, method),
+    };
+    let caller = match caller_of(desk, request) {
+        Ok(caller) => caller,
+        Err(refusal) => return refuse(alloc, refusal, None),
+    };
+    let asked = command_of(alloc, &caller, &route, request);
+    answer_asked(alloc, desk, moment, &caller, asked)
+}
+
+/// The response to what can't be read as a request. Takes no memory; a reader that fails is answered as want of memory.
+pub fn fault_response(fault: ReadFault) -> &'static [u8]
+    ensures { result.now ≡ fault_text fault }
+{
+    match fault {
+        ReadFault::BadHead => bad_head(),
+        ReadFault::TooLong => too_long(),
+        ReadFault::Coding => coding(),
+        ReadFault::Unavailable | ReadFault::Read => unavailable(),
+    }
+}
+
+/// Answers the request at the front of these bytes. Bytes behind it are ignored, and bytes that hold no request are refused. Where
+/// memory or the store is wanting, the answer is the constant response to `Unavailable`, and nothing changes.
+pub fn answer<H: Shelf + Drop>(
+    alloc: Global,
+    routes: &Routes,
+    desk: &mut Desk<H>,
+    moment: Moment,
+    bytes: &[u8],
+) -> Answer
+    ensures before { H.meaning.honest desk.new.shelf → H.meaning.honest desk.old.shelf }
+    ensures settings { desk.new.settings ≡ desk.old.settings }
+    ensures answered { AnswersRequest H.meaning desk.old.settings desk.old.shelf desk.new.shelf moment bytes.now result
+        ⊎ RefusesBytes H.meaning desk.old.shelf desk.new.shelf bytes.now result }
+{
+    let mut reader = bytes;
+    let mut left = u32::MAX;
+    match read_request(alloc, &mut reader, &mut left) {
+        Ok(request) => answer_request(alloc, routes, desk, moment, &request),
+        Err(fault) => Answer::constant(fault_response(fault)),
+    }
+}

@@ -1,0 +1,11 @@
+//! From a request to what is asked of the office, and from its reply to the bytes of a response.
+#![tactic(auto)]
+
+pub mod answering;
+pub mod asked;
+pub mod office;
+mod path;
+pub mod reply;
+pub mod response;
+pub mod route;
+pub mod routes;

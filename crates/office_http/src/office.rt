@@ -1,0 +1,106 @@
+//! An office that is asked over HTTP.
+ghost use Rattle.std.specs.Prelude.{◌≡◌, ℕ, List, Some, IfOk};
+ghost use Rattle.office_base.specs.Tables.{Tables};
+ghost use Rattle.office_wire.specs.Runs.{Step, Ran, Served, office_left};
+ghost use Rattle.office_http.specs.Answering.{Held, IsHeld, held_by, office_answers};
+
+use crate::answering::{answer_request, fault_response};
+use crate::routes::Routes;
+use office_base::shelf::{Lookups, Shelf};
+use office_desk::desk::Desk;
+use office_values::moment::Moment;
+use office_wire::answer::Answer;
+use office_wire::fault::{ReadFault, RunFault};
+use office_wire::request::Request;
+use office_wire::runs;
+use office_wire::runs::Responder;
+use std::alloc::{AllocError, Global};
+use std::io::{Read, Write};
+use std::marker::Model;
+
+/// An office that is asked over HTTP: its desk, and the table of its routes.
+#[derive(Drop)]
+pub struct Office<H: Shelf + Drop> {
+    desk: Desk<H>,
+    routes: Routes,
+}
+
+impl<H: Shelf + Drop> Model for Office<H> {
+    ghost use Rattle.office_desk.specs.Plans.{DeskOf};
+
+    ghost Value = { DeskOf H };
+
+    ghost view = { λ o. o.desk };
+}
+
+impl<H: Shelf + Drop> Office<H> {
+    /// An office with this desk. The table of routes is made here, once.
+    pub fn new(alloc: Global, desk: Desk<H>) -> Result<Office<H>, AllocError>
+        ensures { IfOk result (λ office. office ≡ desk) }
+    {
+        let routes = Routes::new(alloc)?;
+        Ok(Office { desk, routes })
+    }
+
+    /// The desk. Takes no memory.
+    pub fn into_desk(self) -> Desk<H>
+        ensures { result ≡ self }
+    {
+        self.desk
+    }
+}
+
+impl<H: Shelf + Drop> Responder for Office<H> {
+    ghost use Rattle.std.specs.Prelude.{◌≡◌};
+    ghost use Rattle.office_http.specs.Answering.{Held, IsHeld, office_answers};
+
+    ghost meaning = { record {
+      Office = Held;
+      honest = λ o. H.meaning.honest o.shelf;
+      holds = λ o h. IsHeld H.meaning o h;
+      answers = office_answers;
+    } };
+
+    fn answer(&mut self, alloc: Global, moment: Moment, request: &Request) -> Answer {
+        answer_request(alloc, &self.routes, &mut self.desk, moment, request)
+    }
+
+    fn refusal(&self, fault: ReadFault) -> &'static [u8] {
+        fault_response(fault)
+    }
+}
+
+/// Answers each block of the input in turn: a line `at MOMENT` and a request. Answers how many there were, where the input ends behind a
+/// block. The responses are flushed once, at the end. At most 4,294,967,295 reads are made.
+pub fn run<H: Shelf + Drop, R: Read, W: Write>(
+    alloc: Global,
+    office: &mut Office<H>,
+    reader: &mut R,
+    writer: &mut W,
+) -> Result<u64, RunFault>
+    ensures before { H.meaning.honest office.new.shelf → H.meaning.honest office.old.shelf }
+    ensures ran { H.meaning.honest office.new.shelf → (input : List ℕ) → R.remaining reader.old ≡ Some input → (s : Tables) → H.meaning.holds office.old.shelf s
+        → (steps : List Step)
+        × Ran office_answers result input (R.remaining reader.new) (held_by office.old s) steps (W.contents writer.old) (W.contents writer.new)
+        × IsHeld H.meaning office.new (office_left office_answers (held_by office.old s) steps) }
+{
+    runs::run(alloc, office, reader, writer)
+}
+
+/// Reads one request, and sends and flushes the response to it, at the moment handed in. The only faults are `Read` and `Write`. At
+/// most 4,294,967,295 reads are made.
+pub fn serve_one<H: Shelf + Drop, R: Read, W: Write>(
+    alloc: Global,
+    office: &mut Office<H>,
+    moment: Moment,
+    reader: &mut R,
+    writer: &mut W,
+) -> Result<(), RunFault>
+    ensures before { H.meaning.honest office.new.shelf → H.meaning.honest office.old.shelf }
+    ensures served { H.meaning.honest office.new.shelf → (input : List ℕ) → R.remaining reader.old ≡ Some input → (s : Tables) → H.meaning.holds office.old.shelf s
+        → (h : Held)
+        × Served office_answers result input (R.remaining reader.new) moment (held_by office.old s) h (W.contents writer.old) (W.contents writer.new)
+        × IsHeld H.meaning office.new h }
+{
+    runs::serve_one(alloc, office, moment, reader, writer)
+}

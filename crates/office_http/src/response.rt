@@ -1,0 +1,197 @@
+//! The bytes of a response.
+ghost use Rattle.std.specs.Prelude.{◌≡◌, ◌++◌, IfOk, None, Some, option_map};
+ghost use Rattle.http.specs.StatusCode.{IsStatusCode};
+ghost use Rattle.office_values.specs.Refusals.{told, Record};
+ghost use Rattle.office_values.specs.declared.refusal.Refusal.TheVariants.{BadHead, TooLong, Coding, Unavailable};
+ghost use Rattle.office_http.specs.Response.{head_start, response_with, response_of, refusal_body, what_member, allow_field, challenge_field, NamesMethod, phrase_of};
+ghost use Rattle.office_http.specs.declared.reply.Reply.TheVariants.{Json, Refused};
+
+use crate::reply::{Allow, Reply};
+use http::StatusCode;
+use itoa::Buffer;
+use office_values::refusal::{Refusal, What};
+use std::alloc::{AllocError, Global};
+
+const JSON: &str = "application/json";
+
+const PLAIN_TEXT: &str = "text/plain; charset=utf-8";
+
+// As much as a head ever takes.
+const HEAD_ROOM: usize = 192;
+
+// As much as the body of a refusal ever takes.
+const REFUSAL_ROOM: usize = 96;
+
+// The phrase of a status.
+fn phrase(status: u16) -> &'static str
+    requires { IsStatusCode status }
+    ensures { result.now ≡ phrase_of status }
+{
+    match StatusCode::from_u16(status) {
+        Ok(code) => code.canonical_reason().unwrap_or(""),
+        Err(_) => unreachable!(),
+    }
+}
+
+// A response's head up to the length of its body, behind what is there.
+fn put_head(out: &mut Vec<u8>, status: u16, media: &str, length: usize) -> Result<(), AllocError>
+    requires { IsStatusCode status }
+    ensures { IfOk result (λ _. out.new.items ≡ out.old.items ++ head_start status media.now length) }
+{
+    let mut digits = Buffer::new();
+    out.extend_from_slice(b"HTTP/1.1 ")?;
+    out.extend_from_slice(digits.format(status).as_bytes())?;
+    out.extend_from_slice(b" ")?;
+    out.extend_from_slice(phrase(status).as_bytes())?;
+    out.extend_from_slice(b"\r\nContent-Type: ")?;
+    out.extend_from_slice(media.as_bytes())?;
+    out.extend_from_slice(b"\r\nContent-Length: ")?;
+    out.extend_from_slice(digits.format(length).as_bytes())?;
+    Ok(())
+}
+
+// A response with this status, kind of content, further fields and body.
+fn response(
+    alloc: Global,
+    status: u16,
+    media: &str,
+    allow: &str,
+    challenge: &str,
+    body: &[u8],
+) -> Result<Vec<u8>, AllocError>
+    requires { IsStatusCode status }
+    ensures { IfOk result (λ out. out.items ≡ response_with status media.now (allow.now ++ challenge.now) body.now) }
+{
+    let mut out = Vec::with_capacity(alloc, HEAD_ROOM.saturating_add(body.len()))?;
+    put_head(&mut out, status, media, body.len())?;
+    out.extend_from_slice(allow.as_bytes())?;
+    out.extend_from_slice(challenge.as_bytes())?;
+    out.extend_from_slice(b"\r\nConnection: close\r\n\r\n")?;
+    out.extend_from_slice(body)?;
+    Ok(out)
+}
+
+// The field that names the method of a path.
+fn allow_field(method: Option<Allow>) -> &'static str
+    ensures { result.now ≡ allow_field method }
+{
+    match method {
+        None => "",
+        Some(Allow::Get) => "\r\nAllow: GET",
+        Some(Allow::Post) => "\r\nAllow: POST",
+    }
+}
+
+// The field that asks for a name and a key.
+fn challenge_field(status: u16) -> &'static str
+    ensures { result.now ≡ challenge_field status }
+{
+    if status == 401 {
+        "\r\nWWW-Authenticate: Office-Key"
+    } else {
+        ""
+    }
+}
+
+// The member that names a record, behind what is there.
+fn put_row(out: &mut Vec<u8>, number: u32) -> Result<(), AllocError>
+    ensures { IfOk result (λ _. out.new.items ≡ out.old.items ++ what_member (Some (Record number))) }
+{
+    let mut digits = Buffer::new();
+    out.extend_from_slice(b",\"what\":\"row ")?;
+    out.extend_from_slice(digits.format(number).as_bytes())?;
+    out.extend_from_slice(b"\"")?;
+    Ok(())
+}
+
+// The member that says what a refusal is about, behind what is there.
+fn put_what(out: &mut Vec<u8>, what: Option<What>) -> Result<(), AllocError>
+    ensures { IfOk result (λ _. out.new.items ≡ out.old.items ++ what_member (option_map told what)) }
+{
+    match what {
+        None => Ok(()),
+        Some(What::Name(name)) => {
+            out.extend_from_slice(b",\"what\":\"")?;
+            out.extend_from_slice(name.as_bytes())?;
+            out.extend_from_slice(b"\"")?;
+            Ok(())
+        }
+        Some(What::Row(number)) => put_row(out, number),
+    }
+}
+
+// A refusal as a JSON object.
+fn refusal_body(alloc: Global, refusal: Refusal) -> Result<Vec<u8>, AllocError>
+    ensures { IfOk result (λ out. out.items ≡ refusal_body refusal) }
+{
+    let mut out = Vec::with_capacity(alloc, REFUSAL_ROOM)?;
+    out.extend_from_slice(b"{\"name\":\"")?;
+    out.extend_from_slice(refusal.name().as_bytes())?;
+    out.extend_from_slice(b"\",\"refusal\":")?;
+    out.extend_from_slice(Buffer::new().format(refusal.number()).as_bytes())?;
+    put_what(&mut out, refusal.what())?;
+    out.extend_from_slice(b"}")?;
+    Ok(out)
+}
+
+// The response to what is accepted or seen, as a JSON text.
+pub(crate) fn accepted_response(alloc: Global, text: &[u8]) -> Result<Vec<u8>, AllocError>
+    ensures { IfOk result (λ out. out.items ≡ response_of (Json text.now)) }
+{
+    response(alloc, 200, JSON, "", "", text)
+}
+
+// The response to a refusal.
+pub(crate) fn refusal_response(
+    alloc: Global,
+    refusal: Refusal,
+    method: Option<Allow>,
+) -> Result<Vec<u8>, AllocError>
+    ensures { IfOk result (λ out. out.items ≡ response_of (Refused refusal method)) }
+{
+    let body = refusal_body(alloc, refusal)?;
+    let status = refusal.status();
+    let allow = allow_field(method);
+    response(alloc, status, JSON, allow, challenge_field(status), &body)
+}
+
+/// The response's bytes: an HTTP/1.1 response whose connection is closed behind it (RFC 9112, section 9.6). The body of a refusal
+/// is a JSON object, its members in the byte order of their names.
+pub fn respond(alloc: Global, reply: &Reply) -> Result<Vec<u8>, AllocError>
+    requires { NamesMethod reply.now }
+    ensures { IfOk result (λ response. response.items ≡ response_of reply.now) }
+{
+    match reply {
+        Reply::Json(body) => accepted_response(alloc, body.as_slice()),
+        Reply::Text(body) => response(alloc, 200, PLAIN_TEXT, "", "", body.as_slice()),
+        Reply::Refused(refusal, method) => refusal_response(alloc, *refusal, *method),
+    }
+}
+
+/// The response where memory is wanting. Takes none.
+pub fn unavailable() -> &'static [u8]
+    ensures { result.now ≡ response_of (Refused Unavailable None) }
+{
+    b"HTTP/1.1 503 Service Unavailable\r\nContent-Type: application/json\r\nContent-Length: 35\r\nConnection: close\r\n\r\n{\"name\":\"Unavailable\",\"refusal\":32}"
+}
+
+// The response to what is no request. Takes no memory.
+pub(crate) fn bad_head() -> &'static [u8]
+    ensures { result.now ≡ response_of (Refused BadHead None) }
+{
+    b"HTTP/1.1 400 Bad Request\r\nContent-Type: application/json\r\nContent-Length: 30\r\nConnection: close\r\n\r\n{\"name\":\"BadHead\",\"refusal\":1}"
+}
+
+// The response to what passes a bound. Takes no memory.
+pub(crate) fn too_long() -> &'static [u8]
+    ensures { result.now ≡ response_of (Refused TooLong None) }
+{
+    b"HTTP/1.1 413 Payload Too Large\r\nContent-Type: application/json\r\nContent-Length: 30\r\nConnection: close\r\n\r\n{\"name\":\"TooLong\",\"refusal\":2}"
+}
+
+// The response to a transfer coding. Takes no memory.
+pub(crate) fn coding() -> &'static [u8]
+    ensures { result.now ≡ response_of (Refused Coding None) }
+{
+    b"HTTP/1.1 501 Not Implemented\r\nContent-Type: application/json\r\nContent-Length: 29\r\nConnection: close\r\n\r\n{\"name\":\"Coding\",\"refusal\":3}"
+}
