@@ -1,5 +1,5 @@
 //! What the program is asked to do, read from its words.
-ghost use Rattle.std.specs.Prelude.{◌≡◌, true, [], map, IfOk, IfErr, IsSome, option_map};
+ghost use Rattle.std.specs.Prelude.{◌≡◌, true, false, codes, [], ◌∷◌, map, Some, IfOk, IfErr, IsSome, option_map};
 ghost use Rattle.clap.specs.Words.{app_of, fault_of, subcommand_rows_of, takes};
 ghost use Rattle.procure_config.specs.Faults.{no_memory};
 ghost use Rattle.procure_config.specs.Jobs as spec;
@@ -74,6 +74,14 @@ pub fn job_of<'a, S: AsStr>(alloc: Global, words: &'a [S]) -> Result<Job<'a>, Pr
         None => Err(no_job(&mut command)),
     }
 }
+
+/// Examples: words that ask for a desk, and words that name no job.
+pub fn worked_words()
+    ensures desk { desk_config (codes "procure" ∷ codes "desk" ∷ codes "office.toml" ∷ []) ≡ Some (codes "office.toml") }
+    ensures taken { takes spec.procure (codes "procure" ∷ codes "desk" ∷ codes "office.toml" ∷ []) ≡ true }
+    ensures none { takes spec.procure (codes "procure" ∷ []) ≡ false }
+    ensures more { takes spec.procure (codes "procure" ∷ codes "desk" ∷ codes "a" ∷ codes "b" ∷ []) ≡ false }
+{}
 
 #[cfg(test)]
 mod tests {

@@ -1,9 +1,10 @@
 //! The settings of an office, read from a text of TOML.
-ghost use Rattle.std.specs.Prelude.{◌≡◌, ◌⊎◌, Ok, Err, IfOk, IfErr, codes, option_map, option_and_then};
+ghost use Rattle.std.specs.Prelude.{◌≡◌, ◌⊎◌, [], Ok, Err, IfOk, IfErr, codes, option_map, option_and_then};
 ghost use Rattle.toml.specs.Data.{as_str, as_array, as_table, get_member};
 ghost use Rattle.toml.specs.Errors.{IsMemory};
 ghost use Rattle.toml.specs.View.{table_view, array_view, items_view, view};
 ghost use Rattle.office_values.specs.SettingTexts.{is_prefix_text, is_currency_code, is_language_code};
+ghost use Rattle.procure_config.specs.WorkedSettings.{city_text, city_settings};
 ghost use Rattle.procure_config.specs.Configuration as spec;
 ghost use Rattle.procure_config.specs.Configuration.{ReadsAs, name_text, passing, is_id_text, is_line_text, text_at, text_in, lines_of, lines_at, digest_at, table_at, settings_in};
 
@@ -276,6 +277,13 @@ pub fn read_settings(alloc: Global, text: &[u8]) -> Result<Settings, SettingsFau
         Err(error) => Err(document_fault(&error)),
     }
 }
+
+/// Examples: a text that gives settings, one without its first member, one that isn't TOML.
+pub fn worked_settings()
+    ensures city { settings_in city_text ≡ Ok city_settings }
+    ensures empty { settings_in [] ≡ Err (SettingsFault.Member SettingName.Prefix) }
+    ensures other { settings_in (codes "prefix:") ≡ Err SettingsFault.NotToml }
+{}
 
 #[cfg(test)]
 mod tests {
