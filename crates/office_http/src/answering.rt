@@ -10,7 +10,9 @@ ghost use Rattle.office_http.specs.declared.reply.Reply.TheVariants.{Refused};
 
 use crate::asked::{Asked, command_of, credentials_of};
 use crate::reply::Allow;
-use crate::response::{accepted_response, bad_head, coding, refusal_response, too_long, unavailable};
+use crate::response::{
+    accepted_response, bad_head, coding, refusal_response, too_long, unavailable,
+};
 use crate::routes::Routes;
 use office_base::shelf::{Lookups, Shelf};
 use office_desk::desk::Desk;

@@ -4,8 +4,14 @@
 pub mod answering;
 pub mod asked;
 pub mod office;
+#[cfg(test)]
+mod office_tests;
 mod path;
 pub mod reply;
+#[cfg(test)]
+mod request_tests;
 pub mod response;
+#[cfg(test)]
+mod response_tests;
 pub mod route;
 pub mod routes;

@@ -20,7 +20,6 @@ struct Row {
     endpoint: Endpoint,
 }
 
-
 const ROWS: [Row; 2] = [
     Row {
         pattern: "/budget/{batch}",
