@@ -17,18 +17,44 @@ fn request_of(alloc: Global, bytes: &[u8]) -> Result<Request, Fail> {
     Ok(read_request(alloc, &mut reader, &mut left)?)
 }
 
-// What a route is: its number, and its first parameter.
-type Taken = Result<(u8, Id), (u8, Option<Allow>)>;
-
-// The route that a request of this method and target takes.
-fn taken(alloc: Global, routes: &Routes, head: &[u8]) -> Result<Taken, Fail> {
-    let mut bytes = head.to_vec(alloc)?;
+// The request of this method and target.
+fn request_to(alloc: Global, line: &[u8]) -> Result<Request, Fail> {
+    let mut bytes = line.to_vec(alloc)?;
     bytes.extend_from_slice(b" HTTP/1.1\r\n\r\n")?;
-    let request = request_of(alloc, &bytes)?;
+    request_of(alloc, &bytes)
+}
+
+// Whether the import into this batch is taken.
+fn imports(alloc: Global, routes: &Routes, line: &[u8], name: &[u8]) -> Result<bool, Fail> {
+    let request = request_to(alloc, line)?;
     Ok(match routes.route_of(&request) {
-        Ok(Route::Import { batch }) => Ok((1, batch)),
-        Ok(Route::Line { line }) => Ok((2, line)),
-        Err((refusal, method)) => Err((refusal.number(), method)),
+        Ok(Route::Import { batch }) => batch.as_bytes() == name,
+        _ => false,
+    })
+}
+
+// Whether the look at this line is taken.
+fn looks(alloc: Global, routes: &Routes, line: &[u8], name: &[u8]) -> Result<bool, Fail> {
+    let request = request_to(alloc, line)?;
+    Ok(match routes.route_of(&request) {
+        Ok(Route::Line { line }) => line.as_bytes() == name,
+        _ => false,
+    })
+}
+
+// Whether no route is taken.
+fn is_no_route(alloc: Global, routes: &Routes, line: &[u8]) -> Result<bool, Fail> {
+    let request = request_to(alloc, line)?;
+    let outcome = routes.route_of(&request);
+    Ok(matches!(outcome, Err((Refusal::NoRoute, None))))
+}
+
+// The method that is told in place of this one.
+fn other_method(alloc: Global, routes: &Routes, line: &[u8]) -> Result<Option<Allow>, Fail> {
+    let request = request_to(alloc, line)?;
+    Ok(match routes.route_of(&request) {
+        Err((Refusal::WrongMethod, method)) => method,
+        _ => None,
     })
 }
 
@@ -36,17 +62,27 @@ fn taken(alloc: Global, routes: &Routes, head: &[u8]) -> Result<Taken, Fail> {
 fn takes_routes(rt: HostRuntime) -> Result<(), Fail> {
     let alloc = rt.alloc();
     let routes = Routes::new(alloc)?;
-    let id = |text: &[u8]| Id::read(text).ok_or("no identifier");
-    let none = Err((4, None));
-    let posted = Err((5, Some(Allow::Post)));
-    let got = Err((5, Some(Allow::Get)));
-    assert!(rt; taken(alloc, &routes, b"POST /budget/B1")? == Ok((1, id(b"B1")?)));
-    assert!(rt; taken(alloc, &routes, b"GET /lines/1000")? == Ok((2, id(b"1000")?)));
-    assert!(rt; taken(alloc, &routes, b"GET /lines/1000?/lines/9")? == Ok((2, id(b"1000")?)));
-    assert!(rt; taken(alloc, &routes, b"GET /budget/B1")? == posted);
-    assert!(rt; taken(alloc, &routes, b"HEAD /budget/B1")? == posted);
-    assert!(rt; taken(alloc, &routes, b"HEAD /lines/1000")? == got);
-    assert!(rt; taken(alloc, &routes, b"get /lines/1000")? == got);
+    assert!(rt; imports(alloc, &routes, b"POST /budget/B1", b"B1")?);
+    assert!(rt; looks(alloc, &routes, b"GET /lines/1000", b"1000")?);
+    assert!(rt; looks(alloc, &routes, b"GET /lines/1000?/lines/9", b"1000")?);
+    Ok(())
+}
+
+#[test]
+fn tells_the_other_method(rt: HostRuntime) -> Result<(), Fail> {
+    let alloc = rt.alloc();
+    let routes = Routes::new(alloc)?;
+    assert!(rt; other_method(alloc, &routes, b"GET /budget/B1")? == Some(Allow::Post));
+    assert!(rt; other_method(alloc, &routes, b"HEAD /budget/B1")? == Some(Allow::Post));
+    assert!(rt; other_method(alloc, &routes, b"HEAD /lines/1000")? == Some(Allow::Get));
+    assert!(rt; other_method(alloc, &routes, b"get /lines/1000")? == Some(Allow::Get));
+    Ok(())
+}
+
+#[test]
+fn knows_no_other_paths(rt: HostRuntime) -> Result<(), Fail> {
+    let alloc = rt.alloc();
+    let routes = Routes::new(alloc)?;
     for head in [
         b"GET /x".as_slice(),
         b"GET /",
@@ -62,7 +98,7 @@ fn takes_routes(rt: HostRuntime) -> Result<(), Fail> {
         b"GET ?/lines/1000",
         b"GET http://127.0.0.1/lines/1000",
     ] {
-        assert!(rt; taken(alloc, &routes, head)? == none);
+        assert!(rt; is_no_route(alloc, &routes, head)?);
     }
     Ok(())
 }
@@ -76,38 +112,43 @@ fn with_body(alloc: Global, lines: &[u8], body: &[u8]) -> Result<Request, Fail> 
     request_of(alloc, &bytes)
 }
 
-// What a caller asks with a body: how many rows are imported into which batch, or the refusal.
-fn imported(
-    alloc: Global,
-    caller: &Caller,
-    body: &[u8],
-) -> Result<Result<(usize, Id), Refusal>, Fail> {
+// What a caller asks by an import with this body.
+fn asked_with(alloc: Global, caller: &Caller, body: &[u8]) -> Result<Result<Asked, Refusal>, Fail> {
     let request = with_body(alloc, b"POST /budget/B1 HTTP/1.1\r\n", body)?;
-    let routes = Routes::new(alloc)?;
-    let route = match routes.route_of(&request) {
-        Ok(route) => route,
-        Err((refusal, _)) => return Ok(Err(refusal)),
+    let route = Route::Import {
+        batch: Id::read(b"B1").ok_or("no identifier")?,
     };
-    Ok(match command_of(alloc, caller, &route, &request) {
-        Ok(Asked::Does(Command::Import { batch, rows })) => Ok((rows.as_slice().len(), batch)),
-        Ok(Asked::Looks(_)) => return Err(Fail::from("a query")),
-        Err(refusal) => Err(refusal),
+    Ok(command_of(alloc, caller, &route, &request))
+}
+
+// How many rows a caller imports with this body; none where it is no import.
+fn count_of(alloc: Global, caller: &Caller, body: &[u8]) -> Result<Option<usize>, Fail> {
+    Ok(match asked_with(alloc, caller, body)? {
+        Ok(Asked::Does(Command::Import { batch: _, rows })) => Some(rows.as_slice().len()),
+        _ => None,
     })
 }
+
+// The refusal of an import with this body.
+fn refusal_of(alloc: Global, caller: &Caller, body: &[u8]) -> Result<Option<Refusal>, Fail> {
+    Ok(match asked_with(alloc, caller, body)? {
+        Ok(_) => None,
+        Err(refusal) => Some(refusal),
+    })
+}
+
+const GOOD: &[u8] = b"line,kind,amount,title\n1000,add,1000,Roads\n2000,add,50,Parks\n";
+
+const BAD: &[u8] = b"line,kind,amount,title\n1,add,1,A\n2,add,1,B\n3,add,0,C\n";
 
 #[test]
 fn reads_imports(rt: HostRuntime) -> Result<(), Fail> {
     let alloc = rt.alloc();
-    let body = b"line,kind,amount,title\n1000,add,1000,Roads\n2000,add,50,Parks\n".as_slice();
-    let batch = Id::read(b"B1").ok_or("no identifier")?;
-    let imports = imported(alloc, &Caller::Clerk, body)?;
-    assert!(rt; matches!(imports, Ok((2, name)) if name == batch));
-    let bad = b"line,kind,amount,title\n1,add,1,A\n2,add,1,B\n3,add,0,C\n".as_slice();
-    let refused = imported(alloc, &Caller::Clerk, bad)?;
-    assert!(rt; matches!(refused, Err(Refusal::BadBody(BadPart::Row(4)))));
-    for caller in [Caller::Public, Caller::Tenderer(batch)] {
-        assert!(rt; matches!(imported(alloc, &caller, bad)?, Err(Refusal::Forbidden)));
-    }
+    assert_eq!(rt; count_of(alloc, &Caller::Clerk, GOOD)?, Some(2));
+    let bad = refusal_of(alloc, &Caller::Clerk, BAD)?;
+    assert!(rt; matches!(bad, Some(Refusal::BadBody(BadPart::Row(4)))));
+    let public = refusal_of(alloc, &Caller::Public, BAD)?;
+    assert!(rt; matches!(public, Some(Refusal::Forbidden)));
     Ok(())
 }
 
@@ -117,10 +158,11 @@ fn lets_anybody_look_at_lines(rt: HostRuntime) -> Result<(), Fail> {
     let line = Id::read(b"1000").ok_or("no identifier")?;
     let request = with_body(alloc, b"GET /lines/1000 HTTP/1.1\r\n", b"ignored")?;
     let route = Route::Line { line };
-    for caller in [Caller::Public, Caller::Clerk, Caller::Tenderer(line)] {
-        let asked = command_of(alloc, &caller, &route, &request);
-        assert!(rt; matches!(asked, Ok(Asked::Looks(Query::Line { line: seen })) if seen == line));
-    }
+    let asked = command_of(alloc, &Caller::Public, &route, &request);
+    let Ok(Asked::Looks(Query::Line { line: seen })) = asked else {
+        return Err(Fail::from("no look"));
+    };
+    assert!(rt; seen.as_bytes() == b"1000".as_slice());
     Ok(())
 }
 
