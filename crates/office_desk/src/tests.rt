@@ -229,64 +229,116 @@ fn a_batch_is_taken_once(rt: HostRuntime) -> Result<(), Fail> {
     clerk(&rt, alloc, &mut desk, "B2", &cut, "NoSuch line")
 }
 
+// A desk after these imports by the clerk, each of a batch, its rows and what is answered.
+fn desk_after(
+    rt: &impl Abort,
+    alloc: Global,
+    imports: &[(&str, &[NewRow], &str)],
+) -> Result<Desk<MemoryShelf>, Fail> {
+    let mut desk = new_desk(alloc)?;
+    for (batch, rows, want) in imports {
+        clerk(rt, alloc, &mut desk, batch, rows, want)?;
+    }
+    Ok(desk)
+}
+
 #[test]
 fn a_file_has_500_rows_at_most(rt: HostRuntime) -> Result<(), Fail> {
-    let alloc = rt.alloc();
-    let mut desk = new_desk(alloc)?;
     let accepted = r#"{"batch":"B2","moment":"2026-01-05T09:00:00Z","rows":500}"#;
     let sight =
         r#"{"appropriation":500,"contracted":0,"free":500,"line":"1000","paid":0,"reserved":0,"title":"Roads"}"#;
     let rows = [("1000", ADD, 1, "Roads"); 501];
-    clerk(&rt, alloc, &mut desk, "B1", &rows, "LimitReached")?;
-    clerk(&rt, alloc, &mut desk, "B2", &rows[1..], accepted)?;
+    let mut desk = desk_after(
+        &rt,
+        rt.alloc(),
+        &[
+            ("B1", rows.as_slice(), "LimitReached"),
+            ("B2", &rows[1..], accepted),
+        ],
+    )?;
     look(&rt, &mut desk, "1000", sight)
 }
 
 #[test]
 fn a_line_has_a_greatest_appropriation(rt: HostRuntime) -> Result<(), Fail> {
-    let alloc = rt.alloc();
-    let mut desk = new_desk(alloc)?;
     let b1 = r#"{"batch":"B1","moment":"2026-01-05T09:00:00Z","rows":1}"#;
     let b2 = r#"{"batch":"B2","moment":"2026-01-05T09:00:00Z","rows":2}"#;
     let greatest = [("1000", ADD, 1_000_000_000_000_000, "Roads")];
-    let one = ("1000", ADD, 1, "Roads");
-    let less = ("1000", CUT, 1, "Roads");
-    clerk(&rt, alloc, &mut desk, "B1", &greatest, b1)?;
-    clerk(&rt, alloc, &mut desk, "B2", &[one], "LimitReached")?;
-    clerk(&rt, alloc, &mut desk, "B2", &[one, less], "LimitReached")?;
-    clerk(&rt, alloc, &mut desk, "B2", &[less, one], b2)?;
+    let one = [("1000", ADD, 1, "Roads")];
+    let up_and_down = [("1000", ADD, 1, "Roads"), ("1000", CUT, 1, "Roads")];
+    let down_and_up = [("1000", CUT, 1, "Roads"), ("1000", ADD, 1, "Roads")];
     // A sum that passes the bound earlier does not hide a cut that is too large.
-    let short = [one, ("2000", ADD, 5, "Parks"), ("2000", CUT, 6, "Parks")];
-    clerk(&rt, alloc, &mut desk, "B3", &short, "InsufficientFunds")
+    let short = [
+        ("1000", ADD, 1, "Roads"),
+        ("2000", ADD, 5, "Parks"),
+        ("2000", CUT, 6, "Parks"),
+    ];
+    let mut desk = desk_after(
+        &rt,
+        rt.alloc(),
+        &[
+            ("B1", greatest.as_slice(), b1),
+            ("B2", one.as_slice(), "LimitReached"),
+            ("B2", up_and_down.as_slice(), "LimitReached"),
+            ("B2", down_and_up.as_slice(), b2),
+            ("B3", short.as_slice(), "InsufficientFunds"),
+        ],
+    )?;
+    look(&rt, &mut desk, "2000", "NoSuch line")
 }
 
 #[test]
 fn a_line_is_made_before_it_is_cut(rt: HostRuntime) -> Result<(), Fail> {
-    let alloc = rt.alloc();
-    let mut desk = new_desk(alloc)?;
     let b1 = r#"{"batch":"B1","moment":"2026-01-05T09:00:00Z","rows":2}"#;
-    let (one, less) = (("2000", ADD, 1, "Parks"), ("2000", CUT, 1, "Parks"));
-    clerk(&rt, alloc, &mut desk, "B1", &[less], "NoSuch line")?;
-    clerk(&rt, alloc, &mut desk, "B1", &[less, one], "NoSuch line")?;
-    clerk(&rt, alloc, &mut desk, "B1", &[one, less], b1)
+    let sight =
+        r#"{"appropriation":0,"contracted":0,"free":0,"line":"2000","paid":0,"reserved":0,"title":"Lawns"}"#;
+    let cut = [("2000", CUT, 1, "Parks")];
+    let cut_first = [("2000", CUT, 1, "Parks"), ("2000", ADD, 1, "Parks")];
+    let made_first = [("2000", ADD, 1, "Parks"), ("2000", CUT, 1, "Lawns")];
+    let mut desk = desk_after(
+        &rt,
+        rt.alloc(),
+        &[
+            ("B1", cut.as_slice(), "NoSuch line"),
+            ("B1", cut_first.as_slice(), "NoSuch line"),
+            ("B1", made_first.as_slice(), b1),
+        ],
+    )?;
+    look(&rt, &mut desk, "2000", sight)
+}
+
+const FIVE_ROADS: NewRow = ("1000", ADD, 5, "Roads");
+
+#[test]
+fn a_cut_that_is_too_large_is_refused(rt: HostRuntime) -> Result<(), Fail> {
+    let more = [("1000", CUT, 1001, "Roads")];
+    let too_many = [FIVE_ROADS, ("1000", CUT, 1006, "Roads")];
+    let mut desk = desk_after(
+        &rt,
+        rt.alloc(),
+        &[
+            ("B1", FIRST_ROWS.as_slice(), B1),
+            ("B2", more.as_slice(), "InsufficientFunds"),
+            ("B2", too_many.as_slice(), "InsufficientFunds"),
+        ],
+    )?;
+    look(&rt, &mut desk, "1000", ROADS)
 }
 
 #[test]
-fn a_cut_takes_what_is_free(rt: HostRuntime) -> Result<(), Fail> {
-    let alloc = rt.alloc();
-    let mut desk = new_desk(alloc)?;
+fn a_cut_takes_all_that_is_free(rt: HostRuntime) -> Result<(), Fail> {
     let b2 = r#"{"batch":"B2","moment":"2026-01-05T09:00:00Z","rows":2}"#;
     let sight =
         r#"{"appropriation":0,"contracted":0,"free":0,"line":"1000","paid":0,"reserved":0,"title":"Ways"}"#;
-    let five = ("1000", ADD, 5, "Roads");
-    let more = [("1000", CUT, 1001, "Roads")];
-    clerk(&rt, alloc, &mut desk, "B1", &FIRST_ROWS, B1)?;
-    clerk(&rt, alloc, &mut desk, "B2", &more, "InsufficientFunds")?;
-    let too_many = [five, ("1000", CUT, 1006, "Roads")];
-    clerk(&rt, alloc, &mut desk, "B2", &too_many, "InsufficientFunds")?;
-    look(&rt, &mut desk, "1000", ROADS)?;
-    let all = [five, ("1000", CUT, 1005, "Ways")];
-    clerk(&rt, alloc, &mut desk, "B2", &all, b2)?;
+    let all = [FIVE_ROADS, ("1000", CUT, 1005, "Ways")];
+    let mut desk = desk_after(
+        &rt,
+        rt.alloc(),
+        &[
+            ("B1", FIRST_ROWS.as_slice(), B1),
+            ("B2", all.as_slice(), b2),
+        ],
+    )?;
     look(&rt, &mut desk, "1000", sight)?;
     look(&rt, &mut desk, "2000", PARKS)
 }
