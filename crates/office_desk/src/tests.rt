@@ -182,17 +182,16 @@ fn look<H: Shelf + Drop>(
     Err(Fail::from("too many faults"))
 }
 
-// Asks them in order.
-fn ask_all<H: Shelf + Drop>(
+// Asks an import by the clerk in January.
+fn clerk<H: Shelf + Drop>(
     rt: &impl Abort,
     alloc: Global,
     desk: &mut Desk<H>,
-    all: &[Asked],
+    batch: &str,
+    rows: &[NewRow],
+    want: &str,
 ) -> Result<(), Fail> {
-    for asked in all {
-        ask(rt, alloc, desk, asked)?;
-    }
-    Ok(())
+    ask(rt, alloc, desk, &import(JANUARY, batch, rows, want))
 }
 
 const B1: &str = r#"{"batch":"B1","moment":"2026-01-05T09:00:00Z","rows":2}"#;
@@ -203,6 +202,8 @@ const ROADS: &str =
 const PARKS: &str =
     r#"{"appropriation":50,"contracted":0,"free":50,"line":"2000","paid":0,"reserved":0,"title":"Parks"}"#;
 
+const NO_ROWS: [NewRow; 0] = [];
+
 const FIRST_ROWS: [NewRow; 2] = [("1000", ADD, 1000, "Roads"), ("2000", ADD, 50, "Parks")];
 
 #[test]
@@ -210,16 +211,10 @@ fn an_import_makes_lines(rt: HostRuntime) -> Result<(), Fail> {
     let alloc = rt.alloc();
     let mut desk = new_desk(alloc)?;
     look(&rt, &mut desk, "9", "NoSuch line")?;
-    ask(
-        &rt,
-        alloc,
-        &mut desk,
-        &import(JANUARY, "B1", &FIRST_ROWS, B1),
-    )?;
+    clerk(&rt, alloc, &mut desk, "B1", &FIRST_ROWS, B1)?;
     look(&rt, &mut desk, "1000", ROADS)?;
     look(&rt, &mut desk, "2000", PARKS)?;
-    look(&rt, &mut desk, "100", "NoSuch line")?;
-    Ok(())
+    look(&rt, &mut desk, "100", "NoSuch line")
 }
 
 #[test]
@@ -227,144 +222,124 @@ fn a_batch_is_taken_once(rt: HostRuntime) -> Result<(), Fail> {
     let alloc = rt.alloc();
     let mut desk = new_desk(alloc)?;
     let empty = r#"{"batch":"B2","moment":"2026-01-05T09:00:00Z","rows":0}"#;
-    ask_all(
-        &rt,
-        alloc,
-        &mut desk,
-        &[
-            import(JANUARY, "B2", &[], empty),
-            import(JANUARY, "B2", &[], "Exists"),
-            import(JANUARY, "B2", &FIRST_ROWS, "Exists"),
-            import(JANUARY, "B2", &[("1000", CUT, 5, "Roads")], "NoSuch line"),
-        ],
-    )
+    let cut = [("1000", CUT, 5, "Roads")];
+    clerk(&rt, alloc, &mut desk, "B2", &NO_ROWS, empty)?;
+    clerk(&rt, alloc, &mut desk, "B2", &NO_ROWS, "Exists")?;
+    clerk(&rt, alloc, &mut desk, "B2", &FIRST_ROWS, "Exists")?;
+    clerk(&rt, alloc, &mut desk, "B2", &cut, "NoSuch line")
+}
+
+// A desk after these imports by the clerk, each of a batch, its rows and what is answered.
+fn desk_after(
+    rt: &impl Abort,
+    alloc: Global,
+    imports: &[(&str, &[NewRow], &str)],
+) -> Result<Desk<MemoryShelf>, Fail> {
+    let mut desk = new_desk(alloc)?;
+    for (batch, rows, want) in imports {
+        clerk(rt, alloc, &mut desk, batch, rows, want)?;
+    }
+    Ok(desk)
 }
 
 #[test]
 fn a_file_has_500_rows_at_most(rt: HostRuntime) -> Result<(), Fail> {
-    let alloc = rt.alloc();
-    let mut desk = new_desk(alloc)?;
     let accepted = r#"{"batch":"B2","moment":"2026-01-05T09:00:00Z","rows":500}"#;
-    ask_all(
+    let sight =
+        r#"{"appropriation":500,"contracted":0,"free":500,"line":"1000","paid":0,"reserved":0,"title":"Roads"}"#;
+    let rows = [("1000", ADD, 1, "Roads"); 501];
+    let mut desk = desk_after(
         &rt,
-        alloc,
-        &mut desk,
+        rt.alloc(),
         &[
-            import(
-                JANUARY,
-                "B1",
-                &[("1000", ADD, 1, "Roads"); 501],
-                "LimitReached",
-            ),
-            import(JANUARY, "B2", &[("1000", ADD, 1, "Roads"); 500], accepted),
+            ("B1", rows.as_slice(), "LimitReached"),
+            ("B2", &rows[1..], accepted),
         ],
     )?;
-    look(
-        &rt,
-        &mut desk,
-        "1000",
-        r#"{"appropriation":500,"contracted":0,"free":500,"line":"1000","paid":0,"reserved":0,"title":"Roads"}"#,
-    )
+    look(&rt, &mut desk, "1000", sight)
 }
 
 #[test]
-fn a_line_has_its_bounds(rt: HostRuntime) -> Result<(), Fail> {
-    let alloc = rt.alloc();
-    let mut desk = new_desk(alloc)?;
-    let most = 1_000_000_000_000_000;
+fn a_line_has_a_greatest_appropriation(rt: HostRuntime) -> Result<(), Fail> {
     let b1 = r#"{"batch":"B1","moment":"2026-01-05T09:00:00Z","rows":1}"#;
     let b2 = r#"{"batch":"B2","moment":"2026-01-05T09:00:00Z","rows":2}"#;
-    ask_all(
+    let greatest = [("1000", ADD, 1_000_000_000_000_000, "Roads")];
+    let one = [("1000", ADD, 1, "Roads")];
+    let up_and_down = [("1000", ADD, 1, "Roads"), ("1000", CUT, 1, "Roads")];
+    let down_and_up = [("1000", CUT, 1, "Roads"), ("1000", ADD, 1, "Roads")];
+    // A sum that passes the bound earlier does not hide a cut that is too large.
+    let short = [
+        ("1000", ADD, 1, "Roads"),
+        ("2000", ADD, 5, "Parks"),
+        ("2000", CUT, 6, "Parks"),
+    ];
+    let mut desk = desk_after(
         &rt,
-        alloc,
-        &mut desk,
+        rt.alloc(),
         &[
-            import(JANUARY, "B1", &[("1000", ADD, most, "Roads")], b1),
-            import(JANUARY, "B2", &[("1000", ADD, 1, "Roads")], "LimitReached"),
-            import(
-                JANUARY,
-                "B2",
-                &[("1000", ADD, 1, "Roads"), ("1000", CUT, 1, "Roads")],
-                "LimitReached",
-            ),
-            import(
-                JANUARY,
-                "B2",
-                &[("1000", CUT, 1, "Roads"), ("1000", ADD, 1, "Roads")],
-                b2,
-            ),
-            import(JANUARY, "B3", &[("2000", CUT, 1, "Parks")], "NoSuch line"),
-            import(
-                JANUARY,
-                "B3",
-                &[("2000", CUT, 1, "Parks"), ("2000", ADD, 1, "Parks")],
-                "NoSuch line",
-            ),
-            import(
-                JANUARY,
-                "B3",
-                &[("2000", ADD, 1, "Parks"), ("2000", CUT, 2, "Parks")],
-                "InsufficientFunds",
-            ),
-            // A sum that passes the bound earlier does not hide a cut that is too large.
-            import(
-                JANUARY,
-                "B3",
-                &[
-                    ("1000", ADD, 1, "Roads"),
-                    ("2000", ADD, 5, "Parks"),
-                    ("2000", CUT, 6, "Parks"),
-                ],
-                "InsufficientFunds",
-            ),
+            ("B1", greatest.as_slice(), b1),
+            ("B2", one.as_slice(), "LimitReached"),
+            ("B2", up_and_down.as_slice(), "LimitReached"),
+            ("B2", down_and_up.as_slice(), b2),
+            ("B3", short.as_slice(), "InsufficientFunds"),
         ],
     )?;
     look(&rt, &mut desk, "2000", "NoSuch line")
 }
 
 #[test]
-fn a_cut_takes_what_is_free(rt: HostRuntime) -> Result<(), Fail> {
-    let alloc = rt.alloc();
-    let mut desk = new_desk(alloc)?;
-    let b2 = r#"{"batch":"B2","moment":"2026-01-05T09:00:00Z","rows":2}"#;
-    ask_all(
+fn a_line_is_made_before_it_is_cut(rt: HostRuntime) -> Result<(), Fail> {
+    let b1 = r#"{"batch":"B1","moment":"2026-01-05T09:00:00Z","rows":2}"#;
+    let sight =
+        r#"{"appropriation":0,"contracted":0,"free":0,"line":"2000","paid":0,"reserved":0,"title":"Lawns"}"#;
+    let cut = [("2000", CUT, 1, "Parks")];
+    let cut_first = [("2000", CUT, 1, "Parks"), ("2000", ADD, 1, "Parks")];
+    let made_first = [("2000", ADD, 1, "Parks"), ("2000", CUT, 1, "Lawns")];
+    let mut desk = desk_after(
         &rt,
-        alloc,
-        &mut desk,
+        rt.alloc(),
         &[
-            import(JANUARY, "B1", &FIRST_ROWS, B1),
-            import(
-                JANUARY,
-                "B2",
-                &[("1000", CUT, 1001, "Roads")],
-                "InsufficientFunds",
-            ),
-            import(
-                JANUARY,
-                "B2",
-                &[("1000", ADD, 5, "Roads"), ("1000", CUT, 1006, "Roads")],
-                "InsufficientFunds",
-            ),
+            ("B1", cut.as_slice(), "NoSuch line"),
+            ("B1", cut_first.as_slice(), "NoSuch line"),
+            ("B1", made_first.as_slice(), b1),
         ],
     )?;
-    look(&rt, &mut desk, "1000", ROADS)?;
-    ask(
+    look(&rt, &mut desk, "2000", sight)
+}
+
+const FIVE_ROADS: NewRow = ("1000", ADD, 5, "Roads");
+
+#[test]
+fn a_cut_that_is_too_large_is_refused(rt: HostRuntime) -> Result<(), Fail> {
+    let more = [("1000", CUT, 1001, "Roads")];
+    let too_many = [FIVE_ROADS, ("1000", CUT, 1006, "Roads")];
+    let mut desk = desk_after(
         &rt,
-        alloc,
-        &mut desk,
-        &import(
-            JANUARY,
-            "B2",
-            &[("1000", ADD, 5, "Roads"), ("1000", CUT, 1005, "Ways")],
-            b2,
-        ),
+        rt.alloc(),
+        &[
+            ("B1", FIRST_ROWS.as_slice(), B1),
+            ("B2", more.as_slice(), "InsufficientFunds"),
+            ("B2", too_many.as_slice(), "InsufficientFunds"),
+        ],
     )?;
-    look(
+    look(&rt, &mut desk, "1000", ROADS)
+}
+
+#[test]
+fn a_cut_takes_all_that_is_free(rt: HostRuntime) -> Result<(), Fail> {
+    let b2 = r#"{"batch":"B2","moment":"2026-01-05T09:00:00Z","rows":2}"#;
+    let sight =
+        r#"{"appropriation":0,"contracted":0,"free":0,"line":"1000","paid":0,"reserved":0,"title":"Ways"}"#;
+    let all = [FIVE_ROADS, ("1000", CUT, 1005, "Ways")];
+    let mut desk = desk_after(
         &rt,
-        &mut desk,
-        "1000",
-        r#"{"appropriation":0,"contracted":0,"free":0,"line":"1000","paid":0,"reserved":0,"title":"Ways"}"#,
+        rt.alloc(),
+        &[
+            ("B1", FIRST_ROWS.as_slice(), B1),
+            ("B2", all.as_slice(), b2),
+        ],
     )?;
+    look(&rt, &mut desk, "1000", sight)?;
     look(&rt, &mut desk, "2000", PARKS)
 }
 
@@ -374,19 +349,26 @@ fn moments_never_run_back(rt: HostRuntime) -> Result<(), Fail> {
     let mut desk = new_desk(alloc)?;
     let b2 = r#"{"batch":"B2","moment":"2026-01-05T09:00:00Z","rows":0}"#;
     let b3 = r#"{"batch":"B3","moment":"2026-01-06T00:00:00Z","rows":0}"#;
-    ask_all(
+    ask(
         &rt,
         alloc,
         &mut desk,
-        &[
-            import(JANUARY, "B1", &FIRST_ROWS, B1),
-            // What is handed in before the last accepted command takes that one's moment.
-            import("2026-01-05T08:59:59Z", "B2", &[], b2),
-            // What is refused leaves the clock.
-            import("2099-12-31T23:59:59Z", "B2", &[], "Exists"),
-            import("2026-01-06T00:00:00Z", "B3", &[], b3),
-        ],
-    )
+        &import(JANUARY, "B1", &FIRST_ROWS, B1),
+    )?;
+    // What is handed in before the last accepted command takes that one's moment; what is refused leaves the clock.
+    for (moment, batch, want) in [
+        ("2026-01-05T08:59:59Z", "B2", b2),
+        ("2099-12-31T23:59:59Z", "B2", "Exists"),
+        ("2026-01-06T00:00:00Z", "B3", b3),
+    ] {
+        ask(
+            &rt,
+            alloc,
+            &mut desk,
+            &import(moment, batch, &NO_ROWS, want),
+        )?;
+    }
+    Ok(())
 }
 
 #[test]
@@ -471,7 +453,12 @@ fn a_plan_changes_nothing_until_it_is_done(rt: HostRuntime) -> Result<(), Fail> 
             // The office goes on at another desk.
             let mut desk = desk_over(alloc, desk.into_shelf())?;
             look(&rt, &mut desk, "1000", ROADS)?;
-            return ask(&rt, alloc, &mut desk, &import(JANUARY, "B1", &[], "Exists"));
+            return ask(
+                &rt,
+                alloc,
+                &mut desk,
+                &import(JANUARY, "B1", &NO_ROWS, "Exists"),
+            );
         }
         look(&rt, &mut desk, "1000", "NoSuch line")?;
     }
