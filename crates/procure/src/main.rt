@@ -5,10 +5,9 @@ mod desk;
 
 use procure_config::fault::{ProgramFault, exit_code};
 use procure_config::job::{Job, job_of};
-use std::env;
-use std::io;
 use std::io::ErrorKind;
 use std::process::ExitCode;
+use std::{env, io};
 
 // The words of the command line. Words that are no UTF-8 name no job.
 fn words_of(rt: &HostRuntime) -> Result<Vec<String>, ProgramFault> {
