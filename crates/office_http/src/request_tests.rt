@@ -130,16 +130,9 @@ fn with_body(alloc: Global, lines: &[u8], body: &[u8]) -> Result<Request, Fail> 
     request_of(alloc, &bytes)
 }
 
-// What a caller asks by an import with this body.
-fn asked_with(alloc: Global, caller: &Caller, body: &[u8]) -> Result<Asked, Refusal> {
-    let Ok(request) = with_body(alloc, b"POST /budget/B1 HTTP/1.1\r\n", body) else {
-        return Err(Refusal::Unavailable);
-    };
-    let Some(batch) = Id::read(b"B1") else {
-        return Err(Refusal::NoRoute);
-    };
-    let route = Route::Import { batch };
-    command_of(alloc, caller, &route, &request)
+// The import of this file.
+fn import_with(alloc: Global, file: &[u8]) -> Result<Request, Fail> {
+    with_body(alloc, b"POST /budget/B1 HTTP/1.1\r\n", file)
 }
 
 // How many rows are imported; none where it is no import.
@@ -157,18 +150,30 @@ const BAD: &[u8] = b"line,kind,amount,title\n1,add,1,A\n2,add,1,B\n3,add,0,C\n";
 #[test]
 fn reads_imports(rt: HostRuntime) -> Result<(), Fail> {
     let alloc = rt.alloc();
-    let Ok(asked) = asked_with(alloc, &Caller::Clerk, GOOD) else {
+    let batch = Id::read(b"B1").ok_or("no identifier")?;
+    let route = Route::Import { batch };
+    let good = import_with(alloc, GOOD)?;
+    let Ok(asked) = command_of(alloc, &Caller::Clerk, &route, &good) else {
         return Err(Fail::from("refused"));
     };
     assert_eq!(rt; count_of(&asked), Some(2));
-    let Err(bad) = asked_with(alloc, &Caller::Clerk, BAD) else {
+    Ok(())
+}
+
+#[test]
+fn refuses_imports(rt: HostRuntime) -> Result<(), Fail> {
+    let alloc = rt.alloc();
+    let batch = Id::read(b"B1").ok_or("no identifier")?;
+    let route = Route::Import { batch };
+    let bad = import_with(alloc, BAD)?;
+    let Err(why) = command_of(alloc, &Caller::Clerk, &route, &bad) else {
         return Err(Fail::from("asked"));
     };
-    assert!(rt; matches!(bad, Refusal::BadBody(BadPart::Row(4))));
-    let Err(public) = asked_with(alloc, &Caller::Public, BAD) else {
+    assert!(rt; matches!(why, Refusal::BadBody(BadPart::Row(4))));
+    let Err(forbidden) = command_of(alloc, &Caller::Public, &route, &bad) else {
         return Err(Fail::from("asked"));
     };
-    assert_eq!(rt; public.number(), 7);
+    assert_eq!(rt; forbidden.number(), 7);
     Ok(())
 }
 
