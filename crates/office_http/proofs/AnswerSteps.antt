@@ -10,14 +10,14 @@ use Rattle.office_base.specs.Shelves.{Meaning}
 use Rattle.office_base.specs.Machine.{refusal_of}
 use Rattle.office_base.specs.Looking.{look_guard, sight}
 use Rattle.office_http.specs.Meaning.{Meant, Refuses, Gives, Sees}
-use Rattle.office_http.specs.Answering.{given_to, command_reply, command_office, query_reply, reply_to, office_after, unavailable_text, answer_bytes, office_left}
+use Rattle.office_http.specs.Answering.{given_to, command_reply, command_tables, query_reply, reply_to, tables_after, unavailable_text, answer_bytes, tables_left}
 use Rattle.office_http.specs.Response.{response_of}
 use Rattle.office_http.specs.declared.reply.Allow.{Allow}
 use Rattle.office_http.specs.declared.reply.Reply.TheVariants.{Refused}
 
 -- what was meant was answered with this text, and the shelf holds the office after it
 abbrev pub Answered : {S : Type 0} → Meaning S → S → Tables → ℕ → Meant → List ℕ → Type 0
-Answered M new s moment m text = (busy : Bool) × (text ≡ answer_bytes busy s moment m) × M.holds new (office_left busy s moment m)
+Answered M new s moment m text = (busy : Bool) × (text ≡ answer_bytes busy s moment m) × M.holds new (tables_left busy s moment m)
 
 -- a text that tells a refusal, or that memory is wanting
 abbrev pub TellsRefusal : Refusal → Option Allow → List ℕ → Type 0
@@ -29,7 +29,7 @@ is_unavailable M new s moment m text is held = (true, is, held)
 
 -- a refusal is answered, and the office stays
 pub is_refused : {S : Type 0} (M : Meaning S) (new : S) (s : Tables) (moment : ℕ) (m : Meant) (why : Refusal) (method : Option Allow) (text : List ℕ)
-    → reply_to s moment m ≡ Refused why method → office_after s moment m ≡ s → TellsRefusal why method text → M.holds new s → Answered M new s moment m text
+    → reply_to s moment m ≡ Refused why method → tables_after s moment m ≡ s → TellsRefusal why method text → M.holds new s → Answered M new s moment m text
 is_refused M new s moment m why method text replies stays (inl is) held =
     (false, is ∙ ap response_of (sym replies), subst (λ (t : Tables). M.holds new t) (sym stays) held)
 is_refused M new s moment m why method text replies stays (inr is) held = (true, is, held)
@@ -46,7 +46,7 @@ pub command_refused : {S : Type 0} (M : Meaning S) (new : S) (s : Tables) (momen
 command_refused M new s moment caller command why text (inl guarded) tells held =
     is_refused M new s moment (Gives caller command) why None text
     (ap (λ (o : Option Refusal). command_reply (given_to s moment caller command) o) guarded)
-    (ap (λ (o : Option Refusal). command_office (given_to s moment caller command) o) guarded)
+    (ap (λ (o : Option Refusal). command_tables (given_to s moment caller command) o) guarded)
     tells held
 command_refused M new s moment caller command why text (inr is) tells held =
     is_unavailable M new s moment (Gives caller command) text (tells_unavailable why text is tells) held

@@ -3,3 +3,4 @@ pub mod SegmentSteps
 pub mod RouteSteps
 pub mod AnswerSteps
 pub mod RequestSteps
+pub mod WorkedRequests

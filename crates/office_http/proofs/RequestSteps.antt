@@ -10,7 +10,7 @@ use Rattle.office_wire.specs.Request.{RequestView}
 use Rattle.office_http.specs.Routing.{routed}
 use Rattle.office_http.specs.Asking.{asked, credentials_of}
 use Rattle.office_http.specs.Meaning.{Meant, meant, meant_at, meant_by, meant_asked, who}
-use Rattle.office_http.specs.Answering.{reply_to, office_after}
+use Rattle.office_http.specs.Answering.{reply_to, tables_after}
 use Rattle.office_http.specs.declared.asked.Asked.{Asked}
 use Rattle.office_http.specs.declared.reply.Allow.{Allow}
 use Rattle.office_http.specs.declared.route.Route.{Route}
@@ -33,7 +33,7 @@ module _ {S : Type 0} (M : Meaning S) (new : S) (s : Tables) (moment : ℕ) (set
   route_refused why method is tells held =
       is_refused M new s moment (meant settings request s) why method text
       (ap (λ (r : Result Route (Refusal × Option Allow)). reply_to s moment (meant_at settings request s r)) is)
-      (ap (λ (r : Result Route (Refusal × Option Allow)). office_after s moment (meant_at settings request s r)) is)
+      (ap (λ (r : Result Route (Refusal × Option Allow)). tables_after s moment (meant_at settings request s r)) is)
       tells held
 
   -- what is meant, by the route and the caller
@@ -47,7 +47,7 @@ module _ {S : Type 0} (M : Meaning S) (new : S) (s : Tables) (moment : ℕ) (set
       → Answered M new s moment (meant settings request s) text
   caller_refused route why at (inl by) tells held =
       let is = meant_is route (Err why) at (sym by) in
-      is_refused M new s moment (meant settings request s) why None text (ap (λ (m : Meant). reply_to s moment m) is) (ap (λ (m : Meant). office_after s moment m) is) tells held
+      is_refused M new s moment (meant settings request s) why None text (ap (λ (m : Meant). reply_to s moment m) is) (ap (λ (m : Meant). tables_after s moment m) is) tells held
   caller_refused route why at (inr is) tells held =
       is_unavailable M new s moment (meant settings request s) text (tells_unavailable why text (cc) tells) held
 

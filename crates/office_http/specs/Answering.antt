@@ -32,9 +32,9 @@ abbrev pub command_reply : Given → Option Refusal → Reply
 command_reply x (Some why) = Refused why None
 command_reply x None = Json (reply_of x)
 
-abbrev pub command_office : Given → Option Refusal → Tables
-command_office x (Some why) = x.before
-command_office x None = next x
+abbrev pub command_tables : Given → Option Refusal → Tables
+command_tables x (Some why) = x.before
+command_tables x None = next x
 
 -- the reply to a query, by its refusal and what is seen; where it isn't refused, something is seen
 abbrev pub sight_reply : Option Sight → Reply
@@ -52,10 +52,10 @@ reply_to s moment (Gives caller command) = command_reply (given_to s moment call
 reply_to s moment (Sees caller query) = query_reply (look_guard s caller query) (sight s query)
 
 -- the office after it
-abbrev pub office_after : Tables → ℕ → Meant → Tables
-office_after s moment (Refuses why method) = s
-office_after s moment (Gives caller command) = command_office (given_to s moment caller command) (refusal_of (given_to s moment caller command))
-office_after s moment (Sees caller query) = s
+abbrev pub tables_after : Tables → ℕ → Meant → Tables
+tables_after s moment (Refuses why method) = s
+tables_after s moment (Gives caller command) = command_tables (given_to s moment caller command) (refusal_of (given_to s moment caller command))
+tables_after s moment (Sees caller query) = s
 
 -- the response where memory or the store is wanting
 abbrev pub unavailable_text : List ℕ
@@ -65,8 +65,8 @@ unavailable_text = response_of (Refused refusals.Unavailable None)
 abbrev pub answer_bytes : Bool → Tables → ℕ → Meant → List ℕ
 answer_bytes busy s moment m = if busy then unavailable_text else response_of (reply_to s moment m)
 
-abbrev pub office_left : Bool → Tables → ℕ → Meant → Tables
-office_left busy s moment m = if busy then s else office_after s moment m
+abbrev pub tables_left : Bool → Tables → ℕ → Meant → Tables
+tables_left busy s moment m = if busy then s else tables_after s moment m
 
 -- the refusal of what can't be read as a request
 abbrev pub fault_refusal : ReadFault → Refusal
@@ -100,7 +100,7 @@ meant_in h b = meant h.settings b.request h.tables
 abbrev pub office_answers : Answers Held
 office_answers = record {
   reply = λ busy h b. answer_bytes busy h.tables b.moment (meant_in h b);
-  after = λ busy h b. record h { tables = office_left busy h.tables b.moment (meant_in h b) };
+  after = λ busy h b. record h { tables = tables_left busy h.tables b.moment (meant_in h b) };
   refusal = fault_text;
 }
 
@@ -108,7 +108,7 @@ office_answers = record {
 abbrev pub IsAnswered : {S : Type 0} → Meaning S → S → S → ℕ → (Tables → Meant) → List ℕ → Type 0
 IsAnswered M old new moment m text =
     M.honest new → (s : Tables) → M.holds old s
-    → (busy : Bool) × (text ≡ answer_bytes busy s moment (m s)) × M.holds new (office_left busy s moment (m s))
+    → (busy : Bool) × (text ≡ answer_bytes busy s moment (m s)) × M.holds new (tables_left busy s moment (m s))
 
 -- the request at the front of the bytes was answered
 pub record AnswersRequest {S : Type 0} (M : Meaning S) (settings : Settings) (old new : S) (moment : ℕ) (input text : List ℕ) : Type 0 where

@@ -24,38 +24,56 @@ fn request_to(alloc: Global, line: &[u8]) -> Result<Request, Fail> {
     request_of(alloc, &bytes)
 }
 
+// Whether a route is the import into this batch.
+fn is_import(route: &Route, name: &[u8]) -> bool {
+    match route {
+        Route::Import { batch } => batch.as_bytes() == name,
+        Route::Line { line: _ } => false,
+    }
+}
+
+// Whether a route is the look at this line.
+fn is_look(route: &Route, name: &[u8]) -> bool {
+    match route {
+        Route::Import { batch: _ } => false,
+        Route::Line { line } => line.as_bytes() == name,
+    }
+}
+
 // Whether the import into this batch is taken.
 fn imports(alloc: Global, routes: &Routes, line: &[u8], name: &[u8]) -> Result<bool, Fail> {
     let request = request_to(alloc, line)?;
-    Ok(match routes.route_of(&request) {
-        Ok(Route::Import { batch }) => batch.as_bytes() == name,
-        _ => false,
-    })
+    match routes.route_of(&request) {
+        Ok(route) => Ok(is_import(&route, name)),
+        Err(_) => Ok(false),
+    }
 }
 
 // Whether the look at this line is taken.
 fn looks(alloc: Global, routes: &Routes, line: &[u8], name: &[u8]) -> Result<bool, Fail> {
     let request = request_to(alloc, line)?;
-    Ok(match routes.route_of(&request) {
-        Ok(Route::Line { line }) => line.as_bytes() == name,
-        _ => false,
-    })
+    match routes.route_of(&request) {
+        Ok(route) => Ok(is_look(&route, name)),
+        Err(_) => Ok(false),
+    }
 }
 
 // Whether no route is taken.
 fn is_no_route(alloc: Global, routes: &Routes, line: &[u8]) -> Result<bool, Fail> {
     let request = request_to(alloc, line)?;
-    let outcome = routes.route_of(&request);
-    Ok(matches!(outcome, Err((Refusal::NoRoute, None))))
+    match routes.route_of(&request) {
+        Ok(_) => Ok(false),
+        Err((refusal, method)) => Ok(refusal.number() == 4 && method.is_none()),
+    }
 }
 
 // The method that is told in place of this one.
 fn other_method(alloc: Global, routes: &Routes, line: &[u8]) -> Result<Option<Allow>, Fail> {
     let request = request_to(alloc, line)?;
-    Ok(match routes.route_of(&request) {
-        Err((Refusal::WrongMethod, method)) => method,
-        _ => None,
-    })
+    match routes.route_of(&request) {
+        Ok(_) => Ok(None),
+        Err((_, method)) => Ok(method),
+    }
 }
 
 #[test]
@@ -112,29 +130,17 @@ fn with_body(alloc: Global, lines: &[u8], body: &[u8]) -> Result<Request, Fail> 
     request_of(alloc, &bytes)
 }
 
-// What a caller asks by an import with this body.
-fn asked_with(alloc: Global, caller: &Caller, body: &[u8]) -> Result<Result<Asked, Refusal>, Fail> {
-    let request = with_body(alloc, b"POST /budget/B1 HTTP/1.1\r\n", body)?;
-    let route = Route::Import {
-        batch: Id::read(b"B1").ok_or("no identifier")?,
-    };
-    Ok(command_of(alloc, caller, &route, &request))
+// The import of this file.
+fn import_with(alloc: Global, file: &[u8]) -> Result<Request, Fail> {
+    with_body(alloc, b"POST /budget/B1 HTTP/1.1\r\n", file)
 }
 
-// How many rows a caller imports with this body; none where it is no import.
-fn count_of(alloc: Global, caller: &Caller, body: &[u8]) -> Result<Option<usize>, Fail> {
-    Ok(match asked_with(alloc, caller, body)? {
-        Ok(Asked::Does(Command::Import { batch: _, rows })) => Some(rows.as_slice().len()),
-        _ => None,
-    })
-}
-
-// The refusal of an import with this body.
-fn refusal_of(alloc: Global, caller: &Caller, body: &[u8]) -> Result<Option<Refusal>, Fail> {
-    Ok(match asked_with(alloc, caller, body)? {
-        Ok(_) => None,
-        Err(refusal) => Some(refusal),
-    })
+// How many rows are imported; none where it is no import.
+fn count_of(asked: &Asked) -> Option<usize> {
+    match asked {
+        Asked::Does(Command::Import { batch: _, rows }) => Some(rows.as_slice().len()),
+        Asked::Looks(_) => None,
+    }
 }
 
 const GOOD: &[u8] = b"line,kind,amount,title\n1000,add,1000,Roads\n2000,add,50,Parks\n";
@@ -144,12 +150,39 @@ const BAD: &[u8] = b"line,kind,amount,title\n1,add,1,A\n2,add,1,B\n3,add,0,C\n";
 #[test]
 fn reads_imports(rt: HostRuntime) -> Result<(), Fail> {
     let alloc = rt.alloc();
-    assert_eq!(rt; count_of(alloc, &Caller::Clerk, GOOD)?, Some(2));
-    let bad = refusal_of(alloc, &Caller::Clerk, BAD)?;
-    assert!(rt; matches!(bad, Some(Refusal::BadBody(BadPart::Row(4)))));
-    let public = refusal_of(alloc, &Caller::Public, BAD)?;
-    assert!(rt; matches!(public, Some(Refusal::Forbidden)));
+    let batch = Id::read(b"B1").ok_or("no identifier")?;
+    let route = Route::Import { batch };
+    let good = import_with(alloc, GOOD)?;
+    let Ok(asked) = command_of(alloc, &Caller::Clerk, &route, &good) else {
+        return Err(Fail::from("refused"));
+    };
+    assert_eq!(rt; count_of(&asked), Some(2));
     Ok(())
+}
+
+#[test]
+fn refuses_imports(rt: HostRuntime) -> Result<(), Fail> {
+    let alloc = rt.alloc();
+    let batch = Id::read(b"B1").ok_or("no identifier")?;
+    let route = Route::Import { batch };
+    let bad = import_with(alloc, BAD)?;
+    let Err(why) = command_of(alloc, &Caller::Clerk, &route, &bad) else {
+        return Err(Fail::from("asked"));
+    };
+    assert!(rt; matches!(why, Refusal::BadBody(BadPart::Row(4))));
+    let Err(forbidden) = command_of(alloc, &Caller::Public, &route, &bad) else {
+        return Err(Fail::from("asked"));
+    };
+    assert_eq!(rt; forbidden.number(), 7);
+    Ok(())
+}
+
+// Whether it is a look at this line.
+fn is_look_at(asked: &Asked, name: &[u8]) -> bool {
+    match asked {
+        Asked::Does(_) => false,
+        Asked::Looks(Query::Line { line }) => line.as_bytes() == name,
+    }
 }
 
 #[test]
@@ -158,11 +191,10 @@ fn lets_anybody_look_at_lines(rt: HostRuntime) -> Result<(), Fail> {
     let line = Id::read(b"1000").ok_or("no identifier")?;
     let request = with_body(alloc, b"GET /lines/1000 HTTP/1.1\r\n", b"ignored")?;
     let route = Route::Line { line };
-    let asked = command_of(alloc, &Caller::Public, &route, &request);
-    let Ok(Asked::Looks(Query::Line { line: seen })) = asked else {
-        return Err(Fail::from("no look"));
+    let Ok(asked) = command_of(alloc, &Caller::Public, &route, &request) else {
+        return Err(Fail::from("refused"));
     };
-    assert!(rt; seen.as_bytes() == b"1000".as_slice());
+    assert!(rt; is_look_at(&asked, b"1000"));
     Ok(())
 }
 
