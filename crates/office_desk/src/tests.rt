@@ -259,52 +259,52 @@ fn a_file_has_500_rows_at_most(rt: HostRuntime) -> Result<(), Fail> {
     look(&rt, &mut desk, "1000", sight)
 }
 
+// A desk whose line 1000 has the greatest appropriation.
+fn rich_desk(rt: &impl Abort, alloc: Global) -> Result<Desk<MemoryShelf>, Fail> {
+    let mut desk = new_desk(alloc)?;
+    let b1 = r#"{"batch":"B1","moment":"2026-01-05T09:00:00Z","rows":1}"#;
+    let greatest = [("1000", ADD, 1_000_000_000_000_000, "Roads")];
+    clerk(rt, alloc, &mut desk, "B1", &greatest, b1)?;
+    Ok(desk)
+}
+
 #[test]
 fn a_line_has_a_greatest_appropriation(rt: HostRuntime) -> Result<(), Fail> {
-    let b1 = r#"{"batch":"B1","moment":"2026-01-05T09:00:00Z","rows":1}"#;
+    let alloc = rt.alloc();
+    let mut desk = rich_desk(&rt, alloc)?;
     let b2 = r#"{"batch":"B2","moment":"2026-01-05T09:00:00Z","rows":2}"#;
-    let greatest = [("1000", ADD, 1_000_000_000_000_000, "Roads")];
     let one = [("1000", ADD, 1, "Roads")];
     let up_and_down = [("1000", ADD, 1, "Roads"), ("1000", CUT, 1, "Roads")];
     let down_and_up = [("1000", CUT, 1, "Roads"), ("1000", ADD, 1, "Roads")];
-    // A sum that passes the bound earlier does not hide a cut that is too large.
-    let short = [
+    clerk(&rt, alloc, &mut desk, "B2", &one, "LimitReached")?;
+    clerk(&rt, alloc, &mut desk, "B2", &up_and_down, "LimitReached")?;
+    clerk(&rt, alloc, &mut desk, "B2", &down_and_up, b2)
+}
+
+#[test]
+fn a_cut_too_large_comes_before_a_limit(rt: HostRuntime) -> Result<(), Fail> {
+    let alloc = rt.alloc();
+    let mut desk = rich_desk(&rt, alloc)?;
+    let rows = [
         ("1000", ADD, 1, "Roads"),
         ("2000", ADD, 5, "Parks"),
         ("2000", CUT, 6, "Parks"),
     ];
-    let mut desk = desk_after(
-        &rt,
-        rt.alloc(),
-        &[
-            ("B1", greatest.as_slice(), b1),
-            ("B2", one.as_slice(), "LimitReached"),
-            ("B2", up_and_down.as_slice(), "LimitReached"),
-            ("B2", down_and_up.as_slice(), b2),
-            ("B3", short.as_slice(), "InsufficientFunds"),
-        ],
-    )?;
+    clerk(&rt, alloc, &mut desk, "B2", &rows, "InsufficientFunds")?;
     look(&rt, &mut desk, "2000", "NoSuch line")
 }
 
 #[test]
 fn a_line_is_made_before_it_is_cut(rt: HostRuntime) -> Result<(), Fail> {
+    let alloc = rt.alloc();
+    let mut desk = new_desk(alloc)?;
     let b1 = r#"{"batch":"B1","moment":"2026-01-05T09:00:00Z","rows":2}"#;
-    let sight =
-        r#"{"appropriation":0,"contracted":0,"free":0,"line":"2000","paid":0,"reserved":0,"title":"Lawns"}"#;
     let cut = [("2000", CUT, 1, "Parks")];
     let cut_first = [("2000", CUT, 1, "Parks"), ("2000", ADD, 1, "Parks")];
     let made_first = [("2000", ADD, 1, "Parks"), ("2000", CUT, 1, "Lawns")];
-    let mut desk = desk_after(
-        &rt,
-        rt.alloc(),
-        &[
-            ("B1", cut.as_slice(), "NoSuch line"),
-            ("B1", cut_first.as_slice(), "NoSuch line"),
-            ("B1", made_first.as_slice(), b1),
-        ],
-    )?;
-    look(&rt, &mut desk, "2000", sight)
+    clerk(&rt, alloc, &mut desk, "B1", &cut, "NoSuch line")?;
+    clerk(&rt, alloc, &mut desk, "B1", &cut_first, "NoSuch line")?;
+    clerk(&rt, alloc, &mut desk, "B1", &made_first, b1)
 }
 
 const FIVE_ROADS: NewRow = ("1000", ADD, 5, "Roads");
