@@ -311,17 +311,13 @@ const FIVE_ROADS: NewRow = ("1000", ADD, 5, "Roads");
 
 #[test]
 fn a_cut_that_is_too_large_is_refused(rt: HostRuntime) -> Result<(), Fail> {
+    let alloc = rt.alloc();
+    let mut desk = new_desk(alloc)?;
     let more = [("1000", CUT, 1001, "Roads")];
     let too_many = [FIVE_ROADS, ("1000", CUT, 1006, "Roads")];
-    let mut desk = desk_after(
-        &rt,
-        rt.alloc(),
-        &[
-            ("B1", FIRST_ROWS.as_slice(), B1),
-            ("B2", more.as_slice(), "InsufficientFunds"),
-            ("B2", too_many.as_slice(), "InsufficientFunds"),
-        ],
-    )?;
+    clerk(&rt, alloc, &mut desk, "B1", &FIRST_ROWS, B1)?;
+    clerk(&rt, alloc, &mut desk, "B2", &more, "InsufficientFunds")?;
+    clerk(&rt, alloc, &mut desk, "B2", &too_many, "InsufficientFunds")?;
     look(&rt, &mut desk, "1000", ROADS)
 }
 
