@@ -10,7 +10,7 @@ run:
 	@cd crates/procure && $(RT) try -- desk data/office.toml < stdin
 
 build:
-	cd crates/procure && $(RT) run -- --help > /dev/null 2>&1 || test -x out/procure
+	cd crates/procure && $(RT) run -- desk data/office.toml < stdin | cmp - stdout
 	mkdir -p build
 	cp crates/procure/out/procure build/procure
 	@echo "build/procure is the proved program"
