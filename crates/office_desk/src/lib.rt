@@ -1,8 +1,6 @@
 //! The office's desk: it decides commands and looks things up, over any shelf.
 #![tactic(auto)]
 
-#[cfg(test)]
-mod broken_shelf;
 mod callers;
 mod decide;
 pub mod desk;
@@ -10,5 +8,3 @@ mod load;
 mod plan;
 pub mod planned;
 mod reply;
-#[cfg(test)]
-mod tests;
