@@ -15,3 +15,5 @@ pub mod response;
 mod response_tests;
 pub mod route;
 pub mod routes;
+#[cfg(test)]
+mod row_tests;

@@ -75,7 +75,7 @@ fn blocks(alloc: Global) -> Result<Vec<u8>, Fail> {
 }
 
 // What a run over these blocks writes, and how it ends.
-fn told(alloc: Global, input: &[u8]) -> Result<(Vec<u8>, Result<u64, RunFault>), Fail> {
+pub fn told(alloc: Global, input: &[u8]) -> Result<(Vec<u8>, Result<u64, RunFault>), Fail> {
     let mut office = Office::new(alloc, new_desk(alloc)?)?;
     let mut reader = input;
     let mut out = Vec::new(alloc);
