@@ -5,6 +5,7 @@ ghost use Rattle.office_values.specs.Kinds.{kind_of_command, kind_of_query};
 
 use crate::budget::BudgetRows;
 use crate::id::Id;
+use crate::notice::NewNotice;
 
 /// Who asks: anybody, the office's clerk, or a registered tenderer.
 #[derive(Clone, Copy)]
@@ -53,6 +54,8 @@ pub enum QueryKind {
 pub enum Command {
     /// Takes in a budget file under the name of its batch.
     Import { batch: Id, rows: BudgetRows },
+    /// Publishes a tender notice, whose lots reserve their estimates.
+    Publish { notice: Id, content: NewNotice },
 }
 
 /// A query: what only looks.
@@ -69,6 +72,7 @@ impl Command {
     {
         match self {
             Command::Import { batch: _, rows: _ } => CommandKind::Import,
+            Command::Publish { notice: _, content: _ } => CommandKind::Publish,
         }
     }
 }
