@@ -1,10 +1,13 @@
 -- Total orders.
-use Rattle.std.specs.Prelude.{◌≡◌, List, Bool, true, false}
+use Rattle.std.specs.Prelude.{◌≡◌, ℕ, List, Bool, true, false}
 use Rattle.std.proofs.Common.{refl, sym, ap, ◌∙◌}
 use Rattle.std.specs.Cmp.{IsTotalOrder}
+use Rattle.std.specs.Cmp.Lexicographic.{nat_list_cmp_total}
+use Rattle.std.proofs.lemmas.Cmp.{on_total, then_total}
 use Rattle.std.specs.Ordering.{ordering_reverse, is_eq}
 use Rattle.std.specs.declared.cmp.Ordering.{Ordering}
 use Rattle.std.specs.declared.cmp.Ordering.TheVariants.{Less, Equal, Greater}
+use Rattle.office_base.specs.Tables.{lot_cmp}
 
 -- nothing is before itself
 own_reverse : (r : Ordering) → r ≡ ordering_reverse r → r ≡ Equal
@@ -30,3 +33,7 @@ pub equal_from_test : (r : Ordering) → is_eq r ≡ true → r ≡ Equal
 equal_from_test Less e = cc
 equal_from_test Equal e = refl
 equal_from_test Greater e = cc
+
+-- the order of lots is total
+pub lots_total : IsTotalOrder lot_cmp
+lots_total = then_total (on_total (λ (k : List ℕ × List ℕ). k.0) nat_list_cmp_total) (on_total (λ (k : List ℕ × List ℕ). k.1) nat_list_cmp_total)

@@ -1,15 +1,16 @@
 -- The pots of a line: two columns of its row, and sums over the rows that are joined with it.
-use Rattle.std.specs.Prelude.{◌≡◌, ℕ, ◌≤◌, List, []}
+use Rattle.std.specs.Prelude.{◌≡◌, ℕ, ◌≤◌, List, [], map}
 use Rattle.office_values.specs.Money.{total_limit}
 use Rattle.office_base.specs.Sums.{sum_over}
-use Rattle.office_base.specs.Tables.{Tables}
+use Rattle.office_base.specs.Tables.{Tables, lots_of_line}
 use Rattle.office_base.specs.declared.records.LineRow.{LineRow}
+use Rattle.office_base.specs.declared.records.LotRow.{LotRow}
 use Rattle.office_base.specs.declared.records.Pots.{Pots}
 
 -- what the lots of the line have reserved, what is outstanding of the contracts of those lots, and what was paid under
--- them, an amount for each row; no such rows are kept yet
+-- them, an amount for each row; no rows of contracts are kept yet
 abbrev pub reservations : List ℕ → Tables → List ℕ
-reservations line t = []
+reservations line t = map (λ (lot : LotRow). lot.reserved) (lots_of_line line t)
 
 abbrev pub obligations : List ℕ → Tables → List ℕ
 obligations line t = []

@@ -12,4 +12,6 @@ pub mod PotsAnswers
 pub mod Standings
 pub mod Rules
 pub mod Machine
+pub mod Moves
+pub mod Accounts
 pub mod Looking

@@ -1,5 +1,6 @@
 -- Rules: when a command is refused, and what it puts.
 pub mod Import
+pub mod Publish
 use Rattle.std.specs.Prelude.{ℕ, ◌≡◌, Bool, cond, List, [], ◌∷◌, Option, Some, None, Result, Vec, IfOk, IfErr, Err}
 use Rattle.std.specs.declared.alloc.Global.{Global}
 use Rattle.office_values.specs.declared.refusal.Refusal.{Refusal}

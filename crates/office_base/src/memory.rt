@@ -5,7 +5,7 @@ ghost use Rattle.office_base.specs.Tables.{no_tables};
 ghost use Rattle.office_base.specs.MemoryMeaning.{memory_meaning};
 ghost use Rattle.office_base.specs.declared.shelf.ShelfFault.TheVariants.{NoMemory};
 
-use crate::records::{BatchRow, ClockRow, LineRow, Put};
+use crate::records::{BatchRow, ClockRow, LineRow, LotRow, NoticeRow, Put};
 use crate::shelf::{Lookups, Shelf, ShelfFault};
 use crate::tables;
 use crate::tables::MemoryTables;
@@ -74,12 +74,40 @@ impl Lookups for MemoryShelf {
         }
     }
 
+    fn get_notice(&mut self, notice: &Id) -> Result<Option<NoticeRow>, ShelfFault> {
+        match self.tables.notices.copy_at(notice) {
+            Ok(found) => Ok(found),
+            Err(_) => Err(self.refused()),
+        }
+    }
+
+    fn get_lot(&mut self, notice: &Id, lot: &Id) -> Result<Option<LotRow>, ShelfFault> {
+        match self.tables.lots.copy_at(&(*notice, *lot)) {
+            Ok(found) => Ok(found),
+            Err(_) => Err(self.refused()),
+        }
+    }
+
     fn get_clock(&mut self) -> Result<ClockRow, ShelfFault> {
         Ok(self.tables.clock)
     }
 
     fn list_lines(&mut self) -> Result<Vec<LineRow>, ShelfFault> {
         match self.tables.lines.copy_all(self.alloc) {
+            Ok(rows) => Ok(rows),
+            Err(_) => Err(self.refused()),
+        }
+    }
+
+    fn list_lots_of_notice(&mut self, notice: &Id) -> Result<Vec<LotRow>, ShelfFault> {
+        match self.tables.lots.copy_of_notice(self.alloc, notice) {
+            Ok(rows) => Ok(rows),
+            Err(_) => Err(self.refused()),
+        }
+    }
+
+    fn list_lots_of_line(&mut self, line: &Id) -> Result<Vec<LotRow>, ShelfFault> {
+        match self.tables.lots.copy_of_line(self.alloc, line) {
             Ok(rows) => Ok(rows),
             Err(_) => Err(self.refused()),
         }

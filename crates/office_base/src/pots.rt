@@ -1,28 +1,57 @@
 //! The pots of a budget line.
-ghost use Rattle.std.specs.Prelude.{◌≡◌};
+ghost use Rattle.std.specs.Prelude.{◌≡◌, ◌<◌, ◌≤◌, ◌*◌, ◌^◌, IfOk, IfErr, map, length};
+ghost use Rattle.office_values.specs.Money.{total_limit};
+ghost use Rattle.office_base.specs.Sums.{sum_over};
 ghost use Rattle.office_base.specs.Shelves.{Looks};
 ghost use Rattle.office_base.specs.Tables.{Tables};
-ghost use Rattle.office_base.specs.Joined.{pots_of, LineFits};
-ghost use Rattle.office_base.specs.PotsAnswers.{IsPotsAnswer};
+ghost use Rattle.office_base.specs.PotsAnswers.{IsPotsAnswer, IsRowPotsAnswer};
+ghost use Rattle.office_base.specs.declared.records.LotRow.{LotRow};
+ghost use Rattle.office_base.specs.declared.shelf.ShelfFault.TheVariants.{Store};
 
-use crate::records::{LineRow, Pots};
+use crate::records::{LineRow, LotRow, Pots};
 use crate::shelf::{Lookups, ShelfFault};
 use office_values::id::Id;
 use office_values::money::Total;
 
-/// The pots of the line with this row.
-// No record of a lot, a contract or an entry is kept yet, and so there is nothing to add up.
-pub fn pots_of_line(row: &LineRow) -> Pots
-    ensures pots { (t : Tables) → result ≡ pots_of row.now t }
-    ensures fit { (t : Tables) → LineFits row.now.line t }
+// What the lots have reserved, added up.
+fn sum_of_reserved(lots: &[LotRow]) -> u128
+    ensures { result ≡ sum_over (λ n. n) (map (λ (lot : LotRow). lot.reserved) lots.now) }
 {
-    Pots {
+    let mut sum = 0;
+    for lot in lots {
+        sum += lot.reserved.units() as u128;
+    }
+    sum
+}
+
+// A sum over joined rows, where it is within the bound of sums.
+fn total_of(units: u128) -> Result<Total, ShelfFault>
+    ensures total { IfOk result (λ total. total ≡ units) }
+    ensures fits { IfOk result (λ _. units ≤ total_limit) }
+    ensures fault { IfErr result (λ e. e ≡ Store) }
+    ensures unfit { IfErr result (λ _. total_limit < units) }
+{
+    match u64::try_from(units).ok().and_then(Total::read) {
+        Some(total) => Ok(total),
+        None => Err(ShelfFault::Store),
+    }
+}
+
+/// The pots of the line with this row. A sum over joined rows that is no `Total` is answered as a fault of the store, and isn't
+/// counted as a fault of the shelf.
+// No record of a contract or an entry is kept yet, and so only lots are added up.
+pub fn pots_of_line<H: Lookups>(shelf: &mut H, row: &LineRow) -> Result<Pots, ShelfFault>
+    ensures { Looks H.meaning shelf.old shelf.new (IsRowPotsAnswer H.meaning.may_break row.now (H.meaning.fault_count shelf.old) (H.meaning.fault_count shelf.new) result) }
+{
+    let lots = shelf.list_lots_of_line(&row.line)?;
+    let reserved = total_of(sum_of_reserved(&lots))?;
+    Ok(Pots {
         appropriation: row.appropriation,
         free: row.free,
-        reserved: Total::ZERO,
+        reserved,
         contracted: Total::ZERO,
         paid: Total::ZERO,
-    }
+    })
 }
 
 /// The pots of a budget line; None where there is no such line. A sum over joined rows that is no `Total` is answered as a fault of
@@ -33,5 +62,5 @@ pub fn pots<H: Lookups>(shelf: &mut H, line: &Id) -> Result<Option<Pots>, ShelfF
     let Some(row) = shelf.get_line(line)? else {
         return Ok(None);
     };
-    Ok(Some(pots_of_line(&row)))
+    Ok(Some(pots_of_line(shelf, &row)?))
 }

@@ -1,10 +1,10 @@
 //! What keeps an office's tables.
 ghost use Rattle.std.specs.Prelude.{◌≡◌};
 ghost use Rattle.office_values.specs.declared.refusal.Refusal.TheVariants.{Unavailable};
-ghost use Rattle.office_base.specs.Tables.{Tables, IsSorted, line_at, batch_at, after_puts};
+ghost use Rattle.office_base.specs.Tables.{Tables, IsSorted, line_at, batch_at, notice_at, lot_at, lots_of_notice, lots_of_line, after_puts};
 ghost use Rattle.office_base.specs.Shelves.{Meaning, Keeps, LooksUp, Changes};
 
-use crate::records::{BatchRow, ClockRow, LineRow, Put};
+use crate::records::{BatchRow, ClockRow, LineRow, LotRow, NoticeRow, Put};
 use office_values::id::Id;
 use office_values::refusal::Refusal;
 
@@ -37,6 +37,14 @@ pub trait Lookups {
     fn get_batch(&mut self, batch: &Id) -> Result<Option<BatchRow>, ShelfFault>
         ensures { LooksUp meaning self.old self.new result (λ t row. row ≡ batch_at batch.now t) };
 
+    /// The notice of this identifier.
+    fn get_notice(&mut self, notice: &Id) -> Result<Option<NoticeRow>, ShelfFault>
+        ensures { LooksUp meaning self.old self.new result (λ t row. row ≡ notice_at notice.now t) };
+
+    /// The lot of this notice and this identifier.
+    fn get_lot(&mut self, notice: &Id, lot: &Id) -> Result<Option<LotRow>, ShelfFault>
+        ensures { LooksUp meaning self.old self.new result (λ t row. row ≡ lot_at (notice.now, lot.now) t) };
+
     /// The clock; moment 0 and no numbers where nothing was accepted yet.
     fn get_clock(&mut self) -> Result<ClockRow, ShelfFault>
         ensures { LooksUp meaning self.old self.new result (λ t row. row ≡ t.clock) };
@@ -44,6 +52,14 @@ pub trait Lookups {
     /// All budget lines, in the order of their identifiers.
     fn list_lines(&mut self) -> Result<Vec<LineRow>, ShelfFault>
         ensures { LooksUp meaning self.old self.new result (λ t rows. rows.items ≡ t.lines) };
+
+    /// The lots of a notice, in the order of their identifiers.
+    fn list_lots_of_notice(&mut self, notice: &Id) -> Result<Vec<LotRow>, ShelfFault>
+        ensures { LooksUp meaning self.old self.new result (λ t rows. rows.items ≡ lots_of_notice notice.now t) };
+
+    /// The lots of a budget line, in the order of their notices and identifiers.
+    fn list_lots_of_line(&mut self, line: &Id) -> Result<Vec<LotRow>, ShelfFault>
+        ensures { LooksUp meaning self.old self.new result (λ t rows. rows.items ≡ lots_of_line line.now t) };
 
     /// How many calls were answered with a fault: from 0, one more for each, up to 2^64 - 1.
     fn faults(&mut self) -> u64

@@ -3,7 +3,8 @@ ghost use Rattle.std.specs.Prelude.{◌≡◌, ◌<◌, ◌≤◌, IfOk, OnOk, O
 ghost use Rattle.office_base.specs.Tables.{Tables, after_put, after_puts, no_tables};
 ghost use Rattle.office_base.specs.MemoryTables.{tables_of, after_undo, after_undos, CanUndo, CanUndoAll};
 
-use crate::records::{BatchRow, ClockRow, LineRow, Put};
+use crate::records::{BatchRow, ClockRow, LineRow, LotRow, NoticeRow, Put};
+use crate::lot_table::LotTable;
 use crate::table::{Replaced, Table, copy_of};
 use office_values::moment::Moment;
 use std::alloc::{AllocError, Global};
@@ -14,6 +15,8 @@ use std::mem;
 pub struct MemoryTables {
     pub lines: Table<LineRow>,
     pub batches: Table<BatchRow>,
+    pub notices: Table<NoticeRow>,
+    pub lots: LotTable,
     pub clock: ClockRow,
 }
 
@@ -22,6 +25,8 @@ pub struct MemoryTables {
 pub enum Undo {
     Line(Replaced<LineRow>),
     Batch(Replaced<BatchRow>),
+    Notice(Replaced<NoticeRow>),
+    Lot(Replaced<LotRow>),
     Clock(ClockRow),
 }
 
@@ -32,6 +37,8 @@ pub fn empty(alloc: Global) -> MemoryTables
     MemoryTables {
         lines: Table::new(alloc),
         batches: Table::new(alloc),
+        notices: Table::new(alloc),
+        lots: LotTable::new(alloc),
         clock: ClockRow {
             moment: Moment::EPOCH,
             receipts: 0,
@@ -50,6 +57,8 @@ fn put_one(tables: &mut MemoryTables, put: &Put) -> Result<Undo, AllocError>
     match put {
         Put::Line(row) => Ok(Undo::Line(tables.lines.put(copy_of(row)?)?)),
         Put::Batch(row) => Ok(Undo::Batch(tables.batches.put(copy_of(row)?)?)),
+        Put::Notice(row) => Ok(Undo::Notice(tables.notices.put(copy_of(row)?)?)),
+        Put::Lot(row) => Ok(Undo::Lot(tables.lots.put(copy_of(row)?)?)),
         Put::Clock(row) => Ok(Undo::Clock(mem::replace(&mut tables.clock, *row))),
     }
 }
@@ -62,6 +71,8 @@ fn take_back(tables: &mut MemoryTables, undo: Undo)
     match undo {
         Undo::Line(replaced) => tables.lines.take_back(replaced),
         Undo::Batch(replaced) => tables.batches.take_back(replaced),
+        Undo::Notice(replaced) => tables.notices.take_back(replaced),
+        Undo::Lot(replaced) => tables.lots.take_back(replaced),
         Undo::Clock(row) => tables.clock = row,
     }
 }
