@@ -6,3 +6,5 @@ pub mod RowLaws
 pub mod SortedTables
 pub mod Applied
 pub mod Agreeing
+pub mod Looked
+pub mod PotsFound

@@ -1,9 +1,10 @@
 //! The pots of a budget line.
-ghost use Rattle.std.specs.Prelude.{◌≡◌, ◌<◌, ◌≤◌, ◌*◌, ◌^◌, IfOk, IfErr, map, length};
+ghost use Rattle.std.specs.Prelude.{◌≡◌, ◌<◌, ◌≤◌, IfOk, IfErr, map};
 ghost use Rattle.office_values.specs.Money.{total_limit};
 ghost use Rattle.office_base.specs.Sums.{sum_over};
 ghost use Rattle.office_base.specs.Shelves.{Looks};
-ghost use Rattle.office_base.specs.Tables.{Tables};
+ghost use Rattle.office_base.specs.Tables.{Tables, lots_of_line};
+ghost use Rattle.office_base.specs.Joined.{pots_of, LineFits};
 ghost use Rattle.office_base.specs.PotsAnswers.{IsPotsAnswer, IsRowPotsAnswer};
 ghost use Rattle.office_base.specs.declared.records.LotRow.{LotRow};
 ghost use Rattle.office_base.specs.declared.shelf.ShelfFault.TheVariants.{Store};
@@ -37,6 +38,26 @@ fn total_of(units: u128) -> Result<Total, ShelfFault>
     }
 }
 
+// The pots of the line with this row, whose lots these are.
+#[tactic(auto, using(crate::proofs::PotsFound::too_much))]
+fn pots_over(row: &LineRow, lots: &[LotRow]) -> Result<Pots, ShelfFault>
+    ensures pots { (t : Tables) → lots.now ≡ lots_of_line row.now.line t → IfOk result (λ pots. pots ≡ pots_of row.now t) }
+    ensures fit { (t : Tables) → lots.now ≡ lots_of_line row.now.line t → IfOk result (λ _. LineFits row.now.line t) }
+    ensures unfit { (t : Tables) → lots.now ≡ lots_of_line row.now.line t → IfErr result (λ _. ¬ (LineFits row.now.line t)) }
+    ensures fault { IfErr result (λ e. e ≡ Store) }
+{
+    match total_of(sum_of_reserved(lots)) {
+        Ok(reserved) => Ok(Pots {
+            appropriation: row.appropriation,
+            free: row.free,
+            reserved,
+            contracted: Total::ZERO,
+            paid: Total::ZERO,
+        }),
+        Err(fault) => Err(fault),
+    }
+}
+
 /// The pots of the line with this row. A sum over joined rows that is no `Total` is answered as a fault of the store, and isn't
 /// counted as a fault of the shelf.
 // No record of a contract or an entry is kept yet, and so only lots are added up.
@@ -44,14 +65,7 @@ pub fn pots_of_line<H: Lookups>(shelf: &mut H, row: &LineRow) -> Result<Pots, Sh
     ensures { Looks H.meaning shelf.old shelf.new (IsRowPotsAnswer H.meaning.may_break row.now (H.meaning.fault_count shelf.old) (H.meaning.fault_count shelf.new) result) }
 {
     let lots = shelf.list_lots_of_line(&row.line)?;
-    let reserved = total_of(sum_of_reserved(&lots))?;
-    Ok(Pots {
-        appropriation: row.appropriation,
-        free: row.free,
-        reserved,
-        contracted: Total::ZERO,
-        paid: Total::ZERO,
-    })
+    pots_over(row, &lots)
 }
 
 /// The pots of a budget line; None where there is no such line. A sum over joined rows that is no `Total` is answered as a fault of
@@ -62,5 +76,8 @@ pub fn pots<H: Lookups>(shelf: &mut H, line: &Id) -> Result<Option<Pots>, ShelfF
     let Some(row) = shelf.get_line(line)? else {
         return Ok(None);
     };
-    Ok(Some(pots_of_line(shelf, &row)?))
+    match pots_of_line(shelf, &row) {
+        Ok(pots) => Ok(Some(pots)),
+        Err(fault) => Err(fault),
+    }
 }

@@ -14,6 +14,13 @@ use std::marker::Model;
 /// What a lot is estimated to cost: 1 to 10^12 units.
 pub type Estimate = Bounded<1, 1_000_000_000_000>;
 
+/// The estimate as an amount of money.
+pub fn amount_of(estimate: Estimate) -> Amount
+    ensures { result ≡ estimate }
+{
+    Amount::read(estimate.get()).unwrap()
+}
+
 /// A lot of a notice that is to be published: its budget line, its estimate, and the security that its tenders must carry
 /// (0: none).
 #[derive(Drop)]

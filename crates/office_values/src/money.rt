@@ -1,5 +1,5 @@
 //! Money, in whole units of one currency.
-ghost use Rattle.std.specs.Prelude.{◌≡◌, ◌≤◌, ◌<◌, ℕ, IfSome, IfNone};
+ghost use Rattle.std.specs.Prelude.{◌≡◌, ◌≤◌, ◌<◌, ◌-◌, ℕ, IfSome, IfNone};
 ghost use Rattle.office_values.specs.Money.{amount_limit, total_limit};
 
 use std::alloc::AllocError;
@@ -117,5 +117,14 @@ impl Total {
         ensures bound { result ≤ total_limit }
     {
         self.units
+    }
+
+    /// What is left of it when so many units go; nothing where it has less.
+    pub fn less(self, units: u128) -> Total
+        ensures { result ≡ self - units }
+    {
+        Total {
+            units: (self.units as u128).saturating_sub(units) as u64,
+        }
     }
 }
