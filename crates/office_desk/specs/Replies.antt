@@ -4,7 +4,7 @@ use Rattle.serde_json.specs.Data.{Data, number, unsigned, string, object, Member
 use Rattle.serde_json.specs.Written.{compact_text}
 use Rattle.office_values.specs.Moments.{moment_text}
 use Rattle.office_values.specs.declared.command.Command.{Command}
-use Rattle.office_values.specs.declared.command.Command.TheVariants.{Import}
+use Rattle.office_values.specs.declared.command.Command.TheVariants.{Import, Publish}
 use Rattle.office_base.specs.Looking.{Sight, LineSeen}
 use Rattle.office_base.specs.declared.records.Pots.{Pots}
 
@@ -20,6 +20,10 @@ with_text name text others = member name (string text) others
 abbrev pub imported : List ℕ → List ℕ → ℕ → Data
 imported batch moment rows = object (with_text (codes "batch") batch (with_text (codes "moment") moment (with_number (codes "rows") rows no_members)))
 
+-- a notice was published: its name, the moment and the number of the release
+abbrev pub published : List ℕ → List ℕ → ℕ → Data
+published notice moment release = object (with_text (codes "moment") moment (with_text (codes "notice") notice (with_number (codes "release") release no_members)))
+
 -- a line is seen: its name, its title and its pots
 abbrev pub line_seen : List ℕ → List ℕ → Pots → Data
 line_seen line title pots =
@@ -34,6 +38,7 @@ line_seen line title pots =
 -- the reply to an accepted command
 abbrev pub reply_text : ℕ → Command → List ℕ
 reply_text t (Import batch rows) = compact_text (imported batch (moment_text t) (length rows))
+reply_text t (Publish notice content) = compact_text (published notice (moment_text t) 1)
 
 -- the answer to a query
 abbrev pub sight_text : Sight → List ℕ

@@ -2,9 +2,10 @@
 use Rattle.std.specs.Prelude.{◌≡◌, ℕ, ◌⊎◌, List, [], ◌∷◌, Option, Some, None, Result, Ok, Err, Vec}
 use Rattle.std.specs.declared.alloc.Global.{Global}
 use Rattle.office_values.specs.declared.budget.BudgetRow.{BudgetRow}
+use Rattle.office_values.specs.declared.notice.NewNotice.{NewNotice}
 use Rattle.office_values.specs.declared.command.Caller.{Caller}
 use Rattle.office_values.specs.declared.command.Caller.TheVariants.{Clerk}
-use Rattle.office_values.specs.declared.command.Command.TheVariants.{Import}
+use Rattle.office_values.specs.declared.command.Command.TheVariants.{Import, Publish}
 use Rattle.office_values.specs.declared.command.Query.{Query}
 use Rattle.office_values.specs.declared.refusal.Refusal.{Refusal}
 use Rattle.office_values.specs.declared.refusal.Refusal.TheVariants.{Unavailable}
@@ -18,6 +19,10 @@ use Rattle.office_desk.specs.Replies.{reply_text, sight_text}
 -- the clerk imports a budget file
 abbrev pub imports : Tables → ℕ → List ℕ → List BudgetRow → Given
 imports s moment batch rows = record { before = s; moment = moment; caller = Clerk; command = Import batch rows }
+
+-- the clerk publishes a notice
+abbrev pub publishes : Tables → ℕ → List ℕ → NewNotice → Given
+publishes s moment notice new = record { before = s; moment = moment; caller = Clerk; command = Publish notice new }
 
 -- a text as the list of its bytes
 abbrev pub read_text : Result (Vec ℕ Global) Refusal → Result (List ℕ) Refusal

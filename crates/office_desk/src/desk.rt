@@ -10,7 +10,8 @@ ghost use Rattle.office_desk.specs.Callers.{caller_of};
 ghost use Rattle.office_desk.specs.Steps.{IsPlan, IsPlanned, IsAnswered, IsSeen, Joins, read_text};
 
 use crate::callers::is_clerk;
-use crate::plan::{look_at_line, plan_import};
+use crate::look::look_at_line;
+use crate::plan::{plan_import, plan_publish};
 use crate::planned::Planned;
 use office_base::shelf::{Lookups, Shelf};
 use office_values::command::{Caller, Command, Query, may, may_look};
@@ -100,6 +101,9 @@ impl<H: Shelf + Drop> Desk<H> {
         match command {
             Command::Import { batch, rows } => {
                 plan_import(self.alloc, &mut self.shelf, moment, batch, rows.as_slice())
+            }
+            Command::Publish { notice, content } => {
+                plan_publish(self.alloc, &mut self.shelf, moment, notice, content)
             }
         }
     }

@@ -1,28 +1,26 @@
-//! Commands planned and queries answered, over any shelf.
-ghost use Rattle.std.specs.Prelude.{◌≡◌, IfOk, IfErr, OnOk};
+//! Commands planned, over any shelf.
+ghost use Rattle.std.specs.Prelude.{◌≡◌};
 ghost use Rattle.office_base.specs.Shelves.{Looks};
 ghost use Rattle.office_values.specs.Money.{total_limit};
-ghost use Rattle.office_values.specs.declared.command.Query.TheVariants as Query;
 ghost use Rattle.office_base.specs.Tables.{Tables};
-ghost use Rattle.office_base.specs.Looking.{LineSeen};
 ghost use Rattle.office_desk.specs.Walks.{AreNamed, AreAtMost};
 ghost use Rattle.office_desk.specs.Loading.{IsLoaded};
-ghost use Rattle.office_desk.specs.Replies.{sight_text};
-ghost use Rattle.office_desk.specs.Steps.{IsPlanned, IsSeen, read_text, imports};
+ghost use Rattle.office_desk.specs.Publishing.{IsLoaded as IsNoticeLoaded};
+ghost use Rattle.office_desk.specs.Steps.{IsPlanned, imports, publishes};
 
 use crate::decide::decide_import;
 use crate::load::{Loaded, load_import};
 use crate::planned::Planned;
-use crate::reply::{import_reply, line_text};
-use office_base::pots::pots_of_line;
-use office_base::records::{LineRow, Pots};
+use crate::publish::decide_publish;
+use crate::publish_load::{LoadedNotice, load_notice};
+use crate::reply::{import_reply, publish_reply};
 use office_base::shelf::Lookups;
 use office_values::budget::BudgetRow;
-use office_values::command::Caller;
 use office_values::id::Id;
 use office_values::moment::Moment;
-use office_values::refusal::{Refusal, Thing};
-use std::alloc::{AllocError, Global};
+use office_values::notice::NewNotice;
+use office_values::refusal::Refusal;
+use std::alloc::Global;
 
 // Plans an import on what was loaded for it.
 fn plan_loaded(
@@ -61,25 +59,36 @@ pub(crate) fn plan_import<H: Lookups>(
     plan_loaded(alloc, moment, batch, rows, loaded)
 }
 
-// What is seen of a line, in JSON.
-fn look_at_row(alloc: Global, row: &LineRow, pots: &Pots) -> Result<Vec<u8>, AllocError>
-    ensures { IfOk result (λ text. text.items ≡ sight_text (LineSeen row.now.line row.now.title pots.now)) }
+// Plans a publication on what was loaded for it.
+fn plan_loaded_notice(
+    alloc: Global,
+    moment: Moment,
+    notice: Id,
+    new: NewNotice,
+    loaded: &LoadedNotice,
+) -> Result<Planned, Refusal>
+    ensures { (s : Tables) → IsNoticeLoaded s notice new.lots loaded.now → IsPlanned (publishes s moment notice new) result }
 {
-    line_text(alloc, &row.line, &row.title, pots)
+    let t = moment.later(loaded.clock.moment);
+    match decide_publish(alloc, t, &loaded.clock, notice, loaded.exists, &loaded.lines, new) {
+        Ok(puts) => match publish_reply(alloc, &notice, t, 1) {
+            Ok(reply) => Ok(Planned::new(puts, reply)),
+            Err(_) => Err(Refusal::Unavailable),
+        },
+        Err(why) => Err(why),
+    }
 }
 
-/// Looks at the pots of a line.
-pub(crate) fn look_at_line<H: Lookups>(
+/// Plans the publication of a notice by the clerk.
+pub(crate) fn plan_publish<H: Lookups>(
     alloc: Global,
     shelf: &mut H,
-    caller: &Caller,
-    line: &Id,
-) -> Result<Vec<u8>, Refusal>
-    ensures { Looks H.meaning shelf.old shelf.new (λ s. IsSeen caller.now (Query.Line line.now) s (read_text result)) }
+    moment: Moment,
+    notice: Id,
+    new: NewNotice,
+) -> Result<Planned, Refusal>
+    ensures { Looks H.meaning shelf.old shelf.new (λ s. IsPlanned (publishes s moment notice new) result) }
 {
-    let Some(row) = shelf.get_line(line)? else {
-        return Err(Refusal::NoSuch(Thing::Line));
-    };
-    let pots = pots_of_line(&row);
-    Ok(look_at_row(alloc, &row, &pots)?)
+    let loaded = load_notice(alloc, shelf, &notice, new.lots.as_slice())?;
+    plan_loaded_notice(alloc, moment, notice, new, &loaded)
 }

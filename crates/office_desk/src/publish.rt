@@ -66,11 +66,18 @@ fn some_is_short(lines: &Table<LineRow>, lots: &[NewLot]) -> bool
     lots.iter().any(|lot| is_short(lines, lots, lot))
 }
 
+// Whether a lot has too many items.
+fn some_has_too_many_items(lots: &[NewLot]) -> bool
+    ensures { result ≡ list_any has_too_many_items lots.now }
+{
+    lots.iter().any(|lot| lot.items.as_slice().len() > ITEM_LIMIT)
+}
+
 // Whether there are too many lots, or a lot has too many items.
 fn is_too_long(lots: &[NewLot]) -> bool
     ensures { result ≡ (nat_lt 20 (length lots.now) || list_any has_too_many_items lots.now) }
 {
-    lots.len() > LOT_LIMIT || lots.iter().any(|lot| lot.items.as_slice().len() > ITEM_LIMIT)
+    lots.len() > LOT_LIMIT || some_has_too_many_items(lots)
 }
 
 // The first refusal whose condition holds.

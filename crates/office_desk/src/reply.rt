@@ -3,7 +3,7 @@ ghost use Rattle.std.specs.Prelude.{◌≡◌, IfOk, string_bytes};
 ghost use Rattle.serde_json.specs.View.{view};
 ghost use Rattle.serde_json.specs.Written.{compact_text};
 ghost use Rattle.office_values.specs.Moments.{moment_text};
-ghost use Rattle.office_desk.specs.Replies.{imported, line_seen};
+ghost use Rattle.office_desk.specs.Replies.{imported, published, line_seen};
 
 use office_base::records::Pots;
 use office_values::id::Id;
@@ -29,6 +29,31 @@ pub(crate) fn import_reply(
 {
     let moment = moment.to_text();
     let value = import_value(alloc, batch.as_str(), moment.as_str(), rows)?;
+    Ok(value.to_string(alloc)?.into_bytes())
+}
+
+fn publish_value(
+    alloc: Global,
+    notice: &str,
+    moment: &str,
+    release: u64,
+) -> Result<Value, AllocError>
+    ensures { IfOk result (λ v. view v ≡ published notice.now moment.now release) }
+{
+    json!(in alloc; {"moment": moment, "notice": notice, "release": release})
+}
+
+/// The reply to a command that published a release of a notice, in JSON.
+pub(crate) fn publish_reply(
+    alloc: Global,
+    notice: &Id,
+    moment: Moment,
+    release: u64,
+) -> Result<Vec<u8>, AllocError>
+    ensures { IfOk result (λ v. v.items ≡ compact_text (published notice.now (moment_text moment) release)) }
+{
+    let moment = moment.to_text();
+    let value = publish_value(alloc, notice.as_str(), moment.as_str(), release)?;
     Ok(value.to_string(alloc)?.into_bytes())
 }
 
