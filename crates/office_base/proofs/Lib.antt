@@ -6,3 +6,14 @@ pub mod RowLaws
 pub mod SortedTables
 pub mod Applied
 pub mod Agreeing
+pub mod SumsOver
+pub mod ExactKeys
+pub mod Passed
+pub mod RowsPut
+pub mod Kept
+pub mod Balance
+pub mod ImportedColumns
+pub mod ImportKeeps
+pub mod PublishedRows
+pub mod PublishKeeps
+pub mod AccountsKept
