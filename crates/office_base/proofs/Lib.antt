@@ -8,3 +8,14 @@ pub mod Applied
 pub mod Agreeing
 pub mod Looked
 pub mod PotsFound
+pub mod SumsOver
+pub mod ExactKeys
+pub mod Passed
+pub mod RowsPut
+pub mod Kept
+pub mod Balance
+pub mod ImportedColumns
+pub mod ImportKeeps
+pub mod PublishedRows
+pub mod PublishKeeps
+pub mod AccountsKept

@@ -1,6 +1,8 @@
 -- The office machine: when a command is refused, and the office after it.
-use Rattle.std.specs.Prelude.{◌≡◌, ℕ, ◌⊎◌, Bool, not, List, [], ◌∷◌, Option, Some, None, is_some, max, length}
+use Rattle.std.specs.Prelude.{◌≡◌, ℕ, ◌⊎◌, Bool, false, not, List, [], ◌∷◌, Option, Some, None, is_some, max, length}
+use Rattle.office_values.specs.Identified.{repeats_id}
 use Rattle.office_values.specs.Kinds.{kind_of_command}
+use Rattle.office_values.specs.Lots.{lot_id}
 use Rattle.office_values.specs.Rights.{may}
 use Rattle.office_values.specs.declared.command.Caller.{Caller}
 use Rattle.office_values.specs.declared.command.Command.{Command}
@@ -55,7 +57,12 @@ puts_of x = effect x.before (time_of x) x.command
 abbrev pub next : Given → Tables
 next x = after_puts (puts_of x) x.before
 
+-- it is one that can be given: each lot of a new notice has an identifier of its own
+abbrev pub IsCommand : Command → Type 0
+IsCommand (Import batch rows) = Unit {0}
+IsCommand (Publish notice content) = repeats_id lot_id content.lots ≡ false
+
 -- accepted commands, the last one first, lead from the empty office to this one
 abbrev pub Reaches : List Given → Tables → Type 0
 Reaches [] s = s ≡ no_tables
-Reaches (x ∷ xs) s = Reaches xs x.before × (refusal_of x ≡ None) × (s ≡ next x)
+Reaches (x ∷ xs) s = Reaches xs x.before × IsCommand x.command × (refusal_of x ≡ None) × (s ≡ next x)

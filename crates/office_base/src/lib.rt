@@ -1,6 +1,7 @@
 //! The records of a procurement office, its tables, and what keeps them.
 #![tactic(auto)]
 
+pub mod accounts;
 pub mod lot_table;
 pub mod memory;
 pub mod pots;

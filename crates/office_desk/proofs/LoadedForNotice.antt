@@ -1,5 +1,5 @@
 -- The lines of lots, loaded one at a time.
-use Rattle.std.specs.Prelude.{◌≡◌, ℕ, ◌⊎◌, Bool, true, false, cond, List, [], Option, Some, None, IsSome, is_some}
+use Rattle.std.specs.Prelude.{◌≡◌, ℕ, ◌⊎◌, Bool, true, false, cond, List, [], Option, Some, None, IsSome, is_some, Result, Ok, Err, OnOk}
 use Rattle.std.proofs.Common.{refl, sym, ap, ◌∙◌, subst, inl, inr}
 use Rattle.std.specs.Ordering.{eq_by_cmp}
 use Rattle.std.specs.Cmp.Lexicographic.{nat_list_cmp_total}
@@ -74,3 +74,8 @@ module _ (t : Tables) (lines new : List LineRow) (line : List ℕ) where
       here = λ _. at line ∙ ap (λ b. cond b (Some row) (find_line lines line)) own ∙ sym found;
       kept = kept_by;
     }
+
+pub where_added : {E : Type 0} (t : Tables) (lines new : List LineRow) (line : List ℕ) (row : LineRow) → line_at line t ≡ Some row → (result : Result (Unit {0}) E) → OnOk result (new ≡ put_line lines row)
+    → OnOk result (Loads t lines new line)
+where_added t lines new line row found (Ok u) put = loads_row t lines new line row found put
+where_added t lines new line row found (Err e) put = tt

@@ -11,7 +11,8 @@ use Rattle.office_values.specs.declared.refusal.Refusal.{Refusal}
 use Rattle.office_values.specs.declared.refusal.Refusal.TheVariants.{Unavailable}
 use Rattle.office_base.specs.Tables.{Tables}
 use Rattle.office_base.specs.Shelves.{Meaning}
-use Rattle.office_base.specs.Machine.{Given, refusal_of, time_of, puts_of, next, Reaches}
+use Rattle.office_base.specs.Machine.{Given, IsCommand, refusal_of, time_of, puts_of, next, Reaches}
+use Rattle.office_base.specs.Accounts.{AreBalanced}
 use Rattle.office_base.specs.Looking.{Sight, look_guard, sight}
 use Rattle.office_desk.specs.Plans.{Plan}
 use Rattle.office_desk.specs.Replies.{reply_text, sight_text}
@@ -33,8 +34,9 @@ read_text (Err why) = Err why
 abbrev pub reply_of : Given → List ℕ
 reply_of x = reply_text (time_of x) x.command
 
--- the command isn't refused, and this is what it puts and its reply
+-- the command is one that can be given and isn't refused, and this is what it puts and its reply
 pub record IsPlan (x : Given) (planned : Plan) : Type 0 where
+  pub given : IsCommand x.command
   pub allowed : refusal_of x ≡ None
   pub puts : planned.puts ≡ puts_of x
   pub reply : planned.reply ≡ reply_of x
@@ -63,7 +65,9 @@ abbrev pub accepted_after : Given → Result (List ℕ) Refusal → List Given �
 accepted_after x (Ok reply) xs = x ∷ xs
 accepted_after x (Err why) xs = xs
 
--- the shelf holds the office after the answer, and the commands accepted so far, with this one, lead to it
+-- the shelf holds the office after the answer; the commands accepted so far, with this one, lead to it; and there the accounts
+-- are what they moved
 pub record Joins {S : Type 0} (M : Meaning S) (new : S) (x : Given) (result : Result (List ℕ) Refusal) (xs : List Given) : Type 0 where
   pub holds : M.holds new (office_after x result)
   pub reaches : Reaches (accepted_after x result xs) (office_after x result)
+  pub balanced : AreBalanced (accepted_after x result xs) (office_after x result)
