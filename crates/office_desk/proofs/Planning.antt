@@ -138,14 +138,14 @@ module _ (s : Tables) (moment : ℕ) (notice : List ℕ) (new : NewNotice) (load
   pub notice_planned : (t : ℕ) (made : Vec Put Global) (plan : Plan) → t ≡ time_of (publishes s moment notice new) → repeats_id lot_id new.lots ≡ false
       → Decides (Ok made) (first_of (publish_tests loaded.lines loaded.«exists» t new)) (publish_puts loaded.clock t notice loaded.lines new)
       → plan.puts ≡ made.items → plan.reply ≡ reply_of (publishes s moment notice new) → IsPlan (publishes s moment notice new) plan
-  notice_planned t made plan time differ h puts reply = record {
+  notice_planned t made plan time differ h same_puts reply = record {
     given = differ;
     allowed =
         ap (λ at. first_of (publish_tests s.lines (is_some (notice_at notice s)) at new)) (sym time)
         ∙ ap first_of (sym (same_notice_tests t))
         ∙ decided_none (first_of (publish_tests loaded.lines loaded.«exists» t new)) (publish_puts loaded.clock t notice loaded.lines new) made h;
     puts =
-        puts
+        same_puts
         ∙ decided_puts (first_of (publish_tests loaded.lines loaded.«exists» t new)) (publish_puts loaded.clock t notice loaded.lines new) made h
         ∙ ap (λ ps. ps ++ map (lot_put notice) new.lots ++ (notice_put t notice new ∷ puts.Clock (record loaded.clock { moment = t }) ∷ [])) (same_line_puts new.lots from.lines_are)
         ∙ ap (λ clock. publish_puts clock t notice s.lines new) from.clock_is

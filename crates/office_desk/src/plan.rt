@@ -1,5 +1,7 @@
 //! Commands planned, over any shelf.
-ghost use Rattle.std.specs.Prelude.{◌≡◌};
+ghost use Rattle.std.specs.Prelude.{◌≡◌, false};
+ghost use Rattle.office_values.specs.Identified.{repeats_id};
+ghost use Rattle.office_values.specs.Lots.{lot_id};
 ghost use Rattle.office_base.specs.Shelves.{Looks};
 ghost use Rattle.office_values.specs.Money.{total_limit};
 ghost use Rattle.office_base.specs.Tables.{Tables};
@@ -67,6 +69,7 @@ fn plan_loaded_notice(
     new: NewNotice,
     loaded: &LoadedNotice,
 ) -> Result<Planned, Refusal>
+    requires differ { repeats_id lot_id new.lots ≡ false }
     ensures { (s : Tables) → IsNoticeLoaded s notice new.lots loaded.now → IsPlanned (publishes s moment notice new) result }
 {
     let t = moment.later(loaded.clock.moment);
