@@ -4,6 +4,8 @@
 pub mod accounts;
 pub mod lot_table;
 pub mod memory;
+#[cfg(test)]
+mod notice_tests;
 pub mod pots;
 pub mod records;
 pub mod shelf;

@@ -3,8 +3,8 @@ ghost use Rattle.std.specs.Prelude.{◌≡◌, ◌<◌, ◌≤◌, IfOk, OnOk, O
 ghost use Rattle.office_base.specs.Tables.{Tables, after_put, after_puts, no_tables};
 ghost use Rattle.office_base.specs.MemoryTables.{tables_of, after_undo, after_undos, CanUndo, CanUndoAll};
 
-use crate::records::{BatchRow, ClockRow, LineRow, LotRow, NoticeRow, Put};
 use crate::lot_table::LotTable;
+use crate::records::{BatchRow, ClockRow, LineRow, LotRow, NoticeRow, Put};
 use crate::table::{Replaced, Table, copy_of};
 use office_values::moment::Moment;
 use std::alloc::{AllocError, Global};

@@ -11,6 +11,8 @@ pub mod lot;
 pub mod moment;
 pub mod money;
 pub mod notice;
+#[cfg(test)]
+mod notice_tests;
 pub mod number;
 pub mod refusal;
 pub mod settings;
