@@ -4,51 +4,35 @@ ghost use Rattle.office_base.specs.Rows.{row_at, row_put};
 ghost use Rattle.office_base.specs.Replacing.{taken_back, CanTakeBack};
 ghost use Rattle.office_base.specs.Tables.{lot_cmp, lot_key, find_lot, put_lot, of_notice, of_line};
 
+use crate::id_bounds::{greatest_id, least_id};
+use crate::lot_index::{copy_listed, copy_searched, has_pair_of, pair_of};
 use crate::records::LotRow;
 use crate::table::{Replaced, Table};
 use office_values::id::Id;
 use std::alloc::{AllocError, Global};
+use std::collections::BTreeSet;
 use std::marker::Model;
 
-/// The lots of an office: their rows in the order of their keys.
+/// The lots of an office: their rows in the order of their keys, and an index of them by their budget lines. The index keeps the
+/// pair of a lot that is gone, or is of another line now.
 #[derive(Drop)]
 pub struct LotTable {
     rows: Table<LotRow>,
+    index: BTreeSet<(Id, (Id, Id))>,
+    // Whether the index has the pair of each row. It has, unless a row was taken back that had never been put.
+    is_whole: bool,
 }
 
 impl Model for LotTable {
     ghost use Rattle.std.specs.Prelude.{List};
     ghost use Rattle.office_base.specs.declared.records.LotRow.{LotRow};
+    ghost use Rattle.office_base.specs.LotIndex.{IsIndexed};
 
     ghost Value = { List LotRow };
 
     ghost view = { λ t. t.rows };
-}
 
-// Those of the rows that are of the notice.
-fn keep_notice(alloc: Global, rows: Vec<LotRow>, notice: &Id) -> Result<Vec<LotRow>, AllocError>
-    ensures { IfOk result (λ kept. kept.items ≡ filter (of_notice notice.now) rows.items) }
-{
-    let mut kept = Vec::new(alloc);
-    for row in rows {
-        if row.notice == *notice {
-            kept.push(row)?;
-        }
-    }
-    Ok(kept)
-}
-
-// Those of the rows that are of the line.
-fn keep_line(alloc: Global, rows: Vec<LotRow>, line: &Id) -> Result<Vec<LotRow>, AllocError>
-    ensures { IfOk result (λ kept. kept.items ≡ filter (of_line line.now) rows.items) }
-{
-    let mut kept = Vec::new(alloc);
-    for row in rows {
-        if row.line == *line {
-            kept.push(row)?;
-        }
-    }
-    Ok(kept)
+    ghost invariant = { λ t. IsIndexed t.rows t.index t.is_whole };
 }
 
 impl LotTable {
@@ -58,6 +42,8 @@ impl LotTable {
     {
         LotTable {
             rows: Table::new(alloc),
+            index: BTreeSet::new(alloc),
+            is_whole: true,
         }
     }
 
@@ -68,18 +54,24 @@ impl LotTable {
         self.rows.copy_at(key)
     }
 
-    /// The lots of a notice, copied, in the order of their keys.
+    /// The lots of a notice, copied, in the order of their keys. Costs what it copies, and the logarithm of the rows.
     pub fn copy_of_notice(&self, alloc: Global, notice: &Id) -> Result<Vec<LotRow>, AllocError>
         ensures { IfOk result (λ rows. rows.items ≡ filter (of_notice notice.now) self.now) }
     {
-        keep_notice(alloc, self.rows.copy_all(alloc)?, notice)
+        let first = (*notice, least_id());
+        let last = (*notice, greatest_id());
+        self.rows.copy_between(alloc, &first, &last)
     }
 
-    /// The lots of a line, copied, in the order of their keys.
+    /// The lots of a line, copied, in the order of their keys. Costs a look-up for each pair that the index has of the line: one
+    /// for each lot that is or was of that line.
     pub fn copy_of_line(&self, alloc: Global, line: &Id) -> Result<Vec<LotRow>, AllocError>
         ensures { IfOk result (λ rows. rows.items ≡ filter (of_line line.now) self.now) }
     {
-        keep_line(alloc, self.rows.copy_all(alloc)?, line)
+        if !self.is_whole {
+            return copy_searched(alloc, &self.rows, line);
+        }
+        copy_listed(alloc, &self.rows, &self.index, line)
     }
 
     /// Adds the row, or replaces the one with its key, and tells how to take that back.
@@ -89,6 +81,8 @@ impl LotTable {
         ensures can { IfOk result (λ replaced. CanTakeBack lot_cmp lot_key replaced self.new) }
         ensures kept { OnErr result (self.new ≡ self.old) }
     {
+        // Where the row then finds no memory, its pair stays, and does no harm.
+        self.index.insert(pair_of(&row))?;
         self.rows.put(row)
     }
 
@@ -97,6 +91,8 @@ impl LotTable {
         requires { CanTakeBack lot_cmp lot_key replaced self.old }
         ensures { self.new ≡ taken_back lot_cmp lot_key replaced self.old }
     {
+        // The index still has the pair of a row that `put` replaced. Another could find no memory.
+        self.is_whole &= has_pair_of(&self.index, &replaced.old);
         self.rows.take_back(replaced);
     }
 }
