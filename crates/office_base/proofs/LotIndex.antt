@@ -1,5 +1,5 @@
 -- Lots of a notice as a range of the table, and lots of a line by the index.
-use Rattle.std.specs.Prelude.{◌≡◌, ℕ, Bool, true, false, cond, not, ◌&&◌, ◌||◌, List, [], ◌∷◌, filter, map, Result, Ok, Err, OnOk, OnErr, Option, Some, None, IfSome}
+use Rattle.std.specs.Prelude.{◌≡◌, ℕ, Bool, true, false, cond, not, ◌&&◌, ◌||◌, List, [], ◌∷◌, filter, map, Result, Ok, Err, OnOk, OnErr}
 use Rattle.std.proofs.Common.{refl, sym, ap, ◌∙◌, subst, inl, inr}
 use Rattle.std.specs.BTreeMap.{is_at}
 use Rattle.std.specs.BTreeSet.{BTreeSet, contains, Updates}
@@ -20,7 +20,6 @@ use Rattle.office_base.specs.IdBounds.{least, greatest}
 use Rattle.office_base.specs.LotIndex.{pair_cmp, line_pair, keys_with_line, HasIds, HasPairsOf, IsIndexed}
 use Rattle.office_base.specs.RowRanges.{is_between, rows_between}
 use Rattle.office_base.specs.Rows.{by_order, row_drop, IsInOrder}
-use Rattle.office_base.specs.Replacing.{with_old}
 use Rattle.office_base.specs.Tables.{lot_cmp, lot_key, find_lot, put_lot, of_notice, of_line}
 use Rattle.office_base.specs.declared.records.LotRow.{LotRow}
 use Rattle.office_base.proofs.IdBounds.{is_le-least, is_lt-greatest, least-greatest}
@@ -203,13 +202,17 @@ indexed_after_put r rows after index next is_whole result h ids updates put kept
     let more : IsIndexed rows next is_whole = record { ids = h.ids; listed = λ whole. has_more rows index next (line_pair r) updates.0 (h.listed whole) } in
     by_result r rows after next is_whole result more ids updates.1 put kept
 
--- a row is taken back
-pub indexed_after_taking_back : (k : List ℕ × List ℕ) (old : Option LotRow) (rows : List LotRow) (index : BTreeSet (List ℕ × (List ℕ × List ℕ))) (is_whole is_listed : Bool) → IsIndexed rows index is_whole
-    → IfSome old HasIds → (is_listed ≡ true → IfSome old (λ r. contains pair_cmp index (line_pair r) ≡ true)) → IsIndexed (with_old lot_cmp lot_key k old rows) index (is_whole && is_listed)
-indexed_after_taking_back k None rows index is_whole is_listed h ids has = record {
-  ids = all-drop lot_cmp lot_key HasIds rows k h.ids;
-  listed = λ whole. all-drop lot_cmp lot_key (λ x. contains pair_cmp index (line_pair x) ≡ true) rows k (h.listed (and_parts is_whole is_listed whole).0);
-}
-indexed_after_taking_back k (Some r) rows index is_whole is_listed h ids has =
+-- a row that was replaced comes again
+pub indexed_again : (r : LotRow) (rows : List LotRow) (index : BTreeSet (List ℕ × (List ℕ × List ℕ))) (is_whole is_listed : Bool) → IsIndexed rows index is_whole → HasIds r
+    → is_listed ≡ contains pair_cmp index (line_pair r) → IsIndexed (put_lot rows r) index (is_whole && is_listed)
+indexed_again r rows index is_whole is_listed h ids has =
     indexed-put r rows index is_whole (is_whole && is_listed) h ids
-    (λ whole. ((and_parts is_whole is_listed whole).0, has (and_parts is_whole is_listed whole).1))
+    (λ whole. ((and_parts is_whole is_listed whole).0, sym has ∙ (and_parts is_whole is_listed whole).1))
+
+-- a row is dropped
+pub indexed_after_drop : (k : List ℕ × List ℕ) (rows : List LotRow) (index : BTreeSet (List ℕ × (List ℕ × List ℕ))) (is_whole : Bool) → IsIndexed rows index is_whole
+    → IsIndexed (row_drop lot_cmp lot_key rows k) index is_whole
+indexed_after_drop k rows index is_whole h = record {
+  ids = all-drop lot_cmp lot_key HasIds rows k h.ids;
+  listed = λ whole. all-drop lot_cmp lot_key (λ r. contains pair_cmp index (line_pair r) ≡ true) rows k (h.listed whole);
+}

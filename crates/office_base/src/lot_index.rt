@@ -1,9 +1,8 @@
 //! The index of lots by their budget lines.
-ghost use Rattle.std.specs.Prelude.{◌≡◌, IfOk, IfSome, IsTrue, filter};
-ghost use Rattle.std.specs.BTreeSet.{contains};
+ghost use Rattle.std.specs.Prelude.{◌≡◌, IfOk, filter};
 ghost use Rattle.std.specs.List.{AllByRecursion};
 ghost use Rattle.office_base.specs.Tables.{of_line};
-ghost use Rattle.office_base.specs.LotIndex.{HasIds, HasPairsOf, line_pair, pair_cmp};
+ghost use Rattle.office_base.specs.LotIndex.{HasIds, HasPairsOf, line_pair};
 
 use crate::id_bounds::{greatest_id, least_id};
 use crate::records::LotRow;
@@ -21,17 +20,6 @@ pub fn pair_of(row: &LotRow) -> (Id, (Id, Id))
     row.notice.as_bytes();
     row.lot.as_bytes();
     (row.line, row.key())
-}
-
-/// Whether the index has the pair of a lot that was replaced; true where none was.
-pub fn has_pair_of(index: &BTreeSet<(Id, (Id, Id))>, old: &Option<LotRow>) -> bool
-    ensures ids { IfSome old.now HasIds }
-    ensures has { IsTrue result → IfSome old.now (λ row. IsTrue (contains pair_cmp index.now (line_pair row))) }
-{
-    match old {
-        Some(row) => index.contains(&pair_of(row)),
-        None => true,
-    }
 }
 
 /// The lots of a line, copied. Costs a look-up for each key that stands with the line in the index; one whose lot is gone, or is of

@@ -5,7 +5,7 @@ ghost use Rattle.office_base.specs.Replacing.{taken_back, CanTakeBack};
 ghost use Rattle.office_base.specs.Tables.{lot_cmp, lot_key, find_lot, put_lot, of_notice, of_line};
 
 use crate::id_bounds::{greatest_id, least_id};
-use crate::lot_index::{copy_listed, copy_searched, has_pair_of, pair_of};
+use crate::lot_index::{copy_listed, copy_searched, pair_of};
 use crate::records::LotRow;
 use crate::table::{Replaced, Table};
 use office_values::id::Id;
@@ -91,8 +91,10 @@ impl LotTable {
         requires { CanTakeBack lot_cmp lot_key replaced self.old }
         ensures { self.new ≡ taken_back lot_cmp lot_key replaced self.old }
     {
-        // The index still has the pair of a row that `put` replaced. Another could find no memory.
-        self.is_whole &= has_pair_of(&self.index, &replaced.old);
+        if let Some(row) = &replaced.old {
+            // The index still has the pair of a row that `put` replaced. Another could find no memory.
+            self.is_whole &= self.index.contains(&pair_of(row));
+        }
         self.rows.take_back(replaced);
     }
 }

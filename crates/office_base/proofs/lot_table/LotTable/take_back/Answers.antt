@@ -1,8 +1,13 @@
-use Rattle.office_base.proofs.LotIndex.{indexed_after_taking_back}
+use Rattle.office_base.proofs.LotIndex.{indexed_again, indexed_after_drop}
 use Rattle.office_base.proofs.lot_table.LotTable.take_back.Goals as goal
+use Rattle.office_base.proofs.lot_table.LotTable.take_back.Goals.{in-Some, in_default}
 
 pub invariant_of-self : goal.invariant_of-self
-invariant_of-self c =
-    rw c.take_back.ensures
-    (indexed_after_taking_back c.args.replaced.key c.args.replaced.old c.self.inside.rows c.self.inside.index c.self.inside.is_whole c.has_pair_of.result
-    c.self.invariant c.has_pair_of.ensures.ids c.has_pair_of.ensures.has)
+invariant_of-self c = rw c.take_back.ensures (elim c.match-replaced.branch [
+  | in-Some w ↦
+    rw (w.self-inside-is, w.in-Some.is)
+    (indexed_again w.in-Some.row c.self.inside.rows c.self.inside.index c.self.inside.is_whole w.contains.result
+    c.self.invariant w.pair_of.ensures.ids (rw w.pair_of.ensures.pair at w.contains.ensures))
+  | in_default w ↦
+    rw (w.self-inside-is, w.in_default.is) (indexed_after_drop c.args.replaced.key c.self.inside.rows c.self.inside.index c.self.inside.is_whole c.self.invariant)
+])
