@@ -1,8 +1,8 @@
 //! The records of a procurement office, its tables, and what keeps them.
 #![tactic(auto)]
 
-pub mod id_bounds;
-pub mod lot_index;
+mod id_bounds;
+mod lot_index;
 pub mod lot_table;
 pub mod memory;
 pub mod pots;

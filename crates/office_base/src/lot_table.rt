@@ -5,7 +5,7 @@ ghost use Rattle.office_base.specs.Replacing.{taken_back, CanTakeBack};
 ghost use Rattle.office_base.specs.Tables.{lot_cmp, lot_key, find_lot, put_lot, of_notice, of_line};
 
 use crate::id_bounds::{greatest_id, least_id};
-use crate::lot_index::{copy_listed, copy_searched, pair_of};
+use crate::lot_index::{LineLot, copy_listed, copy_searched, line_lot_of};
 use crate::records::LotRow;
 use crate::table::{Replaced, Table};
 use office_values::id::Id;
@@ -13,13 +13,13 @@ use std::alloc::{AllocError, Global};
 use std::collections::BTreeSet;
 use std::marker::Model;
 
-/// The lots of an office: their rows in the order of their keys, and an index of them by their budget lines. The index keeps the
-/// pair of a lot that is gone, or is of another line now.
+/// The lots of an office: their rows in the order of their keys, and an index of them by their budget lines. A lot that was of a line
+/// stays in the index with that line.
 #[derive(Drop)]
 pub struct LotTable {
     rows: Table<LotRow>,
-    index: BTreeSet<(Id, (Id, Id))>,
-    // Whether the index has the pair of each row. It has, unless a row was taken back that had never been put.
+    index: BTreeSet<LineLot>,
+    // Whether the index has each row. It has, unless a row was taken back that had never been put.
     is_whole: bool,
 }
 
@@ -63,8 +63,7 @@ impl LotTable {
         self.rows.copy_between(alloc, &first, &last)
     }
 
-    /// The lots of a line, copied, in the order of their keys. Costs a look-up for each pair that the index has of the line: one
-    /// for each lot that is or was of that line.
+    /// The lots of a line, copied, in the order of their keys. Costs a look-up for each lot that is or was of the line.
     pub fn copy_of_line(&self, alloc: Global, line: &Id) -> Result<Vec<LotRow>, AllocError>
         ensures { IfOk result (λ rows. rows.items ≡ filter (of_line line.now) self.now) }
     {
@@ -81,8 +80,8 @@ impl LotTable {
         ensures can { IfOk result (λ replaced. CanTakeBack lot_cmp lot_key replaced self.new) }
         ensures kept { OnErr result (self.new ≡ self.old) }
     {
-        // Where the row then finds no memory, its pair stays, and does no harm.
-        self.index.insert(pair_of(&row))?;
+        // Where the row then finds no memory, the index has a lot too many, which does no harm.
+        self.index.insert(line_lot_of(&row))?;
         self.rows.put(row)
     }
 
@@ -92,8 +91,8 @@ impl LotTable {
         ensures { self.new ≡ taken_back lot_cmp lot_key replaced self.old }
     {
         if let Some(row) = &replaced.old {
-            // The index still has the pair of a row that `put` replaced. Another could find no memory.
-            self.is_whole &= self.index.contains(&pair_of(row));
+            // The index still has a row that `put` replaced. To add another could find no memory.
+            self.is_whole &= self.index.contains(&line_lot_of(row));
         }
         self.rows.take_back(replaced);
     }

@@ -151,7 +151,12 @@ impl<R: Row + Drop> Table<R> {
 
     /// The rows from one key to another, both included, copied, in the order of their keys. Costs what it copies, and the logarithm
     /// of the rows.
-    pub fn copy_between(&self, alloc: Global, first: &R::Key, last: &R::Key) -> Result<Vec<R>, AllocError>
+    pub fn copy_between(
+        &self,
+        alloc: Global,
+        first: &R::Key,
+        last: &R::Key,
+    ) -> Result<Vec<R>, AllocError>
         requires { IsLeBy R.Key.cmp first.now last.now }
         ensures { IfOk result (λ rows. rows.items ≡ rows_between R.Key.cmp R.key_of first.now last.now self.now) }
     {
