@@ -63,7 +63,8 @@ impl LotTable {
         self.rows.copy_between(alloc, &first, &last)
     }
 
-    /// The lots of a line, copied, in the order of their keys. Costs a look-up for each lot that is or was of the line.
+    /// The lots of a line, copied, in the order of their keys. Costs a look-up for each lot that is or was of the line; a look at each
+    /// row, once a row was taken back that had never been put.
     pub fn copy_of_line(&self, alloc: Global, line: &Id) -> Result<Vec<LotRow>, AllocError>
         ensures { IfOk result (λ rows. rows.items ≡ filter (of_line line.now) self.now) }
     {
