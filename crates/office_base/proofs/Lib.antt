@@ -1,5 +1,9 @@
 pub mod Orders
 pub mod KeyedTrees
+pub mod RowRanges
+pub mod KeyLists
+pub mod IdBounds
+pub mod LotIndex
 pub mod Undone
 pub mod Undoing
 pub mod RowLaws

@@ -1,7 +1,10 @@
 pub mod Rows
 pub mod Keyed
 pub mod Replacing
+pub mod RowRanges
+pub mod IdBounds
 pub mod Tables
+pub mod LotIndex
 pub mod MemoryTables
 pub mod Faults
 pub mod Shelves

@@ -4,51 +4,35 @@ ghost use Rattle.office_base.specs.Rows.{row_at, row_put};
 ghost use Rattle.office_base.specs.Replacing.{taken_back, CanTakeBack};
 ghost use Rattle.office_base.specs.Tables.{lot_cmp, lot_key, find_lot, put_lot, of_notice, of_line};
 
+use crate::id_bounds::{greatest_id, least_id};
+use crate::lot_index::{LineLot, copy_listed, copy_searched, line_lot_of};
 use crate::records::LotRow;
 use crate::table::{Replaced, Table};
 use office_values::id::Id;
 use std::alloc::{AllocError, Global};
+use std::collections::BTreeSet;
 use std::marker::Model;
 
-/// The lots of an office: their rows in the order of their keys.
+/// The lots of an office: their rows in the order of their keys, and an index of them by their budget lines. A lot that was of a line
+/// stays in the index with that line.
 #[derive(Drop)]
 pub struct LotTable {
     rows: Table<LotRow>,
+    index: BTreeSet<LineLot>,
+    // Whether the index has each row. It has, unless a row was taken back that had never been put.
+    is_whole: bool,
 }
 
 impl Model for LotTable {
     ghost use Rattle.std.specs.Prelude.{List};
     ghost use Rattle.office_base.specs.declared.records.LotRow.{LotRow};
+    ghost use Rattle.office_base.specs.LotIndex.{IsIndexed};
 
     ghost Value = { List LotRow };
 
     ghost view = { λ t. t.rows };
-}
 
-// Those of the rows that are of the notice.
-fn keep_notice(alloc: Global, rows: Vec<LotRow>, notice: &Id) -> Result<Vec<LotRow>, AllocError>
-    ensures { IfOk result (λ kept. kept.items ≡ filter (of_notice notice.now) rows.items) }
-{
-    let mut kept = Vec::new(alloc);
-    for row in rows {
-        if row.notice == *notice {
-            kept.push(row)?;
-        }
-    }
-    Ok(kept)
-}
-
-// Those of the rows that are of the line.
-fn keep_line(alloc: Global, rows: Vec<LotRow>, line: &Id) -> Result<Vec<LotRow>, AllocError>
-    ensures { IfOk result (λ kept. kept.items ≡ filter (of_line line.now) rows.items) }
-{
-    let mut kept = Vec::new(alloc);
-    for row in rows {
-        if row.line == *line {
-            kept.push(row)?;
-        }
-    }
-    Ok(kept)
+    ghost invariant = { λ t. IsIndexed t.rows t.index t.is_whole };
 }
 
 impl LotTable {
@@ -58,6 +42,8 @@ impl LotTable {
     {
         LotTable {
             rows: Table::new(alloc),
+            index: BTreeSet::new(alloc),
+            is_whole: true,
         }
     }
 
@@ -68,18 +54,24 @@ impl LotTable {
         self.rows.copy_at(key)
     }
 
-    /// The lots of a notice, copied, in the order of their keys.
+    /// The lots of a notice, copied, in the order of their keys. Costs what it copies, and the logarithm of the rows.
     pub fn copy_of_notice(&self, alloc: Global, notice: &Id) -> Result<Vec<LotRow>, AllocError>
         ensures { IfOk result (λ rows. rows.items ≡ filter (of_notice notice.now) self.now) }
     {
-        keep_notice(alloc, self.rows.copy_all(alloc)?, notice)
+        let first = (*notice, least_id());
+        let last = (*notice, greatest_id());
+        self.rows.copy_between(alloc, &first, &last)
     }
 
-    /// The lots of a line, copied, in the order of their keys.
+    /// The lots of a line, copied, in the order of their keys. Costs a look-up for each lot that is or was of the line; a look at each
+    /// row, once a row was taken back that had never been put.
     pub fn copy_of_line(&self, alloc: Global, line: &Id) -> Result<Vec<LotRow>, AllocError>
         ensures { IfOk result (λ rows. rows.items ≡ filter (of_line line.now) self.now) }
     {
-        keep_line(alloc, self.rows.copy_all(alloc)?, line)
+        if !self.is_whole {
+            return copy_searched(alloc, &self.rows, line);
+        }
+        copy_listed(alloc, &self.rows, &self.index, line)
     }
 
     /// Adds the row, or replaces the one with its key, and tells how to take that back.
@@ -89,6 +81,8 @@ impl LotTable {
         ensures can { IfOk result (λ replaced. CanTakeBack lot_cmp lot_key replaced self.new) }
         ensures kept { OnErr result (self.new ≡ self.old) }
     {
+        // Where the row then finds no memory, the index has a lot too many, which does no harm.
+        self.index.insert(line_lot_of(&row))?;
         self.rows.put(row)
     }
 
@@ -97,6 +91,10 @@ impl LotTable {
         requires { CanTakeBack lot_cmp lot_key replaced self.old }
         ensures { self.new ≡ taken_back lot_cmp lot_key replaced self.old }
     {
+        if let Some(row) = &replaced.old {
+            // The index still has a row that `put` replaced. To add another could find no memory.
+            self.is_whole &= self.index.contains(&line_lot_of(row));
+        }
         self.rows.take_back(replaced);
     }
 }

@@ -1,10 +1,14 @@
 //! A table of rows by their keys.
 ghost use Rattle.std.specs.Prelude.{◌≡◌, IfOk, IfErr, OnOk, OnErr, option_map, [], Some, None, IsSome};
-ghost use Rattle.office_base.specs.Rows.{row_at, row_put, row_drop};
+ghost use Rattle.std.specs.BTreeMap.Range.{IsLeBy};
+ghost use Rattle.std.specs.Map.Iter.{ShowsInOrder, deref};
+ghost use Rattle.office_base.specs.Rows.{row_at, row_put, row_drop, IsInOrder};
+ghost use Rattle.office_base.specs.RowRanges.{rows_between};
 ghost use Rattle.office_base.specs.Replacing.{taken_back, CanTakeBack};
 
 use std::alloc::{AllocError, Global};
 use std::collections::BTreeMap;
+use std::collections::btree_map::Values;
 use std::marker::Model;
 
 /// A row that has its key in it.
@@ -135,6 +139,39 @@ impl<R: Row + Drop> Table<R> {
             }
             None => self.remove(&replaced.key),
         }
+    }
+
+    /// All rows, in the order of their keys.
+    pub fn iter(&self) -> Values<'_, R::Key, R>
+        ensures rows { result ≡ self.now }
+        ensures runs { ShowsInOrder (deref {X = R}) }
+    {
+        self.rows.values()
+    }
+
+    /// The rows from one key to another, both included, copied, in the order of their keys. Costs what it copies, and the logarithm
+    /// of the rows.
+    pub fn copy_between(
+        &self,
+        alloc: Global,
+        first: &R::Key,
+        last: &R::Key,
+    ) -> Result<Vec<R>, AllocError>
+        requires { IsLeBy R.Key.cmp first.now last.now }
+        ensures { IfOk result (λ rows. rows.items ≡ rows_between R.Key.cmp R.key_of first.now last.now self.now) }
+    {
+        let mut copied = Vec::new(alloc);
+        for (_, row) in self.rows.range(first..=last) {
+            copied.push(copy_of(row)?)?;
+        }
+        Ok(copied)
+    }
+
+    /// Its keys strictly rise.
+    pub fn keys_rise(&self)
+        ensures { IsInOrder R.Key.cmp R.key_of self.now }
+    {
+        let _ = &self.rows;
     }
 }
 
