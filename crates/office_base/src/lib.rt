@@ -2,8 +2,8 @@
 #![tactic(auto)]
 
 pub mod accounts;
-pub mod id_bounds;
-pub mod lot_index;
+mod id_bounds;
+mod lot_index;
 pub mod lot_table;
 pub mod memory;
 #[cfg(test)]
