@@ -73,7 +73,15 @@ fn plan_loaded_notice(
     ensures { (s : Tables) → IsNoticeLoaded s notice new.lots loaded.now → IsPlanned (publishes s moment notice new) result }
 {
     let t = moment.later(loaded.clock.moment);
-    match decide_publish(alloc, t, &loaded.clock, notice, loaded.exists, &loaded.lines, new) {
+    match decide_publish(
+        alloc,
+        t,
+        &loaded.clock,
+        notice,
+        loaded.exists,
+        &loaded.lines,
+        new,
+    ) {
         Ok(puts) => match publish_reply(alloc, &notice, t, 1) {
             Ok(reply) => Ok(Planned::new(puts, reply)),
             Err(_) => Err(Refusal::Unavailable),

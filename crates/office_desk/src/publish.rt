@@ -70,7 +70,8 @@ fn some_is_short(lines: &Table<LineRow>, lots: &[NewLot]) -> bool
 fn some_has_too_many_items(lots: &[NewLot]) -> bool
     ensures { result ≡ list_any has_too_many_items lots.now }
 {
-    lots.iter().any(|lot| lot.items.as_slice().len() > ITEM_LIMIT)
+    lots.iter()
+        .any(|lot| lot.items.as_slice().len() > ITEM_LIMIT)
 }
 
 // Whether there are too many lots, or a lot has too many items.
@@ -81,12 +82,7 @@ fn is_too_long(lots: &[NewLot]) -> bool
 }
 
 // The first refusal whose condition holds.
-fn refusal_of(
-    lines: &Table<LineRow>,
-    exists: bool,
-    t: Moment,
-    new: &NewNotice,
-) -> Option<Refusal>
+fn refusal_of(lines: &Table<LineRow>, exists: bool, t: Moment, new: &NewNotice) -> Option<Refusal>
     ensures { result ≡ first_of (publish_tests lines.now exists t new.now) }
 {
     let lots = new.lots.as_slice();
@@ -126,11 +122,7 @@ fn line_put(lines: &Table<LineRow>, lots: &[NewLot], lot: &NewLot) -> Result<Put
 }
 
 // The lines of all lots.
-fn push_lines(
-    puts: &mut Vec<Put>,
-    lines: &Table<LineRow>,
-    lots: &[NewLot],
-) -> Result<(), Refusal>
+fn push_lines(puts: &mut Vec<Put>, lines: &Table<LineRow>, lots: &[NewLot]) -> Result<(), Refusal>
     ensures puts { OnOk result (puts.new.items ≡ puts.old.items ++ map (line_put lines.now lots.now) lots.now) }
     ensures fault { IfErr result (λ e. e ≡ Unavailable) }
 {

@@ -1,6 +1,9 @@
 //! Notices published by a desk over an office in memory: the answers' bytes, the refusals' numbers, and where the money is then.
 use crate::desk::Desk;
-use crate::tests::{ADD, EXISTS, FORBIDDEN, Import, NO_LINE, TOO_LITTLE, Want, desk_over, is, is_asked, is_seen, text};
+use crate::tests::{
+    ADD, EXISTS, FORBIDDEN, Import, NO_LINE, TOO_LITTLE, Want, desk_over, is, is_asked, is_looked,
+    text,
+};
 use office_base::memory::MemoryShelf;
 use office_values::command::{Caller, Command};
 use office_values::id::Id;
@@ -86,7 +89,7 @@ fn equal_lots(alloc: Global, count: usize) -> Option<Vec<NewLot>> {
     Some(lots)
 }
 
-fn lots(alloc: Global, lots: Lots) -> Option<NewLots> {
+fn new_lots(alloc: Global, lots: Lots) -> Option<NewLots> {
     NewLots::read(match lots {
         Lots::These(all) => these_lots(alloc, all)?,
         Lots::Equal(count) => equal_lots(alloc, count)?,
@@ -105,7 +108,7 @@ fn command(alloc: Global, publication: &Publication) -> Option<Command> {
         validity: Validity::read(90)?,
         standstill: Standstill::read(10)?,
         criteria: Criteria::Price,
-        lots: lots(alloc, publication.lots)?,
+        lots: new_lots(alloc, publication.lots)?,
     };
     let notice = Id::read(publication.notice.as_bytes())?;
     Some(Command::Publish { notice, content })
@@ -141,7 +144,7 @@ fn is_right(alloc: Global, desk: &mut Desk<MemoryShelf>, step: &Step) -> bool {
     match step {
         Step::Import(import, want) => is_asked(alloc, desk, import, *want),
         Step::Publish(publication, want) => is_published(alloc, desk, publication, *want),
-        Step::Look(line, want) => is_seen(desk, line, *want),
+        Step::Look(line, want) => is_looked(desk, line, *want),
     }
 }
 
@@ -165,17 +168,26 @@ const IMPORT: Import = Import {
     rows: &[("1000", ADD, 1000, "Roads")],
 };
 
-const MONEY: Step = Step::Import(IMPORT, Ok(r#"{"batch":"B1","moment":"2026-01-05T09:00:00Z","rows":1}"#));
+const MONEY: Step = Step::Import(
+    IMPORT,
+    Ok(r#"{"batch":"B1","moment":"2026-01-05T09:00:00Z","rows":1}"#),
+);
 
 // All of it is free.
-const ALL_FREE: Step = Step::Look("1000", Ok(
-    r#"{"appropriation":1000,"contracted":0,"free":1000,"line":"1000","paid":0,"reserved":0,"title":"Roads"}"#,
-));
+const ALL_FREE: Step = Step::Look(
+    "1000",
+    Ok(
+        r#"{"appropriation":1000,"contracted":0,"free":1000,"line":"1000","paid":0,"reserved":0,"title":"Roads"}"#,
+    ),
+);
 
 // None of it is free.
-const ALL_RESERVED: Step = Step::Look("1000", Ok(
-    r#"{"appropriation":1000,"contracted":0,"free":0,"line":"1000","paid":0,"reserved":1000,"title":"Roads"}"#,
-));
+const ALL_RESERVED: Step = Step::Look(
+    "1000",
+    Ok(
+        r#"{"appropriation":1000,"contracted":0,"free":0,"line":"1000","paid":0,"reserved":1000,"title":"Roads"}"#,
+    ),
+);
 
 const NOTICE: Publication = Publication {
     caller: Caller::Clerk,
@@ -305,11 +317,17 @@ const TWENTY: Import = Import {
 };
 
 const TAKES_ALL: [Step; 3] = [
-    Step::Import(TWENTY, Ok(r#"{"batch":"B1","moment":"2026-01-05T09:00:00Z","rows":1}"#)),
+    Step::Import(
+        TWENTY,
+        Ok(r#"{"batch":"B1","moment":"2026-01-05T09:00:00Z","rows":1}"#),
+    ),
     Step::Publish(MOST_LOTS, PUBLISHED),
-    Step::Look("1000", Ok(
-        r#"{"appropriation":20,"contracted":0,"free":0,"line":"1000","paid":0,"reserved":20,"title":"Roads"}"#,
-    )),
+    Step::Look(
+        "1000",
+        Ok(
+            r#"{"appropriation":20,"contracted":0,"free":0,"line":"1000","paid":0,"reserved":20,"title":"Roads"}"#,
+        ),
+    ),
 ];
 
 #[test]
