@@ -8,10 +8,9 @@ use Rattle.std.specs.declared.cmp.Ordering.{Ordering}
 use Rattle.std.specs.declared.cmp.Ordering.TheVariants.{Less, Equal, Greater}
 use Rattle.office_values.specs.Ids.{id_cmp}
 use Rattle.office_values.specs.declared.budget.BudgetRow.{BudgetRow}
-use Rattle.office_values.specs.declared.refusal.Refusal.{Refusal}
-use Rattle.office_base.specs.Rows.{by_order, row_at, row_put}
-use Rattle.office_base.specs.Tables.{Tables, line_key, find_line, line_at}
-use Rattle.office_base.specs.Standings.{find_standing, put_standing, columns_at, columns_of_row, standing_key, standing_of, standings}
+use Rattle.office_base.specs.Rows.{by_order, row_at}
+use Rattle.office_base.specs.Tables.{Tables, find_line, line_at}
+use Rattle.office_base.specs.Standings.{find_standing, columns_at, columns_of_row, standing_key, standing_of, standings}
 use Rattle.office_base.specs.Rules.Import.{columns_after, after_row, after_rows, some_row, line_put, appropriation_of, free_of, cuts_nothing, cuts_too_much, passes_limit, import_tests, import_puts}
 use Rattle.office_base.specs.declared.records.LineRow.{LineRow}
 use Rattle.office_base.specs.declared.records.ClockRow.{ClockRow}

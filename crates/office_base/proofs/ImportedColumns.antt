@@ -10,7 +10,7 @@ use Rattle.office_base.specs.Sums.{sum_over}
 use Rattle.office_base.specs.Tables.{Tables, line_key, find_line, line_at}
 use Rattle.office_base.specs.Standings.{columns_at, columns_of_row, standings}
 use Rattle.office_base.specs.Rules.Import.{is_cut, appropriation_of, free_of, columns_after, after_row, after_rows, some_row, cuts_too_much}
-use Rattle.office_base.specs.Accounts.{appropriation_in, free_in}
+use Rattle.office_base.specs.Joined.{appropriation_in, free_in}
 use Rattle.office_base.specs.declared.records.LineRow.{LineRow}
 use Rattle.office_base.specs.declared.standing.Columns.{Columns}
 use Rattle.office_base.specs.declared.standing.Standing.{Standing}

@@ -1,19 +1,18 @@
 -- Trees of rows by their keys are tables.
-use Rattle.std.specs.Prelude.{◌≡◌, List, [], ◌∷◌, Bool, true, false, ◌&&◌, Option, Some, None}
+use Rattle.std.specs.Prelude.{◌≡◌, List, [], ◌∷◌, Bool, true, false, ◌&&◌}
 use Rattle.std.proofs.Common.{refl, sym, ap, ◌∙◌}
 use Rattle.std.specs.Cmp.{IsTotalOrder}
 use Rattle.std.specs.List.{list_all}
 use Rattle.std.specs.List.Sorted.{IsStrictlySortedBy}
 use Rattle.std.specs.Map.{keys_of, values_of, lookup, remove_entry}
 use Rattle.std.specs.BTreeMap.{is_at, insert_entry}
-use Rattle.std.specs.Ordering.{is_eq}
 use Rattle.std.specs.declared.cmp.Ordering.{Ordering}
 use Rattle.std.specs.declared.cmp.Ordering.TheVariants.{Less, Equal, Greater}
 use Rattle.std.proofs.lemmas.Map.{NonePasses, lookup-none}
 use Rattle.std.proofs.lemmas.Map.Entries.{none_below_head}
 use Rattle.std.proofs.lemmas.Map.Keys.{sorted_tail}
-use Rattle.office_base.specs.Rows.{by_order, row_at, row_put, row_drop}
-use Rattle.office_base.specs.Keyed.{stands_at_its_key, IsKeyed}
+use Rattle.office_base.specs.Rows.{row_at, row_put, row_drop}
+use Rattle.office_base.specs.Keyed.{stands_at_its_key}
 use Rattle.office_base.proofs.Orders.{same_key, equal_back, alike_right, equal_from_test}
 
 both_left : (a b : Bool) → a && b ≡ true → a ≡ true

@@ -1,6 +1,6 @@
 -- The pots of a line, added up.
-use Rattle.std.specs.Prelude.{◌≡◌, ℕ, ◌≤◌, ◌<◌, ◌⊎◌, List, Result, Ok, Err, Option, Some, None, IsSomeAnd, IfOk, IfErr, map}
-use Rattle.std.proofs.Common.{refl, sym, ap, ◌∙◌, subst, inl, inr, arith}
+use Rattle.std.specs.Prelude.{◌≡◌, ℕ, ◌≤◌, ◌<◌, List, Result, Ok, Err, Option, Some, IsSomeAnd, IfOk, IfErr, map}
+use Rattle.std.proofs.Common.{sym, ap, ◌∙◌, subst, inl, inr, arith}
 use Rattle.std.specs.Cmp.Lexicographic.{nat_list_cmp_total}
 use Rattle.std.proofs.lemmas.Map.Lookups.{exact_bytes}
 use Rattle.office_values.specs.Money.{total_limit}
@@ -8,7 +8,7 @@ use Rattle.office_base.specs.Sums.{sum_over}
 use Rattle.office_base.specs.Faults.{one_fault_more}
 use Rattle.office_base.specs.Tables.{Tables, line_at, line_key, lots_of_line}
 use Rattle.office_base.specs.Joined.{pots_of, reserved, LineFits}
-use Rattle.office_base.specs.PotsAnswers.{IsFaultOrUnfit, AreRowPots, IsRowPotsAnswer, ArePots, IsPotsAnswer}
+use Rattle.office_base.specs.PotsAnswers.{IsRowPotsAnswer, IsPotsAnswer}
 use Rattle.office_base.specs.declared.records.LineRow.{LineRow}
 use Rattle.office_base.specs.declared.records.LotRow.{LotRow}
 use Rattle.office_base.specs.declared.records.Pots.{Pots}

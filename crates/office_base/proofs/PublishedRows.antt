@@ -12,8 +12,8 @@ use Rattle.office_values.specs.declared.lot.NewLot.{NewLot}
 use Rattle.office_values.specs.declared.notice.NewNotice.{NewNotice}
 use Rattle.office_base.specs.Sums.{sum_over}
 use Rattle.office_base.specs.Tables.{line_key, find_line, lot_key, lot_cmp, find_lot, put_lot}
-use Rattle.office_base.specs.Rules.Publish.{free_on, wanted, is_short, no_line, line_found}
-use Rattle.office_base.specs.Accounts.{appropriation_in, free_in}
+use Rattle.office_base.specs.Rules.Publish.{wanted, is_short, no_line, line_found}
+use Rattle.office_base.specs.Joined.{appropriation_in, free_in}
 use Rattle.office_base.specs.declared.records.LineRow.{LineRow}
 use Rattle.office_base.specs.declared.records.LotRow.{LotRow}
 use Rattle.office_base.specs.declared.records.LotState.TheVariants.{Undecided}
@@ -29,14 +29,14 @@ use Rattle.office_base.proofs.SumsOver.{sum_over-map}
 
 -- the line of a lot, with what all lots want of it no longer free
 abbrev pub line_row : List LineRow → List NewLot → NewLot → LineRow
-line_row lines lots lot = record (line_found lines lot.line) { line = lot.line; free = free_on (find_line lines lot.line) - wanted lot.line lots }
+line_row lines lots lot = record (line_found lines lot.line) { line = lot.line; free = free_in (find_line lines lot.line) - wanted lot.line lots }
 
 -- this much of the line is no longer free
 pub record IsTaken (before after : Option LineRow) (amount : ℕ) : Type 0 where
   pub appropriation_is : appropriation_in after ≡ appropriation_in before
   pub free_is : free_in after ≡ free_in before - amount
 
-own_line : (found : Option LineRow) (q : List ℕ) (amount : ℕ) → IsTaken found (Some (record (unwrap_or found (no_line q)) { line = q; free = free_on found - amount })) amount
+own_line : (found : Option LineRow) (q : List ℕ) (amount : ℕ) → IsTaken found (Some (record (unwrap_or found (no_line q)) { line = q; free = free_in found - amount })) amount
 own_line None q amount = record { appropriation_is = refl; free_is = refl }
 own_line (Some row) q amount = record { appropriation_is = refl; free_is = refl }
 
@@ -68,30 +68,26 @@ taken_after lines lots q =
     (λ none. none_taken (find_line lines q) (wanted q lots) (wanted_of_none lines lots lots q none))
 
 enough_step : (lines : List LineRow) (all : List NewLot) (q : List ℕ) (lot : NewLot) (n : ℕ) → is_short lines all lot ≡ false
-    → (n ≡ 0) ⊎ (wanted q all ≤ free_on (find_line lines q))
-    → (b : Bool) → same_id lot.line q ≡ b → (cond b lot.estimate 0 + n ≡ 0) ⊎ (wanted q all ≤ free_on (find_line lines q))
+    → (n ≡ 0) ⊎ (wanted q all ≤ free_in (find_line lines q))
+    → (b : Bool) → same_id lot.line q ≡ b → (cond b lot.estimate 0 + n ≡ 0) ⊎ (wanted q all ≤ free_in (find_line lines q))
 enough_step lines all q lot n enough rest true e =
-    inr (subst (λ p. wanted p all ≤ free_on (find_line lines p)) (equal_ids lot.line q e) (at_least _ _ enough))
+    inr (subst (λ p. wanted p all ≤ free_in (find_line lines p)) (equal_ids lot.line q e) (at_least _ _ enough))
 enough_step lines all q lot n enough (inl none) false e = inl (omega (arith, none))
 enough_step lines all q lot n enough (inr is) false e = inr is
 
 enough_by : (lines : List LineRow) (all lots : List NewLot) (q : List ℕ) → list_any (is_short lines all) lots ≡ false
-    → (wanted q lots ≡ 0) ⊎ (wanted q all ≤ free_on (find_line lines q))
+    → (wanted q lots ≡ 0) ⊎ (wanted q all ≤ free_in (find_line lines q))
 enough_by lines all [] q none = inl refl
 enough_by lines all (lot ∷ lots) q none =
     let passes = neither _ _ none in
     enough_step lines all q lot (wanted q lots) passes.0 (enough_by lines all lots q passes.1) (same_id lot.line q) refl
-
-free_alike : (found : Option LineRow) → free_on found ≡ free_in found
-free_alike None = refl
-free_alike (Some row) = refl
 
 -- a line of which no lot is short has what they want
 pub enough : (lines : List LineRow) (lots : List NewLot) (q : List ℕ) → list_any (is_short lines lots) lots ≡ false → wanted q lots ≤ free_in (find_line lines q)
 enough lines lots q none =
     elim (enough_by lines lots lots q none) as (λ _. wanted q lots ≤ free_in (find_line lines q)) [
       | inl nothing ↦ omega (arith, nothing)
-      | inr is ↦ omega (arith, is, free_alike (find_line lines q))
+      | inr is ↦ is
     ]
 
 -- the row of a lot

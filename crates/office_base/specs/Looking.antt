@@ -1,5 +1,5 @@
 -- What the office answers to a query.
-use Rattle.std.specs.Prelude.{◌≡◌, ℕ, Bool, not, List, [], ◌∷◌, Option, Some, None, is_some, option_map}
+use Rattle.std.specs.Prelude.{ℕ, Bool, not, List, [], ◌∷◌, Option, is_some, option_map}
 use Rattle.office_values.specs.Kinds.{kind_of_query}
 use Rattle.office_values.specs.Rights.{may_look}
 use Rattle.office_values.specs.declared.command.Caller.{Caller}

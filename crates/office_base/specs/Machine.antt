@@ -1,5 +1,5 @@
 -- The office machine: when a command is refused, and the office after it.
-use Rattle.std.specs.Prelude.{◌≡◌, ℕ, ◌⊎◌, Bool, false, not, List, [], ◌∷◌, Option, Some, None, is_some, max, length}
+use Rattle.std.specs.Prelude.{◌≡◌, ℕ, Bool, false, not, List, [], ◌∷◌, Option, None, is_some, max}
 use Rattle.office_values.specs.Identified.{repeats_id}
 use Rattle.office_values.specs.Kinds.{kind_of_command}
 use Rattle.office_values.specs.Lots.{lot_id}

@@ -1,5 +1,5 @@
 -- What an office in memory keeps.
-use Rattle.std.specs.Prelude.{◌≡◌, List, [], ◌∷◌}
+use Rattle.std.specs.Prelude.{List, [], ◌∷◌}
 use Rattle.office_values.specs.Ids.{id_cmp}
 use Rattle.office_base.specs.Tables.{Tables, line_key, batch_key, notice_key, lot_key, lot_cmp}
 use Rattle.office_base.specs.Replacing.{taken_back, CanTakeBack}

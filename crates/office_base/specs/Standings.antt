@@ -1,5 +1,5 @@
 -- Where budget lines stand, while the rows of a file are taken in order.
-use Rattle.std.specs.Prelude.{◌≡◌, ℕ, List, map, Option, Some, None, option_and_then}
+use Rattle.std.specs.Prelude.{ℕ, List, map, Option, Some, option_and_then}
 use Rattle.office_values.specs.Ids.{id_cmp}
 use Rattle.office_base.specs.Rows.{row_at, row_put}
 use Rattle.office_base.specs.Tables.{Tables}

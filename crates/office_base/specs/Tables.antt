@@ -1,5 +1,5 @@
 -- The content of an office: a finite map by key for each record, and the clock.
-use Rattle.std.specs.Prelude.{◌≡◌, ℕ, Bool, List, [], ◌∷◌, Option, filter}
+use Rattle.std.specs.Prelude.{ℕ, Bool, List, [], ◌∷◌, Option, filter}
 use Rattle.std.specs.Ordering.{ordering_then}
 use Rattle.std.specs.declared.cmp.Ordering.{Ordering}
 use Rattle.office_values.specs.Ids.{id_cmp, same_id}

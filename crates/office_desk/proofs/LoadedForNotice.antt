@@ -1,6 +1,6 @@
 -- The lines of lots, loaded one at a time.
-use Rattle.std.specs.Prelude.{◌≡◌, ℕ, ◌⊎◌, Bool, true, false, cond, List, [], Option, Some, None, IsSome, is_some, Result, Ok, Err, OnOk}
-use Rattle.std.proofs.Common.{refl, sym, ap, ◌∙◌, subst, inl, inr}
+use Rattle.std.specs.Prelude.{◌≡◌, ℕ, ◌⊎◌, Bool, true, false, cond, List, [], Option, Some, None, IsSome, Result, Ok, Err, OnOk}
+use Rattle.std.proofs.Common.{refl, sym, ap, ◌∙◌, inl, inr}
 use Rattle.std.specs.Ordering.{eq_by_cmp}
 use Rattle.std.specs.Cmp.Lexicographic.{nat_list_cmp_total}
 use Rattle.std.proofs.lemmas.Map.Lookups.{exact_bytes}

@@ -1,5 +1,5 @@
 -- A decision on loaded lines is the machine's.
-use Rattle.std.specs.Prelude.{◌≡◌, ℕ, ◌-◌, ◌⊎◌, ◌||◌, ◌++◌, Bool, false, map, nat_lt, unwrap_or, List, [], ◌∷◌, Option, Some, None, Result, Ok, Err, Vec, IsSome, All, is_some, not, option_map, length}
+use Rattle.std.specs.Prelude.{◌≡◌, ℕ, ◌-◌, ◌⊎◌, ◌||◌, ◌++◌, Bool, false, map, nat_lt, unwrap_or, List, [], ◌∷◌, Option, Some, None, Ok, Err, Vec, IsSome, is_some, not, option_map, length}
 use Rattle.std.proofs.Math.Nat.{zero-lt-suc}
 use Rattle.std.proofs.Common.{refl, sym, ap, ◌∙◌, inl, inr, subst}
 use Rattle.std.specs.declared.alloc.Global.{Global}
@@ -14,18 +14,18 @@ use Rattle.office_values.specs.Lots.{lot_id}
 use Rattle.office_values.specs.declared.lot.NewLot.{NewLot}
 use Rattle.office_values.specs.declared.notice.NewNotice.{NewNotice}
 use Rattle.office_base.specs.Tables.{Tables, batch_at, notice_at, find_line}
-use Rattle.office_base.specs.Rules.Publish.{free_on, wanted, no_line, publish_tests, publish_puts, line_put, lot_put, notice_put}
+use Rattle.office_base.specs.Rules.Publish.{wanted, no_line, publish_tests, publish_puts, line_put, lot_put, notice_put}
 use Rattle.office_base.specs.declared.records.Put.TheVariants as puts
 use Rattle.office_desk.specs.Publishing.{IsAsIn, AreAsIn, IsLoaded as IsNoticeLoaded}
 use Rattle.office_desk.specs.declared.publish_load.LoadedNotice.{LoadedNotice}
 use Rattle.office_base.specs.Standings.{find_standing, standings}
 use Rattle.office_base.specs.Rules.{Decides, first_of}
 use Rattle.office_base.specs.Rules.Import.{import_tests, import_puts}
-use Rattle.office_base.specs.Machine.{refusal_of, time_of, puts_of}
+use Rattle.office_base.specs.Machine.{refusal_of, time_of}
 use Rattle.office_values.specs.declared.command.Caller.{Caller}
 use Rattle.office_values.specs.declared.command.Query.TheVariants as queries
 use Rattle.office_base.specs.Tables.{line_at}
-use Rattle.office_base.specs.Joined.{pots_of}
+use Rattle.office_base.specs.Joined.{pots_of, free_in}
 use Rattle.office_base.specs.Looking.{LineSeen, line_sight}
 use Rattle.office_base.specs.declared.records.LineRow.{LineRow}
 use Rattle.office_base.specs.declared.records.Pots.{Pots}
@@ -37,7 +37,7 @@ use Rattle.office_desk.specs.Walks.{AreNamed}
 use Rattle.office_desk.specs.Loaded.{AreFrom}
 use Rattle.office_desk.specs.Loading.{IsLoaded}
 use Rattle.office_desk.specs.declared.load.Loaded.{Loaded}
-use Rattle.office_desk.specs.Steps.{imports, publishes, reply_of, IsPlan, IsPlanned, IsSeen}
+use Rattle.office_desk.specs.Steps.{imports, publishes, reply_of, IsPlan, IsSeen}
 use Rattle.office_desk.specs.Plans.{Plan}
 
 pub all_here : (m : List Standing) (row : BudgetRow) (rows : List BudgetRow) → AreNamed m (row ∷ rows) → IsSome (find_standing m row.line)
@@ -112,7 +112,7 @@ module _ (s : Tables) (moment : ℕ) (notice : List ℕ) (new : NewNotice) (load
   same_line_puts [] all = refl
   same_line_puts (lot ∷ lots) all =
       let here : find_line loaded.lines lot.line ≡ find_line s.lines lot.line = all 0 lot (zero-lt-suc (length lots)) in
-      let put : Option LineRow → Put = λ row. puts.Line (record (unwrap_or row (no_line lot.line)) { line = lot.line; free = free_on row - wanted lot.line new.lots }) in
+      let put : Option LineRow → Put = λ row. puts.Line (record (unwrap_or row (no_line lot.line)) { line = lot.line; free = free_in row - wanted lot.line new.lots }) in
       ap (λ row. put row ∷ map (line_put loaded.lines new.lots) lots) here
       ∙ ap (λ ps. line_put s.lines new.lots lot ∷ ps) (same_line_puts lots (All-tail (λ (l : NewLot). IsAsIn s loaded.lines l.line) lot lots all))
 
@@ -120,7 +120,7 @@ module _ (s : Tables) (moment : ℕ) (notice : List ℕ) (new : NewNotice) (load
   same_notice_tests t =
       rw (
         same_lines_any (λ row lot. not (is_some row)) new.lots from.lines_are,
-        same_lines_any (λ row lot. nat_lt (free_on row) (wanted lot.line new.lots)) new.lots from.lines_are,
+        same_lines_any (λ row lot. nat_lt (free_in row) (wanted lot.line new.lots)) new.lots from.lines_are,
         from.exists_is,
       )
       refl

@@ -1,12 +1,11 @@
 -- Rows taken in order.
 use Rattle.std.specs.Prelude.{◌≡◌, ℕ, ◌+◌, ◌-◌, ◌*◌, ◌<◌, ◌≤◌, ◌^◌, Bool, true, false, cond, ◌||◌, List, [], ◌∷◌, Option, Some, None, IsSome, All}
-use Rattle.std.proofs.Common.{refl, sym, ap, ◌∙◌, subst, arith}
+use Rattle.std.proofs.Common.{refl, sym, ap, ◌∙◌, arith}
 use Rattle.std.specs.List.{AllByRecursion}
 use Rattle.std.specs.Cmp.Lexicographic.{nat_list_cmp_total}
 use Rattle.std.proofs.lemmas.List.Elements.{All-weaker}
-use Rattle.office_values.specs.Ids.{id_cmp}
 use Rattle.office_values.specs.declared.budget.BudgetRow.{BudgetRow}
-use Rattle.office_base.specs.Standings.{find_standing, columns_at, put_standing, standing_key}
+use Rattle.office_base.specs.Standings.{find_standing, columns_at, standing_key}
 use Rattle.office_base.specs.Rules.Import.{after_row, after_rows, some_row, columns_after, is_cut}
 use Rattle.office_base.specs.declared.standing.Columns.{Columns}
 use Rattle.office_base.specs.declared.standing.Standing.{Standing}

@@ -1,5 +1,5 @@
 -- Lines that were loaded from the office.
-use Rattle.std.specs.Prelude.{◌≡◌, ℕ, List, Option, Some, None, IsSome, All}
+use Rattle.std.specs.Prelude.{◌≡◌, ℕ, List, IsSome}
 use Rattle.office_base.specs.Tables.{Tables}
 use Rattle.office_base.specs.Standings.{find_standing, columns_at, standings}
 use Rattle.office_base.specs.declared.standing.Standing.{Standing}

@@ -1,5 +1,5 @@
 -- What a publication is decided on.
-use Rattle.std.specs.Prelude.{◌≡◌, ℕ, ◌⊎◌, List, Option, None, is_some, All}
+use Rattle.std.specs.Prelude.{◌≡◌, ℕ, ◌⊎◌, List, None, is_some, All}
 use Rattle.office_values.specs.declared.lot.NewLot.{NewLot}
 use Rattle.office_base.specs.Tables.{Tables, find_line, line_at, notice_at}
 use Rattle.office_base.specs.declared.records.LineRow.{LineRow}

@@ -1,5 +1,5 @@
 -- What a desk answers: the machine's step, or want of memory or of the store.
-use Rattle.std.specs.Prelude.{◌≡◌, ℕ, ◌⊎◌, List, [], ◌∷◌, Option, Some, None, Result, Ok, Err, Vec}
+use Rattle.std.specs.Prelude.{◌≡◌, ℕ, ◌⊎◌, List, ◌∷◌, Some, None, Result, Ok, Err, Vec}
 use Rattle.std.specs.declared.alloc.Global.{Global}
 use Rattle.office_values.specs.declared.budget.BudgetRow.{BudgetRow}
 use Rattle.office_values.specs.declared.notice.NewNotice.{NewNotice}

@@ -3,8 +3,9 @@ ghost use Rattle.std.specs.Prelude.{◌≡◌, ◌||◌, ◌++◌, IfOk, IfErr, 
 ghost use Rattle.std.specs.List.{list_any};
 ghost use Rattle.office_values.specs.declared.refusal.Refusal.TheVariants.{Unavailable};
 ghost use Rattle.office_base.specs.Tables.{find_line};
+ghost use Rattle.office_base.specs.Joined.{free_in};
 ghost use Rattle.office_base.specs.Rules.{Decides, first_of};
-ghost use Rattle.office_base.specs.Rules.Publish.{free_on, wanted, is_on_no_line, is_short, has_too_many_items, publish_tests, publish_puts, line_put, lot_put};
+ghost use Rattle.office_base.specs.Rules.Publish.{wanted, is_on_no_line, is_short, has_too_many_items, publish_tests, publish_puts, line_put, lot_put};
 
 use office_base::records::{ClockRow, LineRow, LotRow, LotState, NoticeRow, NoticeState, Put};
 use office_base::table::Table;
@@ -37,7 +38,7 @@ fn wanted(line: &Id, lots: &[NewLot]) -> u128
 
 // What is free on a line; nothing where it isn't held.
 fn free_on(lines: &Table<LineRow>, line: &Id) -> Total
-    ensures { result ≡ free_on (find_line lines.now line.now) }
+    ensures { result ≡ free_in (find_line lines.now line.now) }
 {
     match lines.get(line) {
         Some(row) => row.free,

@@ -1,5 +1,5 @@
 -- One answer to what is meant: a refusal, or the response, or Unavailable.
-use Rattle.std.proofs.Common.{◌≡◌, ℕ, ◌⊎◌, inl, inr, Bool, true, false, List, Option, Some, None, Result, Ok, Err, refl, sym, ap, ◌∙◌, subst}
+use Rattle.std.proofs.Common.{◌≡◌, ℕ, ◌⊎◌, inl, inr, Bool, true, false, List, Option, Some, None, refl, sym, ap, ◌∙◌, subst}
 use Rattle.office_values.specs.declared.command.Caller.{Caller}
 use Rattle.office_values.specs.declared.command.Command.{Command}
 use Rattle.office_values.specs.declared.command.Query.{Query}
@@ -9,7 +9,7 @@ use Rattle.office_base.specs.Tables.{Tables}
 use Rattle.office_base.specs.Shelves.{Meaning}
 use Rattle.office_base.specs.Machine.{refusal_of}
 use Rattle.office_base.specs.Looking.{look_guard, sight}
-use Rattle.office_http.specs.Meaning.{Meant, Refuses, Gives, Sees}
+use Rattle.office_http.specs.Meaning.{Meant, Gives, Sees}
 use Rattle.office_http.specs.Answering.{given_to, command_reply, command_tables, query_reply, reply_to, tables_after, unavailable_text, answer_bytes, tables_left}
 use Rattle.office_http.specs.Response.{response_of}
 use Rattle.office_http.specs.declared.reply.Allow.{Allow}

@@ -1,5 +1,5 @@
 -- Going on to the next segment of a path.
-use Rattle.std.proofs.Common.{◌≡◌, ℕ, suc, ◌+◌, ◌-◌, ◌<◌, List, refl, arith, ◌∙◌}
+use Rattle.std.proofs.Common.{◌≡◌, ℕ, suc, ◌+◌, ◌-◌, ◌<◌, List, refl, arith}
 use Rattle.office_http.specs.Paths.{before, behind, segment}
 
 -- behind a slash the segments count from the next one

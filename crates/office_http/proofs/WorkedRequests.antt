@@ -10,7 +10,7 @@ use Rattle.office_values.specs.declared.refusal.Refusal.TheVariants.{NoRoute, Wr
 use Rattle.office_http.specs.Paths.{segment}
 use Rattle.office_http.specs.Response.{response_of}
 use Rattle.office_http.specs.Routing.{routed}
-use Rattle.office_http.specs.declared.reply.Allow.TheVariants.{Get, Post}
+use Rattle.office_http.specs.declared.reply.Allow.TheVariants.{Post}
 use Rattle.office_http.specs.declared.reply.Reply.TheVariants.{Json, Refused}
 use Rattle.office_http.specs.declared.route.Route.TheVariants.{Import, Line}
 

@@ -1,5 +1,5 @@
 -- What a request asks of the office, and who asks.
-use Rattle.std.specs.Prelude.{◌≡◌, ℕ, ◌⊎◌, Bool, if◌then◌else◌, List, [], ◌∷◌, codes, Option, Some, None, Result, Ok, Err}
+use Rattle.std.specs.Prelude.{ℕ, Bool, if◌then◌else◌, List, [], ◌∷◌, codes, Option, Some, None, Result, Ok, Err}
 use Rattle.office_values.specs.Rights.{may, may_look}
 use Rattle.office_values.specs.declared.budget.BudgetRow.{BudgetRow}
 use Rattle.office_values.specs.declared.command.Caller.{Caller}
@@ -7,7 +7,7 @@ use Rattle.office_values.specs.declared.command.Command.TheVariants as commands
 use Rattle.office_values.specs.declared.command.Query.TheVariants as queries
 use Rattle.office_values.specs.declared.refusal.BadPart.TheVariants.{Row}
 use Rattle.office_values.specs.declared.refusal.Refusal.{Refusal}
-use Rattle.office_values.specs.declared.refusal.Refusal.TheVariants.{BadKey, Forbidden, BadBody, Unavailable}
+use Rattle.office_values.specs.declared.refusal.Refusal.TheVariants.{BadKey, Forbidden, BadBody}
 use Rattle.office_wire.specs.Fields.{values_of}
 use Rattle.tender_papers.specs.Budget.{budget_of}
 use Rattle.tender_papers.specs.Files.{csv_records}

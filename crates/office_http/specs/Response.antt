@@ -1,5 +1,5 @@
 -- Responses: a status line, fields, an empty line and a body (RFC 9112, sections 2 to 6). Lines end with CR LF.
-use Rattle.std.specs.Prelude.{◌≡◌, ℕ, Bool, ◌==◌, if◌then◌else◌, List, [], ◌++◌, length, codes, decimal, Option, Some, None, is_some, unwrap_or, ⊤}
+use Rattle.std.specs.Prelude.{◌≡◌, ℕ, ◌==◌, if◌then◌else◌, List, [], ◌++◌, length, codes, decimal, Option, Some, None, is_some, unwrap_or, ⊤}
 use Rattle.http.specs.StatusCode.{reason_phrase}
 use Rattle.office_values.specs.Refusals.{number_of, status_of, name_of, what_of, About, Named, Record}
 use Rattle.office_values.specs.declared.refusal.Refusal.{Refusal}

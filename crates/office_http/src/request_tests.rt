@@ -139,7 +139,7 @@ fn import_with(alloc: Global, file: &[u8]) -> Result<Request, Fail> {
 fn count_of(asked: &Asked) -> Option<usize> {
     match asked {
         Asked::Does(Command::Import { batch: _, rows }) => Some(rows.as_slice().len()),
-        Asked::Looks(_) => None,
+        _ => None,
     }
 }
 

@@ -1,5 +1,5 @@
 -- The import of a budget file: its rows are taken in order.
-use Rattle.std.specs.Prelude.{◌≡◌, ℕ, ◌+◌, ◌-◌, Bool, true, false, cond, not, ◌&&◌, ◌||◌, List, [], ◌∷◌, ◌++◌, Option, Some, None, is_some, nat_lt, map, length}
+use Rattle.std.specs.Prelude.{ℕ, ◌+◌, ◌-◌, Bool, true, false, cond, not, ◌&&◌, ◌||◌, List, [], ◌∷◌, ◌++◌, Option, Some, None, is_some, nat_lt, map, length}
 use Rattle.office_values.specs.Money.{total_limit}
 use Rattle.office_values.specs.declared.budget.BudgetKind.{BudgetKind}
 use Rattle.office_values.specs.declared.budget.BudgetKind.TheVariants.{Add, Cut}

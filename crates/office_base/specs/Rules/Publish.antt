@@ -1,6 +1,6 @@
 -- The publication of a tender notice: its lots reserve their estimates (UNCITRAL Model Law 2011, articles 33 and 39, as far as
 -- the books are concerned).
-use Rattle.std.specs.Prelude.{◌≡◌, ℕ, ◌-◌, Bool, cond, not, ◌||◌, List, [], ◌∷◌, ◌++◌, Option, Some, None, is_some, unwrap_or, nat_lt, nat_le, map, length}
+use Rattle.std.specs.Prelude.{ℕ, ◌-◌, Bool, cond, not, ◌||◌, List, [], ◌∷◌, ◌++◌, Option, Some, None, is_some, unwrap_or, nat_lt, nat_le, map, length}
 use Rattle.std.specs.List.{list_any}
 use Rattle.office_values.specs.Ids.{same_id}
 use Rattle.office_values.specs.Notices.{weight_of}
@@ -11,6 +11,7 @@ use Rattle.office_values.specs.declared.refusal.Refusal.{Refusal}
 use Rattle.office_values.specs.declared.refusal.Refusal.TheVariants.{NoSuch, Exists, DeadlinePassed, InsufficientFunds, LimitReached}
 use Rattle.office_base.specs.Sums.{sum_over}
 use Rattle.office_base.specs.Tables.{find_line}
+use Rattle.office_base.specs.Joined.{free_in}
 use Rattle.office_base.specs.declared.records.LineRow.{LineRow}
 use Rattle.office_base.specs.declared.records.ClockRow.{ClockRow}
 use Rattle.office_base.specs.declared.records.NoticeState.TheVariants.{Receiving}
@@ -25,11 +26,6 @@ lot_limit = 20
 abbrev pub item_limit : ℕ
 item_limit = 50
 
--- what is free on a line
-abbrev pub free_on : Option LineRow → ℕ
-free_on None = 0
-free_on (Some row) = row.free
-
 -- what the lots want of a line: the estimates of those that are of it, added up
 abbrev pub wanted : List ℕ → List NewLot → ℕ
 wanted line lots = sum_over (λ (lot : NewLot). cond (same_id lot.line line) lot.estimate 0) lots
@@ -40,7 +36,7 @@ is_on_no_line lines lot = not (is_some (find_line lines lot.line))
 
 -- the lots want more of this one's line than is free on it
 abbrev pub is_short : List LineRow → List NewLot → NewLot → Bool
-is_short lines lots lot = nat_lt (free_on (find_line lines lot.line)) (wanted lot.line lots)
+is_short lines lots lot = nat_lt (free_in (find_line lines lot.line)) (wanted lot.line lots)
 
 abbrev pub has_too_many_items : NewLot → Bool
 has_too_many_items lot = nat_lt item_limit (length lot.items)
@@ -64,7 +60,7 @@ line_found lines line = unwrap_or (find_line lines line) (no_line line)
 -- the line of a lot, with what all lots want of it no longer free
 abbrev pub line_put : List LineRow → List NewLot → NewLot → Put
 line_put lines lots lot =
-    puts.Line (record (line_found lines lot.line) { line = lot.line; free = free_on (find_line lines lot.line) - wanted lot.line lots })
+    puts.Line (record (line_found lines lot.line) { line = lot.line; free = free_in (find_line lines lot.line) - wanted lot.line lots })
 
 -- the lot, undecided, with its estimate reserved
 abbrev pub lot_put : List ℕ → NewLot → Put

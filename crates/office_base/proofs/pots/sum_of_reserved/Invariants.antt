@@ -1,4 +1,4 @@
-use Rattle.std.proofs.Common.{◌≡◌, ℕ, List, ◌+◌, ◌*◌, ◌≤◌, ◌^◌, map, length, drop}
+use Rattle.std.proofs.Common.{◌≡◌, ◌+◌, ◌*◌, ◌≤◌, ◌^◌, map, drop}
 use Rattle.office_base.specs.Sums.{sum_over}
 use Rattle.office_base.specs.declared.records.LotRow.{LotRow}
 use Rattle.office_base.proofs.pots.sum_of_reserved.Given as goal

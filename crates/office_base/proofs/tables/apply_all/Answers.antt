@@ -1,6 +1,6 @@
 use Rattle.std.proofs.Common.{◌≡◌, ◌+◌, List, [], ◌∷◌, ◌++◌, ap, sym, ◌∙◌, subst, take, arith}
 use Rattle.std.proofs.lemmas.List.{take_more}
-use Rattle.office_base.specs.Tables.{Tables, after_put, after_puts}
+use Rattle.office_base.specs.Tables.{after_put, after_puts}
 use Rattle.office_base.specs.MemoryTables.{tables_of, after_undos, CanUndoAll}
 use Rattle.office_base.specs.declared.tables.Undo.{Undo}
 use Rattle.office_base.proofs.Undoing.{after_puts-push, made_one}

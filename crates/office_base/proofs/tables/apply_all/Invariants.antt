@@ -1,4 +1,4 @@
-use Rattle.std.proofs.Common.{◌≡◌, ◌+◌, ◌≤◌, take, length, vec_len, vec_capacity}
+use Rattle.std.proofs.Common.{◌≡◌, ◌≤◌, take, length, vec_len, vec_capacity}
 use Rattle.office_base.specs.Tables.{after_puts}
 use Rattle.office_base.specs.MemoryTables.{tables_of, after_undos, CanUndoAll}
 use Rattle.office_base.proofs.tables.apply_all.Given as goal

@@ -1,4 +1,4 @@
-use Rattle.std.proofs.Common.{◌≡◌, ◌<◌, ℕ, get_or}
+use Rattle.std.proofs.Common.{◌<◌, ℕ, get_or}
 use Rattle.std.specs.Prelude.{IsSome}
 use Rattle.office_values.specs.Money.{total_limit}
 use Rattle.office_values.specs.declared.budget.BudgetRow.{BudgetRow}

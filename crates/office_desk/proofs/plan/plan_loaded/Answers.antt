@@ -1,6 +1,6 @@
-use Rattle.std.proofs.Common.{◌≡◌, ap, sym, ◌∙◌, max}
+use Rattle.std.proofs.Common.{◌≡◌, ap, ◌∙◌, max}
 use Rattle.office_base.specs.Machine.{time_of}
-use Rattle.office_desk.specs.Steps.{imports, reply_of}
+use Rattle.office_desk.specs.Steps.{imports}
 use Rattle.serde_json.specs.Written.{compact_text}
 use Rattle.office_values.specs.Moments.{moment_text}
 use Rattle.office_desk.specs.Replies.{imported}

@@ -1,4 +1,4 @@
-use Rattle.std.proofs.Common.{◌≡◌, ap, sym, ◌∙◌, max}
+use Rattle.std.proofs.Common.{◌≡◌, ap, ◌∙◌, max}
 use Rattle.serde_json.specs.Written.{compact_text}
 use Rattle.office_values.specs.Moments.{moment_text}
 use Rattle.office_base.specs.Machine.{time_of}

@@ -1,4 +1,4 @@
-use Rattle.std.proofs.Common.{◌≡◌, ◌<◌, ℕ, get_or}
+use Rattle.std.proofs.Common.{◌<◌, ℕ, get_or}
 use Rattle.office_values.specs.declared.lot.NewLot.{NewLot}
 use Rattle.office_base.specs.Shelves.{Looks}
 use Rattle.office_desk.specs.Publishing.{AreFrom, IsAsIn}

@@ -1,6 +1,5 @@
-use Rattle.std.specs.Prelude.{OnOk, Result, Ok, Err}
 use Rattle.std.proofs.Common.{sym, ◌∙◌}
-use Rattle.office_desk.proofs.LoadedForNotice.{loads_row, loads_none, where_added}
+use Rattle.office_desk.proofs.LoadedForNotice.{loads_none, where_added}
 use Rattle.office_desk.proofs.publish_load.load_new.Goals as goal
 
 pub returns-in-Some : goal.returns-in-Some

@@ -1,5 +1,5 @@
-use Rattle.std.proofs.Common.{◌≡◌, sym}
-use Rattle.office_http.proofs.RequestSteps.{route_refused, caller_refused, asked_answered}
+use Rattle.std.proofs.Common.{sym}
+use Rattle.office_http.proofs.RequestSteps.{route_refused, caller_refused}
 use Rattle.office_http.proofs.answering.answer_request.Goals as goal
 
 pub returns-in-Err-clause-answered : goal.returns-in-Err-clause-answered

@@ -1,4 +1,3 @@
-use Rattle.std.proofs.Common.{◌≡◌, refl, ◌∙◌, List, ℕ}
 use Rattle.office_http.proofs.Joining.{five_in_new, put_as}
 use Rattle.office_http.proofs.response.response.Goals as goal
 

@@ -1,4 +1,4 @@
-use Rattle.std.proofs.Common.{sym, ap, ◌∙◌}
+use Rattle.std.proofs.Common.{ap, ◌∙◌}
 use Rattle.office_base.specs.Tables.{after_puts}
 use Rattle.office_base.proofs.Applied.{all_made}
 use Rattle.office_base.proofs.memory.MemoryShelfShelf.apply.Goals as goal

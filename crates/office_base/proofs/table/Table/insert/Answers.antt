@@ -1,4 +1,4 @@
-use Rattle.std.proofs.Common.{◌≡◌, ap, sym, ◌∙◌, Option, None}
+use Rattle.std.proofs.Common.{ap, sym, ◌∙◌}
 use Rattle.std.specs.BTreeMap.{get, insert_entry}
 use Rattle.std.specs.Map.{values_of}
 use Rattle.office_base.specs.Rows.{row_at, row_put}

@@ -1,4 +1,4 @@
-use Rattle.std.proofs.Common.{◌≡◌, ap, sym, ◌∙◌, List, subst}
+use Rattle.std.proofs.Common.{ap, sym, ◌∙◌, List, subst}
 use Rattle.office_base.specs.Replacing.{with_old, IsThere}
 use Rattle.office_base.proofs.Undone.{back, there}
 use Rattle.office_base.proofs.table.Table.put.Goals as goal
