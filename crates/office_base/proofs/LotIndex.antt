@@ -1,6 +1,6 @@
 -- Lots of a notice as a range of the table, and lots of a line by the index.
 use Rattle.std.specs.Prelude.{◌≡◌, ℕ, Bool, true, false, cond, not, ◌&&◌, List, [], ◌∷◌, filter, map, Result, Ok, Err, OnOk, OnErr}
-use Rattle.std.proofs.Common.{refl, sym, ap, ◌∙◌, inl, inr}
+use Rattle.std.proofs.Common.{Bor, refl, sym, ap, ◌∙◌, inl, inr}
 use Rattle.std.specs.BTreeMap.{is_at}
 use Rattle.std.specs.BTreeSet.{BTreeSet, contains, Updates}
 use Rattle.std.specs.Cmp.{IsTotalOrder, eq_by_cmp_equiv}
@@ -216,3 +216,13 @@ indexed_after_drop k rows index is_whole h = record {
   ids = all-drop lot_cmp lot_key HasIds rows k h.ids;
   listed = λ whole. all-drop lot_cmp lot_key (λ r. contains line_lot_cmp index (line_lot r) ≡ true) rows k (h.listed whole);
 }
+
+-- ---- what the lots have reserved
+
+each_reserved : (lots : List (Bor LotRow)) → map (λ lot. lot.now.reserved) lots ≡ map (λ (lot : LotRow). lot.reserved) (map (λ lot. lot.now) lots)
+each_reserved [] = refl
+each_reserved (lot ∷ lots) = ap (λ amounts. lot.now.reserved ∷ amounts) (each_reserved lots)
+
+-- it is read off the rows that are borrowed
+pub reserved_is : (lots : List (Bor LotRow)) (rows : List LotRow) → map (λ lot. lot.now) lots ≡ rows → map (λ lot. lot.now.reserved) lots ≡ map (λ (lot : LotRow). lot.reserved) rows
+reserved_is lots rows e = each_reserved lots ∙ ap (map (λ (lot : LotRow). lot.reserved)) e

@@ -2,6 +2,7 @@
 #![tactic(auto)]
 
 pub mod accounts;
+pub mod boxed;
 mod id_bounds;
 mod lot_index;
 pub mod lot_table;

@@ -1,12 +1,12 @@
 //! The index of lots by their budget lines.
-ghost use Rattle.std.specs.Prelude.{◌≡◌, IfOk, filter};
+ghost use Rattle.std.specs.Prelude.{◌≡◌, IfOk, filter, map};
 ghost use Rattle.std.specs.List.{AllByRecursion};
 ghost use Rattle.office_base.specs.Tables.{of_line};
 ghost use Rattle.office_base.specs.LotIndex.{HasIds, HasLots, line_lot};
 
 use crate::id_bounds::{greatest_id, least_id};
 use crate::records::LotRow;
-use crate::table::{Table, copy_of};
+use crate::table::Table;
 use office_values::id::Id;
 use std::alloc::{AllocError, Global};
 use std::collections::BTreeSet;
@@ -34,20 +34,20 @@ pub fn line_lot_of(row: &LotRow) -> LineLot
     }
 }
 
-/// The lots of a line, copied. Costs a look-up for each lot that the index has of the line; one that is gone, or is of another line
-/// now, is passed over.
-pub fn copy_listed(
+/// The lots of a line, in the order of their keys. Costs a look-up for each lot that the index has of the line; one that is gone, or is of
+/// another line now, is passed over.
+pub fn listed<'a>(
     alloc: Global,
-    rows: &Table<LotRow>,
+    rows: &'a Table<LotRow>,
     index: &BTreeSet<LineLot>,
     line: &Id,
-) -> Result<Vec<LotRow>, AllocError>
+) -> Result<Vec<&'a LotRow>, AllocError>
     requires ids { AllByRecursion HasIds rows.now }
     requires listed { HasLots rows.now index.now }
-    ensures { IfOk result (λ copied. copied.items ≡ filter (of_line line.now) rows.now) }
+    ensures { IfOk result (λ lots. map (λ lot. lot.now) lots.items ≡ filter (of_line line.now) rows.now) }
 {
     rows.keys_rise();
-    let mut copied = Vec::new(alloc);
+    let mut lots = Vec::new(alloc);
     let first = LineLot {
         line: *line,
         notice: least_id(),
@@ -58,29 +58,30 @@ pub fn copy_listed(
         notice: greatest_id(),
         lot: greatest_id(),
     };
-    for listed in index.range(&first..=&last) {
-        if let Some(row) = rows.get(&(listed.notice, listed.lot)) {
-            if row.line == *line {
-                copied.push(copy_of(row)?)?;
+    for key in index.range(&first..=&last) {
+        if let Some(lot) = rows.get(&(key.notice, key.lot)) {
+            if lot.line == *line {
+                lots.push(lot)?;
             }
         }
     }
-    Ok(copied)
+    Ok(lots)
 }
 
-/// The lots of a line, copied, where the index may not have them all. Costs a look at each row.
-pub fn copy_searched(
+/// The lots of a line, in the order of their keys, where the index may not have them all. Costs a look at each row.
+pub fn searched<'a>(
     alloc: Global,
-    rows: &Table<LotRow>,
+    rows: &'a Table<LotRow>,
     line: &Id,
-) -> Result<Vec<LotRow>, AllocError>
-    ensures { IfOk result (λ copied. copied.items ≡ filter (of_line line.now) rows.now) }
+) -> Result<Vec<&'a LotRow>, AllocError>
+    ensures { IfOk result (λ lots. map (λ lot. lot.now) lots.items ≡ filter (of_line line.now) rows.now) }
 {
-    let mut copied = Vec::new(alloc);
+    let mut lots = Vec::new(alloc);
     for row in rows.iter() {
-        if row.line == *line {
-            copied.push(copy_of(row)?)?;
+        let lot = row.get();
+        if lot.line == *line {
+            lots.push(lot)?;
         }
     }
-    Ok(copied)
+    Ok(lots)
 }

@@ -1,17 +1,41 @@
 //! The table of lots.
-ghost use Rattle.std.specs.Prelude.{◌≡◌, IfOk, OnOk, OnErr, [], filter, option_map};
+ghost use Rattle.std.specs.Prelude.{◌≡◌, IfOk, OnOk, OnErr, [], filter, map, option_map};
 ghost use Rattle.office_base.specs.Rows.{row_at, row_put};
 ghost use Rattle.office_base.specs.Replacing.{taken_back, CanTakeBack};
 ghost use Rattle.office_base.specs.Tables.{lot_cmp, lot_key, find_lot, put_lot, of_notice, of_line};
+ghost use Rattle.office_base.specs.declared.records.LotRow.{LotRow};
 
 use crate::id_bounds::{greatest_id, least_id};
-use crate::lot_index::{LineLot, copy_listed, copy_searched, line_lot_of};
+use crate::lot_index::{LineLot, line_lot_of, listed, searched};
 use crate::records::LotRow;
-use crate::table::{Replaced, Table};
+use crate::table::{Replaced, Table, copy_of};
 use office_values::id::Id;
+use office_values::money::Amount;
 use std::alloc::{AllocError, Global};
 use std::collections::BTreeSet;
 use std::marker::Model;
+
+// Copies of these lots.
+fn copies(alloc: Global, lots: &[&LotRow]) -> Result<Vec<LotRow>, AllocError>
+    ensures { IfOk result (λ rows. rows.items ≡ map (λ lot. lot.now) lots.now) }
+{
+    let mut rows = Vec::with_capacity(alloc, lots.len())?;
+    for lot in lots {
+        rows.push(copy_of(*lot)?)?;
+    }
+    Ok(rows)
+}
+
+// What each of these lots has reserved.
+fn reserved_by(alloc: Global, lots: &[&LotRow]) -> Result<Vec<Amount>, AllocError>
+    ensures { IfOk result (λ amounts. amounts.items ≡ map (λ lot. lot.now.reserved) lots.now) }
+{
+    let mut amounts = Vec::with_capacity(alloc, lots.len())?;
+    for lot in lots {
+        amounts.push(lot.reserved)?;
+    }
+    Ok(amounts)
+}
 
 /// The lots of an office: their rows in the order of their keys, and an index of them by their budget lines. A lot that was of a line
 /// stays in the index with that line.
@@ -63,15 +87,29 @@ impl LotTable {
         self.rows.copy_between(alloc, &first, &last)
     }
 
+    // The lots of a line, in the order of their keys.
+    fn lots_of_line(&self, alloc: Global, line: &Id) -> Result<Vec<&LotRow>, AllocError>
+        ensures { IfOk result (λ lots. map (λ lot. lot.now) lots.items ≡ filter (of_line line.now) self.now) }
+    {
+        if !self.is_whole {
+            return searched(alloc, &self.rows, line);
+        }
+        listed(alloc, &self.rows, &self.index, line)
+    }
+
     /// The lots of a line, copied, in the order of their keys. Costs a look-up for each lot that is or was of the line; a look at each
     /// row, once a row was taken back that had never been put.
     pub fn copy_of_line(&self, alloc: Global, line: &Id) -> Result<Vec<LotRow>, AllocError>
         ensures { IfOk result (λ rows. rows.items ≡ filter (of_line line.now) self.now) }
     {
-        if !self.is_whole {
-            return copy_searched(alloc, &self.rows, line);
-        }
-        copy_listed(alloc, &self.rows, &self.index, line)
+        copies(alloc, &self.lots_of_line(alloc, line)?)
+    }
+
+    /// What the lots of a line have reserved, in the order of their keys. Costs as `copy_of_line`, but for the copies.
+    pub fn reserved_of_line(&self, alloc: Global, line: &Id) -> Result<Vec<Amount>, AllocError>
+        ensures { IfOk result (λ amounts. amounts.items ≡ map (λ (lot : LotRow). lot.reserved) (filter (of_line line.now) self.now)) }
+    {
+        reserved_by(alloc, &self.lots_of_line(alloc, line)?)
     }
 
     /// Adds the row, or replaces the one with its key, and tells how to take that back.
@@ -93,7 +131,7 @@ impl LotTable {
     {
         if let Some(row) = &replaced.old {
             // The index still has a row that `put` replaced. To add another could find no memory.
-            self.is_whole &= self.index.contains(&line_lot_of(row));
+            self.is_whole &= self.index.contains(&line_lot_of(row.get()));
         }
         self.rows.take_back(replaced);
     }

@@ -10,6 +10,7 @@ use crate::shelf::{Lookups, Shelf, ShelfFault};
 use crate::tables;
 use crate::tables::MemoryTables;
 use office_values::id::Id;
+use office_values::money::Amount;
 use std::alloc::Global;
 use std::marker::Model;
 
@@ -109,6 +110,13 @@ impl Lookups for MemoryShelf {
     fn list_lots_of_line(&mut self, line: &Id) -> Result<Vec<LotRow>, ShelfFault> {
         match self.tables.lots.copy_of_line(self.alloc, line) {
             Ok(rows) => Ok(rows),
+            Err(_) => Err(self.refused()),
+        }
+    }
+
+    fn list_reservations_of_line(&mut self, line: &Id) -> Result<Vec<Amount>, ShelfFault> {
+        match self.tables.lots.reserved_of_line(self.alloc, line) {
+            Ok(amounts) => Ok(amounts),
             Err(_) => Err(self.refused()),
         }
     }

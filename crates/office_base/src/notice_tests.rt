@@ -115,11 +115,21 @@ fn write_notice(text: &mut String, shelf: &mut MemoryShelf, name: &str) -> Optio
     write!(text, ";").ok()
 }
 
-// The lots of a line.
+fn write_amounts(text: &mut String, amounts: &[Amount]) -> Option<()> {
+    for amount in amounts {
+        let units = amount.units();
+        write!(text, " {units}").ok()?;
+    }
+    Some(())
+}
+
+// The lots of a line, and what they have reserved.
 fn write_line(text: &mut String, shelf: &mut MemoryShelf, name: &str) -> Option<()> {
     let line = Id::read(name.as_bytes())?;
     write!(text, "{name}:").ok()?;
     write_lots(text, &shelf.list_lots_of_line(&line).ok()?)?;
+    write!(text, " =").ok()?;
+    write_amounts(text, &shelf.list_reservations_of_line(&line).ok()?)?;
     write!(text, ";").ok()
 }
 
@@ -155,11 +165,13 @@ fn is_changed(
     }
 }
 
-const EMPTY: &str = "N1 0:;N2 0:;1000:;2000:;";
+const EMPTY: &str = "N1 0:;N2 0:;1000: =;2000: =;";
 
-const FIRST: &str = "N1 1: N1/L1 600 N1/L2 7;N2 2: N2/L1 5;1000: N1/L1 600 N2/L1 5;2000: N1/L2 7;";
+const FIRST: &str =
+    "N1 1: N1/L1 600 N1/L2 7;N2 2: N2/L1 5;1000: N1/L1 600 N2/L1 5 = 600 5;2000: N1/L2 7 = 7;";
 
-const SECOND: &str = "N1 3: N1/L1 600 N1/L2 7;N2 2: N2/L1 0;1000: N2/L1 0;2000: N1/L1 600 N1/L2 7;";
+const SECOND: &str =
+    "N1 3: N1/L1 600 N1/L2 7;N2 2: N2/L1 0;1000: N2/L1 0 = 0;2000: N1/L1 600 N1/L2 7 = 600 7;";
 
 #[test]
 fn lots_are_found_by_notice_and_by_line(rt: HostRuntime) -> Result<(), Fail> {

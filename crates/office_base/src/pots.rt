@@ -1,26 +1,25 @@
 //! The pots of a budget line.
-ghost use Rattle.std.specs.Prelude.{◌≡◌, ◌<◌, ◌≤◌, IfOk, IfErr, map};
+ghost use Rattle.std.specs.Prelude.{◌≡◌, ◌<◌, ◌≤◌, IfOk, IfErr};
 ghost use Rattle.office_values.specs.Money.{total_limit};
 ghost use Rattle.office_base.specs.Sums.{sum_over};
 ghost use Rattle.office_base.specs.Shelves.{Looks};
-ghost use Rattle.office_base.specs.Tables.{Tables, lots_of_line};
-ghost use Rattle.office_base.specs.Joined.{pots_of, LineFits};
+ghost use Rattle.office_base.specs.Tables.{Tables};
+ghost use Rattle.office_base.specs.Joined.{pots_of, reservations, LineFits};
 ghost use Rattle.office_base.specs.PotsAnswers.{IsPotsAnswer, IsRowPotsAnswer};
-ghost use Rattle.office_base.specs.declared.records.LotRow.{LotRow};
 ghost use Rattle.office_base.specs.declared.shelf.ShelfFault.TheVariants.{Store};
 
-use crate::records::{LineRow, LotRow, Pots};
+use crate::records::{LineRow, Pots};
 use crate::shelf::{Lookups, ShelfFault};
 use office_values::id::Id;
-use office_values::money::Total;
+use office_values::money::{Amount, Total};
 
-// What the lots have reserved, added up.
-fn sum_of_reserved(lots: &[LotRow]) -> u128
-    ensures { result ≡ sum_over (λ n. n) (map (λ (lot : LotRow). lot.reserved) lots.now) }
+// The sum of the amounts.
+fn sum_of(amounts: &[Amount]) -> u128
+    ensures { result ≡ sum_over (λ n. n) amounts.now }
 {
     let mut sum = 0;
-    for lot in lots {
-        sum += lot.reserved.units() as u128;
+    for amount in amounts {
+        sum += amount.units() as u128;
     }
     sum
 }
@@ -38,15 +37,15 @@ fn total_of(units: u128) -> Result<Total, ShelfFault>
     }
 }
 
-// The pots of the line with this row, whose lots these are.
+// The pots of the line with this row, whose lots have reserved this.
 #[tactic(auto, using(crate::proofs::PotsFound::too_much))]
-fn pots_over(row: &LineRow, lots: &[LotRow]) -> Result<Pots, ShelfFault>
-    ensures pots { (t : Tables) → lots.now ≡ lots_of_line row.now.line t → IfOk result (λ pots. pots ≡ pots_of row.now t) }
-    ensures fit { (t : Tables) → lots.now ≡ lots_of_line row.now.line t → IfOk result (λ _. LineFits row.now.line t) }
-    ensures unfit { (t : Tables) → lots.now ≡ lots_of_line row.now.line t → IfErr result (λ _. ¬ (LineFits row.now.line t)) }
+fn pots_over(row: &LineRow, reserved: &[Amount]) -> Result<Pots, ShelfFault>
+    ensures pots { (t : Tables) → reserved.now ≡ reservations row.now.line t → IfOk result (λ pots. pots ≡ pots_of row.now t) }
+    ensures fit { (t : Tables) → reserved.now ≡ reservations row.now.line t → IfOk result (λ _. LineFits row.now.line t) }
+    ensures unfit { (t : Tables) → reserved.now ≡ reservations row.now.line t → IfErr result (λ _. ¬ (LineFits row.now.line t)) }
     ensures fault { IfErr result (λ e. e ≡ Store) }
 {
-    match total_of(sum_of_reserved(lots)) {
+    match total_of(sum_of(reserved)) {
         Ok(reserved) => Ok(Pots {
             appropriation: row.appropriation,
             free: row.free,
@@ -64,8 +63,8 @@ fn pots_over(row: &LineRow, lots: &[LotRow]) -> Result<Pots, ShelfFault>
 pub fn pots_of_line<H: Lookups>(shelf: &mut H, row: &LineRow) -> Result<Pots, ShelfFault>
     ensures { Looks H.meaning shelf.old shelf.new (IsRowPotsAnswer H.meaning.may_break row.now (H.meaning.fault_count shelf.old) (H.meaning.fault_count shelf.new) result) }
 {
-    let lots = shelf.list_lots_of_line(&row.line)?;
-    pots_over(row, &lots)
+    let reserved = shelf.list_reservations_of_line(&row.line)?;
+    pots_over(row, &reserved)
 }
 
 /// The pots of a budget line; None where there is no such line. A sum over joined rows that is no `Total` is answered as a fault of

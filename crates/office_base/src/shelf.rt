@@ -2,10 +2,12 @@
 ghost use Rattle.std.specs.Prelude.{◌≡◌};
 ghost use Rattle.office_values.specs.declared.refusal.Refusal.TheVariants.{Unavailable};
 ghost use Rattle.office_base.specs.Tables.{Tables, IsSorted, line_at, batch_at, notice_at, lot_at, lots_of_notice, lots_of_line, after_puts};
+ghost use Rattle.office_base.specs.Joined.{reservations};
 ghost use Rattle.office_base.specs.Shelves.{Meaning, Keeps, LooksUp, Changes};
 
 use crate::records::{BatchRow, ClockRow, LineRow, LotRow, NoticeRow, Put};
 use office_values::id::Id;
+use office_values::money::Amount;
 use office_values::refusal::Refusal;
 
 /// Why a shelf did not answer. Its content is as before.
@@ -60,6 +62,10 @@ pub trait Lookups {
     /// The lots of a budget line, in the order of their notices and identifiers.
     fn list_lots_of_line(&mut self, line: &Id) -> Result<Vec<LotRow>, ShelfFault>
         ensures { LooksUp meaning self.old self.new result (λ t rows. rows.items ≡ lots_of_line line.now t) };
+
+    /// What each lot of a budget line has reserved, in the order of their notices and identifiers.
+    fn list_reservations_of_line(&mut self, line: &Id) -> Result<Vec<Amount>, ShelfFault>
+        ensures { LooksUp meaning self.old self.new result (λ t amounts. amounts.items ≡ reservations line.now t) };
 
     /// How many calls were answered with a fault: from 0, one more for each, up to 2^64 - 1.
     fn faults(&mut self) -> u64

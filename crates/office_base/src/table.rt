@@ -6,6 +6,7 @@ ghost use Rattle.office_base.specs.Rows.{row_at, row_put, row_drop, IsInOrder};
 ghost use Rattle.office_base.specs.RowRanges.{rows_between};
 ghost use Rattle.office_base.specs.Replacing.{taken_back, CanTakeBack};
 
+use crate::boxed::Boxed;
 use std::alloc::{AllocError, Global};
 use std::collections::BTreeMap;
 use std::collections::btree_map::Values;
@@ -29,13 +30,14 @@ pub trait Row: Clone {
 #[derive(Drop)]
 pub struct Replaced<R: Row + Drop> {
     pub key: R::Key,
-    pub old: Option<R>,
+    pub old: Option<Boxed<R>>,
 }
 
 /// A table: its rows in the order of their keys. A look-up and a change cost the logarithm of the rows.
 #[derive(Drop)]
 pub struct Table<R: Row + Drop> {
-    rows: BTreeMap<R::Key, R>,
+    alloc: Global,
+    rows: BTreeMap<R::Key, Boxed<R>>,
 }
 
 impl<R: Row + Drop> Model for Table<R> {
@@ -56,6 +58,7 @@ impl<R: Row + Drop> Table<R> {
         ensures { result ≡ [] }
     {
         Table {
+            alloc,
             rows: BTreeMap::new(alloc),
         }
     }
@@ -64,7 +67,10 @@ impl<R: Row + Drop> Table<R> {
     pub fn get(&self, key: &R::Key) -> Option<&R>
         ensures { option_map (λ row. row.now) result ≡ row_at R.Key.cmp R.key_of self.now key.now }
     {
-        self.rows.get(key)
+        match self.rows.get(key) {
+            Some(row) => Some(row.get()),
+            None => None,
+        }
     }
 
     /// The row with this key, copied.
@@ -83,19 +89,19 @@ impl<R: Row + Drop> Table<R> {
     {
         let mut rows = Vec::new(alloc);
         for row in self.rows.values() {
-            rows.push(copy_of(row)?)?;
+            rows.push(copy_of(row.get())?)?;
         }
         Ok(rows)
     }
 
     // Adds the row, or replaces the one with its key, and answers that one. Only a new row can find no memory.
-    fn insert(&mut self, row: R) -> Result<Option<R>, AllocError>
+    fn insert(&mut self, row: Boxed<R>) -> Result<Option<Boxed<R>>, AllocError>
         ensures rows { OnOk result (self.new ≡ row_put R.Key.cmp R.key_of self.old row) }
         ensures old { IfOk result (λ old. old ≡ row_at R.Key.cmp R.key_of self.old (R.key_of row)) }
         ensures kept { OnErr result (self.new ≡ self.old) }
         ensures fresh { OnErr result (row_at R.Key.cmp R.key_of self.old (R.key_of row) ≡ None) }
     {
-        match self.rows.insert(row.key(), row) {
+        match self.rows.insert(row.get().key(), row) {
             Ok(old) => Ok(old),
             Err(_) => Err(AllocError),
         }
@@ -116,7 +122,7 @@ impl<R: Row + Drop> Table<R> {
         ensures kept { OnErr result (self.new ≡ self.old) }
     {
         let key = row.key();
-        let old = self.insert(row)?;
+        let old = self.insert(Boxed::new(self.alloc, row)?)?;
         Ok(Replaced { key, old })
     }
 
@@ -125,7 +131,9 @@ impl<R: Row + Drop> Table<R> {
         requires { IsSome (row_at R.Key.cmp R.key_of self.old (R.key_of row)) }
         ensures { self.new ≡ row_put R.Key.cmp R.key_of self.old row }
     {
-        self.insert(row).unwrap();
+        if let Some(held) = self.rows.get_mut(&row.key()) {
+            held.set(row);
+        }
     }
 
     /// Takes a row back that was put: the one that it replaced comes again, or it is dropped. Takes no memory.
@@ -142,7 +150,7 @@ impl<R: Row + Drop> Table<R> {
     }
 
     /// All rows, in the order of their keys.
-    pub fn iter(&self) -> Values<'_, R::Key, R>
+    pub fn iter(&self) -> Values<'_, R::Key, Boxed<R>>
         ensures rows { result ≡ self.now }
         ensures runs { ShowsInOrder (deref {X = R}) }
     {
@@ -162,7 +170,7 @@ impl<R: Row + Drop> Table<R> {
     {
         let mut copied = Vec::new(alloc);
         for (_, row) in self.rows.range(first..=last) {
-            copied.push(copy_of(row)?)?;
+            copied.push(copy_of(row.get())?)?;
         }
         Ok(copied)
     }

@@ -7,6 +7,7 @@ use office_base::memory::MemoryShelf;
 use office_base::records::{BatchRow, ClockRow, LineRow, LotRow, NoticeRow, Put};
 use office_base::shelf::{Lookups, Shelf, ShelfFault};
 use office_values::id::Id;
+use office_values::money::Amount;
 use std::alloc::Global;
 
 /// An office in memory whose store breaks at one call. Every other call is passed to the office.
@@ -140,6 +141,16 @@ impl Lookups for BrokenShelf {
             return Err(self.counted(ShelfFault::Store));
         }
         match self.shelf.list_lots_of_line(line) {
+            Ok(found) => Ok(found),
+            Err(_) => Err(self.counted(ShelfFault::NoMemory)),
+        }
+    }
+
+    fn list_reservations_of_line(&mut self, line: &Id) -> Result<Vec<Amount>, ShelfFault> {
+        if self.breaks() {
+            return Err(self.counted(ShelfFault::Store));
+        }
+        match self.shelf.list_reservations_of_line(line) {
             Ok(found) => Ok(found),
             Err(_) => Err(self.counted(ShelfFault::NoMemory)),
         }

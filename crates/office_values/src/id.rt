@@ -14,7 +14,7 @@ pub const ID_LIMIT: usize = 32;
 /// An identifier: 1 to 32 bytes of ASCII letters, digits, `_`, `.`, `-`, in the order of its bytes. It takes no memory.
 pub struct Id {
     bytes: [u8; 32],
-    len: usize,
+    len: u8,
 }
 
 impl Model for Id {
@@ -58,7 +58,10 @@ impl Id {
         let len = text.len();
         let mut bytes = [0; 32];
         bytes[..len].copy_from_slice(text);
-        Some(Id { bytes, len })
+        Some(Id {
+            bytes,
+            len: len as u8,
+        })
     }
 
     /// Its bytes.
@@ -66,7 +69,7 @@ impl Id {
         ensures value { result.now ≡ self.now }
         ensures id { IsId self.now }
     {
-        &self.bytes[..self.len]
+        &self.bytes[..self.len as usize]
     }
 
     /// Its text.
