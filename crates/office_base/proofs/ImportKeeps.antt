@@ -10,11 +10,11 @@ use Rattle.office_base.specs.Sums.{sum_over}
 use Rattle.office_base.specs.Tables.{Tables, line_key, batch_at, put_batch, after_puts}
 use Rattle.office_base.specs.Standings.{columns_at, standings}
 use Rattle.office_base.specs.Rules.{first_of}
-use Rattle.office_base.specs.Rules.Import.{is_cut, after_rows, import_tests, import_puts}
+use Rattle.office_base.specs.Rules.Import.{is_cut, after_rows, import_tests, line_row, import_puts}
 use Rattle.office_base.specs.Moves.{Move, Pot, Outside, Free, Reserved, Contracted, Paid, came, went, same_pot, move_of_row}
 use Rattle.office_base.specs.declared.records.LineRow.{LineRow}
 use Rattle.office_base.proofs.Balance.{add_up}
-use Rattle.office_base.proofs.ImportedColumns.{Changed, IsCovered, line_row, stands_after, columns_stand, adds, cuts, rows_change}
+use Rattle.office_base.proofs.ImportedColumns.{Changed, IsCovered, stands_after, columns_stand, adds, cuts, rows_change}
 use Rattle.office_base.proofs.Kept.{IsKept, PotsAre}
 use Rattle.office_base.proofs.Passed.{none_holds}
 use Rattle.office_base.proofs.RowsPut.{lines_put, after_lines, there_after}

@@ -23,3 +23,4 @@ pub mod ImportKeeps
 pub mod PublishedRows
 pub mod PublishKeeps
 pub mod AccountsKept
+mod WorkedAccounts

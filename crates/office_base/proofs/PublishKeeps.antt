@@ -13,7 +13,7 @@ use Rattle.office_values.specs.declared.refusal.Refusal.{Refusal}
 use Rattle.office_base.specs.Sums.{sum_over}
 use Rattle.office_base.specs.Tables.{Tables, line_key, find_line, notice_key, notice_at, put_notice, lot_key, lot_cmp, find_lot, after_puts}
 use Rattle.office_base.specs.Rules.{first_of}
-use Rattle.office_base.specs.Rules.Publish.{is_on_no_line, publish_tests, publish_puts, line_put, lot_put, notice_put}
+use Rattle.office_base.specs.Rules.Publish.{is_on_no_line, publish_tests, publish_puts, line_row, line_put, lot_row, lot_put, notice_row, notice_put}
 use Rattle.office_base.specs.Moves.{Move, Pot, Outside, Free, Reserved, Contracted, Paid, came, went, same_pot, move_of_lot}
 use Rattle.office_base.specs.declared.records.LineRow.{LineRow}
 use Rattle.office_base.specs.declared.records.LotRow.{LotRow}
@@ -23,7 +23,7 @@ use Rattle.office_base.proofs.ExactKeys.{lots_exact, equal_keys}
 use Rattle.office_base.proofs.Kept.{IsKept, PotsAre, LotIs, reserved_over}
 use Rattle.office_base.proofs.Orders.{lots_total}
 use Rattle.office_base.proofs.Passed.{none_holds, neither, not_false}
-use Rattle.office_base.proofs.PublishedRows.{line_row, lot_row, notice_row, taken_after, enough, AreAbsent, lots_new, reserved_after}
+use Rattle.office_base.proofs.PublishedRows.{taken_after, enough, AreAbsent, lots_new, reserved_after}
 use Rattle.office_base.proofs.RowLaws.{still_there}
 use Rattle.office_base.proofs.RowsPut.{lines_put, lots_put, AreNew, after_lines, after_lots, found_after, there_after}
 use Rattle.office_base.proofs.SumsOver.{sum_over-append_map, sum_over-zero}

@@ -17,47 +17,14 @@ pub data Pot : Type 0 where
   Contracted : Pot
   Paid : Pot
 
-abbrev pub is_outside : Pot → Bool
-is_outside Outside = true
-is_outside Free = false
-is_outside Reserved = false
-is_outside Contracted = false
-is_outside Paid = false
-
-abbrev pub is_free : Pot → Bool
-is_free Outside = false
-is_free Free = true
-is_free Reserved = false
-is_free Contracted = false
-is_free Paid = false
-
-abbrev pub is_reserved : Pot → Bool
-is_reserved Outside = false
-is_reserved Free = false
-is_reserved Reserved = true
-is_reserved Contracted = false
-is_reserved Paid = false
-
-abbrev pub is_contracted : Pot → Bool
-is_contracted Outside = false
-is_contracted Free = false
-is_contracted Reserved = false
-is_contracted Contracted = true
-is_contracted Paid = false
-
-abbrev pub is_paid : Pot → Bool
-is_paid Outside = false
-is_paid Free = false
-is_paid Reserved = false
-is_paid Contracted = false
-is_paid Paid = true
-
+-- whether two pots are the same
 abbrev pub same_pot : Pot → Pot → Bool
-same_pot Outside p = is_outside p
-same_pot Free p = is_free p
-same_pot Reserved p = is_reserved p
-same_pot Contracted p = is_contracted p
-same_pot Paid p = is_paid p
+same_pot Outside Outside = true
+same_pot Free Free = true
+same_pot Reserved Reserved = true
+same_pot Contracted Contracted = true
+same_pot Paid Paid = true
+same_pot p q = false
 
 -- an amount that goes from one pot of a line to another
 pub record Move : Type 0 where
@@ -94,7 +61,4 @@ went ms line pot = sum_over (λ (m : Move). cond (same_pot m.from pot && same_id
 -- this is what came into the pot, less what went out of it; for outside it is what left it, less what came back
 abbrev pub IsBalance : List Move → List ℕ → Pot → ℕ → Type 0
 IsBalance ms line Outside n = n + came ms line Outside ≡ went ms line Outside
-IsBalance ms line Free n = n + went ms line Free ≡ came ms line Free
-IsBalance ms line Reserved n = n + went ms line Reserved ≡ came ms line Reserved
-IsBalance ms line Contracted n = n + went ms line Contracted ≡ came ms line Contracted
-IsBalance ms line Paid n = n + went ms line Paid ≡ came ms line Paid
+IsBalance ms line pot n = n + went ms line pot ≡ came ms line pot

@@ -8,6 +8,7 @@ use Rattle.office_values.specs.declared.refusal.Thing.TheVariants as things
 use Rattle.office_values.specs.declared.refusal.Refusal.{Refusal}
 use Rattle.office_values.specs.declared.refusal.Refusal.TheVariants.{NoSuch, Exists, InsufficientFunds, LimitReached}
 use Rattle.office_base.specs.Standings.{columns_at, put_standing}
+use Rattle.office_base.specs.declared.records.LineRow.{LineRow}
 use Rattle.office_base.specs.declared.records.ClockRow.{ClockRow}
 use Rattle.office_base.specs.declared.records.Put.{Put}
 use Rattle.office_base.specs.declared.records.Put.TheVariants as puts
@@ -72,14 +73,16 @@ import_tests m exists rows =
     ∷ []
 
 -- the line of a row, with its columns after all rows and the title of this one
+abbrev pub line_row : List Standing → BudgetRow → LineRow
+line_row after row = record {
+  line = row.line;
+  title = row.title;
+  appropriation = appropriation_of (columns_at after row.line);
+  free = free_of (columns_at after row.line);
+}
+
 abbrev pub line_put : List Standing → BudgetRow → Put
-line_put after row =
-    puts.Line (record {
-      line = row.line;
-      title = row.title;
-      appropriation = appropriation_of (columns_at after row.line);
-      free = free_of (columns_at after row.line);
-    })
+line_put after row = puts.Line (line_row after row)
 
 -- each row's line, the batch and the clock
 abbrev pub puts_after : ClockRow → ℕ → List ℕ → List Standing → List BudgetRow → List Put

@@ -1,6 +1,6 @@
 -- The publication of a tender notice: its lots reserve their estimates (UNCITRAL Model Law 2011, articles 33 and 39, as far as
 -- the books are concerned).
-use Rattle.std.specs.Prelude.{ℕ, ◌-◌, Bool, cond, not, ◌||◌, List, [], ◌∷◌, ◌++◌, Option, Some, None, is_some, unwrap_or, nat_lt, nat_le, map, length}
+use Rattle.std.specs.Prelude.{ℕ, ◌-◌, Bool, cond, not, ◌||◌, List, [], ◌∷◌, ◌++◌, None, is_some, unwrap_or, nat_lt, nat_le, map, length}
 use Rattle.std.specs.List.{list_any}
 use Rattle.office_values.specs.Ids.{same_id}
 use Rattle.office_values.specs.Notices.{weight_of}
@@ -14,7 +14,9 @@ use Rattle.office_base.specs.Tables.{find_line}
 use Rattle.office_base.specs.Joined.{free_in}
 use Rattle.office_base.specs.declared.records.LineRow.{LineRow}
 use Rattle.office_base.specs.declared.records.ClockRow.{ClockRow}
+use Rattle.office_base.specs.declared.records.NoticeRow.{NoticeRow}
 use Rattle.office_base.specs.declared.records.NoticeState.TheVariants.{Receiving}
+use Rattle.office_base.specs.declared.records.LotRow.{LotRow}
 use Rattle.office_base.specs.declared.records.LotState.TheVariants.{Undecided}
 use Rattle.office_base.specs.declared.records.Put.{Put}
 use Rattle.office_base.specs.declared.records.Put.TheVariants as puts
@@ -58,41 +60,47 @@ abbrev pub line_found : List LineRow → List ℕ → LineRow
 line_found lines line = unwrap_or (find_line lines line) (no_line line)
 
 -- the line of a lot, with what all lots want of it no longer free
+abbrev pub line_row : List LineRow → List NewLot → NewLot → LineRow
+line_row lines lots lot = record (line_found lines lot.line) { line = lot.line; free = free_in (find_line lines lot.line) - wanted lot.line lots }
+
 abbrev pub line_put : List LineRow → List NewLot → NewLot → Put
-line_put lines lots lot =
-    puts.Line (record (line_found lines lot.line) { line = lot.line; free = free_in (find_line lines lot.line) - wanted lot.line lots })
+line_put lines lots lot = puts.Line (line_row lines lots lot)
 
 -- the lot, undecided, with its estimate reserved
+abbrev pub lot_row : List ℕ → NewLot → LotRow
+lot_row notice lot = record {
+  notice = notice;
+  lot = lot.id;
+  title = lot.title;
+  line = lot.line;
+  estimate = lot.estimate;
+  security = lot.security;
+  items = lot.items;
+  state = Undecided;
+  reserved = lot.estimate;
+}
+
 abbrev pub lot_put : List ℕ → NewLot → Put
-lot_put notice lot =
-    puts.Lot (record {
-      notice = notice;
-      lot = lot.id;
-      title = lot.title;
-      line = lot.line;
-      estimate = lot.estimate;
-      security = lot.security;
-      items = lot.items;
-      state = Undecided;
-      reserved = lot.estimate;
-    })
+lot_put notice lot = puts.Lot (lot_row notice lot)
 
 -- the notice, open for tenders, with its first release
+abbrev pub notice_row : ℕ → List ℕ → NewNotice → NoticeRow
+notice_row t notice new = record {
+  notice = notice;
+  title = new.title;
+  published = t;
+  deadline = new.deadline;
+  validity = new.validity;
+  standstill = new.standstill;
+  weight = weight_of new.criteria;
+  state = Receiving;
+  opened = None;
+  amendments = 0;
+  releases = 1;
+}
+
 abbrev pub notice_put : ℕ → List ℕ → NewNotice → Put
-notice_put t notice new =
-    puts.Notice (record {
-      notice = notice;
-      title = new.title;
-      published = t;
-      deadline = new.deadline;
-      validity = new.validity;
-      standstill = new.standstill;
-      weight = weight_of new.criteria;
-      state = Receiving;
-      opened = None;
-      amendments = 0;
-      releases = 1;
-    })
+notice_put t notice new = puts.Notice (notice_row t notice new)
 
 -- what a publication puts: the lines of its lots, the lots, the notice and the clock
 abbrev pub publish_puts : ClockRow → ℕ → List ℕ → List LineRow → NewNotice → List Put
