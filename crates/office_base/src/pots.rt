@@ -1,6 +1,5 @@
 //! The pots of a budget line.
-ghost use Rattle.std.specs.Prelude.{◌≡◌, ◌<◌, ◌≤◌, IfOk, IfErr, map};
-ghost use Rattle.office_values.specs.Money.{total_limit};
+ghost use Rattle.std.specs.Prelude.{◌≡◌, IfOk, IfErr, map};
 ghost use Rattle.office_base.specs.Sums.{sum_over};
 ghost use Rattle.office_base.specs.Shelves.{Looks};
 ghost use Rattle.office_base.specs.Tables.{Tables, lots_of_line};
@@ -25,19 +24,6 @@ fn sum_of_reserved(lots: &[LotRow]) -> u128
     sum
 }
 
-// A sum over joined rows, where it is within the bound of sums.
-fn total_of(units: u128) -> Result<Total, ShelfFault>
-    ensures total { IfOk result (λ total. total ≡ units) }
-    ensures fits { IfOk result (λ _. units ≤ total_limit) }
-    ensures fault { IfErr result (λ e. e ≡ Store) }
-    ensures unfit { IfErr result (λ _. total_limit < units) }
-{
-    match u64::try_from(units).ok().and_then(Total::read) {
-        Some(total) => Ok(total),
-        None => Err(ShelfFault::Store),
-    }
-}
-
 // The pots of the line with this row, whose lots these are.
 #[tactic(auto, using(crate::proofs::PotsFound::too_much))]
 fn pots_over(row: &LineRow, lots: &[LotRow]) -> Result<Pots, ShelfFault>
@@ -46,15 +32,15 @@ fn pots_over(row: &LineRow, lots: &[LotRow]) -> Result<Pots, ShelfFault>
     ensures unfit { (t : Tables) → lots.now ≡ lots_of_line row.now.line t → IfErr result (λ _. ¬ (LineFits row.now.line t)) }
     ensures fault { IfErr result (λ e. e ≡ Store) }
 {
-    match total_of(sum_of_reserved(lots)) {
-        Ok(reserved) => Ok(Pots {
+    match Total::of_sum(sum_of_reserved(lots)) {
+        Some(reserved) => Ok(Pots {
             appropriation: row.appropriation,
             free: row.free,
             reserved,
             contracted: Total::ZERO,
             paid: Total::ZERO,
         }),
-        Err(fault) => Err(fault),
+        None => Err(ShelfFault::Store),
     }
 }
 
