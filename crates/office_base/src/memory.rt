@@ -127,7 +127,7 @@ impl Lookups for MemoryShelf {
 }
 
 impl Shelf for MemoryShelf {
-    fn apply(&mut self, puts: &[Put]) -> Result<(), ShelfFault> {
+    fn apply(&mut self, puts: Vec<Put>) -> Result<(), ShelfFault> {
         match tables::apply_all(self.alloc, &mut self.tables, puts) {
             Ok(()) => Ok(()),
             Err(_) => Err(self.refused()),

@@ -86,7 +86,7 @@ pub struct ClockRow {
 }
 
 /// A change of one record: it is added, or replaces the one with its key.
-#[derive(Drop)]
+#[derive(Clone, Drop)]
 pub enum Put {
     Line(LineRow),
     Batch(BatchRow),

@@ -80,6 +80,6 @@ pub trait Lookups {
 /// What keeps an office's tables.
 pub trait Shelf: Lookups {
     /// Makes all changes, in order, or none.
-    fn apply(&mut self, puts: &[Put]) -> Result<(), ShelfFault>
-        ensures { Changes Self.meaning self.old self.new result (after_puts puts.now) };
+    fn apply(&mut self, puts: Vec<Put>) -> Result<(), ShelfFault>
+        ensures { Changes Self.meaning self.old self.new result (after_puts puts.items) };
 }

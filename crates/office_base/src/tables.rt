@@ -5,7 +5,7 @@ ghost use Rattle.office_base.specs.MemoryTables.{tables_of, after_undo, after_un
 
 use crate::lot_table::LotTable;
 use crate::records::{BatchRow, ClockRow, LineRow, LotRow, NoticeRow, Put};
-use crate::table::{Replaced, Table, copy_of};
+use crate::table::{Replaced, Table};
 use office_values::moment::Moment;
 use std::alloc::{AllocError, Global};
 use std::mem;
@@ -48,18 +48,18 @@ pub fn empty(alloc: Global) -> MemoryTables
 }
 
 /// Makes one change, and tells how to take it back.
-fn put_one(tables: &mut MemoryTables, put: &Put) -> Result<Undo, AllocError>
-    ensures after { OnOk result (tables_of tables.new ≡ after_put put.now (tables_of tables.old)) }
+fn put_one(tables: &mut MemoryTables, put: Put) -> Result<Undo, AllocError>
+    ensures after { OnOk result (tables_of tables.new ≡ after_put put (tables_of tables.old)) }
     ensures back { IfOk result (λ undo. after_undo undo (tables_of tables.new) ≡ tables_of tables.old) }
     ensures can { IfOk result (λ undo. CanUndo undo (tables_of tables.new)) }
     ensures kept { OnErr result (tables_of tables.new ≡ tables_of tables.old) }
 {
     match put {
-        Put::Line(row) => Ok(Undo::Line(tables.lines.put(copy_of(row)?)?)),
-        Put::Batch(row) => Ok(Undo::Batch(tables.batches.put(copy_of(row)?)?)),
-        Put::Notice(row) => Ok(Undo::Notice(tables.notices.put(copy_of(row)?)?)),
-        Put::Lot(row) => Ok(Undo::Lot(tables.lots.put(copy_of(row)?)?)),
-        Put::Clock(row) => Ok(Undo::Clock(mem::replace(&mut tables.clock, *row))),
+        Put::Line(row) => Ok(Undo::Line(tables.lines.put(row)?)),
+        Put::Batch(row) => Ok(Undo::Batch(tables.batches.put(row)?)),
+        Put::Notice(row) => Ok(Undo::Notice(tables.notices.put(row)?)),
+        Put::Lot(row) => Ok(Undo::Lot(tables.lots.put(row)?)),
+        Put::Clock(row) => Ok(Undo::Clock(mem::replace(&mut tables.clock, row))),
     }
 }
 
@@ -88,8 +88,8 @@ fn take_back_all(tables: &mut MemoryTables, mut undos: Vec<Undo>)
 }
 
 /// Makes all changes, in order, or none where memory is wanting.
-pub fn apply_all(alloc: Global, tables: &mut MemoryTables, puts: &[Put]) -> Result<(), AllocError>
-    ensures all { OnOk result (tables_of tables.new ≡ after_puts puts.now (tables_of tables.old)) }
+pub fn apply_all(alloc: Global, tables: &mut MemoryTables, puts: Vec<Put>) -> Result<(), AllocError>
+    ensures all { OnOk result (tables_of tables.new ≡ after_puts puts.items (tables_of tables.old)) }
     ensures none { OnErr result (tables_of tables.new ≡ tables_of tables.old) }
 {
     let mut undos = Vec::with_capacity(alloc, puts.len())?;

@@ -162,7 +162,7 @@ impl Lookups for BrokenShelf {
 }
 
 impl Shelf for BrokenShelf {
-    fn apply(&mut self, puts: &[Put]) -> Result<(), ShelfFault> {
+    fn apply(&mut self, puts: Vec<Put>) -> Result<(), ShelfFault> {
         if self.breaks() {
             return Err(self.counted(ShelfFault::Store));
         }

@@ -140,18 +140,8 @@ fn take_rows(lines: &mut Table<Standing>, rows: &[BudgetRow]) -> Findings
     all
 }
 
-// A sum of money; a sum that is none is a fault of the store, since no office that commands lead to has it.
-fn total_of(units: u128) -> Result<Total, Refusal>
-    ensures found { IfOk result (λ total. total ≡ units) }
-    ensures fault { IfErr result (λ e. e ≡ Unavailable) }
-{
-    match u64::try_from(units).ok().and_then(Total::read) {
-        Some(total) => Ok(total),
-        None => Err(Refusal::Unavailable),
-    }
-}
-
-// The line of a row, with its columns after all rows.
+// The line of a row, with its columns after all rows. A column that is no sum of money is a fault of the store, since no office
+// that commands lead to has it.
 fn line_put(after: &Table<Standing>, row: &BudgetRow) -> Result<Put, Refusal>
     ensures put { IfOk result (λ put. put ≡ line_put after.now row.now) }
     ensures fault { IfErr result (λ e. e ≡ Unavailable) }
@@ -160,8 +150,8 @@ fn line_put(after: &Table<Standing>, row: &BudgetRow) -> Result<Put, Refusal>
     Ok(Put::Line(LineRow {
         line: row.line,
         title: row.title.clone()?,
-        appropriation: total_of(appropriation)?,
-        free: total_of(free)?,
+        appropriation: Total::of_sum(appropriation).ok_or(Refusal::Unavailable)?,
+        free: Total::of_sum(free).ok_or(Refusal::Unavailable)?,
     }))
 }
 

@@ -118,8 +118,9 @@ impl<H: Shelf + Drop> Desk<H> {
         ensures joins { H.meaning.honest self.new.shelf → (x : Given) → IsPlan x planned → H.meaning.holds self.old.shelf x.before
             → (xs : List Given) → Reaches xs x.before → Joins H.meaning self.new.shelf x (read_text result) xs }
     {
-        match self.shelf.apply(planned.puts()) {
-            Ok(()) => Ok(planned.into_reply()),
+        let (puts, reply) = planned.into_parts();
+        match self.shelf.apply(puts) {
+            Ok(()) => Ok(reply),
             Err(_) => Err(Refusal::Unavailable),
         }
     }

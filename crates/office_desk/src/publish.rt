@@ -173,8 +173,9 @@ fn publish_puts(
     ensures puts { IfOk result (λ puts. puts.items ≡ publish_puts clock.now t notice lines.now new) }
     ensures fault { IfErr result (λ e. e ≡ Unavailable) }
 {
-    let mut puts = Vec::new(alloc);
-    push_lines(&mut puts, lines, new.lots.as_slice())?;
+    let lots = new.lots.as_slice();
+    let mut puts = Vec::with_capacity(alloc, lots.len().saturating_mul(2).saturating_add(2))?;
+    push_lines(&mut puts, lines, lots)?;
     push_lots(&mut puts, notice, new.lots.into_vec())?;
     puts.push(Put::Notice(NoticeRow {
         notice,

@@ -1,5 +1,6 @@
 //! Notices published by a desk over an office in memory: the answers' bytes, the refusals' numbers, and where the money is then.
 use crate::desk::Desk;
+use crate::planned::Planned;
 use crate::tests::{
     ADD, EXISTS, FORBIDDEN, Import, NO_LINE, TOO_LITTLE, Want, desk_over, is, is_asked, is_looked,
     text,
@@ -114,13 +115,16 @@ fn command(alloc: Global, publication: &Publication) -> Option<Command> {
     Some(Command::Publish { notice, content })
 }
 
+// The moment of all publications.
+const NOW: &[u8] = b"2026-02-01T09:00:00Z";
+
 // What is answered to the publication; None where it could not be asked for.
 fn publish(
     alloc: Global,
     desk: &mut Desk<MemoryShelf>,
     publication: &Publication,
 ) -> Option<Result<Vec<u8>, Refusal>> {
-    let moment = Moment::read(b"2026-02-01T09:00:00Z")?;
+    let moment = Moment::read(NOW)?;
     let command = command(alloc, publication)?;
     Some(desk.ask(moment, &publication.caller, command))
 }
@@ -168,26 +172,23 @@ const IMPORT: Import = Import {
     rows: &[("1000", ADD, 1000, "Roads")],
 };
 
-const MONEY: Step = Step::Import(
-    IMPORT,
-    Ok(r#"{"batch":"B1","moment":"2026-01-05T09:00:00Z","rows":1}"#),
-);
+const IMPORTED: Want = Ok(r#"{"batch":"B1","moment":"2026-01-05T09:00:00Z","rows":1}"#);
+
+const MONEY: Step = Step::Import(IMPORT, IMPORTED);
 
 // All of it is free.
-const ALL_FREE: Step = Step::Look(
-    "1000",
-    Ok(
-        r#"{"appropriation":1000,"contracted":0,"free":1000,"line":"1000","paid":0,"reserved":0,"title":"Roads"}"#,
-    ),
+const FREE: Want = Ok(
+    r#"{"appropriation":1000,"contracted":0,"free":1000,"line":"1000","paid":0,"reserved":0,"title":"Roads"}"#,
 );
 
+const ALL_FREE: Step = Step::Look("1000", FREE);
+
 // None of it is free.
-const ALL_RESERVED: Step = Step::Look(
-    "1000",
-    Ok(
-        r#"{"appropriation":1000,"contracted":0,"free":0,"line":"1000","paid":0,"reserved":1000,"title":"Roads"}"#,
-    ),
+const RESERVED: Want = Ok(
+    r#"{"appropriation":1000,"contracted":0,"free":0,"line":"1000","paid":0,"reserved":1000,"title":"Roads"}"#,
 );
+
+const ALL_RESERVED: Step = Step::Look("1000", RESERVED);
 
 const NOTICE: Publication = Publication {
     caller: Caller::Clerk,
@@ -212,6 +213,44 @@ const RESERVES: [Step; 4] = [
 #[test]
 fn lots_reserve_their_estimates(rt: HostRuntime) -> Result<(), Fail> {
     assert_eq!(rt; wrong_step(rt.alloc(), &RESERVES)?, None);
+    Ok(())
+}
+
+// What is planned for the notice; None where it could not be asked for.
+fn plan(alloc: Global, desk: &mut Desk<MemoryShelf>) -> Option<Result<Planned, Refusal>> {
+    let moment = Moment::read(NOW)?;
+    let command = command(alloc, &NOTICE)?;
+    Some(desk.plan(moment, &NOTICE.caller, command))
+}
+
+// Plans the notice and does it: whether its six changes (a line for each lot, the lots, the notice and the clock) and what is then
+// answered are told beforehand, and nothing is reserved by the plan. None where it could not be planned or done.
+fn is_done(alloc: Global, desk: &mut Desk<MemoryShelf>) -> Option<bool> {
+    let planned = plan(alloc, desk)?.ok()?;
+    let has_all = planned.puts().len() == 6;
+    let is_told = PUBLISHED.is_ok_and(|text| planned.reply() == text.as_bytes());
+    let is_unchanged = is_looked(desk, "1000", FREE);
+    let reply = desk.commit(planned).ok()?;
+    Some(has_all && is_told && is_unchanged && is(&Ok(reply), PUBLISHED))
+}
+
+#[test]
+fn a_plan_publishes_nothing_until_it_is_done(rt: HostRuntime) -> Result<(), Fail> {
+    let alloc = rt.alloc();
+    let mut desk = desk_over(alloc, MemoryShelf::new(alloc))?;
+    assert!(rt; is_asked(alloc, &mut desk, &IMPORT, IMPORTED));
+    assert!(rt; is_looked(&mut desk, "1000", FREE));
+    let done = match is_done(alloc, &mut desk) {
+        None => is_done(alloc, &mut desk),
+        done => done,
+    };
+    assert_eq!(rt; done, Some(true));
+    assert!(rt; is_looked(&mut desk, "1000", RESERVED));
+    let again = match plan(alloc, &mut desk) {
+        None | Some(Err(Refusal::Unavailable)) => plan(alloc, &mut desk),
+        again => again,
+    };
+    assert!(rt; matches!(again, Some(Err(Refusal::Exists))));
     Ok(())
 }
 
@@ -317,10 +356,7 @@ const TWENTY: Import = Import {
 };
 
 const TAKES_ALL: [Step; 3] = [
-    Step::Import(
-        TWENTY,
-        Ok(r#"{"batch":"B1","moment":"2026-01-05T09:00:00Z","rows":1}"#),
-    ),
+    Step::Import(TWENTY, IMPORTED),
     Step::Publish(MOST_LOTS, PUBLISHED),
     Step::Look(
         "1000",

@@ -249,9 +249,12 @@ fn money_has_its_bounds(rt: HostRuntime) {
     ] {
         let amount = Amount::read(units).map(Amount::units);
         let total = Total::read(units).map(Total::units);
+        let sum = Total::of_sum(units as u128).map(Total::units);
         assert_eq!(rt; amount, if is_amount { Some(units) } else { None });
         assert_eq!(rt; total, if is_total { Some(units) } else { None });
+        assert_eq!(rt; sum, total);
     }
+    assert!(rt; Total::of_sum(1 << 64).is_none());
 }
 
 #[test]
