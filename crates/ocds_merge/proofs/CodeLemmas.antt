@@ -14,7 +14,7 @@ use Rattle.serde_json.proofs.Views.{Entry}
 use Rattle.ocds_merge.specs.Identified.{id_of}
 use Rattle.ocds_merge.specs.Merge.{names_of}
 use Rattle.ocds_merge.specs.Compile.{without}
-use Rattle.ocds_merge.specs.Step.{find_item, set_item, step, Lacks}
+use Rattle.ocds_merge.specs.Inside.Step.{find_item, set_item, step, Lacks}
 use Rattle.ocds_merge.proofs.MemberLemmas.{bytes_cmp}
 
 pub lacks_push : (i : List ℕ) (ds : List Data) (d : Data) → Lacks i ds → bytes_eq (id_of d) i ≡ false → Lacks i (ds ++ d ∷ [])

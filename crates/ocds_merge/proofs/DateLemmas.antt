@@ -5,7 +5,7 @@ use Rattle.std.specs.Ordering.{match_ordering, is_lt}
 use Rattle.std.specs.Cmp.Lexicographic.{slice_cmp}
 use Rattle.serde_json.specs.Data.{Data, null}
 use Rattle.ocds_merge.specs.Compile.{date_of, insert_by_date}
-use Rattle.ocds_merge.specs.Step.{AreEarlier}
+use Rattle.ocds_merge.specs.Inside.Step.{AreEarlier}
 
 pub earlier_push : (t : List ℕ) (ds : List Data) (d : Data) → AreEarlier t ds → is_lt (slice_cmp nat_cmp (date_of d) t) ≡ true → AreEarlier t (ds ++ d ∷ [])
 earlier_push t [] d h e = (e, tt)

@@ -7,7 +7,7 @@ use Rattle.serde_json.specs.Data.{Data, null, boolean, number, string, array, ob
 use Rattle.serde_json.specs.Find.{get_member, as_str}
 use Rattle.ocds_merge.specs.Identified.{text_id, id_of}
 use Rattle.ocds_merge.specs.Merge.{object_run, column_at, items_ahead, ids_in, merge_within}
-use Rattle.ocds_merge.specs.Step.{find_item, set_item}
+use Rattle.ocds_merge.specs.Inside.Step.{find_item, set_item}
 use Rattle.ocds_merge.proofs.ObjectLaw.{Below, apart, or_left, or_right, get_objects}
 
 -- each is an object with a text id

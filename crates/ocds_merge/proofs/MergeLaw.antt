@@ -7,7 +7,7 @@ use Rattle.serde_json.specs.Data.{Data, null, boolean, number, string, array, ob
 use Rattle.serde_json.specs.View.{items_of}
 use Rattle.ocds_merge.specs.Identified.{text_id, id_of, all_have_id, is_id_list}
 use Rattle.ocds_merge.specs.Merge.{object_run, id_list_run, column_at, items_ahead, items_in, ids_in, names_in, merge_names, merge_objects, merge_item, merge_items, merge_level, merge_within, deepest_of, merge_newest_first, merge_of}
-use Rattle.ocds_merge.specs.Step.{items_list, object_of, id_list_of, find_item, set_item, step, step_items, step_members, not_null}
+use Rattle.ocds_merge.specs.Inside.Step.{items_list, object_of, id_list_of, find_item, set_item, step, step_items, step_members, not_null}
 use Rattle.ocds_merge.specs.Laws.{IsProper, AreItemsProper}
 use Rattle.ocds_merge.proofs.ObjectLaw.{Below, AllBelow, column_below, objects_below, Steps, objects_law}
 use Rattle.ocds_merge.proofs.ItemLaw.{HaveIds, among, has, tied, among_self, among_onto, none_of, filter_below, empty_to, picked, distinct_ids, named_all, Named, Changes, map_apart, find_map, set_none, set_map}

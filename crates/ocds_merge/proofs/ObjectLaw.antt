@@ -13,7 +13,7 @@ use Rattle.serde_json.specs.Find.{get_member}
 use Rattle.serde_json.proofs.Views.{get_member-put}
 use Rattle.ocds_merge.specs.Merge.{object_run, column_at, names_of, names_in, put_present, merge_names, merge_objects}
 use Rattle.ocds_merge.specs.Compile.{without}
-use Rattle.ocds_merge.specs.Step.{step, step_members}
+use Rattle.ocds_merge.specs.Inside.Step.{step, step_members}
 use Rattle.ocds_merge.specs.Laws.{IsProper, AreMembersProper}
 use Rattle.ocds_merge.proofs.MemberLemmas.{bytes_cmp, IsSorted, same_members, skips, get_delete, get_delete_other, sorted_delete, sorted_put_some, get_put_some, get_put_some_other}
 

@@ -9,7 +9,7 @@ use Rattle.serde_json.specs.Find.{get_member}
 use Rattle.serde_json.specs.View.{items_of}
 use Rattle.ocds_merge.specs.Identified.{id_of, is_id_list}
 use Rattle.ocds_merge.specs.Merge.{object_run, id_list_run, column_at, items_ahead, items_in, ids_in, names_in, merge_objects, merge_item, merge_items, merge_within, deepest_of, merge_newest_first, merge_of, merge_or_null}
-use Rattle.ocds_merge.specs.Step.{step}
+use Rattle.ocds_merge.specs.Inside.Step.{step}
 use Rattle.ocds_merge.specs.Laws.{IsProper}
 use Rattle.ocds_merge.proofs.MemberLemmas.{same_members}
 use Rattle.ocds_merge.proofs.ObjectLaw.{Below, column_below, objects_below, get_objects, sorted_names, or_left, or_right}

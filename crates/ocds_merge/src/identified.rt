@@ -2,7 +2,7 @@ ghost use Rattle.std.specs.Prelude.{◌≡◌, ◌<◌, map, take, length, get_o
 ghost use Rattle.serde_json.specs.Data.{null};
 ghost use Rattle.serde_json.specs.View.{view, items_view};
 ghost use Rattle.ocds_merge.specs.Identified.{text_id as id_text, id_of as id_named, is_id_list as is_list_of_ids};
-ghost use Rattle.ocds_merge.specs.Step.{Lacks};
+ghost use Rattle.ocds_merge.specs.Inside.Step.{Lacks};
 
 use serde_json::Value;
 

@@ -2,7 +2,7 @@ ghost use Rattle.std.specs.Prelude.{◌≡◌, List, [], ◌∷◌, ◌++◌, ma
 ghost use Rattle.serde_json.specs.Data.{Data};
 ghost use Rattle.serde_json.specs.View.{view};
 ghost use Rattle.ocds_merge.specs.Merge.{merge_of, merge_or_null};
-ghost use Rattle.ocds_merge.specs.Step.{not_null};
+ghost use Rattle.ocds_merge.specs.Inside.Step.{not_null};
 ghost use Rattle.ocds_merge.specs.Laws.{IsProper};
 
 use crate::step::merge_value;

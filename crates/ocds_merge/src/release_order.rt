@@ -4,7 +4,7 @@ ghost use Rattle.std.specs.Cmp.Lexicographic.{slice_cmp};
 ghost use Rattle.serde_json.specs.Data.{null};
 ghost use Rattle.serde_json.specs.View.{view};
 ghost use Rattle.ocds_merge.specs.Compile.{date_of as date_in, date_order};
-ghost use Rattle.ocds_merge.specs.Step.{AreEarlier};
+ghost use Rattle.ocds_merge.specs.Inside.Step.{AreEarlier};
 
 use serde_json::Value;
 use std::alloc::{AllocError, Global};

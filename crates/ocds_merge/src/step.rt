@@ -1,7 +1,7 @@
 ghost use Rattle.std.specs.Prelude.{◌≡◌, map, option_map, IfOk, OnOk};
 ghost use Rattle.serde_json.specs.Data.{object};
 ghost use Rattle.serde_json.specs.View.{view, items_view, members_view};
-ghost use Rattle.ocds_merge.specs.Step.{step as step_of, step_items, step_members, object_of as members_in, id_list_of as items_in};
+ghost use Rattle.ocds_merge.specs.Inside.Step.{step as step_of, step_items, step_members, object_of as members_in, id_list_of as items_in};
 ghost use Rattle.ocds_merge.specs.Laws.{IsProper, AreItemsProper};
 
 use crate::identified::{id_of, is_id_list, place_of};

@@ -1,4 +1,4 @@
-ghost use Rattle.std.specs.Prelude.{◌≡◌, List, [], ◌∷◌, ◌++◌, Some, string_bytes, IfOk, IfErr, All};
+ghost use Rattle.std.specs.Prelude.{◌≡◌, List, [], ◌∷◌, ◌++◌, Some, None, Err, string_bytes, IfOk, IfErr, IsErr, All};
 ghost use Rattle.serde_json.specs.Data.{Data};
 ghost use Rattle.serde_json.specs.Read.{read};
 ghost use Rattle.serde_json.specs.View.{view};
@@ -43,6 +43,8 @@ pub fn merge_from_text(alloc: Global, stored: &str) -> Result<Value, StoredFault
     ensures reads { IfOk result (λ merge. read stored.now ≡ Some (view merge)) }
     ensures memory { IfErr result (λ fault. (merge : Data) → read stored.now ≡ Some merge
         → fault ≡ StoredFault.NoMemory) }
+    ensures unreadable { read stored.now ≡ None → IsErr result }
+    ensures empty { stored.now ≡ [] → result ≡ Err StoredFault.Unreadable }
 {
     match Value::from_str(alloc, stored) {
         Ok(merge) => Ok(merge),
@@ -54,13 +56,16 @@ pub fn merge_from_text(alloc: Global, stored: &str) -> Result<Value, StoredFault
     }
 }
 
-/// The text that keeps the merge of some values, after one value more.
+/// The text that keeps the merge of some values, after one value more. A text that is no JSON keeps
+/// no merge, not even that of no values, which is `null`.
 pub fn merge_into_text(alloc: Global, stored: &str, value: &Value) -> Result<String, StoredFault>
     ensures keeps { IfOk result (λ text. (vs : List Data) → KeepsMerge stored.now vs
         → All IsStorable (vs ++ view value.now ∷ [])
         → KeepsMerge (string_bytes text) (vs ++ view value.now ∷ [])) }
-    ensures memory { IfErr result (λ fault. (vs : List Data) → KeepsMerge stored.now vs
+    ensures memory { IfErr result (λ fault. (merge : Data) → read stored.now ≡ Some merge
         → fault ≡ StoredFault.NoMemory) }
+    ensures unreadable { read stored.now ≡ None → IsErr result }
+    ensures empty { stored.now ≡ [] → result ≡ Err StoredFault.Unreadable }
 {
     let mut merge = merge_from_text(alloc, stored)?;
     merge_into(alloc, &mut merge, value)?;

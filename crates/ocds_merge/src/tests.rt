@@ -136,13 +136,35 @@ fn reads_stored_merges(rt: HostRuntime) -> Result<(), Fail> {
         merge_to_text(alloc, &merge)?.as_str(),
         r#"{"a":[{"id":"x"}]}"#
     );
-    assert!(rt; matches!(merge_from_text(alloc, "{"), Err(StoredFault::Unreadable)));
-    assert!(rt;
-        matches!(
-            merge_into_text(alloc, "", &merge),
-            Err(StoredFault::Unreadable)
-        )
-    );
+    Ok(())
+}
+
+// A text that is no JSON keeps no merge: not that of no values, and memory isn't wanting either.
+#[test]
+fn refuses_texts_that_are_no_json(rt: HostRuntime) -> Result<(), Fail> {
+    let alloc = rt.alloc();
+    let value = Value::from_str(alloc, r#"{"a":1}"#)?;
+    for text in [
+        "",
+        " ",
+        "{",
+        "nul",
+        "nullnull",
+        r#"{"a":1} {"a":2}"#,
+        "[1,]",
+    ] {
+        assert!(rt;
+            matches!(merge_from_text(alloc, text), Err(StoredFault::Unreadable)),
+            "from {text}"
+        );
+        assert!(rt;
+            matches!(
+                merge_into_text(alloc, text, &value),
+                Err(StoredFault::Unreadable)
+            ),
+            "into {text}"
+        );
+    }
     Ok(())
 }
 

@@ -1,8 +1,8 @@
 -- Each accepted command keeps the accounts, and so does every list of them.
 use Rattle.std.specs.Prelude.{◌≡◌, ℕ, List, [], ◌∷◌, ◌++◌, Some, None}
 use Rattle.std.proofs.Common.{refl, sym, subst}
-use Rattle.office_values.specs.declared.command.Command.{Command}
-use Rattle.office_values.specs.declared.command.Command.TheVariants.{Import, Publish}
+use Rattle.office_acts.specs.declared.command.Command.{Command}
+use Rattle.office_acts.specs.declared.command.Command.TheVariants.{Import, Publish}
 use Rattle.office_base.specs.Rows.{row_at}
 use Rattle.office_base.specs.Rules.{first_of}
 use Rattle.office_base.specs.Tables.{Tables, IsSorted, no_tables, after_puts}
@@ -29,10 +29,11 @@ unfolding row_at
 start = record {
   pots = λ q. record { appropriation_is = refl; free_is = refl; reserved_is = refl; contracted_is = refl; paid_is = refl };
   lots = λ key lot found. absurd (let none : None ≡ Some lot = found in cc);
+  contracts = refl;
 }
 
 sorted : (xs : List Given) (t : Tables) → Reaches xs t → IsSorted t
-sorted [] t reached = subst IsSorted (sym reached) (record { lines = tt; batches = tt; notices = tt; lots = tt })
+sorted [] t reached = subst IsSorted (sym reached) (record { lines = tt; batches = tt; tenderers = tt; notices = tt; lots = tt; envelopes = tt; seals = tt; securities = tt; awards = tt; contracts = tt; entries = tt; releases = tt; compiled = tt })
 sorted (x ∷ xs) t reached = subst IsSorted (sym reached.3) (sorted-puts (puts_of x) x.before (sorted xs x.before reached.0))
 
 all_kept : (xs : List Given) (t : Tables) → Reaches xs t → IsKept (moves xs) t

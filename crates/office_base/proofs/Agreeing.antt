@@ -1,28 +1,23 @@
 -- An import over lines that agree on the lines that it names.
 use Rattle.std.specs.Prelude.{◌≡◌, Bool, true, false, cond, ◌||◌, ℕ, List, [], ◌∷◌, ◌++◌, map, length, Option, Some, None, option_map, option_and_then}
 use Rattle.std.proofs.Common.{refl, sym, ap, ◌∙◌}
-use Rattle.std.specs.List.{AllByRecursion}
 use Rattle.std.specs.Ordering.{eq_by_cmp}
 use Rattle.std.specs.Cmp.Lexicographic.{nat_list_cmp_total}
 use Rattle.std.specs.declared.cmp.Ordering.{Ordering}
 use Rattle.std.specs.declared.cmp.Ordering.TheVariants.{Less, Equal, Greater}
 use Rattle.office_values.specs.Ids.{id_cmp}
-use Rattle.office_values.specs.declared.budget.BudgetRow.{BudgetRow}
+use Rattle.office_acts.specs.declared.budget.BudgetRow.{BudgetRow}
 use Rattle.office_base.specs.Rows.{by_order, row_at}
 use Rattle.office_base.specs.Tables.{Tables, find_line, line_at}
 use Rattle.office_base.specs.Standings.{find_standing, columns_at, columns_of_row, standing_key, standing_of, standings}
-use Rattle.office_base.specs.Rules.Import.{columns_after, after_row, after_rows, some_row, line_put, appropriation_of, free_of, cuts_nothing, cuts_too_much, passes_limit, import_tests, import_puts}
+use Rattle.office_base.specs.Rules.Import.{columns_after, after_row, after_rows, some_row, line_put, appropriation_of, free_of, cuts_nothing, cuts_too_much, passes_limit, import_tests, import_puts, Agree, ImportsAgree}
 use Rattle.office_base.specs.declared.records.LineRow.{LineRow}
 use Rattle.office_base.specs.declared.records.ClockRow.{ClockRow}
-use Rattle.office_base.specs.declared.records.Put.{Put}
-use Rattle.office_base.specs.declared.records.Put.TheVariants as puts
+use Rattle.office_base.specs.declared.puts.Put.{Put}
+use Rattle.office_base.specs.declared.puts.Put.TheVariants as puts
 use Rattle.office_base.specs.declared.standing.Columns.{Columns}
 use Rattle.office_base.specs.declared.standing.Standing.{Standing}
 use Rattle.office_base.proofs.RowLaws.{row_at-row_put}
-
--- the same columns at each line that the rows name
-abbrev pub Agree : List Standing → List Standing → List BudgetRow → Type 0
-Agree m n rows = AllByRecursion (λ (row : BudgetRow). columns_at m row.line ≡ columns_at n row.line) rows
 
 columns_by : (b : Bool) (s : Standing) (found : Option Standing)
     → option_and_then (λ (x : Standing). x.columns) (cond b (Some s) found) ≡ cond b s.columns (option_and_then (λ (x : Standing). x.columns) found)
@@ -96,3 +91,6 @@ columns_step (Some row) = refl
 -- the columns of a line in the office
 pub columns_at-standings : (t : Tables) (q : List ℕ) → columns_at (standings t) q ≡ option_map columns_of_row (line_at q t)
 columns_at-standings t q = ap (option_and_then (λ (x : Standing). x.columns)) (find_standing-map t.lines q) ∙ columns_step (line_at q t)
+
+pub imports_agree : ImportsAgree
+imports_agree = record { tests = tests-agree; puts = puts-agree; columns = columns_at-standings }

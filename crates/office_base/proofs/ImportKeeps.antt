@@ -4,7 +4,7 @@ use Rattle.std.proofs.Common.{refl, sym, ap, subst, arith}
 use Rattle.std.specs.List.{AllByRecursion}
 use Rattle.std.specs.Cmp.Lexicographic.{nat_list_cmp_total}
 use Rattle.office_values.specs.Ids.{same_id}
-use Rattle.office_values.specs.declared.budget.BudgetRow.{BudgetRow}
+use Rattle.office_acts.specs.declared.budget.BudgetRow.{BudgetRow}
 use Rattle.office_values.specs.declared.refusal.Refusal.{Refusal}
 use Rattle.office_base.specs.Sums.{sum_over}
 use Rattle.office_base.specs.Tables.{Tables, line_key, batch_at, put_batch, after_puts}
@@ -140,6 +140,7 @@ module _ (ms : List Move) (t : Tables) (moment : ℕ) (batch : List ℕ) (rows :
     lots = λ key lot found.
         let old = kept.lots key lot found in
         record { of_notice = old.of_notice; on_line = there_after nat_list_cmp_total line_key lot.line file_lines t.lines old.on_line };
+    contracts = kept.contracts;
   }
 
   pub import_keeps : IsKept (map move_of_row rows ++ ms) (after_puts (import_puts t.clock moment batch (standings t) rows) t)

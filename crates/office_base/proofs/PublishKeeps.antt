@@ -4,11 +4,11 @@ use Rattle.std.proofs.Common.{refl, sym, ap, ◌∙◌, subst, arith, append_ass
 use Rattle.std.specs.List.{list_any, AllByRecursion}
 use Rattle.std.specs.Cmp.Lexicographic.{nat_list_cmp_total}
 use Rattle.std.specs.Ordering.{eq_by_cmp}
-use Rattle.office_values.specs.Identified.{repeats_id}
+use Rattle.office_acts.specs.Identified.{repeats_id}
 use Rattle.office_values.specs.Ids.{same_id}
-use Rattle.office_values.specs.Lots.{lot_id}
-use Rattle.office_values.specs.declared.lot.NewLot.{NewLot}
-use Rattle.office_values.specs.declared.notice.NewNotice.{NewNotice}
+use Rattle.office_acts.specs.Lots.{lot_id}
+use Rattle.office_acts.specs.declared.lot.NewLot.{NewLot}
+use Rattle.office_acts.specs.declared.notice.NewNotice.{NewNotice}
 use Rattle.office_values.specs.declared.refusal.Refusal.{Refusal}
 use Rattle.office_base.specs.Sums.{sum_over}
 use Rattle.office_base.specs.Tables.{Tables, line_key, find_line, notice_key, notice_at, put_notice, lot_key, lot_cmp, find_lot, after_puts}
@@ -17,17 +17,17 @@ use Rattle.office_base.specs.Rules.Publish.{is_on_no_line, publish_tests, publis
 use Rattle.office_base.specs.Moves.{Move, Pot, Outside, Free, Reserved, Contracted, Paid, came, went, same_pot, move_of_lot}
 use Rattle.office_base.specs.declared.records.LineRow.{LineRow}
 use Rattle.office_base.specs.declared.records.LotRow.{LotRow}
-use Rattle.office_base.specs.declared.records.Put.{Put}
-use Rattle.office_base.specs.declared.records.Put.TheVariants as puts
+use Rattle.office_base.specs.declared.puts.Put.{Put}
+use Rattle.office_base.specs.declared.puts.Put.TheVariants as puts
 use Rattle.office_base.proofs.ExactKeys.{lots_exact, equal_keys}
-use Rattle.office_base.proofs.Kept.{IsKept, PotsAre, LotIs, reserved_over}
+use Rattle.office_base.proofs.Kept.{IsKept, PotsAre, LotIs, reserved_over, nothing_contracted, nothing_paid}
 use Rattle.office_base.proofs.Orders.{lots_total}
 use Rattle.office_base.proofs.Passed.{none_holds, neither, not_false}
 use Rattle.office_base.proofs.PublishedRows.{taken_after, enough, AreAbsent, lots_new, reserved_after}
 use Rattle.office_base.proofs.RowLaws.{still_there}
 use Rattle.office_base.proofs.RowsPut.{lines_put, lots_put, AreNew, after_lines, after_lots, found_after, there_after}
 use Rattle.office_base.proofs.SumsOver.{sum_over-append_map, sum_over-zero}
-use Rattle.office_base.proofs.Undone.{put_is_found}
+use Rattle.office_base.proofs.RowLaws.{put_is_found}
 
 module _ (ms : List Move) (lots : List NewLot) (q : List ℕ) where
   into : (p : Pot) → came (map move_of_lot lots ++ ms) q p ≡ sum_over (λ (lot : NewLot). cond (same_pot Reserved p && same_id lot.line q) lot.estimate 0) lots + came ms q p
@@ -106,8 +106,16 @@ module _ (ms : List Move) (t : Tables) (moment : ℕ) (notice : List ℕ) (conte
           from_pot Reserved,
           none,
         );
-        contracted_is = omega (arith, old.contracted_is, in_pot Contracted, from_pot Contracted, none);
-        paid_is = omega (arith, old.paid_is, in_pot Paid, from_pot Paid, none);
+        contracted_is = omega (
+          arith,
+          old.contracted_is,
+          nothing_contracted q t kept.contracts,
+          nothing_contracted q published kept.contracts,
+          in_pot Contracted,
+          from_pot Contracted,
+          none,
+        );
+        paid_is = omega (arith, old.paid_is, nothing_paid q t kept.contracts, nothing_paid q published kept.contracts, in_pot Paid, from_pot Paid, none);
       }
 
   line_there : (line : List ℕ) → IsSome (find_line t.lines line) → IsSome (find_line published.lines line)
@@ -147,6 +155,7 @@ module _ (ms : List Move) (t : Tables) (moment : ℕ) (notice : List ℕ) (conte
         found_after lots_total lot_key (λ found. found ≡ Some lot → LotIs published key lot) key lot_rows t.lots
         (each_new key lot content.lots (on_lines t.lines content.lots passes.0))
         (λ none. old_lot key lot);
+    contracts = kept.contracts;
   }
 
   pub publish_keeps : IsKept (map move_of_lot content.lots ++ ms) (after_puts (publish_puts t.clock moment notice t.lines content) t)

@@ -2,14 +2,14 @@
 -- and 100 is published on it.
 use Rattle.std.specs.Prelude.{◌≡◌, ℕ, List, [], ◌∷◌, Some, None, option_map, codes}
 use Rattle.std.proofs.Common.{refl, arith}
-use Rattle.office_values.specs.declared.budget.BudgetKind.TheVariants.{Add}
-use Rattle.office_values.specs.declared.budget.BudgetRow.{BudgetRow}
-use Rattle.office_values.specs.declared.item.Item.{Item}
-use Rattle.office_values.specs.declared.lot.NewLot.{NewLot}
-use Rattle.office_values.specs.declared.notice.Criteria.TheVariants.{Price}
-use Rattle.office_values.specs.declared.notice.NewNotice.{NewNotice}
-use Rattle.office_values.specs.declared.command.Caller.TheVariants.{Clerk}
-use Rattle.office_values.specs.declared.command.Command.TheVariants.{Import, Publish}
+use Rattle.office_acts.specs.declared.budget.BudgetKind.TheVariants.{Add}
+use Rattle.office_acts.specs.declared.budget.BudgetRow.{BudgetRow}
+use Rattle.office_acts.specs.declared.item.Item.{Item}
+use Rattle.office_acts.specs.declared.lot.NewLot.{NewLot}
+use Rattle.office_acts.specs.declared.notice.Criteria.TheVariants.{Price}
+use Rattle.office_acts.specs.declared.notice.NewNotice.{NewNotice}
+use Rattle.office_acts.specs.declared.command.Caller.TheVariants.{Clerk}
+use Rattle.office_acts.specs.declared.command.Command.TheVariants.{Import, Publish}
 use Rattle.office_values.specs.declared.refusal.Refusal.TheVariants.{InsufficientFunds}
 use Rattle.office_base.specs.Rows.{row_at, row_put}
 use Rattle.office_base.specs.Tables.{Tables, no_tables, line_at}
@@ -110,8 +110,17 @@ abbrev office : Tables
 office = record {
   lines = line_held ∷ [];
   batches = record { batch = budget; moment = 50; rows = 1 } ∷ [];
+  tenderers = [];
   notices = notice_held ∷ [];
   lots = lot_held first_lot 600 ∷ lot_held second_lot 100 ∷ [];
+  envelopes = [];
+  seals = [];
+  securities = [];
+  awards = [];
+  contracts = [];
+  entries = [];
+  releases = [];
+  compiled = [];
   clock = record { moment = 100; receipts = 0; awards = 0 };
 }
 

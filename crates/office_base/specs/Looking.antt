@@ -1,10 +1,10 @@
 -- What the office answers to a query.
 use Rattle.std.specs.Prelude.{ℕ, Bool, not, List, [], ◌∷◌, Option, is_some, option_map}
-use Rattle.office_values.specs.Kinds.{kind_of_query}
-use Rattle.office_values.specs.Rights.{may_look}
-use Rattle.office_values.specs.declared.command.Caller.{Caller}
-use Rattle.office_values.specs.declared.command.Query.{Query}
-use Rattle.office_values.specs.declared.command.Query.TheVariants.{Line}
+use Rattle.office_acts.specs.Kinds.{kind_of_query}
+use Rattle.office_acts.specs.Rights.{may_look}
+use Rattle.office_acts.specs.declared.command.Caller.{Caller}
+use Rattle.office_acts.specs.declared.command.Query.{Query}
+use Rattle.office_acts.specs.declared.command.Query.TheVariants.{Line}
 use Rattle.office_values.specs.declared.refusal.Thing.TheVariants as things
 use Rattle.office_values.specs.declared.refusal.Refusal.{Refusal}
 use Rattle.office_values.specs.declared.refusal.Refusal.TheVariants.{Forbidden, NoSuch}
@@ -12,7 +12,7 @@ use Rattle.office_base.specs.Tables.{Tables, line_at}
 use Rattle.office_base.specs.Joined.{pots_of}
 use Rattle.office_base.specs.Rules.{first_of}
 use Rattle.office_base.specs.declared.records.LineRow.{LineRow}
-use Rattle.office_base.specs.declared.records.Pots.{Pots}
+use Rattle.office_base.specs.declared.ledger.Pots.{Pots}
 
 -- what is seen
 pub data Sight : Type 0 where

@@ -1,12 +1,12 @@
 -- The office machine: when a command is refused, and the office after it.
 use Rattle.std.specs.Prelude.{◌≡◌, ℕ, Bool, false, not, List, [], ◌∷◌, Option, None, is_some, max}
-use Rattle.office_values.specs.Identified.{repeats_id}
-use Rattle.office_values.specs.Kinds.{kind_of_command}
-use Rattle.office_values.specs.Lots.{lot_id}
-use Rattle.office_values.specs.Rights.{may}
-use Rattle.office_values.specs.declared.command.Caller.{Caller}
-use Rattle.office_values.specs.declared.command.Command.{Command}
-use Rattle.office_values.specs.declared.command.Command.TheVariants.{Import, Publish}
+use Rattle.office_acts.specs.Identified.{repeats_id}
+use Rattle.office_acts.specs.Kinds.{kind_of_command}
+use Rattle.office_acts.specs.Lots.{lot_id}
+use Rattle.office_acts.specs.Rights.{may}
+use Rattle.office_acts.specs.declared.command.Caller.{Caller}
+use Rattle.office_acts.specs.declared.command.Command.{Command}
+use Rattle.office_acts.specs.declared.command.Command.TheVariants.{Import, Publish}
 use Rattle.office_values.specs.declared.refusal.Refusal.{Refusal}
 use Rattle.office_values.specs.declared.refusal.Refusal.TheVariants.{Forbidden}
 use Rattle.office_base.specs.Tables.{Tables, no_tables, batch_at, notice_at, after_puts}
@@ -14,7 +14,7 @@ use Rattle.office_base.specs.Standings.{standings}
 use Rattle.office_base.specs.Rules.{first_of}
 use Rattle.office_base.specs.Rules.Import.{import_tests, import_puts}
 use Rattle.office_base.specs.Rules.Publish.{publish_tests, publish_puts}
-use Rattle.office_base.specs.declared.records.Put.{Put}
+use Rattle.office_base.specs.declared.puts.Put.{Put}
 
 -- a command's moment is the greater of the moment handed in and the last accepted command's
 abbrev pub time_at : Tables → ℕ → ℕ

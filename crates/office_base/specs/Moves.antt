@@ -1,10 +1,10 @@
 -- What accepted commands move between the pots of budget lines.
 use Rattle.std.specs.Prelude.{◌≡◌, ℕ, ◌+◌, Bool, true, false, cond, ◌&&◌, List, [], ◌∷◌, ◌++◌, map}
 use Rattle.office_values.specs.Ids.{same_id}
-use Rattle.office_values.specs.declared.budget.BudgetRow.{BudgetRow}
-use Rattle.office_values.specs.declared.lot.NewLot.{NewLot}
-use Rattle.office_values.specs.declared.command.Command.{Command}
-use Rattle.office_values.specs.declared.command.Command.TheVariants.{Import, Publish}
+use Rattle.office_acts.specs.declared.budget.BudgetRow.{BudgetRow}
+use Rattle.office_acts.specs.declared.lot.NewLot.{NewLot}
+use Rattle.office_acts.specs.declared.command.Command.{Command}
+use Rattle.office_acts.specs.declared.command.Command.TheVariants.{Import, Publish}
 use Rattle.office_base.specs.Sums.{sum_over}
 use Rattle.office_base.specs.Rules.Import.{is_cut}
 use Rattle.office_base.specs.Machine.{Given}

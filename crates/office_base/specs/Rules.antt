@@ -5,7 +5,7 @@ use Rattle.std.specs.Prelude.{ℕ, ◌≡◌, Bool, cond, List, [], ◌∷◌, O
 use Rattle.std.specs.declared.alloc.Global.{Global}
 use Rattle.office_values.specs.declared.refusal.Refusal.{Refusal}
 use Rattle.office_values.specs.declared.refusal.Refusal.TheVariants.{Unavailable}
-use Rattle.office_base.specs.declared.records.Put.{Put}
+use Rattle.office_base.specs.declared.puts.Put.{Put}
 
 -- the first refusal whose condition holds
 abbrev pub first_of : List (Bool × Refusal) → Option Refusal

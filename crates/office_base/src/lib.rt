@@ -1,19 +1,17 @@
-//! The records of a procurement office, its tables, and what keeps them.
+//! The records of a procurement office, what keeps them, and what they add up to.
 #![tactic(auto)]
 
 pub mod accounts;
-pub mod boxed;
-mod id_bounds;
-mod lot_index;
-pub mod lot_table;
-pub mod memory;
-#[cfg(test)]
-mod notice_tests;
+pub mod counts;
+pub mod examples;
+pub mod json_text;
+mod keys;
+pub mod laws;
+pub mod ledger;
 pub mod pots;
+pub mod puts;
+pub mod reading;
 pub mod records;
+pub mod row;
 pub mod shelf;
 pub mod standing;
-pub mod table;
-pub mod tables;
-#[cfg(test)]
-mod tests;

@@ -1,13 +1,15 @@
-//! The records of an office, and the changes of one record each.
-ghost use Rattle.std.proofs.Common.{rules};
-
-use crate::table::Row;
+//! The records of an office.
+use crate::counts::{AmendmentCount, Quality, ReleaseCount, RowCount, Sequence, TenderLength};
+use crate::json_text::JsonText;
+use crate::reading::Reading;
+use office_acts::amounts::{EntryAmount, Estimate, SecurityAmount};
+use office_acts::item::Items;
+use office_acts::notice::{Standstill, Validity, Weight};
+use office_acts::sealed::SealedBytes;
+use office_values::given::{GivenNumber, LastNumber};
 use office_values::id::Id;
-use office_values::item::Items;
-use office_values::lot::Estimate;
 use office_values::moment::Moment;
 use office_values::money::{Amount, Total};
-use office_values::notice::{Standstill, Validity, Weight};
 use office_values::text::TextLine;
 
 /// A budget line: its appropriation, and how much of it is free.
@@ -24,7 +26,16 @@ pub struct LineRow {
 pub struct BatchRow {
     pub batch: Id,
     pub moment: Moment,
-    pub rows: u64,
+    pub rows: RowCount,
+}
+
+/// A registered tenderer, with the SHA-256 of the tenderer's key.
+#[derive(Clone, Drop)]
+pub struct TendererRow {
+    pub tenderer: Id,
+    pub name: TextLine,
+    pub address: TextLine,
+    pub key: [u8; 32],
 }
 
 /// How far a notice has come.
@@ -48,8 +59,8 @@ pub struct NoticeRow {
     pub weight: Weight,
     pub state: NoticeState,
     pub opened: Option<Moment>,
-    pub amendments: u64,
-    pub releases: u64,
+    pub amendments: AmendmentCount,
+    pub releases: ReleaseCount,
 }
 
 /// How far a lot has come.
@@ -77,78 +88,143 @@ pub struct LotRow {
     pub reserved: Amount,
 }
 
+/// Where a tender is: kept shut, taken back by its tenderer, given back unopened, or opened.
+#[derive(Clone, Copy, Debug, PartialEq, Eq)]
+pub enum EnvelopeState {
+    Sealed,
+    Withdrawn,
+    Returned,
+    Opened,
+}
+
+/// A tender that was received: the length and the SHA-256 of its bytes, and the security that came with it; what its opening read in it,
+/// whether its examination found it responsive and of which quality, and whether its tenderer failed to sign.
+#[derive(Clone, Drop)]
+pub struct EnvelopeRow {
+    pub receipt: GivenNumber,
+    pub notice: Id,
+    pub lot: Id,
+    pub tenderer: Id,
+    pub moment: Moment,
+    pub length: TenderLength,
+    pub digest: [u8; 32],
+    pub security: Option<GivenNumber>,
+    pub state: EnvelopeState,
+    pub reading: Option<Reading>,
+    pub responsive: Option<bool>,
+    pub quality: Option<Quality>,
+    pub failed: bool,
+}
+
+/// The bytes of a tender that is sealed or was opened.
+#[derive(Clone, Drop)]
+pub struct SealRow {
+    pub receipt: GivenNumber,
+    pub bytes: SealedBytes,
+}
+
+/// Where a security is.
+#[derive(Clone, Copy, Debug, PartialEq, Eq)]
+pub enum SecurityState {
+    Held,
+    Returned,
+    Forfeited,
+}
+
+/// A security that came with a tender: its number is that of the receipt that it came with.
+#[derive(Clone, Drop)]
+pub struct SecurityRow {
+    pub security: GivenNumber,
+    pub tenderer: Id,
+    pub notice: Id,
+    pub lot: Id,
+    pub reference: Id,
+    pub amount: SecurityAmount,
+    pub state: SecurityState,
+}
+
+/// How far an award has come.
+#[derive(Clone, Copy, Debug, PartialEq, Eq)]
+pub enum AwardState {
+    Active,
+    Failed,
+    Cancelled,
+    Signed,
+}
+
+/// The award of a lot to a tender, at its corrected price.
+#[derive(Clone, Drop)]
+pub struct AwardRow {
+    pub award: GivenNumber,
+    pub notice: Id,
+    pub lot: Id,
+    pub receipt: GivenNumber,
+    pub price: Amount,
+    pub moment: Moment,
+    pub state: AwardState,
+}
+
+/// How a contract ended.
+#[derive(Clone, Copy, Debug, PartialEq, Eq)]
+pub enum How {
+    Regular,
+    ForDefault,
+}
+
+/// A contract on a lot, whose number is that of its award: what was signed for, and, where it has ended, when, how, and what of it was
+/// released then.
+#[derive(Clone, Drop)]
+pub struct ContractRow {
+    pub contract: GivenNumber,
+    pub notice: Id,
+    pub lot: Id,
+    pub tenderer: Id,
+    pub signed: Total,
+    pub moment: Moment,
+    pub ended: Option<Moment>,
+    pub how: Option<How>,
+    pub released: Total,
+}
+
+/// What an entry does to its contract.
+#[derive(Clone, Copy, Debug, PartialEq, Eq)]
+pub enum EntryKind {
+    Raise,
+    Cut,
+    Payment,
+}
+
+/// An entry of a contract: it was raised, it was cut, or something was paid under it.
+#[derive(Clone, Drop)]
+pub struct EntryRow {
+    pub contract: GivenNumber,
+    pub entry: Id,
+    pub kind: EntryKind,
+    pub amount: EntryAmount,
+    pub moment: Moment,
+    pub rationale: Option<TextLine>,
+}
+
+/// A release of a notice: compact JSON without floats, an object with a text `date` (OCDS 1.1, releases).
+#[derive(Clone, Drop)]
+pub struct ReleaseRow {
+    pub notice: Id,
+    pub seq: Sequence,
+    pub moment: Moment,
+    pub text: JsonText,
+}
+
+/// The merge of a notice's releases without their heads: compact JSON without floats, an object.
+#[derive(Clone, Drop)]
+pub struct CompiledRow {
+    pub notice: Id,
+    pub text: JsonText,
+}
+
 /// The moment of the last accepted command, and the last numbers given to receipts and awards.
 #[derive(Clone, Copy)]
 pub struct ClockRow {
     pub moment: Moment,
-    pub receipts: u64,
-    pub awards: u64,
-}
-
-/// A change of one record: it is added, or replaces the one with its key.
-#[derive(Clone, Drop)]
-pub enum Put {
-    Line(LineRow),
-    Batch(BatchRow),
-    Notice(NoticeRow),
-    Lot(LotRow),
-    Clock(ClockRow),
-}
-
-impl Row for LineRow {
-    type Key = Id;
-
-    ghost key_of = { λ r. r.line };
-
-    ghost clone_same = { λ a b h. Prim.search rules };
-
-    fn key(&self) -> Id {
-        self.line
-    }
-}
-
-impl Row for BatchRow {
-    type Key = Id;
-
-    ghost key_of = { λ r. r.batch };
-
-    ghost clone_same = { λ a b h. Prim.search rules };
-
-    fn key(&self) -> Id {
-        self.batch
-    }
-}
-
-impl Row for NoticeRow {
-    type Key = Id;
-
-    ghost key_of = { λ r. r.notice };
-
-    ghost clone_same = { λ a b h. Prim.search rules };
-
-    fn key(&self) -> Id {
-        self.notice
-    }
-}
-
-impl Row for LotRow {
-    type Key = (Id, Id);
-
-    ghost key_of = { λ r. (r.notice, r.lot) };
-
-    ghost clone_same = { λ a b h. Prim.search rules };
-
-    fn key(&self) -> (Id, Id) {
-        (self.notice, self.lot)
-    }
-}
-
-/// Where the money of a budget line is.
-#[derive(Clone, Copy)]
-pub struct Pots {
-    pub appropriation: Total,
-    pub free: Total,
-    pub reserved: Total,
-    pub contracted: Total,
-    pub paid: Total,
+    pub receipts: LastNumber,
+    pub awards: LastNumber,
 }

@@ -1,11 +1,19 @@
 //! What keeps an office's tables.
 ghost use Rattle.std.specs.Prelude.{◌≡◌};
 ghost use Rattle.office_values.specs.declared.refusal.Refusal.TheVariants.{Unavailable};
-ghost use Rattle.office_base.specs.Tables.{Tables, IsSorted, line_at, batch_at, notice_at, lot_at, lots_of_notice, lots_of_line, after_puts};
-ghost use Rattle.office_base.specs.Joined.{reservations};
-ghost use Rattle.office_base.specs.Shelves.{Meaning, Keeps, LooksUp, Changes};
+ghost use Rattle.office_base.specs.Tables.{Tables, IsSorted};
+ghost use Rattle.office_base.specs.Tables.{line_at, batch_at, tenderer_at, notice_at, lot_at, envelope_at, seal_at, security_at, award_at, contract_at, entry_at, release_at, compiled_at, lots_of_notice, lots_of_line, envelopes_of_notice, securities_of_notice, awards_of_notice, contracts_of_notice, entries_of_contract, releases_of_notice, after_puts};
+ghost use Rattle.office_base.specs.Joined.{reservations, sums_of_line, ledger_of, LinesFit};
+ghost use Rattle.office_base.specs.Shelves.{Meaning, Keeps, LooksUp, AddsUp, Changes};
 
-use crate::records::{BatchRow, ClockRow, LineRow, LotRow, NoticeRow, Put};
+use crate::counts::Sequence;
+use crate::ledger::{ContractSums, LedgerRow};
+use crate::puts::Put;
+use crate::records::{
+    AwardRow, BatchRow, ClockRow, CompiledRow, ContractRow, EntryRow, EnvelopeRow, LineRow, LotRow,
+    NoticeRow, ReleaseRow, SealRow, SecurityRow, TendererRow,
+};
+use office_values::given::AskedNumber;
 use office_values::id::Id;
 use office_values::money::Amount;
 use office_values::refusal::Refusal;
@@ -39,6 +47,10 @@ pub trait Lookups {
     fn get_batch(&mut self, batch: &Id) -> Result<Option<BatchRow>, ShelfFault>
         ensures { LooksUp meaning self.old self.new result (λ t row. row ≡ batch_at batch.now t) };
 
+    /// The tenderer of this identifier.
+    fn get_tenderer(&mut self, tenderer: &Id) -> Result<Option<TendererRow>, ShelfFault>
+        ensures { LooksUp meaning self.old self.new result (λ t row. row ≡ tenderer_at tenderer.now t) };
+
     /// The notice of this identifier.
     fn get_notice(&mut self, notice: &Id) -> Result<Option<NoticeRow>, ShelfFault>
         ensures { LooksUp meaning self.old self.new result (λ t row. row ≡ notice_at notice.now t) };
@@ -46,6 +58,42 @@ pub trait Lookups {
     /// The lot of this notice and this identifier.
     fn get_lot(&mut self, notice: &Id, lot: &Id) -> Result<Option<LotRow>, ShelfFault>
         ensures { LooksUp meaning self.old self.new result (λ t row. row ≡ lot_at (notice.now, lot.now) t) };
+
+    /// The tender of this receipt.
+    fn get_envelope(&mut self, receipt: AskedNumber) -> Result<Option<EnvelopeRow>, ShelfFault>
+        ensures { LooksUp meaning self.old self.new result (λ t row. row ≡ envelope_at receipt t) };
+
+    /// The bytes of the tender of this receipt.
+    fn get_seal(&mut self, receipt: AskedNumber) -> Result<Option<SealRow>, ShelfFault>
+        ensures { LooksUp meaning self.old self.new result (λ t row. row ≡ seal_at receipt t) };
+
+    /// The security of this number.
+    fn get_security(&mut self, security: AskedNumber) -> Result<Option<SecurityRow>, ShelfFault>
+        ensures { LooksUp meaning self.old self.new result (λ t row. row ≡ security_at security t) };
+
+    /// The award of this number.
+    fn get_award(&mut self, award: AskedNumber) -> Result<Option<AwardRow>, ShelfFault>
+        ensures { LooksUp meaning self.old self.new result (λ t row. row ≡ award_at award t) };
+
+    /// The contract of this number.
+    fn get_contract(&mut self, contract: AskedNumber) -> Result<Option<ContractRow>, ShelfFault>
+        ensures { LooksUp meaning self.old self.new result (λ t row. row ≡ contract_at contract t) };
+
+    /// The entry of this contract and this identifier.
+    fn get_entry(
+        &mut self,
+        contract: AskedNumber,
+        entry: &Id,
+    ) -> Result<Option<EntryRow>, ShelfFault>
+        ensures { LooksUp meaning self.old self.new result (λ t row. row ≡ entry_at (contract, entry.now) t) };
+
+    /// The release of this notice at this place.
+    fn get_release(&mut self, notice: &Id, seq: Sequence) -> Result<Option<ReleaseRow>, ShelfFault>
+        ensures { LooksUp meaning self.old self.new result (λ t row. row ≡ release_at (notice.now, seq) t) };
+
+    /// The merge of the releases of this notice, where it is kept.
+    fn get_compiled(&mut self, notice: &Id) -> Result<Option<CompiledRow>, ShelfFault>
+        ensures { LooksUp meaning self.old self.new result (λ t row. row ≡ compiled_at notice.now t) };
 
     /// The clock; moment 0 and no numbers where nothing was accepted yet.
     fn get_clock(&mut self) -> Result<ClockRow, ShelfFault>
@@ -63,9 +111,45 @@ pub trait Lookups {
     fn list_lots_of_line(&mut self, line: &Id) -> Result<Vec<LotRow>, ShelfFault>
         ensures { LooksUp meaning self.old self.new result (λ t rows. rows.items ≡ lots_of_line line.now t) };
 
+    /// The tenders of a notice, in the order of their receipts.
+    fn list_envelopes_of_notice(&mut self, notice: &Id) -> Result<Vec<EnvelopeRow>, ShelfFault>
+        ensures { LooksUp meaning self.old self.new result (λ t rows. rows.items ≡ envelopes_of_notice notice.now t) };
+
+    /// The securities of a notice, in the order of their numbers.
+    fn list_securities_of_notice(&mut self, notice: &Id) -> Result<Vec<SecurityRow>, ShelfFault>
+        ensures { LooksUp meaning self.old self.new result (λ t rows. rows.items ≡ securities_of_notice notice.now t) };
+
+    /// The awards of a notice, in the order of their numbers.
+    fn list_awards_of_notice(&mut self, notice: &Id) -> Result<Vec<AwardRow>, ShelfFault>
+        ensures { LooksUp meaning self.old self.new result (λ t rows. rows.items ≡ awards_of_notice notice.now t) };
+
+    /// The contracts of a notice, in the order of their numbers.
+    fn list_contracts_of_notice(&mut self, notice: &Id) -> Result<Vec<ContractRow>, ShelfFault>
+        ensures { LooksUp meaning self.old self.new result (λ t rows. rows.items ≡ contracts_of_notice notice.now t) };
+
+    /// The entries of a contract, in the order of their identifiers.
+    fn list_entries_of_contract(
+        &mut self,
+        contract: AskedNumber,
+    ) -> Result<Vec<EntryRow>, ShelfFault>
+        ensures { LooksUp meaning self.old self.new result (λ t rows. rows.items ≡ entries_of_contract contract t) };
+
+    /// The releases of a notice, in their sequence.
+    fn list_releases_of_notice(&mut self, notice: &Id) -> Result<Vec<ReleaseRow>, ShelfFault>
+        ensures { LooksUp meaning self.old self.new result (λ t rows. rows.items ≡ releases_of_notice notice.now t) };
+
     /// What each lot of a budget line has reserved, in the order of their notices and identifiers.
     fn list_reservations_of_line(&mut self, line: &Id) -> Result<Vec<Amount>, ShelfFault>
         ensures { LooksUp meaning self.old self.new result (λ t amounts. amounts.items ≡ reservations line.now t) };
+
+    /// What each contract of the lots of a budget line comes to, lot by lot, in the order of their notices, identifiers and numbers.
+    fn list_contract_sums_of_line(&mut self, line: &Id) -> Result<Vec<ContractSums>, ShelfFault>
+        ensures { LooksUp meaning self.old self.new result (λ t sums. sums.items ≡ sums_of_line line.now t) };
+
+    /// The pots of each budget line, in the order of their identifiers. Where a sum over joined rows is out of its range that is a fault
+    /// of the store, and counted as one.
+    fn ledger(&mut self) -> Result<Vec<LedgerRow>, ShelfFault>
+        ensures { AddsUp meaning self.old self.new result (λ t rows. rows.items ≡ ledger_of t) LinesFit };
 
     /// How many calls were answered with a fault: from 0, one more for each, up to 2^64 - 1.
     fn faults(&mut self) -> u64

@@ -9,9 +9,8 @@ use Rattle.office_base.specs.Rows.{row_at}
 use Rattle.office_base.specs.Tables.{Tables, line_key, find_line, put_line, line_at}
 use Rattle.office_base.specs.declared.records.LineRow.{LineRow}
 use Rattle.office_base.proofs.Orders.{equal_from_test}
-use Rattle.office_base.proofs.RowLaws.{row_at-row_put}
-use Rattle.office_base.proofs.PotsFound.{line_is}
-use Rattle.office_desk.specs.Publishing.{IsAsIn, AreFrom, Loads}
+use Rattle.office_base.specs.RowLaws.{RowsAreKept}
+use Rattle.office_desk.specs.Inside.Publishing.{IsAsIn, AreFrom, Loads}
 
 -- no lines are loaded
 pub none_from : (t : Tables) (lines : List LineRow) → lines ≡ [] → AreFrom t lines
@@ -38,12 +37,15 @@ module _ (t : Tables) (lines new : List LineRow) (line : List ℕ) where
     kept = λ q h. h;
   }
 
-  module _ (row : LineRow) (found : line_at line t ≡ Some row) (put : new ≡ put_line lines row) where
+  module _ (laws : RowsAreKept id_cmp line_key) (row : LineRow) (found : line_at line t ≡ Some row) (put : new ≡ put_line lines row) where
+    line_is : row.line ≡ line
+    line_is = sym (exact_bytes line row.line (laws.found_key t.lines line row found))
+
     at : (q : List ℕ) → find_line new q ≡ cond (eq_by_cmp id_cmp q row.line) (Some row) (find_line lines q)
-    at q = ap (λ (ls : List LineRow). find_line ls q) put ∙ row_at-row_put nat_list_cmp_total line_key lines row q
+    at q = ap (λ (ls : List LineRow). find_line ls q) put ∙ laws.found_put lines row q
 
     here_by : (q : List ℕ) → q ≡ row.line → Some row ≡ line_at q t
-    here_by q same = sym found ∙ ap (λ p. line_at p t) (sym (line_is line t row found)) ∙ ap (λ p. line_at p t) (sym same)
+    here_by q same = sym found ∙ ap (λ p. line_at p t) (sym (line_is)) ∙ ap (λ p. line_at p t) (sym same)
 
     at_by : (q : List ℕ) (b : Bool) → eq_by_cmp id_cmp q row.line ≡ b → ((cond b (Some row) (find_line lines q)) ≡ line_at q t) ⊎ (cond b (Some row) (find_line lines q) ≡ find_line lines q)
     at_by q true e = inl (here_by q (exact_bytes q row.line (equal_from_test (id_cmp q row.line) e)))
@@ -65,7 +67,7 @@ module _ (t : Tables) (lines new : List LineRow) (line : List ℕ) where
     ]
 
     own : eq_by_cmp id_cmp line row.line ≡ true
-    own = let same : row.line ≡ line = line_is line t row found in ap (eq_by_cmp id_cmp line) same ∙ ap Rattle.std.specs.Ordering.is_eq (Rattle.office_base.proofs.Orders.same_key nat_list_cmp_total line)
+    own = let same : row.line ≡ line = line_is in ap (eq_by_cmp id_cmp line) same ∙ ap Rattle.std.specs.Ordering.is_eq (Rattle.office_base.proofs.Orders.same_key nat_list_cmp_total line)
 
     -- a line of the office that is added is there as in the office
     pub loads_row : Loads t lines new line
@@ -75,7 +77,7 @@ module _ (t : Tables) (lines new : List LineRow) (line : List ℕ) where
       kept = kept_by;
     }
 
-pub where_added : {E : Type 0} (t : Tables) (lines new : List LineRow) (line : List ℕ) (row : LineRow) → line_at line t ≡ Some row → (result : Result (Unit {0}) E) → OnOk result (new ≡ put_line lines row)
+pub where_added : {E : Type 0} → RowsAreKept id_cmp line_key → (t : Tables) (lines new : List LineRow) (line : List ℕ) (row : LineRow) → line_at line t ≡ Some row → (result : Result (Unit {0}) E) → OnOk result (new ≡ put_line lines row)
     → OnOk result (Loads t lines new line)
-where_added t lines new line row found (Ok u) put = loads_row t lines new line row found put
-where_added t lines new line row found (Err e) put = tt
+where_added laws t lines new line row found (Ok u) put = loads_row t lines new line laws row found put
+where_added laws t lines new line row found (Err e) put = tt

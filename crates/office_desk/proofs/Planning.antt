@@ -4,38 +4,38 @@ use Rattle.std.proofs.Math.Nat.{zero-lt-suc}
 use Rattle.std.proofs.Common.{refl, sym, ap, ◌∙◌, inl, inr, subst}
 use Rattle.std.specs.declared.alloc.Global.{Global}
 use Rattle.std.proofs.lemmas.List.Elements.{All-tail}
-use Rattle.office_values.specs.declared.budget.BudgetRow.{BudgetRow}
+use Rattle.office_acts.specs.declared.budget.BudgetRow.{BudgetRow}
 use Rattle.office_values.specs.declared.refusal.Refusal.{Refusal}
 use Rattle.office_values.specs.declared.refusal.Refusal.TheVariants.{NoSuch, Unavailable}
 use Rattle.office_values.specs.declared.refusal.Thing.TheVariants as things
 use Rattle.std.specs.List.{list_any}
-use Rattle.office_values.specs.Identified.{repeats_id}
-use Rattle.office_values.specs.Lots.{lot_id}
-use Rattle.office_values.specs.declared.lot.NewLot.{NewLot}
-use Rattle.office_values.specs.declared.notice.NewNotice.{NewNotice}
+use Rattle.office_acts.specs.Identified.{repeats_id}
+use Rattle.office_acts.specs.Lots.{lot_id}
+use Rattle.office_acts.specs.declared.lot.NewLot.{NewLot}
+use Rattle.office_acts.specs.declared.notice.NewNotice.{NewNotice}
 use Rattle.office_base.specs.Tables.{Tables, batch_at, notice_at, find_line}
 use Rattle.office_base.specs.Rules.Publish.{wanted, no_line, publish_tests, publish_puts, line_put, lot_put, notice_put}
-use Rattle.office_base.specs.declared.records.Put.TheVariants as puts
-use Rattle.office_desk.specs.Publishing.{IsAsIn, AreAsIn, IsLoaded as IsNoticeLoaded}
+use Rattle.office_base.specs.declared.puts.Put.TheVariants as puts
+use Rattle.office_desk.specs.Inside.Publishing.{IsAsIn, AreAsIn, IsLoaded as IsNoticeLoaded}
 use Rattle.office_desk.specs.declared.publish_load.LoadedNotice.{LoadedNotice}
 use Rattle.office_base.specs.Standings.{find_standing, standings}
 use Rattle.office_base.specs.Rules.{Decides, first_of}
 use Rattle.office_base.specs.Rules.Import.{import_tests, import_puts}
 use Rattle.office_base.specs.Machine.{refusal_of, time_of}
-use Rattle.office_values.specs.declared.command.Caller.{Caller}
-use Rattle.office_values.specs.declared.command.Query.TheVariants as queries
+use Rattle.office_acts.specs.declared.command.Caller.{Caller}
+use Rattle.office_acts.specs.declared.command.Query.TheVariants as queries
 use Rattle.office_base.specs.Tables.{line_at}
 use Rattle.office_base.specs.Joined.{pots_of, free_in}
 use Rattle.office_base.specs.Looking.{LineSeen, line_sight}
 use Rattle.office_base.specs.declared.records.LineRow.{LineRow}
-use Rattle.office_base.specs.declared.records.Pots.{Pots}
-use Rattle.office_base.specs.declared.records.Put.{Put}
+use Rattle.office_base.specs.declared.ledger.Pots.{Pots}
+use Rattle.office_base.specs.declared.puts.Put.{Put}
 use Rattle.office_desk.specs.Replies.{sight_text}
 use Rattle.office_base.specs.declared.standing.Standing.{Standing}
-use Rattle.office_base.proofs.Agreeing.{Agree, tests-agree, puts-agree}
-use Rattle.office_desk.specs.Walks.{AreNamed}
-use Rattle.office_desk.specs.Loaded.{AreFrom}
-use Rattle.office_desk.specs.Loading.{IsLoaded}
+use Rattle.office_base.specs.Rules.Import.{Agree, ImportsAgree}
+use Rattle.office_desk.specs.Inside.Walks.{AreNamed}
+use Rattle.office_desk.specs.Inside.Loaded.{AreFrom}
+use Rattle.office_desk.specs.Inside.Loading.{IsLoaded}
 use Rattle.office_desk.specs.declared.load.Loaded.{Loaded}
 use Rattle.office_desk.specs.Steps.{imports, publishes, reply_of, IsPlan, IsSeen}
 use Rattle.office_desk.specs.Plans.{Plan}
@@ -61,9 +61,9 @@ decided_puts : (guard : Option Refusal) (puts : List Put) (made : Vec Put Global
 decided_puts None puts made h = h.0
 decided_puts (Some w) puts made h = cc
 
-module _ (s : Tables) (moment : ℕ) (batch : List ℕ) (rows : List BudgetRow) (loaded : Loaded) (from : IsLoaded s batch loaded) (named : AreNamed loaded.lines rows) where
+module _ (agree : ImportsAgree) (s : Tables) (moment : ℕ) (batch : List ℕ) (rows : List BudgetRow) (loaded : Loaded) (from : IsLoaded s batch loaded) (named : AreNamed loaded.lines rows) where
   same_tests : import_tests loaded.lines loaded.«exists» rows ≡ import_tests (standings s) (is_some (batch_at batch s)) rows
-  same_tests = tests-agree loaded.lines (standings s) loaded.«exists» rows (agree_loaded s loaded.lines rows from.lines_are named) ∙ ap (λ b. import_tests (standings s) b rows) from.exists_is
+  same_tests = agree.tests loaded.lines (standings s) loaded.«exists» rows (agree_loaded s loaded.lines rows from.lines_are named) ∙ ap (λ b. import_tests (standings s) b rows) from.exists_is
 
   -- its refusal is the machine's
   pub refused : (t : ℕ) (why : Refusal) → Decides (Err why) (first_of (import_tests loaded.lines loaded.«exists» rows)) (import_puts loaded.clock t batch loaded.lines rows)
@@ -82,7 +82,7 @@ module _ (s : Tables) (moment : ℕ) (batch : List ℕ) (rows : List BudgetRow) 
     puts =
         puts
         ∙ decided_puts (first_of (import_tests loaded.lines loaded.«exists» rows)) (import_puts loaded.clock t batch loaded.lines rows) made h
-        ∙ puts-agree loaded.clock t batch loaded.lines (standings s) rows (agree_loaded s loaded.lines rows from.lines_are named)
+        ∙ agree.puts loaded.clock t batch loaded.lines (standings s) rows (agree_loaded s loaded.lines rows from.lines_are named)
         ∙ ap (λ clock. import_puts clock t batch (standings s) rows) from.clock_is
         ∙ ap (λ at. import_puts s.clock at batch (standings s) rows) time;
     reply = reply;

@@ -1,22 +1,30 @@
 -- Rows taken in order.
-use Rattle.std.specs.Prelude.{◌≡◌, ℕ, ◌+◌, ◌-◌, ◌*◌, ◌<◌, ◌≤◌, ◌^◌, Bool, true, false, cond, ◌||◌, List, [], ◌∷◌, Option, Some, None, IsSome, All}
+use Rattle.std.specs.Prelude.{◌≡◌, ℕ, ◌+◌, ◌-◌, ◌*◌, ◌<◌, ◌≤◌, ◌^◌, Bool, true, false, cond, ◌||◌, List, [], ◌∷◌, Option, Some, None, IsSome, is_some, All}
 use Rattle.std.proofs.Common.{refl, sym, ap, ◌∙◌, arith}
 use Rattle.std.specs.List.{AllByRecursion}
 use Rattle.std.specs.Cmp.Lexicographic.{nat_list_cmp_total}
+use Rattle.std.specs.Ordering.{eq_by_cmp}
+use Rattle.office_values.specs.Ids.{id_cmp}
 use Rattle.std.proofs.lemmas.List.Elements.{All-weaker}
-use Rattle.office_values.specs.declared.budget.BudgetRow.{BudgetRow}
+use Rattle.office_acts.specs.declared.budget.BudgetRow.{BudgetRow}
 use Rattle.office_base.specs.Standings.{find_standing, columns_at, standing_key}
 use Rattle.office_base.specs.Rules.Import.{after_row, after_rows, some_row, columns_after, is_cut}
 use Rattle.office_base.specs.declared.standing.Columns.{Columns}
 use Rattle.office_base.specs.declared.standing.Standing.{Standing}
-use Rattle.office_base.proofs.RowLaws.{still_there, all-put, all-found}
-use Rattle.office_desk.specs.Walks.{AreNamed, IsAtMost, AreAtMost}
+use Rattle.office_base.specs.RowLaws.{RowsAreKept}
+use Rattle.office_base.proofs.RowLaws.{all-put, all-found}
+use Rattle.office_desk.specs.Inside.Walks.{AreNamed, IsAtMost, AreAtMost}
+
+there_by : (b : Bool) (s : Standing) (found : Option Standing) → is_some found ≡ true → is_some (cond b (Some s) found) ≡ true
+there_by true s found h = refl
+there_by false s found h = h
 
 -- a row taken leaves the lines named
-pub named_after : (m : List Standing) (row : BudgetRow) (rows : List BudgetRow) → AreNamed m rows → AreNamed (after_row m row) rows
-named_after m row rows named =
+pub named_after : RowsAreKept id_cmp standing_key → (m : List Standing) (row : BudgetRow) (rows : List BudgetRow) → AreNamed m rows → AreNamed (after_row m row) rows
+named_after laws m row rows named =
+    let s : Standing = record { line = row.line; columns = Some (columns_after (columns_at m row.line) row) } in
     All-weaker (λ (r : BudgetRow). IsSome (find_standing m r.line)) (λ (r : BudgetRow). IsSome (find_standing (after_row m row) r.line))
-    (λ r there. still_there nat_list_cmp_total standing_key m (record { line = row.line; columns = Some (columns_after (columns_at m row.line) row) }) r.line there)
+    (λ r there. ap is_some (laws.found_put m s r.line) ∙ there_by (eq_by_cmp id_cmp r.line s.line) s (find_standing m r.line) there)
     rows named
 
 weaker : (n m : ℕ) (o : Option Columns) → n ≤ m → IsAtMost n o → IsAtMost m o

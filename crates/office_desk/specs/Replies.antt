@@ -3,10 +3,10 @@ use Rattle.std.specs.Prelude.{ℕ, List, codes, length}
 use Rattle.serde_json.specs.Data.{Data, number, unsigned, string, object, Members, member, no_members}
 use Rattle.serde_json.specs.Written.{compact_text}
 use Rattle.office_values.specs.Moments.{moment_text}
-use Rattle.office_values.specs.declared.command.Command.{Command}
-use Rattle.office_values.specs.declared.command.Command.TheVariants.{Import, Publish}
+use Rattle.office_acts.specs.declared.command.Command.{Command}
+use Rattle.office_acts.specs.declared.command.Command.TheVariants.{Import, Publish}
 use Rattle.office_base.specs.Looking.{Sight, LineSeen}
-use Rattle.office_base.specs.declared.records.Pots.{Pots}
+use Rattle.office_base.specs.declared.ledger.Pots.{Pots}
 
 -- a member that is a number, before others
 abbrev pub with_number : List ℕ → ℕ → Members → Members

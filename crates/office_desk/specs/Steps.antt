@@ -1,12 +1,12 @@
 -- What a desk answers: the machine's step, or want of memory or of the store.
 use Rattle.std.specs.Prelude.{◌≡◌, ℕ, ◌⊎◌, List, ◌∷◌, Some, None, Result, Ok, Err, Vec}
 use Rattle.std.specs.declared.alloc.Global.{Global}
-use Rattle.office_values.specs.declared.budget.BudgetRow.{BudgetRow}
-use Rattle.office_values.specs.declared.notice.NewNotice.{NewNotice}
-use Rattle.office_values.specs.declared.command.Caller.{Caller}
-use Rattle.office_values.specs.declared.command.Caller.TheVariants.{Clerk}
-use Rattle.office_values.specs.declared.command.Command.TheVariants.{Import, Publish}
-use Rattle.office_values.specs.declared.command.Query.{Query}
+use Rattle.office_acts.specs.declared.budget.BudgetRow.{BudgetRow}
+use Rattle.office_acts.specs.declared.notice.NewNotice.{NewNotice}
+use Rattle.office_acts.specs.declared.command.Caller.{Caller}
+use Rattle.office_acts.specs.declared.command.Caller.TheVariants.{Clerk}
+use Rattle.office_acts.specs.declared.command.Command.TheVariants.{Import, Publish}
+use Rattle.office_acts.specs.declared.command.Query.{Query}
 use Rattle.office_values.specs.declared.refusal.Refusal.{Refusal}
 use Rattle.office_values.specs.declared.refusal.Refusal.TheVariants.{Unavailable}
 use Rattle.office_base.specs.Tables.{Tables}

@@ -5,12 +5,15 @@ ghost use Rattle.office_values.specs.declared.refusal.Refusal.TheVariants.{Unava
 ghost use Rattle.office_base.specs.Standings.{columns_at, find_standing};
 ghost use Rattle.office_base.specs.Rules.{Decides, first_of};
 ghost use Rattle.office_base.specs.Rules.Import.{is_cut, columns_after, after_row, after_rows, some_row, cuts_nothing, cuts_too_much, passes_limit, import_tests, import_puts, line_put, puts_after, appropriation_of, free_of};
-ghost use Rattle.office_desk.specs.Walks.{AreNamed, IsAtMost, AreAtMost};
+ghost use Rattle.office_desk.specs.Inside.Walks.{AreNamed, IsAtMost, AreAtMost};
 
-use office_base::records::{BatchRow, ClockRow, LineRow, Put};
+use office_acts::budget::{BudgetKind, BudgetRow};
+use office_base::counts::RowCount;
+use office_base::laws;
+use office_base::puts::Put;
+use office_base::records::{BatchRow, ClockRow, LineRow};
 use office_base::standing::{Columns, Standing};
-use office_base::table::Table;
-use office_values::budget::{BudgetKind, BudgetRow};
+use office_memory::table::Table;
 use office_values::id::Id;
 use office_values::moment::Moment;
 use office_values::money::{TOTAL_LIMIT, Total};
@@ -127,6 +130,7 @@ fn take_rows(lines: &mut Table<Standing>, rows: &[BudgetRow]) -> Findings
     ensures short { result.short ≡ some_row cuts_too_much lines.old rows.now }
     ensures past { result.past ≡ some_row passes_limit lines.old rows.now }
 {
+    laws::rows_are_kept::<Standing>();
     let mut all = Findings {
         unknown: false,
         short: false,
@@ -164,6 +168,7 @@ fn import_puts(
     after: &Table<Standing>,
     rows: &[BudgetRow],
 ) -> Result<Vec<Put>, Refusal>
+    requires few { length rows.now ≤ 500 }
     ensures puts { IfOk result (λ puts. puts.items ≡ puts_after clock.now t batch after.now rows.now) }
     ensures fault { IfErr result (λ e. e ≡ Unavailable) }
 {
@@ -175,7 +180,7 @@ fn import_puts(
     puts.push(Put::Batch(BatchRow {
         batch,
         moment: t,
-        rows: rows.len() as u64,
+        rows: RowCount::read(rows.len() as u64).unwrap(),
     }))?;
     puts.push(Put::Clock(ClockRow {
         moment: t,

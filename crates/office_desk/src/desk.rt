@@ -1,20 +1,21 @@
 //! The desk.
-ghost use Rattle.std.specs.Prelude.{◌≡◌, ◌⊎◌, IfOk, IfErr, Some, None, Ok, Err, false, List, option_map, IsSome, IsNone};
-ghost use Rattle.office_values.specs.Kinds.{kind_of_command, kind_of_query};
-ghost use Rattle.office_values.specs.Rights.{may, may_look};
+ghost use Rattle.std.specs.Prelude.{◌≡◌, ◌⊎◌, IfOk, IfErr, Some, None, Ok, Err, true, false, List, option_map, IsSome, IsNone};
+ghost use Rattle.office_acts.specs.Kinds.{kind_of_command, kind_of_query};
+ghost use Rattle.office_acts.specs.Rights.{may, may_look};
 ghost use Rattle.office_base.specs.Tables.{Tables, after_puts};
 ghost use Rattle.office_base.specs.Faults.{HasRisen};
 ghost use Rattle.office_base.specs.Shelves.{Looks, Alters};
 ghost use Rattle.office_base.specs.Machine.{Given, Reaches, next};
-ghost use Rattle.office_desk.specs.Callers.{caller_of};
+ghost use Rattle.office_desk.specs.Callers.{caller_of, names_no_tenderer};
 ghost use Rattle.office_desk.specs.Steps.{IsPlan, IsPlanned, IsAnswered, IsSeen, Joins, read_text};
 
 use crate::callers::is_clerk;
 use crate::look::look_at_line;
 use crate::plan::{plan_import, plan_publish};
 use crate::planned::Planned;
+use office_acts::command::{Caller, Command, Query, may, may_look};
+use office_base::accounts;
 use office_base::shelf::{Lookups, Shelf};
-use office_values::command::{Caller, Command, Query, may, may_look};
 use office_values::moment::Moment;
 use office_values::refusal::Refusal;
 use office_values::settings::Settings;
@@ -65,6 +66,8 @@ impl<H: Shelf + Drop> Desk<H> {
         ensures neither { IsNone name.entry → IsNone key.entry → result ≡ Ok Caller.Public }
         ensures no_key { IsSome name.entry → IsNone key.entry → result ≡ Err Refusal.BadKey }
         ensures no_name { IsNone name.entry → IsSome key.entry → result ≡ Err Refusal.BadKey }
+        ensures no_tenderer { names_no_tenderer (option_map (λ x. x.now) name.entry) (option_map (λ x. x.now) key.entry) ≡ true → (s : Tables)
+            → result ≡ caller_of self.old.settings s (option_map (λ x. x.now) name.entry) (option_map (λ x. x.now) key.entry) }
     {
         match name {
             Some(name) => match key {
@@ -118,6 +121,7 @@ impl<H: Shelf + Drop> Desk<H> {
         ensures joins { H.meaning.honest self.new.shelf → (x : Given) → IsPlan x planned → H.meaning.holds self.old.shelf x.before
             → (xs : List Given) → Reaches xs x.before → Joins H.meaning self.new.shelf x (read_text result) xs }
     {
+        accounts::kept();
         let (puts, reply) = planned.into_parts();
         match self.shelf.apply(puts) {
             Ok(()) => Ok(reply),
@@ -139,6 +143,7 @@ impl<H: Shelf + Drop> Desk<H> {
         ensures joins { H.meaning.honest self.new.shelf → (s : Tables) → H.meaning.holds self.old.shelf s → (xs : List Given) → Reaches xs s
             → Joins H.meaning self.new.shelf (record { before = s; moment = moment; caller = caller.now; command = command }) (read_text result) xs }
     {
+        accounts::kept();
         let planned = self.plan(moment, caller, command)?;
         self.commit(planned)
     }

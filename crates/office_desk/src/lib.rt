@@ -1,8 +1,6 @@
 //! The office's desk: it decides commands and looks things up, over any shelf.
 #![tactic(auto)]
 
-#[cfg(test)]
-mod broken_shelf;
 mod callers;
 mod decide;
 pub mod desk;
@@ -12,8 +10,4 @@ mod plan;
 pub mod planned;
 mod publish;
 mod publish_load;
-#[cfg(test)]
-mod publish_tests;
 mod reply;
-#[cfg(test)]
-mod tests;

@@ -3,15 +3,16 @@ ghost use Rattle.std.specs.Prelude.{◌≡◌, OnOk, IfOk, IsSome, option_map};
 ghost use Rattle.office_values.specs.Money.{total_limit};
 ghost use Rattle.office_base.specs.Shelves.{Looks};
 ghost use Rattle.office_base.specs.Standings.{columns_of_row, find_standing};
-ghost use Rattle.office_desk.specs.Walks.{AreNamed, IsAtMost, AreAtMost};
-ghost use Rattle.office_desk.specs.Loaded.{AreFrom, StillThere};
-ghost use Rattle.office_desk.specs.Loading.{IsLoaded};
+ghost use Rattle.office_desk.specs.Inside.Walks.{AreNamed, IsAtMost, AreAtMost};
+ghost use Rattle.office_desk.specs.Inside.Loaded.{AreFrom, StillThere};
+ghost use Rattle.office_desk.specs.Inside.Loading.{IsLoaded};
 
+use office_acts::budget::BudgetRow;
+use office_base::laws;
 use office_base::records::{ClockRow, LineRow};
 use office_base::shelf::{Lookups, ShelfFault};
 use office_base::standing::{Columns, Standing};
-use office_base::table::Table;
-use office_values::budget::BudgetRow;
+use office_memory::table::Table;
 use office_values::id::Id;
 use std::alloc::Global;
 
@@ -44,6 +45,8 @@ fn load_new<H: Lookups>(
     ensures kept { OnOk result (StillThere lines.old lines.new) }
     ensures fit { OnOk result (AreAtMost total_limit lines.old → AreAtMost total_limit lines.new) }
 {
+    laws::rows_are_kept::<Standing>();
+    laws::imports_agree();
     let row = shelf.get_line(line)?;
     match lines.put(standing_of(*line, &row)) {
         Ok(_) => Ok(()),

@@ -1,13 +1,13 @@
 //! Commands planned, over any shelf.
 ghost use Rattle.std.specs.Prelude.{◌≡◌, false};
-ghost use Rattle.office_values.specs.Identified.{repeats_id};
-ghost use Rattle.office_values.specs.Lots.{lot_id};
+ghost use Rattle.office_acts.specs.Identified.{repeats_id};
+ghost use Rattle.office_acts.specs.Lots.{lot_id};
 ghost use Rattle.office_base.specs.Shelves.{Looks};
 ghost use Rattle.office_values.specs.Money.{total_limit};
 ghost use Rattle.office_base.specs.Tables.{Tables};
-ghost use Rattle.office_desk.specs.Walks.{AreNamed, AreAtMost};
-ghost use Rattle.office_desk.specs.Loading.{IsLoaded};
-ghost use Rattle.office_desk.specs.Publishing.{IsLoaded as IsNoticeLoaded};
+ghost use Rattle.office_desk.specs.Inside.Walks.{AreNamed, AreAtMost};
+ghost use Rattle.office_desk.specs.Inside.Loading.{IsLoaded};
+ghost use Rattle.office_desk.specs.Inside.Publishing.{IsLoaded as IsNoticeLoaded};
 ghost use Rattle.office_desk.specs.Steps.{IsPlanned, imports, publishes};
 
 use crate::decide::decide_import;
@@ -16,11 +16,12 @@ use crate::planned::Planned;
 use crate::publish::decide_publish;
 use crate::publish_load::{LoadedNotice, load_notice};
 use crate::reply::{import_reply, publish_reply};
+use office_acts::budget::BudgetRow;
+use office_acts::notice::NewNotice;
+use office_base::laws;
 use office_base::shelf::Lookups;
-use office_values::budget::BudgetRow;
 use office_values::id::Id;
 use office_values::moment::Moment;
-use office_values::notice::NewNotice;
 use office_values::refusal::Refusal;
 use std::alloc::Global;
 
@@ -36,6 +37,7 @@ fn plan_loaded(
     requires fit { AreAtMost total_limit loaded.lines }
     ensures { (s : Tables) → IsLoaded s batch loaded → IsPlanned (imports s moment batch rows.now) result }
 {
+    laws::imports_agree();
     let clock = loaded.clock;
     let t = moment.later(clock.moment);
     match decide_import(alloc, t, &clock, batch, loaded.exists, loaded.lines, rows) {

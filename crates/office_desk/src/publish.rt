@@ -7,13 +7,16 @@ ghost use Rattle.office_base.specs.Joined.{free_in};
 ghost use Rattle.office_base.specs.Rules.{Decides, first_of};
 ghost use Rattle.office_base.specs.Rules.Publish.{wanted, is_on_no_line, is_short, has_too_many_items, publish_tests, publish_puts, line_put, lot_put};
 
-use office_base::records::{ClockRow, LineRow, LotRow, LotState, NoticeRow, NoticeState, Put};
-use office_base::table::Table;
+use office_acts::amounts::amount_of;
+use office_acts::lot::NewLot;
+use office_acts::notice::NewNotice;
+use office_base::counts::{AmendmentCount, ReleaseCount};
+use office_base::puts::Put;
+use office_base::records::{ClockRow, LineRow, LotRow, LotState, NoticeRow, NoticeState};
+use office_memory::table::Table;
 use office_values::id::Id;
-use office_values::lot::{NewLot, amount_of};
 use office_values::moment::Moment;
 use office_values::money::Total;
-use office_values::notice::NewNotice;
 use office_values::refusal::{Refusal, Thing};
 use std::alloc::Global;
 
@@ -187,8 +190,8 @@ fn publish_puts(
         weight: new.criteria.weight(),
         state: NoticeState::Receiving,
         opened: None,
-        amendments: 0,
-        releases: 1,
+        amendments: AmendmentCount::read(0).unwrap(),
+        releases: ReleaseCount::read(1).unwrap(),
     }))?;
     puts.push(Put::Clock(ClockRow {
         moment: t,

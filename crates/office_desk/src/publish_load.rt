@@ -2,13 +2,14 @@
 ghost use Rattle.std.specs.Prelude.{◌≡◌, OnOk, IfOk};
 ghost use Rattle.office_base.specs.Shelves.{Looks};
 ghost use Rattle.office_base.specs.Tables.{put_line};
-ghost use Rattle.office_desk.specs.Publishing.{Loads, AreAsIn, IsLoaded};
+ghost use Rattle.office_desk.specs.Inside.Publishing.{Loads, AreAsIn, IsLoaded};
 
+use office_acts::lot::NewLot;
+use office_base::laws;
 use office_base::records::{ClockRow, LineRow};
 use office_base::shelf::{Lookups, ShelfFault};
-use office_base::table::Table;
+use office_memory::table::Table;
 use office_values::id::Id;
-use office_values::lot::NewLot;
 use std::alloc::Global;
 
 // Adds a line to those that were loaded.
@@ -29,6 +30,7 @@ fn load_new<H: Lookups>(
 ) -> Result<(), ShelfFault>
     ensures looks { Looks H.meaning shelf.old shelf.new (λ t. OnOk result (Loads t lines.old lines.new line.now)) }
 {
+    laws::rows_are_kept::<LineRow>();
     match shelf.get_line(line)? {
         Some(row) => add_line(lines, row),
         None => Ok(()),

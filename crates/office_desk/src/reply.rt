@@ -5,7 +5,7 @@ ghost use Rattle.serde_json.specs.Written.{compact_text};
 ghost use Rattle.office_values.specs.Moments.{moment_text};
 ghost use Rattle.office_desk.specs.Replies.{imported, published, line_seen};
 
-use office_base::records::Pots;
+use office_base::ledger::Pots;
 use office_values::id::Id;
 use office_values::moment::Moment;
 use office_values::text::TextLine;

@@ -1,6 +1,6 @@
 -- From what a request says to its answer: its route, its caller and what is asked.
 use Rattle.std.proofs.Common.{◌≡◌, ℕ, ◌⊎◌, inl, inr, true, false, List, Option, None, Result, Ok, Err, sym, ap, ◌∙◌, subst}
-use Rattle.office_values.specs.declared.command.Caller.{Caller}
+use Rattle.office_acts.specs.declared.command.Caller.{Caller}
 use Rattle.office_values.specs.declared.refusal.Refusal.{Refusal}
 use Rattle.office_values.specs.declared.refusal.Refusal.TheVariants.{Unavailable}
 use Rattle.office_values.specs.declared.settings.Settings.{Settings}

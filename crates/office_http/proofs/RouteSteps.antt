@@ -1,19 +1,17 @@
 -- From what was read of a path to its route.
-use Rattle.std.proofs.Common.{◌≡◌, ℕ, List, Option, Some, None, IfSome, IfNone, refl, ap}
-use Rattle.office_values.specs.Ids.{IsId}
+use Rattle.std.proofs.Common.{◌≡◌, ℕ, List, Option, Some, None, IfSome, refl, sym, ap}
 use Rattle.office_values.specs.Fields.{is_id}
-use Rattle.office_values.proofs.FieldTests.{is_id-true, is_id-false}
-use Rattle.std.specs.Prelude.{if◌then◌else◌, Bool, true, false, option_and_then}
+use Rattle.std.specs.Prelude.{if◌then◌else◌, Bool, true, false, is_some, option_and_then}
 use Rattle.std.specs.Str.{IsUtf8, is_utf8}
 use Rattle.std.proofs.lemmas.Str.{IsUtf8-from_is_utf8, is_utf8-from_IsUtf8}
 use Rattle.office_http.specs.Routing.{endpoint_at, route_with, route_at}
 use Rattle.office_http.specs.declared.route.Endpoint.{Endpoint}
 
 -- an identifier that was read is the one that the tests say
-pub id_read : (text : List ℕ) (read : Option (List ℕ)) → IfSome read (λ id. id ≡ text) → IfSome read (λ id. IsId text) → IfNone read (¬ (IsId text))
+pub id_read : (text : List ℕ) (read : Option (List ℕ)) → IfSome read (λ id. id ≡ text) → is_some read ≡ is_id text
     → read ≡ (if is_id text then Some text else None)
-id_read text None found right none = rw (is_id-false text none) refl
-id_read text (Some id) found right none = rw (is_id-true text right, found) refl
+id_read text None found tested = rw (sym tested) refl
+id_read text (Some id) found tested = rw (sym tested, found) refl
 
 false_unless : (b : Bool) (P : Type 0) → (b ≡ true → P) → ¬ P → b ≡ false
 false_unless true P means none = absurd (none (means refl))

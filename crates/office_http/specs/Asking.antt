@@ -1,10 +1,10 @@
 -- What a request asks of the office, and who asks.
 use Rattle.std.specs.Prelude.{ℕ, Bool, if◌then◌else◌, List, [], ◌∷◌, codes, Option, Some, None, Result, Ok, Err}
-use Rattle.office_values.specs.Rights.{may, may_look}
-use Rattle.office_values.specs.declared.budget.BudgetRow.{BudgetRow}
-use Rattle.office_values.specs.declared.command.Caller.{Caller}
-use Rattle.office_values.specs.declared.command.Command.TheVariants as commands
-use Rattle.office_values.specs.declared.command.Query.TheVariants as queries
+use Rattle.office_acts.specs.Rights.{may, may_look}
+use Rattle.office_acts.specs.declared.budget.BudgetRow.{BudgetRow}
+use Rattle.office_acts.specs.declared.command.Caller.{Caller}
+use Rattle.office_acts.specs.declared.command.Command.TheVariants as commands
+use Rattle.office_acts.specs.declared.command.Query.TheVariants as queries
 use Rattle.office_values.specs.declared.refusal.BadPart.TheVariants.{Row}
 use Rattle.office_values.specs.declared.refusal.Refusal.{Refusal}
 use Rattle.office_values.specs.declared.refusal.Refusal.TheVariants.{BadKey, Forbidden, BadBody}

@@ -1,8 +1,8 @@
 -- What a request means to an office: the first refusal of its route, its caller, the caller's rights and its body, in this order, or what is asked.
 use Rattle.std.specs.Prelude.{ℕ, List, Option, None, Result, Ok, Err}
-use Rattle.office_values.specs.declared.command.Caller.{Caller}
-use Rattle.office_values.specs.declared.command.Command.{Command}
-use Rattle.office_values.specs.declared.command.Query.{Query}
+use Rattle.office_acts.specs.declared.command.Caller.{Caller}
+use Rattle.office_acts.specs.declared.command.Command.{Command}
+use Rattle.office_acts.specs.declared.command.Query.{Query}
 use Rattle.office_values.specs.declared.refusal.Refusal.{Refusal}
 use Rattle.office_values.specs.declared.settings.Settings.{Settings}
 use Rattle.office_base.specs.Tables.{Tables}

@@ -9,8 +9,8 @@ use Rattle.matchit.specs.Router.{RouteOf, route_from}
 use Rattle.matchit.specs.Seek.{first}
 use Rattle.matchit.specs.declared.error.InsertError.{InsertError}
 use Rattle.office_values.specs.Fields.{is_id}
-use Rattle.office_values.specs.declared.command.CommandKind.TheVariants as commands
-use Rattle.office_values.specs.declared.command.QueryKind.TheVariants as queries
+use Rattle.office_acts.specs.declared.command.CommandKind.TheVariants as commands
+use Rattle.office_acts.specs.declared.command.QueryKind.TheVariants as queries
 use Rattle.office_values.specs.declared.refusal.Refusal.{Refusal}
 use Rattle.office_values.specs.declared.refusal.Refusal.TheVariants.{NoRoute, WrongMethod}
 use Rattle.office_http.specs.Paths.{path_of, segment}

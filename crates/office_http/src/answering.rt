@@ -14,12 +14,13 @@ use crate::response::{
     accepted_response, bad_head, coding, refusal_response, too_long, unavailable,
 };
 use crate::routes::Routes;
+use office_acts::command::{Caller, Command, Query};
 use office_base::shelf::{Lookups, Shelf};
 use office_desk::desk::Desk;
-use office_values::command::{Caller, Command, Query};
 use office_values::moment::Moment;
 use office_values::refusal::Refusal;
 use office_wire::answer::Answer;
+use office_wire::counted::CountedReader;
 use office_wire::fault::ReadFault;
 use office_wire::request::{Request, read_request};
 use std::alloc::Global;
@@ -161,9 +162,8 @@ pub fn answer<H: Shelf + Drop>(
     ensures answered { AnswersRequest H.meaning desk.old.settings desk.old.shelf desk.new.shelf moment bytes.now result
         ⊎ RefusesBytes H.meaning desk.old.shelf desk.new.shelf bytes.now result }
 {
-    let mut reader = bytes;
-    let mut left = u32::MAX;
-    match read_request(alloc, &mut reader, &mut left) {
+    let mut reader = CountedReader::new(bytes);
+    match read_request(alloc, &mut reader) {
         Ok(request) => answer_request(alloc, routes, desk, moment, &request),
         Err(fault) => Answer::constant(fault_response(fault)),
     }

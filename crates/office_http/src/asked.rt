@@ -1,5 +1,5 @@
 //! What a request asks, and who asks.
-ghost use Rattle.std.specs.Prelude.{◌≡◌, ◌⊎◌, false, codes, IfOk, IfErr, Ok, Err, option_map};
+ghost use Rattle.std.specs.Prelude.{◌≡◌, ◌≤◌, ◌⊎◌, false, length, codes, IfOk, IfErr, Ok, Err, option_map};
 ghost use Rattle.office_values.specs.declared.refusal.Refusal.TheVariants.{Forbidden, Unavailable};
 ghost use Rattle.office_wire.specs.Fields.{values_of};
 ghost use Rattle.tender_papers.specs.Budget.{budget_of};
@@ -8,7 +8,7 @@ ghost use Rattle.office_http.specs.Routing.{endpoint_of};
 ghost use Rattle.office_http.specs.Asking.{asked, credentials_of, import_of, may_ask, one_value, read_body};
 
 use crate::route::{Endpoint, Route};
-use office_values::command::{Caller, Command, Query, may, may_look};
+use office_acts::command::{Caller, Command, Query, may, may_look};
 use office_values::id::Id;
 use office_values::refusal::{BadPart, Refusal};
 use office_wire::fields::FieldValue;
@@ -67,12 +67,9 @@ fn may_ask(caller: &Caller, endpoint: Endpoint) -> bool
 
 // The import of the budget file that a body is.
 fn import_of(alloc: Global, batch: Id, body: &[u8]) -> Result<Asked, Refusal>
+    requires { length body.now ≤ 65536 }
     ensures { (result ≡ import_of batch (budget_of (csv_records body.now))) ⊎ (result ≡ Err Unavailable) }
 {
-    // No request that was read has so long a body.
-    if body.len() > u32::MAX as usize {
-        return Err(Refusal::Unavailable);
-    }
     match read_budget(alloc, body) {
         Ok(rows) => Ok(Asked::Does(Command::Import { batch, rows })),
         Err(BudgetFault::BadRow(number)) => Err(Refusal::BadBody(BadPart::Row(number))),

@@ -4,8 +4,6 @@
 pub mod answering;
 pub mod asked;
 pub mod office;
-#[cfg(test)]
-mod office_tests;
 mod path;
 pub mod reply;
 #[cfg(test)]
@@ -15,5 +13,3 @@ pub mod response;
 mod response_tests;
 pub mod route;
 pub mod routes;
-#[cfg(test)]
-mod row_tests;

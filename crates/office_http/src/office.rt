@@ -1,6 +1,7 @@
 //! An office that is asked over HTTP.
-ghost use Rattle.std.specs.Prelude.{◌≡◌, ℕ, List, Some, IfOk};
+ghost use Rattle.std.specs.Prelude.{◌≡◌, ◌≤◌, ℕ, List, true, Some, IfOk, IsErrOf, OnOk};
 ghost use Rattle.office_base.specs.Tables.{Tables};
+ghost use Rattle.office_wire.specs.Counting.{HasStopped};
 ghost use Rattle.office_wire.specs.Runs.{Step, Ran, Served, office_left};
 ghost use Rattle.office_http.specs.Answering.{Held, IsHeld, held_by, office_answers};
 
@@ -10,12 +11,14 @@ use office_base::shelf::{Lookups, Shelf};
 use office_desk::desk::Desk;
 use office_values::moment::Moment;
 use office_wire::answer::Answer;
+use office_wire::counted::CountedReader;
 use office_wire::fault::{ReadFault, RunFault};
 use office_wire::request::Request;
 use office_wire::runs;
 use office_wire::runs::Responder;
+use office_wire::watched::WatchedWriter;
 use std::alloc::{AllocError, Global};
-use std::io::{Read, Write};
+use std::io::{BufRead, Write};
 use std::marker::Model;
 
 /// An office that is asked over HTTP: its desk, and the table of its routes.
@@ -71,36 +74,46 @@ impl<H: Shelf + Drop> Responder for Office<H> {
 }
 
 /// Answers each block of the input in turn: a line `at MOMENT` and a request. Answers how many there were, where the input ends behind a
-/// block. The responses are flushed once, at the end. At most 4,294,967,295 reads are made.
-pub fn run<H: Shelf + Drop, R: Read, W: Write>(
+/// block. The responses are flushed once, at the end. `Read` is answered where a read failed or no more may be made, `Write` where a write
+/// or the flush failed.
+pub fn run<H: Shelf + Drop, R: BufRead, W: Write>(
     alloc: Global,
     office: &mut Office<H>,
-    reader: &mut R,
-    writer: &mut W,
+    reader: &mut CountedReader<R>,
+    writer: &mut WatchedWriter<W>,
 ) -> Result<u64, RunFault>
     ensures before { H.meaning.honest office.new.shelf → H.meaning.honest office.old.shelf }
-    ensures ran { H.meaning.honest office.new.shelf → (input : List ℕ) → R.remaining reader.old ≡ Some input → (s : Tables) → H.meaning.holds office.old.shelf s
+    ensures ran { H.meaning.honest office.new.shelf → (input : List ℕ) → reader.old.remaining ≡ Some input → (s : Tables) → H.meaning.holds office.old.shelf s
         → (steps : List Step)
-        × Ran office_answers result input (R.remaining reader.new) (held_by office.old s) steps (W.contents writer.old) (W.contents writer.new)
+        × Ran office_answers result input reader.new.remaining (held_by office.old s) steps writer.old.contents writer.new.contents
         × IsHeld H.meaning office.new (office_left office_answers (held_by office.old s) steps) }
+    ensures cause { IsErrOf result RunFault.Read → HasStopped reader.new }
+    ensures writes { IsErrOf result RunFault.Write → writer.new.has_failed ≡ true }
+    ensures all_read { OnOk result (reader.new.has_failed ≡ reader.old.has_failed) }
+    ensures all_written { OnOk result (writer.new.has_failed ≡ writer.old.has_failed) }
+    ensures spent { reader.new.left ≤ reader.old.left }
 {
     runs::run(alloc, office, reader, writer)
 }
 
-/// Reads one request, and sends and flushes the response to it, at the moment handed in. The only faults are `Read` and `Write`. At
-/// most 4,294,967,295 reads are made.
-pub fn serve_one<H: Shelf + Drop, R: Read, W: Write>(
+/// Reads one request, and sends and flushes the response to it, at the moment handed in. The only faults are `Read`, where a read failed
+/// or no more may be made, and `Write`, where a write or the flush failed.
+pub fn serve_one<H: Shelf + Drop, R: BufRead, W: Write>(
     alloc: Global,
     office: &mut Office<H>,
     moment: Moment,
-    reader: &mut R,
-    writer: &mut W,
+    reader: &mut CountedReader<R>,
+    writer: &mut WatchedWriter<W>,
 ) -> Result<(), RunFault>
     ensures before { H.meaning.honest office.new.shelf → H.meaning.honest office.old.shelf }
-    ensures served { H.meaning.honest office.new.shelf → (input : List ℕ) → R.remaining reader.old ≡ Some input → (s : Tables) → H.meaning.holds office.old.shelf s
+    ensures served { H.meaning.honest office.new.shelf → (input : List ℕ) → reader.old.remaining ≡ Some input → (s : Tables) → H.meaning.holds office.old.shelf s
         → (h : Held)
-        × Served office_answers result input (R.remaining reader.new) moment (held_by office.old s) h (W.contents writer.old) (W.contents writer.new)
+        × Served office_answers result input reader.new.remaining moment (held_by office.old s) h writer.old.contents writer.new.contents
         × IsHeld H.meaning office.new h }
+    ensures cause { IsErrOf result RunFault.Read → HasStopped reader.new }
+    ensures writes { IsErrOf result RunFault.Write → writer.new.has_failed ≡ true }
+    ensures all_written { OnOk result (writer.new.has_failed ≡ writer.old.has_failed) }
+    ensures spent { reader.new.left ≤ reader.old.left }
 {
     runs::serve_one(alloc, office, moment, reader, writer)
 }

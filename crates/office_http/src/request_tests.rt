@@ -3,18 +3,18 @@ use crate::asked::{Asked, command_of, credentials_of};
 use crate::reply::Allow;
 use crate::route::Route;
 use crate::routes::Routes;
-use office_values::command::{Caller, Command, Query};
+use office_acts::command::{Caller, Command, Query};
 use office_values::id::Id;
 use office_values::refusal::{BadPart, Refusal};
+use office_wire::counted::CountedReader;
 use office_wire::request::{Request, read_request};
 use std::alloc::Global;
 use std::test::Fail;
 
 // The request that stands at the front of these bytes.
 fn request_of(alloc: Global, bytes: &[u8]) -> Result<Request, Fail> {
-    let mut reader = bytes;
-    let mut left = u32::MAX;
-    Ok(read_request(alloc, &mut reader, &mut left)?)
+    let mut reader = CountedReader::new(bytes);
+    Ok(read_request(alloc, &mut reader)?)
 }
 
 // The request of this method and target.

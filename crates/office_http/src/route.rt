@@ -3,7 +3,7 @@ ghost use Rattle.std.specs.Prelude.{◌≡◌};
 ghost use Rattle.office_http.specs.Routing.{endpoint_of, method_of, method_name};
 
 use crate::reply::Allow;
-use office_values::command::{CommandKind, QueryKind};
+use office_acts::command::{CommandKind, QueryKind};
 use office_values::id::Id;
 
 /// What is asked at a path.

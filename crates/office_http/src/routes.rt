@@ -7,7 +7,7 @@ use crate::path::{before, segment};
 use crate::reply::Allow;
 use crate::route::{Endpoint, Route};
 use matchit::Router;
-use office_values::command::{CommandKind, QueryKind};
+use office_acts::command::{CommandKind, QueryKind};
 use office_values::id::Id;
 use office_values::refusal::Refusal;
 use office_wire::request::Request;

@@ -13,7 +13,7 @@ use Rattle.httparse.specs.Grammar.{is_token_byte, is_uri_byte, EndsInTarget, Req
 use Rattle.httparse.specs.Spans.{RequestExceeds, IsRequestOf}
 use Rattle.httparse.specs.declared.spans.HeaderSpan.{HeaderSpan}
 use Rattle.httparse.specs.declared.spans.RequestSpans.{RequestSpans}
-use Rattle.office_wire.specs.HeadBytes.{spans_view}
+use Rattle.office_wire.specs.Inside.HeadBytes.{spans_view}
 use Rattle.httparse.proofs.GrammarLemmas.{ReadsRequest-append, print_request-append}
 use Rattle.office_wire.specs.Head.{skip_empty, first_line_ends, StandsHead, IsLongHead, IsBadHead, view_of}
 
@@ -155,6 +155,13 @@ pub no_line_feed : (buf : List ℕ) (b : ℕ) → b ≢ 10 → (front : List ℕ
 no_line_feed buf b other front lf e = other (same_from_push buf (front ++ 10 ∷ []) b 10 (e ∙ sym (append_assoc front (10 ∷ []) (10 ∷ [])))).1
 no_line_feed buf b other front crlf e = other (same_from_push buf (front ++ 10 ∷ 13 ∷ []) b 10 (e ∙ sym (append_assoc front (10 ∷ 13 ∷ []) (10 ∷ [])))).1
 
+-- bytes that are no line feeds end no line
+pub no_head_quiet : (buf more : List ℕ) → All (λ b. b ≢ 10) more → HasNoRequest buf → HasNoRequest (buf ++ more)
+no_head_quiet buf [] quiet none = subst HasNoRequest (sym (append-nil buf)) none
+no_head_quiet buf (b ∷ more) quiet none =
+    let next = no_head_push buf b none (no_line_feed buf b (All-head (λ c. c ≢ 10) b more quiet)) in
+    subst HasNoRequest (append_assoc buf (b ∷ []) more) (no_head_quiet (buf ++ b ∷ []) more (All-tail (λ c. c ≢ 10) b more quiet) next)
+
 -- empty lines alone are no head
 pub no_head_blank : (bytes : List ℕ) → skip_empty bytes ≡ [] → HasNoRequest bytes
 no_head_blank bytes blank h rest r = by h.method r.0.method.0 r.0.method.1 (sym (ap skip_empty (r.1 ∙ print_request-append h rest) ∙ skip_blank h.blank (h.method ++ 32 ∷ tail)) ∙ blank)
@@ -196,11 +203,13 @@ skip_append (a ∷ b ∷ rest) ys = by (a == 10) ((a == 13) && (b == 10)) refl r
     by false false e f one two = rw (e, f) refl
 
 -- the empty lines at the front reach as far as both parts have no other line
-pub blank_on : (bytes : List ℕ) (b at : ℕ) → at ≤ length bytes → skip_empty (take at bytes) ≡ [] → skip_empty (drop at (bytes ++ b ∷ [])) ≡ [] → skip_empty (bytes ++ b ∷ []) ≡ []
-blank_on bytes b at within before behind =
-    let all = bytes ++ b ∷ [] in
-    let front : skip_empty (take at all) ≡ [] = ap skip_empty (take-append-le at bytes (b ∷ []) within) ∙ before in
-    ap skip_empty (sym (take-append-drop at all)) ∙ (skip_append (take at all) (drop at all) ∙ (ap (λ (t : List ℕ). skip_empty (t ++ drop at all)) front ∙ behind))
+pub blank_on : (bytes : List ℕ) (at : ℕ) → skip_empty (take at bytes) ≡ [] → skip_empty (drop at bytes) ≡ [] → skip_empty bytes ≡ []
+blank_on bytes at before behind =
+    ap skip_empty (sym (take-append-drop at bytes)) ∙ (skip_append (take at bytes) (drop at bytes) ∙ (ap (λ (t : List ℕ). skip_empty (t ++ drop at bytes)) before ∙ behind))
+
+-- a front of known empty lines stays one where bytes come behind
+pub blank_stays : (bytes more : List ℕ) (at : ℕ) → at ≤ length bytes → skip_empty (take at bytes) ≡ [] → skip_empty (take at (bytes ++ more)) ≡ []
+blank_stays bytes more at within before = ap skip_empty (take-append-le at bytes more within) ∙ before
 
 -- ---- the room for fields
 
@@ -314,7 +323,7 @@ pub record Stands (bytes : List ℕ) (headers : List HeaderSpan) (spans : Reques
   pub stands : StandsHead (bytes ++ rest) head rest
   pub view : spans_view bytes (take spans.headers headers) spans ≡ view_of head
 
-pub whole_stands : (buf : List ℕ) (b : ℕ) (rest : List ℕ) (headers : List HeaderSpan) (spans : RequestSpans) → HasNoRequest buf → length (buf ++ b ∷ []) ≤ 8192 → IsRequestOf (buf ++ b ∷ []) headers spans → Stands (buf ++ b ∷ []) headers spans rest
+whole_stands : (buf : List ℕ) (b : ℕ) (rest : List ℕ) (headers : List HeaderSpan) (spans : RequestSpans) → HasNoRequest buf → length (buf ++ b ∷ []) ≤ 8192 → IsRequestOf (buf ++ b ∷ []) headers spans → Stands (buf ++ b ∷ []) headers spans rest
 whole_stands buf b rest headers spans none short (h, at) =
     let ends = whole_head buf b h (drop spans.len (buf ++ b ∷ [])) none at.reads in
     let reads : ReadsRequest (buf ++ b ∷ []) h [] = subst (λ t. ReadsRequest (buf ++ b ∷ []) h t) ends at.reads in
@@ -325,6 +334,11 @@ whole_stands buf b rest headers spans none short (h, at) =
       stands = record { reads = ReadsRequest-append (buf ++ b ∷ []) h [] rest reads; short = omega arith };
       view = rw (at.method, at.path, at.fields) refl;
     }
+
+-- the same of bytes that are known to end so
+pub stands_now : (bytes buf : List ℕ) (b : ℕ) (rest : List ℕ) (headers : List HeaderSpan) (spans : RequestSpans) → bytes ≡ buf ++ b ∷ [] → HasNoRequest buf → length bytes ≤ 8192 → IsRequestOf bytes headers spans → Stands bytes headers spans rest
+stands_now bytes buf b rest headers spans e none short of =
+    subst (λ (t : List ℕ). Stands t headers spans rest) (sym e) (whole_stands buf b rest headers spans none (subst (λ (t : List ℕ). length t ≤ 8192) e short) (subst (λ (t : List ℕ). IsRequestOf t headers spans) e of))
 
 pub no_head_now : (bytes : List ℕ) → NeverHasRequest bytes → HasNoRequest bytes
 no_head_now bytes never = subst HasNoRequest (append-nil bytes) (never [])

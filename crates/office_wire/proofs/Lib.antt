@@ -1,3 +1,4 @@
+pub mod CountLemmas
 pub mod FieldLemmas
 pub mod HeadLemmas
 pub mod ReadLemmas

@@ -1,4 +1,4 @@
-use Rattle.std.proofs.Common.{◌≡◌, ℕ, ◌<◌, ◌⊎◌, inl, inr, List, [], ◌++◌, length, take, drop, Option, Some, None, Result, Ok, Err, refl, sym, ap, arith, ◌∙◌, length-append}
+use Rattle.std.proofs.Common.{◌≡◌, ℕ, ◌<◌, ◌⊎◌, inl, inr, List, [], ◌++◌, length, take, drop, Option, Some, None, Result, Ok, Err, refl, sym, ap, subst, arith, ◌∙◌, length-append}
 use Rattle.std.specs.Prelude.{IsTrue}
 use Rattle.std.proofs.lemmas.List.{take_at, drop_at}
 use Rattle.std.specs.Io.KnownBytes.{Consumes, IsAtEnd}
@@ -6,7 +6,8 @@ use Rattle.httparse.specs.Grammar.{RequestHead, print_request, HasNoRequest}
 use Rattle.httparse.proofs.GrammarLemmas.{request_unique}
 use Rattle.office_wire.specs.Head.{HeadView, StandsHead, HasNoHead, view_of, IsBadHead, IsLongHead}
 use Rattle.office_wire.specs.Fields.{framing_of}
-use Rattle.office_wire.specs.Request.{RequestView, IsRequest, HasNoWhole, IsCutBody, IsMisframed, IsRefused, is_shown, HasOneMeaning}
+use Rattle.office_wire.specs.Request.{RequestView, IsRequest, HasNoWhole, IsCutBody, IsMisframed, IsRefused, is_shown, HasOneMeaning, IsPastHead, StandsAfter}
+use Rattle.office_wire.specs.Reading.{IsFrontRead, LeavesHead}
 use Rattle.office_wire.specs.declared.fault.ReadFault.{ReadFault}
 use Rattle.office_wire.specs.declared.fault.ReadFault.TheVariants as fault
 use Rattle.office_wire.proofs.HeadLemmas as heads
@@ -87,6 +88,27 @@ misframed_refused input fault.TooLong x = inr x
 misframed_refused input fault.Coding x = x
 misframed_refused input fault.Unavailable x = tt
 misframed_refused input fault.Read x = tt
+
+-- ---- where the reader stands then
+
+pub past_head_stands : (input : List ℕ) (now : Option (List ℕ)) (e : ReadFault) → IsPastHead input now e → StandsAfter input now e
+past_head_stands input now fault.BadHead x = inl x
+past_head_stands input now fault.TooLong x = inl x
+past_head_stands input now fault.Coding x = x
+past_head_stands input now fault.Unavailable x = record { part = print_request x.misframed.head; rest = x.misframed.after; now_is = x.now_is; parts = x.misframed.stands.reads.1 }
+past_head_stands input now fault.Read x = tt
+
+pub head_stands : (input : List ℕ) (now : Option (List ℕ)) (e : ReadFault) → (e ≡ fault.BadHead → IsBadHead input) → (e ≡ fault.TooLong → IsLongHead input) → LeavesHead input now e → StandsAfter input now e
+head_stands input now fault.BadHead bad long (inl x) = inr (inr (record { now_is = x.0; ended = inr ((bad refl).none, x.1) }))
+head_stands input now fault.BadHead bad long (inr x) = inr (inl x)
+head_stands input now fault.TooLong bad long x = inr (long refl, x)
+head_stands input now fault.Coding bad long x = absurd x
+head_stands input now fault.Unavailable bad long x = x
+head_stands input now fault.Read bad long x = tt
+
+pub body_stands : (input : List ℕ) (now : Option (List ℕ)) (e : ReadFault) → (e ≡ fault.Unavailable) ⊎ (e ≡ fault.Read) → (e ≡ fault.Unavailable → IsFrontRead input now) → StandsAfter input now e
+body_stands input now e (inl is) front = subst (StandsAfter input now) (sym is) (front is)
+body_stands input now e (inr is) front = subst (StandsAfter input now) (sym is) tt
 
 -- ---- an input has one meaning
 

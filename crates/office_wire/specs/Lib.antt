@@ -1,9 +1,10 @@
 pub mod Blocks
+pub mod Counting
 pub mod Fields
 pub mod Head
-pub mod HeadBytes
 pub mod Reading
 pub mod Request
 pub mod Responders
 pub mod Runs
 pub mod Sending
+pub mod Inside

@@ -1,15 +1,24 @@
 -- What reads give of the bytes that a reader has left, where these are known.
-use Rattle.std.specs.Prelude.{◌≡◌, ℕ, ◌<◌, List, [], ◌∷◌, ◌++◌, length, Option, Some, None, ⊤}
+use Rattle.std.specs.Prelude.{◌≡◌, ◌≢◌, ℕ, ◌<◌, ◌≤◌, ◌⊎◌, true, List, [], ◌∷◌, ◌++◌, length, drop, All, Option, Some, None, ⊤}
 use Rattle.std.specs.Io.KnownBytes.{Consumes}
-use Rattle.httparse.specs.Grammar.{RequestHead, HasNoRequest}
-use Rattle.office_wire.specs.Head.{HeadView, StandsHead, view_of}
+use Rattle.httparse.specs.Grammar.{RequestHead, HasNoRequest, NeverHasRequest}
+use Rattle.office_wire.specs.Head.{HeadView, StandsHead, first_line_ends, view_of}
+use Rattle.office_wire.specs.declared.fault.ReadFault.{ReadFault}
+use Rattle.office_wire.specs.declared.fault.ReadFault.TheVariants as fault
 
--- a byte is the next one; none says that the input is at its end
-abbrev pub GivesByte : Option (List ℕ) → Option (List ℕ) → Option ℕ → Type 0
-GivesByte None new given = ⊤
-GivesByte (Some old) None given = ⊥
-GivesByte (Some old) (Some new) None = (old ≡ []) × (new ≡ [])
-GivesByte (Some old) (Some new) (Some b) = old ≡ b ∷ new
+-- bytes were read on, up to 8,192 in all, and only the last of them may be a line feed
+pub record ReadsOn (old new : Option (List ℕ)) (before after : List ℕ) : Type 0 where
+  pub front : List ℕ
+  pub last : ℕ
+  pub appended : after ≡ (before ++ front) ++ last ∷ []
+  pub quiet : All (λ b. b ≢ 10) front
+  pub taken : Consumes old new (front ++ last ∷ [])
+  pub short : length after ≤ 8192
+
+-- known bytes have come to their end
+abbrev pub IsOver : Option (List ℕ) → Option (List ℕ) → Type 0
+IsOver None new = ⊤
+IsOver (Some old) new = (old ≡ []) × (new ≡ Some [])
 
 -- fewer than len bytes were read
 abbrev pub GivesPart : Option (List ℕ) → Option (List ℕ) → ℕ → Type 0
@@ -31,10 +40,36 @@ pub record IsCutHead (input : List ℕ) (now : Option (List ℕ)) : Type 0 where
   pub parts : input ≡ part ++ rest
   pub none : HasNoRequest part
 
+-- a front of at most 8,192 bytes was read, whose first line has ended, and which the grammar refuses whatever follows it
+pub record IsPastBad (input : List ℕ) (now : Option (List ℕ)) : Type 0 where
+  pub part : List ℕ
+  pub rest : List ℕ
+  pub now_is : now ≡ Some rest
+  pub parts : input ≡ part ++ rest
+  pub short : length part ≤ 8192
+  pub ended : first_line_ends part ≡ true
+  pub never : NeverHasRequest part
+
+-- some front was read
+pub record IsFrontRead (input : List ℕ) (now : Option (List ℕ)) : Type 0 where
+  pub part : List ℕ
+  pub rest : List ℕ
+  pub now_is : now ≡ Some rest
+  pub parts : input ≡ part ++ rest
+
+-- where the reader stands behind a head that is refused: at the end of an input of fewer than 8,192 bytes, or behind a bad front;
+-- behind 8,192 bytes of one that is too long
+abbrev pub LeavesHead : List ℕ → Option (List ℕ) → ReadFault → Type 0
+LeavesHead input now fault.BadHead = ((now ≡ Some []) × (length input < 8192)) ⊎ IsPastBad input now
+LeavesHead input now fault.TooLong = now ≡ Some (drop 8192 input)
+LeavesHead input now fault.Coding = ⊥
+LeavesHead input now fault.Unavailable = IsFrontRead input now
+LeavesHead input now fault.Read = ⊤
+
 -- a body of len bytes was read, or the input ends before
 abbrev pub BodyRead : List ℕ → Option (List ℕ) → ℕ → Option (List ℕ) → Type 0
 BodyRead input now len (Some body) = (rest : List ℕ) × (now ≡ Some rest) × (length body ≡ len) × (input ≡ body ++ rest)
-BodyRead input now len None = length input < len
+BodyRead input now len None = (length input < len) × (now ≡ Some [])
 
 -- fewer than len bytes were read
 pub record IsCutShort (input : List ℕ) (now : Option (List ℕ)) (len : ℕ) : Type 0 where

@@ -1,8 +1,9 @@
 -- What one request at the front of an input is, and why there is none.
-use Rattle.std.specs.Prelude.{◌≡◌, ℕ, ◌<◌, ◌⊎◌, Bool, true, false, IsTrue, List, length, ◌++◌, Option, Some, Ok, Err, ⊤}
+use Rattle.std.specs.Prelude.{◌≡◌, ℕ, ◌<◌, ◌⊎◌, Bool, true, false, IsTrue, List, [], length, drop, ◌++◌, Option, Some, Ok, Err, ⊤}
 use Rattle.httparse.specs.Grammar.{RequestHead}
-use Rattle.office_wire.specs.Head.{StandsHead, IsLongHead, IsBadHead, HeadView, view_of}
+use Rattle.office_wire.specs.Head.{StandsHead, HasNoHead, IsLongHead, IsBadHead, HeadView, view_of}
 use Rattle.office_wire.specs.Fields.{framing_of}
+use Rattle.office_wire.specs.Reading.{IsPastBad, IsFrontRead}
 use Rattle.office_wire.specs.declared.fault.ReadFault.{ReadFault}
 use Rattle.office_wire.specs.declared.fault.ReadFault.TheVariants as fault
 
@@ -47,6 +48,25 @@ IsRefused input fault.TooLong = IsLongHead input ⊎ IsMisframed input fault.Too
 IsRefused input fault.Coding = IsMisframed input fault.Coding
 IsRefused input fault.Unavailable = ⊤
 IsRefused input fault.Read = ⊤
+
+-- a head stands there whose fields are refused with this fault, and what follows it is left
+pub record IsPastHead (input : List ℕ) (now : Option (List ℕ)) (why : ReadFault) : Type 0 where
+  pub misframed : IsMisframed input why
+  pub now_is : now ≡ Some misframed.after
+
+-- all of the input was read, which ends inside a body, or within 8,192 bytes and holds no head
+pub record IsPastEnd (input : List ℕ) (now : Option (List ℕ)) : Type 0 where
+  pub now_is : now ≡ Some []
+  pub ended : IsCutBody input ⊎ (HasNoHead input × (length input < 8192))
+
+-- where the reader stands behind a refusal: behind the head where a whole one was read, behind 8,192 bytes where no head ends in them,
+-- behind a front that no head begins with, or at an end that came too early; where memory is wanting, behind some front
+abbrev pub StandsAfter : List ℕ → Option (List ℕ) → ReadFault → Type 0
+StandsAfter input now fault.BadHead = IsPastHead input now fault.BadHead ⊎ IsPastBad input now ⊎ IsPastEnd input now
+StandsAfter input now fault.TooLong = IsPastHead input now fault.TooLong ⊎ (IsLongHead input × (now ≡ Some (drop 8192 input)))
+StandsAfter input now fault.Coding = IsPastHead input now fault.Coding
+StandsAfter input now fault.Unavailable = IsFrontRead input now
+StandsAfter input now fault.Read = ⊤
 
 -- this request was read, and what follows it is left
 pub record IsRequestRead (input : List ℕ) (now : Option (List ℕ)) (r : RequestView) : Type 0 where

@@ -1,6 +1,11 @@
 -- What a writer holds after it was sent bytes.
-use Rattle.std.specs.Prelude.{◌≡◌, ℕ, List, ◌++◌, Option}
+use Rattle.std.specs.Prelude.{◌≡◌, ℕ, Bool, List, ◌++◌, Option}
 use Rattle.std.specs.Io.KnownBytes.{Appends}
+
+-- what was written so far, where that is known, and whether a write or a flush has failed
+pub record WriterView : Type 0 where
+  pub contents : Option (List ℕ)
+  pub has_failed : Bool
 
 -- a front of the text
 abbrev pub IsPrefix : List ℕ → List ℕ → Type 0

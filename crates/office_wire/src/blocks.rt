@@ -1,12 +1,14 @@
 //! The lines that begin the blocks of a run.
-ghost use Rattle.std.specs.Prelude.{◌≡◌, ◌≤◌, ◌⊎◌, ℕ, List, length, IfOk, IfErr, IfSome, IfNone, IsErrOf, Some, option_map};
+ghost use Rattle.std.specs.Prelude.{◌≡◌, ◌≤◌, ◌⊎◌, ℕ, List, length, IfOk, IfErr, IfSome, IfNone, IsErrOf, OnOk, Some, option_map};
 ghost use Rattle.office_wire.specs.Blocks.{IsLine, HasNoLine, LineRead};
+ghost use Rattle.office_wire.specs.Counting.{HasStopped};
 ghost use Rattle.office_wire.specs.Reading.{IsCutShort};
 
+use crate::counted::CountedReader;
 use crate::fault::RunFault;
 use crate::reading::fill;
 use office_values::moment::Moment;
-use std::io::Read;
+use std::io::BufRead;
 
 /// How many bytes a line has: `at `, the moment's 20 and a line feed.
 const LINE: usize = 24;
@@ -24,16 +26,20 @@ fn moment_in(line: &[u8]) -> Option<Moment>
 }
 
 /// Reads the line that begins a block, and no byte behind it; none at the end of the input. 24 bytes, or all up to the end,
-/// are read before they are judged. `left` is how many reads may still be made, as at `read_request`.
-pub fn read_block_line<R: Read>(reader: &mut R, left: &mut u32) -> Result<Option<Moment>, RunFault>
-    ensures line { IfOk result (λ o. (input : List ℕ) → R.remaining reader.old ≡ Some input → LineRead input (R.remaining reader.new) o) }
-    ensures bad { IsErrOf result RunFault.BadBlock → (input : List ℕ) → R.remaining reader.old ≡ Some input → HasNoLine input }
-    ensures cut { IsErrOf result RunFault.Read → (input : List ℕ) → R.remaining reader.old ≡ Some input → IsCutShort input (R.remaining reader.new) 24 }
+/// are read before they are judged.
+pub fn read_block_line<R: BufRead>(
+    reader: &mut CountedReader<R>,
+) -> Result<Option<Moment>, RunFault>
+    ensures line { IfOk result (λ o. (input : List ℕ) → reader.old.remaining ≡ Some input → LineRead input reader.new.remaining o) }
+    ensures bad { IsErrOf result RunFault.BadBlock → (input : List ℕ) → reader.old.remaining ≡ Some input → HasNoLine input }
+    ensures cut { IsErrOf result RunFault.Read → (input : List ℕ) → reader.old.remaining ≡ Some input → IsCutShort input reader.new.remaining 24 }
+    ensures cause { IsErrOf result RunFault.Read → HasStopped reader.new }
     ensures fault { IfErr result (λ e. (e ≡ RunFault.BadBlock) ⊎ (e ≡ RunFault.Read)) }
-    ensures spent { left.new ≤ left.old }
+    ensures sound { OnOk result (reader.new.has_failed ≡ reader.old.has_failed) }
+    ensures spent { reader.new.left ≤ reader.old.left }
 {
     let mut line = [0u8; LINE];
-    let Ok(count) = fill(reader, left, &mut line) else {
+    let Ok(count) = fill(reader, &mut line) else {
         return Err(RunFault::Read);
     };
     if count == 0 {

@@ -1,8 +1,9 @@
 //! Readers and writers that give little, are interrupted or fail.
+ghost use Rattle.std.specs.Prelude.{◌≤◌, length, IfOk};
 
 use std::alloc::Global;
 use std::io;
-use std::io::{ErrorKind, Read, Write};
+use std::io::{BufRead, ErrorKind, Read, Write};
 
 /// Gives at most so many bytes a read, is interrupted before each where asked, and fails once so many reads were made.
 #[derive(Drop)]
@@ -26,8 +27,11 @@ impl Drip<'_> {
     }
 }
 
-impl Read for Drip<'_> {
-    fn read(&mut self, buf: &mut [u8]) -> io::Result<usize> {
+impl Drip<'_> {
+    /// Counts a read, and answers how many bytes it may give.
+    fn begin(&mut self) -> io::Result<usize>
+        ensures { IfOk result (λ n. n ≤ length self.new.rest.now) }
+    {
         if self.reads == 0 {
             return Err(io::Error::from(ErrorKind::BrokenPipe));
         }
@@ -37,11 +41,14 @@ impl Read for Drip<'_> {
             return Err(io::Error::from(ErrorKind::Interrupted));
         }
         self.was_interrupted = false;
-        let limit = if buf.len() < self.most {
-            buf.len()
-        } else {
-            self.most
-        };
+        Ok(self.rest.len().min(self.most))
+    }
+}
+
+impl Read for Drip<'_> {
+    fn read(&mut self, buf: &mut [u8]) -> io::Result<usize> {
+        let given = self.begin()?;
+        let limit = given.min(buf.len());
         for count in 0..limit {
             match self.rest.split_first() {
                 Some((first, rest)) => {
@@ -52,6 +59,18 @@ impl Read for Drip<'_> {
             }
         }
         Ok(limit)
+    }
+}
+
+impl BufRead for Drip<'_> {
+    fn fill_buf(&mut self) -> io::Result<&[u8]> {
+        let given = self.begin()?;
+        Ok(&self.rest[..given])
+    }
+
+    fn consume(&mut self, amount: usize) {
+        let count = amount.min(self.rest.len());
+        self.rest = &self.rest[count..];
     }
 }
 

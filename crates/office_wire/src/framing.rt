@@ -1,5 +1,5 @@
 //! Where the body of a request ends (RFC 9112, section 6).
-ghost use Rattle.std.specs.Prelude.{◌≡◌, min, option_map, codes};
+ghost use Rattle.std.specs.Prelude.{◌≡◌, ◌≤◌, min, length, option_map, codes, IfOk, OnOk};
 ghost use Rattle.office_wire.specs.Fields.{number_of, length_of, values_of, framing_of};
 
 use crate::fault::ReadFault;
@@ -45,7 +45,9 @@ fn capped_length(head: &Head) -> Option<u32>
 
 /// How many bytes the body has, or why the request is refused.
 pub fn framing(head: &Head) -> Result<usize, ReadFault>
-    ensures { result ≡ framing_of head.now }
+    ensures framed { result ≡ framing_of head.now }
+    ensures body { IfOk result (λ n. n ≤ 65536) }
+    ensures fields { OnOk result (length head.now.fields ≤ 64) }
 {
     let Some(length) = capped_length(head) else {
         return Err(ReadFault::BadHead);

@@ -1,23 +1,21 @@
 //! Reading the head of a request.
-ghost use Rattle.std.specs.Prelude.{◌≡◌, ◌≢◌, ◌≤◌, ◌<◌, ℕ, List, length, take, slice_get, IfOk, IfSome, IsNone, IsErrOf, Some};
+ghost use Rattle.std.specs.Prelude.{◌≡◌, ◌≢◌, ◌≤◌, ◌<◌, ℕ, List, length, take, slice_get, IfOk, IfErr, IfSome, IsNone, IsErrOf, OnOk, Some};
 ghost use Rattle.httparse.specs.Spans.{IsRequestWithin};
+ghost use Rattle.office_wire.specs.Counting.{HasStopped};
 ghost use Rattle.office_wire.specs.Fields.{values_of, Tells};
 ghost use Rattle.office_wire.specs.Head.{IsBadHead, IsLongHead};
-ghost use Rattle.office_wire.specs.HeadBytes.{Parses, spans_view};
-ghost use Rattle.office_wire.specs.Reading.{IsHeadRead, IsCutHead};
+ghost use Rattle.office_wire.specs.Inside.HeadBytes.{Parses, spans_view};
+ghost use Rattle.office_wire.specs.Reading.{IsHeadRead, IsCutHead, LeavesHead};
 
+use crate::counted::CountedReader;
 use crate::fault::ReadFault;
 use crate::fields::{FieldValue, find_value};
-use crate::lines::{HeadLines, first_line_has_ended};
-use crate::reading::next_byte;
+use crate::lines::{HeadLines, MOST_BYTES, first_line_has_ended};
 use httparse::spans::{EMPTY_HEADER_SPAN, HeaderSpan, RequestSpans, Span, parse_request};
 use httparse::{Error, Status};
 use std::alloc::{AllocError, Global};
-use std::io::Read;
+use std::io::BufRead;
 use std::marker::Model;
-
-/// How many bytes a head may have, empty lines in front of it included.
-const MOST_BYTES: u32 = 8192;
 
 /// How many fields 8,192 bytes can hold, as a field has 3 bytes at least.
 const MOST_FIELDS: usize = 2731;
@@ -86,7 +84,7 @@ impl Model for Head {
     ghost use Rattle.std.specs.Prelude.{map};
     ghost use Rattle.httparse.specs.Spans.{span_bytes, header_bytes};
     ghost use Rattle.office_wire.specs.Head.{HeadView};
-    ghost use Rattle.office_wire.specs.HeadBytes.{IsKept};
+    ghost use Rattle.office_wire.specs.Inside.HeadBytes.{IsKept};
 
     ghost Value = { HeadView };
 
@@ -150,22 +148,28 @@ impl Head {
 }
 
 /// Reads a head, and no byte behind it.
-pub fn read_head<R: Read>(alloc: Global, reader: &mut R, left: &mut u32) -> Result<Head, ReadFault>
-    ensures whole { IfOk result (λ head. (input : List ℕ) → R.remaining reader.old ≡ Some input → IsHeadRead input (R.remaining reader.new) head) }
-    ensures bad { IsErrOf result ReadFault.BadHead → (input : List ℕ) → R.remaining reader.old ≡ Some input → IsBadHead input }
-    ensures long { IsErrOf result ReadFault.TooLong → (input : List ℕ) → R.remaining reader.old ≡ Some input → IsLongHead input }
+pub fn read_head<R: BufRead>(
+    alloc: Global,
+    reader: &mut CountedReader<R>,
+) -> Result<Head, ReadFault>
+    ensures whole { IfOk result (λ head. (input : List ℕ) → reader.old.remaining ≡ Some input → IsHeadRead input reader.new.remaining head) }
+    ensures bad { IsErrOf result ReadFault.BadHead → (input : List ℕ) → reader.old.remaining ≡ Some input → IsBadHead input }
+    ensures long { IsErrOf result ReadFault.TooLong → (input : List ℕ) → reader.old.remaining ≡ Some input → IsLongHead input }
+    ensures cut { IsErrOf result ReadFault.Read → (input : List ℕ) → reader.old.remaining ≡ Some input → IsCutHead input reader.new.remaining }
+    ensures stands { IfErr result (λ e. (input : List ℕ) → reader.old.remaining ≡ Some input → LeavesHead input reader.new.remaining e) }
     ensures other { IsErrOf result ReadFault.Coding → ⊥ }
-    ensures cut { IsErrOf result ReadFault.Read → (input : List ℕ) → R.remaining reader.old ≡ Some input → IsCutHead input (R.remaining reader.new) }
-    ensures counted { IfOk result (λ _. left.new < left.old) }
-    ensures spent { left.new ≤ left.old }
+    ensures cause { IsErrOf result ReadFault.Read → HasStopped reader.new }
+    ensures sound { OnOk result (reader.new.has_failed ≡ reader.old.has_failed) }
+    ensures counted { OnOk result (reader.new.left < reader.old.left) }
+    ensures spent { reader.new.left ≤ reader.old.left }
 {
     let mut lines = HeadLines::new(alloc)?;
     let mut headers = vec![in alloc; EMPTY_HEADER_SPAN; FEW_FIELDS]?;
-    'bytes: for _count in 0..MOST_BYTES {
-        let Some(byte) = next_byte(reader, left)? else {
+    'bytes: while lines.bytes().len() < MOST_BYTES {
+        let Some(is_worth) = lines.read_on(reader)? else {
             return Err(ReadFault::BadHead);
         };
-        if lines.push(byte)? {
+        if is_worth {
             match parse(lines.bytes(), &mut headers)? {
                 Parsed::Whole(spans) => return Ok(Head::of_spans(
                     lines.into_bytes(),

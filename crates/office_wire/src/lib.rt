@@ -3,6 +3,7 @@
 
 pub mod answer;
 pub mod blocks;
+pub mod counted;
 #[cfg(test)]
 mod fakes;
 pub mod fault;
@@ -18,3 +19,4 @@ pub mod runs;
 pub mod sending;
 #[cfg(test)]
 mod tests;
+pub mod watched;

@@ -1,10 +1,19 @@
 //! The lines of a head while it is read.
-ghost use Rattle.std.specs.Prelude.{◌≡◌, ◌≤◌, ◌∷◌, ◌++◌, [], ℕ, List, length, take, IsTrue, IfOk, OnOk, OnErr, Ok, false};
+ghost use Rattle.std.specs.Prelude.{◌≡◌, ◌<◌, ◌≤◌, ◌⊎◌, ◌∷◌, ◌++◌, [], ℕ, List, length, take, IsTrue, IfOk, IfErr, IfSome, IsNone, IsErrOf, OnOk, OnErr, Ok, Some, false};
+ghost use Rattle.std.specs.Io.KnownBytes.{Keeps};
+ghost use Rattle.office_wire.specs.Counting.{HasStopped, TakesPart};
 ghost use Rattle.office_wire.specs.Head.{first_line_ends, skip_empty};
+ghost use Rattle.office_wire.specs.Reading.{ReadsOn, IsOver};
 ghost use Rattle.httparse.specs.Grammar.{HasNoRequest, LineEnd, print_end};
 
-use std::alloc::{AllocError, AllocFailed, Global};
+use crate::counted::{CountedReader, TryFault};
+use crate::fault::ReadFault;
+use std::alloc::{AllocError, Global};
+use std::io::BufRead;
 use std::marker::Model;
+
+/// How many bytes a head may have, empty lines in front of it included.
+pub const MOST_BYTES: usize = 8192;
 
 /// What is behind the empty lines at the front.
 pub fn after_empty_lines(bytes: &[u8]) -> &[u8]
@@ -30,11 +39,45 @@ pub fn first_line_has_ended(bytes: &[u8]) -> bool
     after_empty_lines(bytes).iter().any(|b| *b == b'\n')
 }
 
+/// Whether the bytes end with a line feed.
+fn ends_in_line_feed(bytes: &[u8]) -> bool
+    ensures { (front : List ℕ) → bytes.now ≡ front ++ 10 ∷ [] → IsTrue result }
+{
+    bytes.ends_with(b"\n")
+}
+
 /// Whether the bytes end with an empty line that another line stands before.
 fn ends_in_empty_line(bytes: &[u8]) -> bool
     ensures { (front : List ℕ) (end : LineEnd) → bytes.now ≡ front ++ 10 ∷ print_end end → IsTrue result }
 {
     bytes.ends_with(b"\n\n") || bytes.ends_with(b"\n\r\n")
+}
+
+/// Appends some bytes to the line, through the first line feed and at most so many, and answers how many. A read that was
+/// interrupted by a signal is tried again.
+fn read_line_part<R: BufRead>(
+    reader: &mut CountedReader<R>,
+    most: usize,
+    line: &mut Vec<u8>,
+) -> Result<usize, ReadFault>
+    ensures part { IfOk result (λ n. TakesPart reader.old.remaining reader.new.remaining line.old.items line.new.items most n) }
+    ensures kept { OnErr result (Keeps reader.old.remaining reader.new.remaining) }
+    ensures same { OnErr result (line.new.items ≡ line.old.items) }
+    ensures cause { IsErrOf result ReadFault.Read → HasStopped reader.new }
+    ensures fault { IfErr result (λ e. (e ≡ ReadFault.Unavailable) ⊎ (e ≡ ReadFault.Read)) }
+    ensures whole { OnOk result (reader.new.has_failed ≡ reader.old.has_failed) }
+    ensures counted { OnOk result (reader.new.left < reader.old.left) }
+    ensures spent { reader.new.left ≤ reader.old.left }
+{
+    'tries: while reader.left() > 0 {
+        match reader.try_line(most, line) {
+            Ok(count) => return Ok(count),
+            Err(TryFault::Interrupted) => {}
+            Err(TryFault::Failed) => return Err(ReadFault::Read),
+            Err(TryFault::NoMemory) => return Err(ReadFault::Unavailable),
+        }
+    }
+    Err(ReadFault::Read)
 }
 
 /// For how many bytes there is room at first.
@@ -88,24 +131,49 @@ impl HeadLines {
         bytes
     }
 
-    /// Adds a byte, and answers whether the bytes are worth parsing: at the end of the first line, so that a wrong one is
-    /// refused at once, and at each empty line behind it, since a head ends nowhere else.
-    pub fn push(&mut self, byte: u8) -> Result<bool, AllocFailed<u8>>
-        ensures pushed { OnOk result (self.new ≡ self.old ++ byte ∷ []) }
-        ensures no_head { result ≡ Ok false → HasNoRequest self.old → HasNoRequest self.new }
+    /// Whether the bytes are worth parsing: at the end of the first line, so that a wrong one is refused at once, and at each
+    /// empty line behind it, since a head ends nowhere else.
+    fn judge(&mut self) -> bool
+        ensures same { self.new ≡ self.old }
+        ensures no_head { result ≡ false → (front : List ℕ) (last : ℕ) → self.old ≡ front ++ last ∷ [] → HasNoRequest front → HasNoRequest self.old }
     {
-        self.bytes.push(byte)?;
-        if byte != b'\n' {
-            return Ok(false);
+        if !ends_in_line_feed(&self.bytes) {
+            return false;
         }
         if self.started {
-            return Ok(ends_in_empty_line(&self.bytes));
+            return ends_in_empty_line(&self.bytes);
         }
         if after_empty_lines(&self.bytes[self.blank..]).is_empty() {
             self.blank = self.bytes.len();
-            return Ok(false);
+            return false;
         }
         self.started = true;
-        Ok(true)
+        true
+    }
+
+    /// Reads on, through the next line feed and up to 8,192 bytes in all, and answers whether the bytes are worth parsing; none
+    /// at the end of the input.
+    pub fn read_on<R: BufRead>(
+        &mut self,
+        reader: &mut CountedReader<R>,
+    ) -> Result<Option<bool>, ReadFault>
+        requires { length self.old < 8192 }
+        ensures read { IfOk result (λ o. IfSome o (λ _. ReadsOn reader.old.remaining reader.new.remaining self.old self.new)) }
+        ensures no_head { result ≡ Ok (Some false) → HasNoRequest self.old → HasNoRequest self.new }
+        ensures over { IfOk result (λ o. IsNone o → IsOver reader.old.remaining reader.new.remaining) }
+        ensures kept { OnErr result (Keeps reader.old.remaining reader.new.remaining) }
+        ensures same { OnErr result (self.new ≡ self.old) }
+        ensures cause { IsErrOf result ReadFault.Read → HasStopped reader.new }
+        ensures fault { IfErr result (λ e. (e ≡ ReadFault.Unavailable) ⊎ (e ≡ ReadFault.Read)) }
+        ensures whole { OnOk result (reader.new.has_failed ≡ reader.old.has_failed) }
+        ensures counted { OnOk result (reader.new.left < reader.old.left) }
+        ensures spent { reader.new.left ≤ reader.old.left }
+    {
+        let most = MOST_BYTES - self.bytes.len();
+        let count = read_line_part(reader, most, &mut self.bytes)?;
+        if count == 0 {
+            return Ok(None);
+        }
+        Ok(Some(self.judge()))
     }
 }

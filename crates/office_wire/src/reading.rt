@@ -1,67 +1,53 @@
-//! Reads that are counted.
-ghost use Rattle.std.specs.Prelude.{◌≡◌, ◌<◌, ◌≤◌, length, take, IfOk, OnErr, Err};
+//! Reads until there is something.
+ghost use Rattle.std.specs.Prelude.{◌≡◌, ◌<◌, ◌≤◌, length, take, IfOk, IfErr, OnOk, OnErr};
 ghost use Rattle.std.specs.Io.KnownBytes.{Keeps, Consumes, IsAtEnd};
-ghost use Rattle.office_wire.specs.Reading.{GivesByte, GivesPart};
+ghost use Rattle.office_wire.specs.Counting.{HasStopped};
+ghost use Rattle.office_wire.specs.Reading.{GivesPart};
 
+use crate::counted::{CountedReader, TryFault};
 use crate::fault::ReadFault;
-use std::io::{ErrorKind, Read};
+use std::io::BufRead;
 
 /// Reads some bytes into the front of the buffer, and answers how many. A read that was interrupted by a signal is tried again.
-/// Each try takes one of the reads that are left.
-pub fn read_some<R: Read>(
-    reader: &mut R,
-    left: &mut u32,
+pub fn read_some<R: BufRead>(
+    reader: &mut CountedReader<R>,
     buf: &mut [u8],
 ) -> Result<usize, ReadFault>
     ensures bound { IfOk result (λ n. n ≤ length buf.new) }
-    ensures given { IfOk result (λ n. Consumes (R.remaining reader.old) (R.remaining reader.new) (take n buf.new)) }
-    ensures end { IfOk result (λ n. n ≡ 0 → 0 < length buf.new → IsAtEnd (R.remaining reader.new)) }
-    ensures kept { OnErr result (Keeps (R.remaining reader.old) (R.remaining reader.new)) }
-    ensures fault { OnErr result (result ≡ Err ReadFault.Read) }
-    ensures counted { IfOk result (λ _. left.new < left.old) }
-    ensures spent { left.new ≤ left.old }
+    ensures given { IfOk result (λ n. Consumes reader.old.remaining reader.new.remaining (take n buf.new)) }
+    ensures end { IfOk result (λ n. n ≡ 0 → 0 < length buf.new → IsAtEnd reader.new.remaining) }
+    ensures kept { OnErr result (Keeps reader.old.remaining reader.new.remaining) }
+    ensures cause { OnErr result (HasStopped reader.new) }
+    ensures fault { IfErr result (λ e. e ≡ ReadFault.Read) }
+    ensures whole { OnOk result (reader.new.has_failed ≡ reader.old.has_failed) }
+    ensures counted { OnOk result (reader.new.left < reader.old.left) }
+    ensures spent { reader.new.left ≤ reader.old.left }
 {
-    'tries: while *left > 0 {
-        *left -= 1;
-        match reader.read(buf) {
+    'tries: while reader.left() > 0 {
+        match reader.try_read(buf) {
             Ok(count) => return Ok(count),
-            Err(error) => {
-                if error.kind() != ErrorKind::Interrupted {
-                    return Err(ReadFault::Read);
-                }
-            }
+            Err(TryFault::Interrupted) => {}
+            Err(TryFault::Failed) => return Err(ReadFault::Read),
+            Err(TryFault::NoMemory) => unreachable!(),
         }
     }
     Err(ReadFault::Read)
 }
 
-/// Reads one byte; none at the end of the input.
-pub fn next_byte<R: Read>(reader: &mut R, left: &mut u32) -> Result<Option<u8>, ReadFault>
-    ensures given { IfOk result (GivesByte (R.remaining reader.old) (R.remaining reader.new)) }
-    ensures kept { OnErr result (Keeps (R.remaining reader.old) (R.remaining reader.new)) }
-    ensures fault { OnErr result (result ≡ Err ReadFault.Read) }
-    ensures counted { IfOk result (λ _. left.new < left.old) }
-    ensures spent { left.new ≤ left.old }
-{
-    let mut one = [0u8; 1];
-    match read_some(reader, left, &mut one)? {
-        0 => Ok(None),
-        _ => Ok(Some(one[0])),
-    }
-}
-
 /// Fills the front of the buffer, and answers how many bytes it has got: fewer than it holds where the input ends before.
-pub fn fill<R: Read>(reader: &mut R, left: &mut u32, buf: &mut [u8]) -> Result<usize, ReadFault>
+pub fn fill<R: BufRead>(reader: &mut CountedReader<R>, buf: &mut [u8]) -> Result<usize, ReadFault>
     ensures bound { IfOk result (λ n. n ≤ length buf.new) }
-    ensures given { IfOk result (λ n. Consumes (R.remaining reader.old) (R.remaining reader.new) (take n buf.new)) }
-    ensures ended { IfOk result (λ n. n < length buf.new → IsAtEnd (R.remaining reader.new)) }
-    ensures cut { OnErr result (GivesPart (R.remaining reader.old) (R.remaining reader.new) (length buf.new)) }
-    ensures fault { OnErr result (result ≡ Err ReadFault.Read) }
-    ensures spent { left.new ≤ left.old }
+    ensures given { IfOk result (λ n. Consumes reader.old.remaining reader.new.remaining (take n buf.new)) }
+    ensures ended { IfOk result (λ n. n < length buf.new → IsAtEnd reader.new.remaining) }
+    ensures cut { OnErr result (GivesPart reader.old.remaining reader.new.remaining (length buf.new)) }
+    ensures cause { OnErr result (HasStopped reader.new) }
+    ensures fault { IfErr result (λ e. e ≡ ReadFault.Read) }
+    ensures whole { OnOk result (reader.new.has_failed ≡ reader.old.has_failed) }
+    ensures spent { reader.new.left ≤ reader.old.left }
 {
     let mut at = 0;
     'parts: while at < buf.len() {
-        match read_some(reader, left, &mut buf[at..])? {
+        match read_some(reader, &mut buf[at..])? {
             0 => return Ok(at),
             count => at += count,
         }

@@ -1,16 +1,18 @@
 //! Reading a request.
-ghost use Rattle.std.specs.Prelude.{◌≡◌, ◌≤◌, ◌<◌, ◌⊎◌, ℕ, List, length, option_map, slice_get, IfOk, IfErr, IsErr, IsErrOf, Some};
+ghost use Rattle.std.specs.Prelude.{◌≡◌, ◌≤◌, ◌<◌, ◌⊎◌, ℕ, List, length, option_map, slice_get, IfOk, IfErr, IfSome, IsErr, IsErrOf, OnOk, Some};
+ghost use Rattle.office_wire.specs.Counting.{HasStopped};
 ghost use Rattle.office_wire.specs.Fields.{values_of, Tells};
 ghost use Rattle.office_wire.specs.Reading.{BodyRead, IsCutShort};
-ghost use Rattle.office_wire.specs.Request.{IsRequestRead, IsRefused, IsCutRequest, HasOneMeaning};
+ghost use Rattle.office_wire.specs.Request.{IsRequestRead, IsRefused, IsCutRequest, HasOneMeaning, StandsAfter};
 
+use crate::counted::CountedReader;
 use crate::fault::ReadFault;
 use crate::fields::FieldValue;
 use crate::framing::framing;
 use crate::head::{Head, read_head};
 use crate::reading::fill;
 use std::alloc::Global;
-use std::io::Read;
+use std::io::BufRead;
 use std::marker::Model;
 
 /// A request: a head of at most 8,192 bytes, and a body of at most 65,536.
@@ -21,11 +23,14 @@ pub struct Request {
 }
 
 impl Model for Request {
+    ghost use Rattle.std.specs.Prelude.{◌≤◌, length};
     ghost use Rattle.office_wire.specs.Request.{RequestView};
 
     ghost Value = { RequestView };
 
     ghost view = { λ s. record { head = s.head; body = s.body.items } };
+
+    ghost invariant = { λ s. (length s.head.fields ≤ 64) × (length s.body.items ≤ 65536) };
 }
 
 impl Request {
@@ -45,7 +50,8 @@ impl Request {
 
     /// How many header fields there are: at most 64.
     pub fn field_count(&self) -> usize
-        ensures { result ≡ length self.now.head.fields }
+        ensures count { result ≡ length self.now.head.fields }
+        ensures most { length self.now.head.fields ≤ 64 }
     {
         self.head.field_count()
     }
@@ -65,49 +71,54 @@ impl Request {
         self.head.value(name)
     }
 
-    /// The body.
+    /// The body: at most 65,536 bytes.
     pub fn body(&self) -> &[u8]
-        ensures { result.now ≡ self.now.body }
+        ensures body { result.now ≡ self.now.body }
+        ensures most { length self.now.body ≤ 65536 }
     {
         &self.body
     }
 }
 
 /// Reads so many bytes; none where the input ends before.
-fn read_body<R: Read>(
+fn read_body<R: BufRead>(
     alloc: Global,
-    reader: &mut R,
-    left: &mut u32,
-    length: usize,
+    reader: &mut CountedReader<R>,
+    size: usize,
 ) -> Result<Option<Vec<u8>>, ReadFault>
-    ensures body { IfOk result (λ o. (input : List ℕ) → R.remaining reader.old ≡ Some input → BodyRead input (R.remaining reader.new) length (option_map (λ v. v.items) o)) }
-    ensures cut { IsErrOf result ReadFault.Read → (input : List ℕ) → R.remaining reader.old ≡ Some input → IsCutShort input (R.remaining reader.new) length }
+    ensures body { IfOk result (λ o. (input : List ℕ) → reader.old.remaining ≡ Some input → BodyRead input reader.new.remaining size (option_map (λ v. v.items) o)) }
+    ensures long { IfOk result (λ o. IfSome o (λ v. length v.items ≡ size)) }
+    ensures cut { IsErrOf result ReadFault.Read → (input : List ℕ) → reader.old.remaining ≡ Some input → IsCutShort input reader.new.remaining size }
+    ensures kept { IsErrOf result ReadFault.Unavailable → reader.new.remaining ≡ reader.old.remaining }
     ensures fault { IfErr result (λ e. (e ≡ ReadFault.Unavailable) ⊎ (e ≡ ReadFault.Read)) }
-    ensures spent { left.new ≤ left.old }
+    ensures cause { IsErrOf result ReadFault.Read → HasStopped reader.new }
+    ensures sound { OnOk result (reader.new.has_failed ≡ reader.old.has_failed) }
+    ensures spent { reader.new.left ≤ reader.old.left }
 {
-    let mut body = vec![in alloc; 0u8; length]?;
-    if fill(reader, left, &mut body)? < length {
+    let mut body = vec![in alloc; 0u8; size]?;
+    if fill(reader, &mut body)? < size {
         return Ok(None);
     }
     Ok(Some(body))
 }
 
-/// Reads one request, and no byte behind it. `left` is how many reads may still be made, and each takes one of them;
-/// where none is left the answer is `Read`. The head is read byte by byte, so a buffered reader serves best.
-pub fn read_request<R: Read>(
+/// Reads one request, and no byte behind it.
+pub fn read_request<R: BufRead>(
     alloc: Global,
-    reader: &mut R,
-    left: &mut u32,
+    reader: &mut CountedReader<R>,
 ) -> Result<Request, ReadFault>
-    ensures request { IfOk result (λ r. (input : List ℕ) → R.remaining reader.old ≡ Some input → IsRequestRead input (R.remaining reader.new) r) }
-    ensures refused { IfErr result (λ e. (input : List ℕ) → R.remaining reader.old ≡ Some input → IsRefused input e) }
-    ensures cut { IsErrOf result ReadFault.Read → (input : List ℕ) → R.remaining reader.old ≡ Some input → IsCutRequest input (R.remaining reader.new) }
-    ensures counted { IfOk result (λ _. left.new < left.old) }
-    ensures spent { left.new ≤ left.old }
+    ensures request { IfOk result (λ r. (input : List ℕ) → reader.old.remaining ≡ Some input → IsRequestRead input reader.new.remaining r) }
+    ensures refused { IfErr result (λ e. (input : List ℕ) → reader.old.remaining ≡ Some input → IsRefused input e) }
+    ensures stands { IfErr result (λ e. (input : List ℕ) → reader.old.remaining ≡ Some input → StandsAfter input reader.new.remaining e) }
+    ensures cut { IsErrOf result ReadFault.Read → (input : List ℕ) → reader.old.remaining ≡ Some input → IsCutRequest input reader.new.remaining }
+    ensures cause { IsErrOf result ReadFault.Read → HasStopped reader.new }
+    ensures sound { OnOk result (reader.new.has_failed ≡ reader.old.has_failed) }
+    ensures counted { OnOk result (reader.new.left < reader.old.left) }
+    ensures spent { reader.new.left ≤ reader.old.left }
 {
-    let head = read_head(alloc, reader, left)?;
+    let head = read_head(alloc, reader)?;
     let length = framing(&head)?;
-    match read_body(alloc, reader, left, length)? {
+    match read_body(alloc, reader, length)? {
         Some(body) => Ok(Request { head, body }),
         None => Err(ReadFault::BadHead),
     }

@@ -1,16 +1,19 @@
 //! Runs: blocks in, responses out.
-ghost use Rattle.std.specs.Prelude.{◌≡◌, ℕ, List, Some};
+ghost use Rattle.std.specs.Prelude.{◌≡◌, ◌≤◌, ℕ, List, true, Some, IsErrOf, OnOk};
+ghost use Rattle.office_wire.specs.Counting.{HasStopped};
 ghost use Rattle.office_wire.specs.Responders.{Meaning, Responds};
 ghost use Rattle.office_wire.specs.Runs.{Step, Ran, Served, office_left};
 
 use crate::answer::Answer;
 use crate::blocks::read_block_line;
+use crate::counted::CountedReader;
 use crate::fault::{ReadFault, RunFault};
 use crate::request::{Request, read_request};
-use crate::sending::{flush, send};
+use crate::sending::send;
+use crate::watched::WatchedWriter;
 use office_values::moment::Moment;
 use std::alloc::Global;
-use std::io::{Read, Write};
+use std::io::{BufRead, Write};
 
 /// What answers the blocks of a run.
 pub trait Responder {
@@ -27,22 +30,27 @@ pub trait Responder {
 }
 
 /// Answers each block of the input in turn, and answers how many there were.
-fn answer_blocks<D: Responder, R: Read, W: Write>(
+fn answer_blocks<D: Responder, R: BufRead, W: Write>(
     alloc: Global,
     desk: &mut D,
-    reader: &mut R,
-    writer: &mut W,
+    reader: &mut CountedReader<R>,
+    writer: &mut WatchedWriter<W>,
 ) -> Result<u64, RunFault>
     ensures before { D.meaning.honest desk.new → D.meaning.honest desk.old }
-    ensures ran { D.meaning.honest desk.new → (input : List ℕ) → R.remaining reader.old ≡ Some input → (s : D.meaning.Office) → D.meaning.holds desk.old s
-        → (steps : List Step) × Ran D.meaning.answers result input (R.remaining reader.new) s steps (W.contents writer.old) (W.contents writer.new) × D.meaning.holds desk.new (office_left D.meaning.answers s steps) }
+    ensures ran { D.meaning.honest desk.new → (input : List ℕ) → reader.old.remaining ≡ Some input → (s : D.meaning.Office) → D.meaning.holds desk.old s
+        → (steps : List Step) × Ran D.meaning.answers result input reader.new.remaining s steps writer.old.contents writer.new.contents × D.meaning.holds desk.new (office_left D.meaning.answers s steps) }
+    ensures cause { IsErrOf result RunFault.Read → HasStopped reader.new }
+    ensures writes { IsErrOf result RunFault.Write → writer.new.has_failed ≡ true }
+    ensures all_read { OnOk result (reader.new.has_failed ≡ reader.old.has_failed) }
+    ensures all_written { OnOk result (writer.new.has_failed ≡ writer.old.has_failed) }
+    ensures spent { reader.new.left ≤ reader.old.left }
 {
-    let mut left = u32::MAX;
-    'rounds: for count in 0..u32::MAX as u64 {
-        let Some(moment) = read_block_line(reader, &mut left)? else {
+    let most = reader.left() as u64;
+    'rounds: for count in 0..most {
+        let Some(moment) = read_block_line(reader)? else {
             return Ok(count);
         };
-        match read_request(alloc, reader, &mut left) {
+        match read_request(alloc, reader) {
             Ok(request) => {
                 let answer = desk.answer(alloc, moment, &request);
                 send(writer, answer.bytes())?;
@@ -60,38 +68,45 @@ fn answer_blocks<D: Responder, R: Read, W: Write>(
 }
 
 /// Answers each block of the input in turn, and answers how many there were. The responses are flushed once, at the end.
-/// At most 4,294,967,295 reads are made.
-pub fn run<D: Responder, R: Read, W: Write>(
+pub fn run<D: Responder, R: BufRead, W: Write>(
     alloc: Global,
     desk: &mut D,
-    reader: &mut R,
-    writer: &mut W,
+    reader: &mut CountedReader<R>,
+    writer: &mut WatchedWriter<W>,
 ) -> Result<u64, RunFault>
     ensures before { D.meaning.honest desk.new → D.meaning.honest desk.old }
-    ensures ran { D.meaning.honest desk.new → (input : List ℕ) → R.remaining reader.old ≡ Some input → (s : D.meaning.Office) → D.meaning.holds desk.old s
-        → (steps : List Step) × Ran D.meaning.answers result input (R.remaining reader.new) s steps (W.contents writer.old) (W.contents writer.new) × D.meaning.holds desk.new (office_left D.meaning.answers s steps) }
+    ensures ran { D.meaning.honest desk.new → (input : List ℕ) → reader.old.remaining ≡ Some input → (s : D.meaning.Office) → D.meaning.holds desk.old s
+        → (steps : List Step) × Ran D.meaning.answers result input reader.new.remaining s steps writer.old.contents writer.new.contents × D.meaning.holds desk.new (office_left D.meaning.answers s steps) }
+    ensures cause { IsErrOf result RunFault.Read → HasStopped reader.new }
+    ensures writes { IsErrOf result RunFault.Write → writer.new.has_failed ≡ true }
+    ensures all_read { OnOk result (reader.new.has_failed ≡ reader.old.has_failed) }
+    ensures all_written { OnOk result (writer.new.has_failed ≡ writer.old.has_failed) }
+    ensures spent { reader.new.left ≤ reader.old.left }
 {
     let outcome = answer_blocks(alloc, desk, reader, writer);
-    if flush(writer).is_err() {
+    if writer.flush().is_err() {
         return Err(RunFault::Write);
     }
     outcome
 }
 
 /// Reads one request and sends the response to it.
-fn answer_one<D: Responder, R: Read, W: Write>(
+fn answer_one<D: Responder, R: BufRead, W: Write>(
     alloc: Global,
     desk: &mut D,
     moment: Moment,
-    reader: &mut R,
-    writer: &mut W,
+    reader: &mut CountedReader<R>,
+    writer: &mut WatchedWriter<W>,
 ) -> Result<(), RunFault>
     ensures before { D.meaning.honest desk.new → D.meaning.honest desk.old }
-    ensures served { D.meaning.honest desk.new → (input : List ℕ) → R.remaining reader.old ≡ Some input → (s : D.meaning.Office) → D.meaning.holds desk.old s
-        → (t : D.meaning.Office) × Served D.meaning.answers result input (R.remaining reader.new) moment s t (W.contents writer.old) (W.contents writer.new) × D.meaning.holds desk.new t }
+    ensures served { D.meaning.honest desk.new → (input : List ℕ) → reader.old.remaining ≡ Some input → (s : D.meaning.Office) → D.meaning.holds desk.old s
+        → (t : D.meaning.Office) × Served D.meaning.answers result input reader.new.remaining moment s t writer.old.contents writer.new.contents × D.meaning.holds desk.new t }
+    ensures cause { IsErrOf result RunFault.Read → HasStopped reader.new }
+    ensures writes { IsErrOf result RunFault.Write → writer.new.has_failed ≡ true }
+    ensures all_written { OnOk result (writer.new.has_failed ≡ writer.old.has_failed) }
+    ensures spent { reader.new.left ≤ reader.old.left }
 {
-    let mut left = u32::MAX;
-    match read_request(alloc, reader, &mut left) {
+    match read_request(alloc, reader) {
         Ok(request) => {
             let answer = desk.answer(alloc, moment, &request);
             send(writer, answer.bytes())?;
@@ -108,19 +123,22 @@ fn answer_one<D: Responder, R: Read, W: Write>(
 }
 
 /// Reads one request, and sends and flushes the response to it. The only faults are `Read` and `Write`.
-/// At most 4,294,967,295 reads are made.
-pub fn serve_one<D: Responder, R: Read, W: Write>(
+pub fn serve_one<D: Responder, R: BufRead, W: Write>(
     alloc: Global,
     desk: &mut D,
     moment: Moment,
-    reader: &mut R,
-    writer: &mut W,
+    reader: &mut CountedReader<R>,
+    writer: &mut WatchedWriter<W>,
 ) -> Result<(), RunFault>
     ensures before { D.meaning.honest desk.new → D.meaning.honest desk.old }
-    ensures served { D.meaning.honest desk.new → (input : List ℕ) → R.remaining reader.old ≡ Some input → (s : D.meaning.Office) → D.meaning.holds desk.old s
-        → (t : D.meaning.Office) × Served D.meaning.answers result input (R.remaining reader.new) moment s t (W.contents writer.old) (W.contents writer.new) × D.meaning.holds desk.new t }
+    ensures served { D.meaning.honest desk.new → (input : List ℕ) → reader.old.remaining ≡ Some input → (s : D.meaning.Office) → D.meaning.holds desk.old s
+        → (t : D.meaning.Office) × Served D.meaning.answers result input reader.new.remaining moment s t writer.old.contents writer.new.contents × D.meaning.holds desk.new t }
+    ensures cause { IsErrOf result RunFault.Read → HasStopped reader.new }
+    ensures writes { IsErrOf result RunFault.Write → writer.new.has_failed ≡ true }
+    ensures all_written { OnOk result (writer.new.has_failed ≡ writer.old.has_failed) }
+    ensures spent { reader.new.left ≤ reader.old.left }
 {
     answer_one(alloc, desk, moment, reader, writer)?;
-    flush(writer)?;
+    writer.flush()?;
     Ok(())
 }

@@ -1,9 +1,10 @@
 //! Bytes out.
-ghost use Rattle.std.specs.Prelude.{◌≡◌, OnOk, OnErr};
-ghost use Rattle.std.specs.Io.KnownBytes.{Appends, Keeps};
+ghost use Rattle.std.specs.Prelude.{◌≡◌, true, OnOk, OnErr};
+ghost use Rattle.std.specs.Io.KnownBytes.{Appends};
 ghost use Rattle.office_wire.specs.Sending.{AppendsPart};
 
 use crate::fault::RunFault;
+use crate::watched::WatchedWriter;
 use std::io::Write;
 
 /// The writer failed or took no more; an interrupted write is a failure too.
@@ -21,27 +22,15 @@ impl From<WriteFault> for RunFault {
 }
 
 /// Writes all of the bytes; where the writer fails, a front of them was written. Nothing is flushed.
-pub fn send<W: Write>(writer: &mut W, bytes: &[u8]) -> Result<(), WriteFault>
-    ensures ok { OnOk result (Appends (W.contents writer.old) (W.contents writer.new) bytes.now) }
-    ensures err { OnErr result (AppendsPart (W.contents writer.old) (W.contents writer.new) bytes.now) }
+pub fn send<W: Write>(writer: &mut WatchedWriter<W>, bytes: &[u8]) -> Result<(), WriteFault>
+    ensures ok { OnOk result (Appends writer.old.contents writer.new.contents bytes.now) }
+    ensures err { OnErr result (AppendsPart writer.old.contents writer.new.contents bytes.now) }
+    ensures cause { OnErr result (writer.new.has_failed ≡ true) }
+    ensures sound { OnOk result (writer.new.has_failed ≡ writer.old.has_failed) }
 {
     let mut at = 0;
     'parts: while at < bytes.len() {
-        match writer.write(&bytes[at..]) {
-            Ok(0) => return Err(WriteFault),
-            Ok(count) => at += count,
-            Err(_) => return Err(WriteFault),
-        }
+        at += writer.try_write(&bytes[at..])?;
     }
     Ok(())
-}
-
-/// Hands on what the writer still buffers.
-pub fn flush<W: Write>(writer: &mut W) -> Result<(), WriteFault>
-    ensures { Keeps (W.contents writer.old) (W.contents writer.new) }
-{
-    match writer.flush() {
-        Ok(()) => Ok(()),
-        Err(_) => Err(WriteFault),
-    }
 }

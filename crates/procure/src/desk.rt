@@ -1,10 +1,12 @@
 //! `procure desk CONFIG`: an empty office in memory, over the standard streams.
-use office_base::memory::MemoryShelf;
 use office_desk::desk::Desk;
 use office_http::office::{Office, run};
+use office_memory::memory::MemoryShelf;
 use office_values::refusal::Refusal;
 use office_values::settings::Settings;
+use office_wire::counted::CountedReader;
 use office_wire::fault::RunFault;
+use office_wire::watched::WatchedWriter;
 use procure_config::fault::ProgramFault;
 use procure_config::settings::read_settings;
 use std::fs;
@@ -29,12 +31,14 @@ fn settings_at(rt: &HostRuntime, path: &str) -> Result<Settings, ProgramFault> {
 // A buffer round a stream is refused for want of memory alone.
 fn answer_input(rt: &HostRuntime, office: &mut Office<MemoryShelf>) -> Result<(), ProgramFault> {
     let alloc = rt.alloc();
-    let Ok(mut reader) = BufReader::new(alloc, rt.stdin()) else {
+    let Ok(buffered_input) = BufReader::new(alloc, rt.stdin()) else {
         return Err(no_memory());
     };
-    let Ok(mut writer) = BufWriter::new(alloc, rt.stdout()) else {
+    let Ok(buffered_output) = BufWriter::new(alloc, rt.stdout()) else {
         return Err(no_memory());
     };
+    let mut reader = CountedReader::new(buffered_input);
+    let mut writer = WatchedWriter::new(buffered_output);
     match run(alloc, office, &mut reader, &mut writer) {
         Ok(_) => Ok(()),
         Err(RunFault::Write) => Err(ProgramFault::Output),

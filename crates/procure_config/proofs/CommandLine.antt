@@ -1,20 +1,22 @@
 -- From clap's words on a command line to the program's own.
-use Rattle.std.proofs.Common.{◌≡◌, true, List, [], Option, Some, None, option_map, refl, sym, ap, ◌∙◌}
+use Rattle.std.proofs.Common.{◌≡◌, true, List, [], ◌∷◌, Option, Some, None, option_map, refl, sym, ap, subst, inl, inr, ◌∙◌}
 use Rattle.std.specs.Prelude.{Box}
 use Rattle.std.specs.Box.{box_value}
 use Rattle.std.specs.Prelude.{Result, Ok, Err, IfErr, IsSome}
 use Rattle.std.specs.Result.{IsErrAnd}
 use Rattle.clap.specs.declared.error.Error.{Error}
-use Rattle.clap.specs.declared.error.kind.ErrorKind.TheVariants.{OutOfMemory}
+use Rattle.clap.specs.Kinds.{or_else}
+use Rattle.clap.specs.declared.error.kind.ErrorKind.{ErrorKind}
+use Rattle.clap.specs.declared.error.kind.ErrorKind.TheVariants.{MissingSubcommand, OutOfMemory}
 use Rattle.procure_config.specs.declared.fault.ProgramFault.{ProgramFault}
 use Rattle.procure_config.specs.declared.fault.ProgramFault.TheVariants.{Arguments, Settings, Store, Input, Output, Refused}
 use Rattle.procure_config.specs.Faults.{IsOfParse, no_memory}
-use Rattle.clap.specs.Words.{App, kind_of, Row, Text, is_simple, is_simple_and_free, fault_of, HasMatchesOf, subcommand_of, subcommand_name_of, subcommand_rows, subcommand_rows_of, takes}
+use Rattle.clap.specs.Words.{App, HasKind, IsAmong, Kinds, kind_of, Row, Text, is_simple, is_simple_and_free, fault_of, HasMatchesOf, subcommand_of, subcommand_name_of, subcommand_rows, subcommand_rows_of, takes}
 use Rattle.clap.specs.declared.parser.matches.ArgMatches.{ArgMatches}
 use Rattle.clap.specs.declared.parser.matches.SubCommand.{SubCommand}
 use Rattle.clap.specs.declared.parser.matches.ArgMatches.TheViews.{out-ArgMatches, out-SubCommand}
 use Rattle.clap.proofs.OnLiterals.{clap_on_literals}
-use Rattle.procure_config.specs.Jobs.{procure}
+use Rattle.procure_config.specs.Jobs.{IsFaultOf, desk_config, faults_of, procure}
 
 pub procure_is_simple : is_simple procure ≡ true
 unfolding clap_on_literals procure
@@ -48,6 +50,29 @@ memory_fault error (Err Store) kind is = absurd is
 memory_fault error (Err Input) kind is = absurd is
 memory_fault error (Err Output) kind is = absurd is
 memory_fault error (Err (Refused refusal)) kind is = rw is.1 refl
+
+-- a kind among those that come first
+among_first : (kind : ErrorKind) (kinds more : Kinds) → IsAmong kind kinds → IsAmong kind (or_else kinds more)
+among_first kind [] more is = absurd is
+among_first kind (k ∷ ks) more is = is
+
+-- where clap found the words at fault, or had no memory, the program says just that
+pub parse_fault : {T : Type 0} (error : Error) (kinds more : Kinds) (r : Result T ProgramFault) → HasKind kinds error → IsErrAnd r (IsOfParse error) → IfErr r (IsFaultOf (or_else kinds more))
+parse_fault error kinds more (Ok value) has is = tt
+parse_fault error kinds more (Err (Arguments told)) (inl memory) is = absurd (is.1 memory)
+parse_fault error kinds more (Err (Arguments told)) (inr among) is = rw is.0 (among_first (kind_of error) kinds more among)
+parse_fault error kinds more (Err (Settings name)) has is = absurd is
+parse_fault error kinds more (Err Store) has is = absurd is
+parse_fault error kinds more (Err Input) has is = absurd is
+parse_fault error kinds more (Err Output) has is = absurd is
+parse_fault error kinds more (Err (Refused refusal)) has is = is.1
+
+pub has_kind : (command : App) (words : List Text) (error : Error) → command ≡ procure → (is_simple_and_free command ≡ true → HasKind (fault_of command words) error) → HasKind (fault_of procure words) error
+has_kind command words error e h = subst (λ a. HasKind (fault_of a words) error) e (h (ap is_simple_and_free e ∙ procure_is_free))
+
+-- words that clap takes and that name no desk
+pub no_desk : (words : List Text) (fault : ProgramFault) → fault_of procure words ≡ [] → None ≡ desk_config words → IsFaultOf (MissingSubcommand ∷ []) fault → IsFaultOf (faults_of words) fault
+no_desk words fault right none is = rw (right, sym none) is
 
 pub stated : (command : App) (words : List Text) (m : ArgMatches) → command ≡ procure → HasMatchesOf command words m → subcommand_rows_of m ≡ subcommand_of procure words
 stated command words m e h = (h (ap is_simple e ∙ procure_is_simple)).1 ∙ ap (λ a. subcommand_of a words) e

@@ -1,7 +1,9 @@
 -- What the program's words ask for.
-use Rattle.std.specs.Prelude.{codes, ◌≡◌, true, List, Option, Some, None, if◌then◌else◌, nat_eq}
+use Rattle.std.specs.Prelude.{codes, ◌≡◌, true, List, [], ◌∷◌, Option, Some, None, if◌then◌else◌, is_some, nat_eq}
 use Rattle.std.specs.Cmp.Lexicographic.{pointwise}
-use Rattle.clap.specs.Words.{App, Row, Shape, Text, first_of, new_app, new_rule, subcommand_of, with_rule, with_subcommand}
+use Rattle.clap.specs.Kinds.{or_else}
+use Rattle.clap.specs.Words.{App, IsAmong, Kinds, Row, Shape, Text, fault_of, first_of, kind_of, new_app, new_rule, subcommand_of, with_rule, with_subcommand}
+use Rattle.clap.specs.declared.error.kind.ErrorKind.TheVariants.{MissingSubcommand}
 use Rattle.office_values.specs.declared.refusal.Refusal.TheVariants.{Unavailable}
 use Rattle.procure_config.specs.declared.job.Job.{Job}
 use Rattle.procure_config.specs.declared.job.Job.TheVariants.{Desk}
@@ -29,8 +31,12 @@ desk_config words = desk_in (subcommand_of procure words)
 abbrev pub AsksFor : List Text → Job → Type 0
 AsksFor words (Desk config) = desk_config words ≡ Some config.now
 
--- the words are at fault, or memory is wanting
-abbrev pub IsOfWords : ProgramFault → Type 0
-IsOfWords (Arguments error) = Unit {0}
-IsOfWords (Refused refusal) = refusal ≡ Unavailable
-IsOfWords _ = ⊥
+-- the kinds of fault that words may have: those that clap states, and where it states none, that no job is named
+abbrev pub faults_of : List Text → Kinds
+faults_of words = or_else (fault_of procure words) (if is_some (desk_config words) then [] else MissingSubcommand ∷ [])
+
+-- words are at fault, in one of these kinds, or memory is wanting
+abbrev pub IsFaultOf : Kinds → ProgramFault → Type 0
+IsFaultOf kinds (Arguments error) = IsAmong (kind_of error) kinds
+IsFaultOf kinds (Refused refusal) = refusal ≡ Unavailable
+IsFaultOf kinds _ = ⊥

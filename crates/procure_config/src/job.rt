@@ -3,7 +3,7 @@ ghost use Rattle.std.specs.Prelude.{◌≡◌, true, false, codes, [], ◌∷◌
 ghost use Rattle.clap.specs.Words.{app_of, fault_of, subcommand_rows_of, takes};
 ghost use Rattle.procure_config.specs.Faults.{no_memory};
 ghost use Rattle.procure_config.specs.Jobs as spec;
-ghost use Rattle.procure_config.specs.Jobs.{AsksFor, IsOfWords, desk_config, desk_in};
+ghost use Rattle.procure_config.specs.Jobs.{AsksFor, IsFaultOf, desk_config, desk_in, faults_of};
 
 use crate::fault::ProgramFault;
 use clap::error::ErrorKind;
@@ -50,7 +50,7 @@ fn met_desk<'a>(matches: &ArgMatches<'a>) -> Option<&'a str>
 
 // The fault of words that the command line takes and that name no job.
 fn no_job(command: &mut Command<'_>) -> ProgramFault
-    ensures { IsOfWords result }
+    ensures { IsFaultOf (ErrorKind.MissingSubcommand ∷ []) result }
 {
     match command.error(ErrorKind::MissingSubcommand, "no job is named") {
         Ok(error) => ProgramFault::from(error),
@@ -59,11 +59,12 @@ fn no_job(command: &mut Command<'_>) -> ProgramFault
 }
 
 /// The job that the words ask for, of which the first is the program's name.
-/// `Arguments` with clap's text where they ask for none or for help; `Refused(Unavailable)` for want of memory.
+/// `Arguments` with clap's error where they ask for none or for help; `Refused(Unavailable)` where that error, or an allocation
+/// besides, is of memory.
 pub fn job_of<'a, S: AsStr>(alloc: Global, words: &'a [S]) -> Result<Job<'a>, ProgramFault>
     ensures asked { IfOk result (AsksFor (map S.text words.entry.now)) }
     ensures right { IfOk result (λ _. fault_of spec.procure (map S.text words.entry.now) ≡ []) }
-    ensures fault { IfErr result IsOfWords }
+    ensures fault { IfErr result (IsFaultOf (faults_of (map S.text words.entry.now))) }
     ensures taken { takes spec.procure (map S.text words.entry.now) ≡ true → IsSome (desk_config (map S.text words.entry.now))
         → IfErr result (λ fault. fault ≡ no_memory) }
 {
@@ -75,12 +76,16 @@ pub fn job_of<'a, S: AsStr>(alloc: Global, words: &'a [S]) -> Result<Job<'a>, Pr
     }
 }
 
-/// Examples: words that ask for a desk, and words that name no job.
+/// Examples: words that ask for a desk, words that name no job, and the kinds of fault of words.
 pub fn worked_words()
     ensures desk { desk_config (codes "procure" ∷ codes "desk" ∷ codes "office.toml" ∷ []) ≡ Some (codes "office.toml") }
     ensures taken { takes spec.procure (codes "procure" ∷ codes "desk" ∷ codes "office.toml" ∷ []) ≡ true }
     ensures none { takes spec.procure (codes "procure" ∷ []) ≡ false }
     ensures more { takes spec.procure (codes "procure" ∷ codes "desk" ∷ codes "a" ∷ codes "b" ∷ []) ≡ false }
+    ensures right { faults_of (codes "procure" ∷ codes "desk" ∷ codes "office.toml" ∷ []) ≡ [] }
+    ensures no_word { faults_of [] ≡ ErrorKind.MissingSubcommand ∷ [] }
+    ensures no_path { faults_of (codes "procure" ∷ codes "desk" ∷ []) ≡ ErrorKind.MissingRequiredArgument ∷ [] }
+    ensures unknown { faults_of (codes "procure" ∷ codes "shop" ∷ []) ≡ ErrorKind.UnknownArgument ∷ ErrorKind.InvalidSubcommand ∷ [] }
 {}
 
 #[cfg(test)]
@@ -97,9 +102,11 @@ mod tests {
         }
     }
 
+    // Status 2 is that of `Arguments`, so none of these is told as want of memory.
     #[test]
     fn asks_for_no_job(rt: HostRuntime) -> Result<(), Fail> {
-        let cases: [(&[&str], &str); 8] = [
+        let cases: [(&[&str], &str); 9] = [
+            (&[], "Usage: procure <COMMAND>"),
             (&["procure"], "Usage: procure <COMMAND>"),
             (&["procure", "--help"], "A public procurement office"),
             (&["procure", "help"], "A public procurement office"),

@@ -2,10 +2,12 @@
 use Rattle.std.proofs.Common.{◌≡◌, ℕ, ◌+◌, List, [], ◌∷◌, length, Some, refl, sym, ap, ◌∙◌, Bor, true, false, inl}
 use Rattle.std.specs.Prelude.{Bool, IsTrue}
 use Rattle.std.specs.Bool.{MatchBool}
-use Rattle.csv.specs.Reading.{Reached, ReadRecord, default_config, reader_state, records_from, source_of, took_first}
+use Rattle.csv.specs.declared.error.ErrorKind.{ErrorKind}
+use Rattle.csv.specs.declared.error.ErrorKind.TheVariants as kind
+use Rattle.csv.specs.Reading.{ExplainsRead, Reached, ReadRecord, default_config, is_flexible, reader_state, records_from, source_of, took_first}
 use Rattle.csv.specs.declared.reader.Reader.{Reader}
 use Rattle.csv.proofs.ReadFacts.{rows-end, rows-more}
-use Rattle.tender_papers.specs.Reading.{IsReading, records_left}
+use Rattle.tender_papers.specs.Inside.Reading.{IsOfSource, IsReading, records_left}
 use Rattle.tender_papers.proofs.RecordSteps.{record_shortens, records_more, records_end}
 
 -- the records left, by the bytes left
@@ -18,9 +20,9 @@ record StepsTo (old new : Reader (Bor (List ℕ))) (fields : List (List ℕ)) : 
   reading : IsReading new
   read : records_left old ≡ fields ∷ records_left new
 
-reads_one : (old new : Reader (Bor (List ℕ))) (fields : List (List ℕ)) → IsReading old → took_first new ≡ true → ReadRecord (λ s. Some s.now) old new true fields → StepsTo old new fields
+reads_one : (old new : Reader (Bor (List ℕ))) (fields : List (List ℕ)) → IsReading old → took_first new ≡ true → is_flexible new ≡ is_flexible old → ReadRecord (λ s. Some s.now) old new true fields → StepsTo old new fields
 unfolding Reached
-reads_one old new fields h first r =
+reads_one old new fields h first flexible r =
     let m = rows-more (λ (s : Bor (List ℕ)). Some s.now) old new fields default_config old.state h.unread h.unread [] h.config h.source (refl, refl) r in
     let (bytes, source, step) = m in
     let (p, read, same, ends) = step in
@@ -29,6 +31,7 @@ reads_one old new fields h first r =
     record {
       reading = record {
         trim = r.3 ∙ h.trim;
+        flexible = flexible ∙ h.flexible;
         config = r.2 ∙ h.config;
         ready = inl first;
         between = rw state at t.between;
@@ -46,7 +49,16 @@ reads_none old new fields h r =
     left_is old h.unread h.source ∙ records_end (length h.unread) old.state h.unread (rows-end (λ (s : Bor (List ℕ)). Some s.now) old new fields default_config h.unread h.config h.source r)
 
 -- a read gives the next record, or tells that there is none
-pub reads_next : (found : Bool) (old new : Reader (Bor (List ℕ))) (fields : List (List ℕ)) → IsReading old → took_first new ≡ true → ReadRecord (λ s. Some s.now) old new found fields
+pub reads_next : (found : Bool) (old new : Reader (Bor (List ℕ))) (fields : List (List ℕ)) → IsReading old → took_first new ≡ true → is_flexible new ≡ is_flexible old → ReadRecord (λ s. Some s.now) old new found fields
     → (IsTrue found → IsReading new) × MatchBool found (records_left old ≡ fields ∷ records_left new) (records_left old ≡ [])
-reads_next true old new fields h first r = let steps = reads_one old new fields h first r in (λ _. steps.reading, steps.read)
-reads_next false old new fields h first r = (λ e. cc e, reads_none old new fields h r)
+reads_next true old new fields h first flexible r = let steps = reads_one old new fields h first flexible r in (λ _. steps.reading, steps.read)
+reads_next false old new fields h first flexible r = (λ e. cc e, reads_none old new fields h r)
+
+-- a reader that takes records of any number of fields fails for memory or its source alone
+pub only_source : (old new : Reader (Bor (List ℕ))) (k : ErrorKind) → is_flexible old ≡ true → ExplainsRead (λ s. Some s.now) old new false k → IsOfSource k
+only_source old new (kind.Io e) flexible why = tt
+only_source old new kind.OutOfMemory flexible why = tt
+only_source old new (kind.UnequalLengths pos expected len) flexible why = let not : old.flexible ≡ false = why.0 in cc (sym not ∙ flexible)
+only_source old new (kind.Utf8 pos err) flexible why = let text : false ≡ true = why.0 in cc text
+only_source old new (kind.Serialize text) flexible why = why
+only_source old new (kind.Deserialize pos err) flexible why = why

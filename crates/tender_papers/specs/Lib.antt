@@ -1,3 +1,3 @@
 pub mod Files
-pub mod Reading
 pub mod Budget
+pub mod Inside

@@ -3,12 +3,12 @@ ghost use Rattle.std.specs.Prelude.{◌≡◌, ◌+◌, ◌<◌, ◌^◌, length
 ghost use Rattle.csv.specs.Records.{fields_of};
 ghost use Rattle.office_values.specs.Numbers.{number_of};
 ghost use Rattle.tender_papers.specs.Files.{csv_records};
-ghost use Rattle.tender_papers.specs.Reading.{IsReading, records_left};
+ghost use Rattle.tender_papers.specs.Inside.Reading.{IsReading, records_left};
 ghost use Rattle.tender_papers.specs.Budget.{Gives, budget_of, is_head, kind_of, row_of, row_of_four, rows_from};
 
 use crate::records::{four_fields, next_record, records_of};
 use csv::{ByteRecord, Reader};
-use office_values::budget::{BudgetKind, BudgetRow, BudgetRows};
+use office_acts::budget::{BudgetKind, BudgetRow, BudgetRows};
 use office_values::id::Id;
 use office_values::money::Total;
 use office_values::number::read_number;

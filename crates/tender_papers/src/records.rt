@@ -1,14 +1,15 @@
 //! The records of a CSV file, one at a time.
 ghost use Rattle.std.specs.Prelude.{◌≡◌, ◌∷◌, [], IfOk, IsTrue, option_map};
 ghost use Rattle.std.specs.Bool.{MatchBool};
+ghost use Rattle.csv.specs.Reading.{error_kind};
 ghost use Rattle.csv.specs.Records.{fields_of};
 ghost use Rattle.tender_papers.specs.Files.{csv_records, four_of};
-ghost use Rattle.tender_papers.specs.Reading.{IsReading, records_left};
+ghost use Rattle.tender_papers.specs.Inside.Reading.{IsOfSource, IsReading, records_left};
 
-use csv::{ByteRecord, Reader, ReaderBuilder, Trim};
+use csv::{ByteRecord, Error, ErrorKind, Reader, ReaderBuilder, Trim};
 use std::alloc::{AllocError, Global};
 
-/// A reader of the records of a text, before the first.
+/// A reader of the records of a text, before the first. It takes records of any number of fields.
 pub(crate) fn records_of(alloc: Global, text: &[u8]) -> Reader<&[u8]>
     ensures reading { IsReading result }
     ensures records { records_left result ≡ csv_records text.now }
@@ -18,6 +19,17 @@ pub(crate) fn records_of(alloc: Global, text: &[u8]) -> Reader<&[u8]>
         .flexible(true)
         .trim(Trim::None)
         .from_reader(alloc, text)
+}
+
+// Why such a reader gives no record: for want of memory. `csv` leaves open that the source failed too, which bytes at hand never do;
+// a record of another number of fields is none of its errors.
+fn want_of_memory(error: Error) -> AllocError
+    requires { IsOfSource (error_kind error) }
+{
+    match error.into_kind() {
+        ErrorKind::Io(_) | ErrorKind::OutOfMemory => AllocError,
+        _ => unreachable!(),
+    }
 }
 
 /// The next record into `row`, and whether there was one.
@@ -31,10 +43,10 @@ pub(crate) fn next_record(
         (records_left reader.old ≡ fields_of row.new ∷ records_left reader.new)
         (records_left reader.old ≡ [])) }
 {
-    let Ok(found) = reader.read_byte_record(row) else {
-        return Err(AllocError);
-    };
-    Ok(found)
+    match reader.read_byte_record(row) {
+        Ok(found) => Ok(found),
+        Err(error) => Err(want_of_memory(error)),
+    }
 }
 
 /// The fields of a record of four.

@@ -1,17 +1,19 @@
 -- The import of a budget file: its rows are taken in order.
-use Rattle.std.specs.Prelude.{ℕ, ◌+◌, ◌-◌, Bool, true, false, cond, not, ◌&&◌, ◌||◌, List, [], ◌∷◌, ◌++◌, Option, Some, None, is_some, nat_lt, map, length}
+use Rattle.std.specs.Prelude.{◌≡◌, ℕ, ◌+◌, ◌-◌, Bool, true, false, cond, not, ◌&&◌, ◌||◌, List, [], ◌∷◌, ◌++◌, Option, Some, None, is_some, nat_lt, map, length, option_map}
 use Rattle.office_values.specs.Money.{total_limit}
-use Rattle.office_values.specs.declared.budget.BudgetKind.{BudgetKind}
-use Rattle.office_values.specs.declared.budget.BudgetKind.TheVariants.{Add, Cut}
-use Rattle.office_values.specs.declared.budget.BudgetRow.{BudgetRow}
+use Rattle.office_acts.specs.declared.budget.BudgetKind.{BudgetKind}
+use Rattle.office_acts.specs.declared.budget.BudgetKind.TheVariants.{Add, Cut}
+use Rattle.office_acts.specs.declared.budget.BudgetRow.{BudgetRow}
 use Rattle.office_values.specs.declared.refusal.Thing.TheVariants as things
 use Rattle.office_values.specs.declared.refusal.Refusal.{Refusal}
 use Rattle.office_values.specs.declared.refusal.Refusal.TheVariants.{NoSuch, Exists, InsufficientFunds, LimitReached}
-use Rattle.office_base.specs.Standings.{columns_at, put_standing}
+use Rattle.std.specs.List.{AllByRecursion}
+use Rattle.office_base.specs.Tables.{Tables, line_at}
+use Rattle.office_base.specs.Standings.{columns_at, columns_of_row, put_standing, standings}
 use Rattle.office_base.specs.declared.records.LineRow.{LineRow}
 use Rattle.office_base.specs.declared.records.ClockRow.{ClockRow}
-use Rattle.office_base.specs.declared.records.Put.{Put}
-use Rattle.office_base.specs.declared.records.Put.TheVariants as puts
+use Rattle.office_base.specs.declared.puts.Put.{Put}
+use Rattle.office_base.specs.declared.puts.Put.TheVariants as puts
 use Rattle.office_base.specs.declared.standing.Columns.{Columns}
 use Rattle.office_base.specs.declared.standing.Standing.{Standing}
 
@@ -92,3 +94,15 @@ puts_after clock t batch after rows =
 -- what an import puts
 abbrev pub import_puts : ClockRow → ℕ → List ℕ → List Standing → List BudgetRow → List Put
 import_puts clock t batch m rows = puts_after clock t batch (after_rows m rows) rows
+
+-- two maps of lines have the same columns at each line that the rows name
+abbrev pub Agree : List Standing → List Standing → List BudgetRow → Type 0
+Agree m n rows = AllByRecursion (λ (row : BudgetRow). columns_at m row.line ≡ columns_at n row.line) rows
+
+-- an import speaks of the lines that its rows name, and of no other
+pub record ImportsAgree : Type 0 where
+  pub tests : (m n : List Standing) (exists : Bool) (rows : List BudgetRow) → Agree m n rows → import_tests m exists rows ≡ import_tests n exists rows
+  pub puts : (clock : ClockRow) (t : ℕ) (batch : List ℕ) (m n : List Standing) (rows : List BudgetRow) → Agree m n rows
+      → import_puts clock t batch m rows ≡ import_puts clock t batch n rows
+  -- the columns of a line in the office are those of its row
+  pub columns : (t : Tables) (line : List ℕ) → columns_at (standings t) line ≡ option_map columns_of_row (line_at line t)

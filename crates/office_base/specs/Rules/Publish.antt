@@ -3,9 +3,9 @@
 use Rattle.std.specs.Prelude.{ℕ, ◌-◌, Bool, cond, not, ◌||◌, List, [], ◌∷◌, ◌++◌, None, is_some, unwrap_or, nat_lt, nat_le, map, length}
 use Rattle.std.specs.List.{list_any}
 use Rattle.office_values.specs.Ids.{same_id}
-use Rattle.office_values.specs.Notices.{weight_of}
-use Rattle.office_values.specs.declared.lot.NewLot.{NewLot}
-use Rattle.office_values.specs.declared.notice.NewNotice.{NewNotice}
+use Rattle.office_acts.specs.Notices.{weight_of}
+use Rattle.office_acts.specs.declared.lot.NewLot.{NewLot}
+use Rattle.office_acts.specs.declared.notice.NewNotice.{NewNotice}
 use Rattle.office_values.specs.declared.refusal.Thing.TheVariants as things
 use Rattle.office_values.specs.declared.refusal.Refusal.{Refusal}
 use Rattle.office_values.specs.declared.refusal.Refusal.TheVariants.{NoSuch, Exists, DeadlinePassed, InsufficientFunds, LimitReached}
@@ -18,8 +18,8 @@ use Rattle.office_base.specs.declared.records.NoticeRow.{NoticeRow}
 use Rattle.office_base.specs.declared.records.NoticeState.TheVariants.{Receiving}
 use Rattle.office_base.specs.declared.records.LotRow.{LotRow}
 use Rattle.office_base.specs.declared.records.LotState.TheVariants.{Undecided}
-use Rattle.office_base.specs.declared.records.Put.{Put}
-use Rattle.office_base.specs.declared.records.Put.TheVariants as puts
+use Rattle.office_base.specs.declared.puts.Put.{Put}
+use Rattle.office_base.specs.declared.puts.Put.TheVariants as puts
 
 -- the most lots of a notice, and the most items of a lot
 abbrev pub lot_limit : ℕ

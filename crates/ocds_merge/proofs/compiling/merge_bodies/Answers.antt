@@ -5,7 +5,7 @@ use Rattle.serde_json.specs.View.{view}
 use Rattle.serde_json.specs.declared.value.Value.{Value}
 use Rattle.ocds_merge.specs.Merge.{merge_of}
 use Rattle.ocds_merge.specs.Compile.{body_of}
-use Rattle.ocds_merge.specs.Step.{step}
+use Rattle.ocds_merge.specs.Inside.Step.{step}
 use Rattle.ocds_merge.proofs.MergeLaw.{merged_law}
 use Rattle.ocds_merge.proofs.CodeLemmas.{view_or}
 use Rattle.ocds_merge.proofs.compiling.merge_bodies.Goals as goal

@@ -3,7 +3,7 @@ use Rattle.std.proofs.lemmas.List.{take_more, get_or-map, length-map}
 use Rattle.serde_json.specs.Data.{Data, null}
 use Rattle.serde_json.specs.View.{view}
 use Rattle.ocds_merge.specs.Identified.{id_of}
-use Rattle.ocds_merge.specs.Step.{Lacks}
+use Rattle.ocds_merge.specs.Inside.Step.{Lacks}
 use Rattle.ocds_merge.proofs.CodeLemmas.{lacks_push}
 use Rattle.ocds_merge.proofs.identified.place_of.Goals as goal
 

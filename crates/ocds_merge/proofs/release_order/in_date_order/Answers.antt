@@ -6,7 +6,7 @@ use Rattle.serde_json.specs.Data.{Data, null}
 use Rattle.serde_json.specs.View.{view}
 use Rattle.serde_json.specs.declared.value.Value.{Value}
 use Rattle.ocds_merge.specs.Compile.{date_of, date_order, insert_by_date}
-use Rattle.ocds_merge.specs.Step.{AreEarlier}
+use Rattle.ocds_merge.specs.Inside.Step.{AreEarlier}
 use Rattle.ocds_merge.proofs.DateLemmas.{insert_is, map_insert}
 use Rattle.ocds_merge.proofs.release_order.in_date_order.Goals as goal
 

@@ -6,7 +6,7 @@ use Rattle.serde_json.specs.Data.{Data, null}
 use Rattle.serde_json.specs.View.{view}
 use Rattle.serde_json.specs.declared.value.Value.{Value}
 use Rattle.ocds_merge.specs.Compile.{date_of}
-use Rattle.ocds_merge.specs.Step.{AreEarlier}
+use Rattle.ocds_merge.specs.Inside.Step.{AreEarlier}
 use Rattle.ocds_merge.proofs.DateLemmas.{earlier_push}
 use Rattle.ocds_merge.proofs.release_order.place_for.Goals as goal
 

@@ -1,6 +1,6 @@
 use Rattle.std.proofs.Common.{map, take}
 use Rattle.serde_json.specs.View.{view}
-use Rattle.ocds_merge.specs.Step.{AreEarlier}
+use Rattle.ocds_merge.specs.Inside.Step.{AreEarlier}
 use Rattle.ocds_merge.proofs.release_order.place_for.Given as goal
 
 abbrev pub invariant-loop-place : goal.invariant-loop-place

@@ -3,7 +3,7 @@ use Rattle.serde_json.specs.Data.{Data, null, item}
 use Rattle.serde_json.specs.declared.value.Value.{Value}
 use Rattle.serde_json.specs.View.{view, items_view, members_view}
 use Rattle.ocds_merge.specs.Identified.{id_of}
-use Rattle.ocds_merge.specs.Step.{Lacks, step_items}
+use Rattle.ocds_merge.specs.Inside.Step.{Lacks, step_items}
 use Rattle.ocds_merge.specs.Laws.{IsProper, AreItemsProper, AreMembersProper}
 use Rattle.ocds_merge.proofs.CodeLemmas.{sorted_names_of, dropped, turned, found_turn, lacked_turn}
 use Rattle.ocds_merge.proofs.step.+merging.Goals as goal

@@ -1,6 +1,6 @@
 use Rattle.std.proofs.Common.{◌≡◌, drop, map}
 use Rattle.serde_json.specs.View.{view, items_view, members_view}
-use Rattle.ocds_merge.specs.Step.{step_items, step_members}
+use Rattle.ocds_merge.specs.Inside.Step.{step_items, step_members}
 use Rattle.ocds_merge.specs.Laws.{AreItemsProper, AreMembersProper}
 use Rattle.ocds_merge.proofs.step.+merging.Given as goal
 

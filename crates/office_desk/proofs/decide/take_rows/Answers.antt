@@ -2,7 +2,7 @@ use Rattle.std.proofs.Common.{◌≡◌, suc, add-one, ◌+◌, ◌*◌, ◌^◌
 use Rattle.std.proofs.Math.Seq.{drop-cons}
 use Rattle.office_base.specs.Rules.Import.{cuts_nothing, cuts_too_much, passes_limit}
 use Rattle.office_base.specs.declared.standing.Standing.{Standing}
-use Rattle.office_desk.specs.Walks.{AreNamed, AreAtMost}
+use Rattle.office_desk.specs.Inside.Walks.{AreNamed, AreAtMost}
 use Rattle.office_desk.proofs.Walked.{named_after, after_row-bound, small_columns, next_row, next_found, all_weaker}
 use Rattle.office_desk.proofs.decide.take_rows.Goals as goal
 
@@ -20,7 +20,7 @@ loop-row-preserved c =
     rw add-one (drop-cons c.args.rows.now c.loop-row.row-index c.row-item.result c.loop-row-test.true ∙ ap (λ r. r ∷ drop (suc c.loop-row.row-index) c.args.rows.now) (sym c.row-item.is)) in
     let named : List Standing → Type 0 = λ m. AreNamed m c.args.rows.now in
     let small : List Standing → Type 0 = λ m. AreAtMost ((c.loop-row.row-index + 1 + 1) * 10 ^ 15) m in (
-      subst named (sym c.take_row.ensures) (named_after c.loop-row.lines c.row-item.result c.args.rows.now c.loop-row.invariant.0),
+      subst named (sym c.take_row.ensures) (named_after c.rows_are_kept.ensures c.loop-row.lines c.row-item.result c.args.rows.now c.loop-row.invariant.0),
       subst small (sym c.take_row.ensures)
           (all_weaker ((c.loop-row.row-index + 1) * 10 ^ 15 + 10 ^ 15) ((c.loop-row.row-index + 1 + 1) * 10 ^ 15) _ (omega arith)
           (after_row-bound ((c.loop-row.row-index + 1) * 10 ^ 15) c.loop-row.lines c.row-item.result c.findings_at-here.ensures.small c.loop-row.invariant.1)),

@@ -1,6 +1,6 @@
 use Rattle.std.proofs.Common.{◌≡◌, ◌+◌, ◌*◌, ◌^◌, drop, ◌||◌}
 use Rattle.office_base.specs.Rules.Import.{after_rows, some_row, cuts_nothing, cuts_too_much, passes_limit}
-use Rattle.office_desk.specs.Walks.{AreNamed, AreAtMost}
+use Rattle.office_desk.specs.Inside.Walks.{AreNamed, AreAtMost}
 use Rattle.office_desk.proofs.decide.take_rows.Given as goal
 
 abbrev pub invariant-loop-row : goal.invariant-loop-row

@@ -1,7 +1,7 @@
 use Rattle.std.proofs.Common.{List, sym, subst, arith}
 use Rattle.office_values.specs.Money.{total_limit}
 use Rattle.office_base.specs.declared.standing.Standing.{Standing}
-use Rattle.office_desk.specs.Walks.{AreAtMost}
+use Rattle.office_desk.specs.Inside.Walks.{AreAtMost}
 use Rattle.office_desk.proofs.LoadedLines.{none_from}
 use Rattle.office_desk.proofs.load.load_lines.Goals as goal
 

@@ -1,5 +1,4 @@
 use Rattle.std.proofs.Common.{sym, ◌∙◌}
-use Rattle.office_base.proofs.Looked.{keeps_then}
 use Rattle.office_desk.proofs.Planning.{seen_line}
 use Rattle.office_desk.proofs.look.look_at_line.Goals as goal
 
@@ -7,7 +6,7 @@ pub returns : goal.returns
 returns g c =
     let first = c.in_ok-row.ensures in
     let second = c.in_ok-pots.ensures in (
-      keeps_then _ _ _ _ first.0.0 second.0,
+      c.looks_follow.ensures _ _ _ first.0.0 second.0,
       λ honest t held.
           let before = second.0.before honest in
           let sums = second.1 honest t (first.0.0.same before t held) in

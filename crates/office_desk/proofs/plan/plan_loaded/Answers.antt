@@ -12,9 +12,9 @@ pub returns-in-Ok-import_reply : goal.returns-in-Ok-import_reply
 returns-in-Ok-import_reply c = λ s from.
     let time : c.later-t.result ≡ time_of (imports s c.args.moment c.args.batch c.args.rows.now) =
     c.later-t.ensures ∙ ap (λ clock. max c.args.moment clock.moment) from.clock_is in
-    planned s c.args.moment c.args.batch c.args.rows.now c.args.loaded from c.requires.named c.later-t.result c.in-Ok.puts c.new.result time c.in-Ok.ensures c.new.ensures.puts
+    planned c.imports_agree.ensures s c.args.moment c.args.batch c.args.rows.now c.args.loaded from c.requires.named c.later-t.result c.in-Ok.puts c.new.result time c.in-Ok.ensures c.new.ensures.puts
     (c.new.ensures.reply ∙ c.in-Ok-import_reply.ensures ∙ ap (λ t. compact_text (imported c.args.batch (moment_text t) (length c.args.rows.now))) time)
 
 pub returns-in-Err : goal.returns-in-Err
 returns-in-Err c = λ s from.
-    refused s c.args.moment c.args.batch c.args.rows.now c.args.loaded from c.requires.named c.later-t.result c.in-Err.why c.in-Err.ensures
+    refused c.imports_agree.ensures s c.args.moment c.args.batch c.args.rows.now c.args.loaded from c.requires.named c.later-t.result c.in-Err.why c.in-Err.ensures

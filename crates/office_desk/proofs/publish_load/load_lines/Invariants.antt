@@ -1,7 +1,7 @@
 use Rattle.std.proofs.Common.{◌<◌, ℕ, get_or}
-use Rattle.office_values.specs.declared.lot.NewLot.{NewLot}
+use Rattle.office_acts.specs.declared.lot.NewLot.{NewLot}
 use Rattle.office_base.specs.Shelves.{Looks}
-use Rattle.office_desk.specs.Publishing.{AreFrom, IsAsIn}
+use Rattle.office_desk.specs.Inside.Publishing.{AreFrom, IsAsIn}
 use Rattle.office_desk.proofs.publish_load.load_lines.Given as goal
 
 abbrev pub invariant-loop-lot : goal.invariant-loop-lot

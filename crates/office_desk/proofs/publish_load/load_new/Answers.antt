@@ -7,7 +7,7 @@ returns-in-Some g c = record {
   looks = (
     c.in_ok-row.ensures.0.0,
     λ honest t held.
-        where_added t c.args.lines.now c.add_line.new.lines c.args.line.now c.in-Some.row (sym (c.in_ok-row.ensures.0.1 honest t held) ∙ c.in-Some.is) c.add_line.result
+        where_added c.rows_are_kept.ensures t c.args.lines.now c.add_line.new.lines c.args.line.now c.in-Some.row (sym (c.in_ok-row.ensures.0.1 honest t held) ∙ c.in-Some.is) c.add_line.result
         c.add_line.ensures,
   );
 }

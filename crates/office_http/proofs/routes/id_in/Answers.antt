@@ -4,6 +4,5 @@ use Rattle.office_http.proofs.routes.id_in.Goals as goal
 pub returns : goal.returns
 returns c =
     let found = rw c.segment.ensures at c.read.ensures.found in
-    let right = rw c.segment.ensures at c.read.ensures.right in
-    let none = rw c.segment.ensures at c.read.ensures.none in
-    id_read _ _ found right none
+    let tested = rw c.segment.ensures at c.read.ensures.tested in
+    id_read _ _ found tested

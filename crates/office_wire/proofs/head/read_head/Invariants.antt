@@ -1,11 +1,15 @@
-use Rattle.std.proofs.Common.{◌≡◌, ◌≤◌, ℕ, List, ◌++◌, length, Some}
+use Rattle.std.proofs.Common.{◌≡◌, ◌≤◌, ◌-◌, ℕ, List, ◌++◌, length, Some}
 use Rattle.httparse.specs.Grammar.{HasNoRequest}
 use Rattle.office_wire.proofs.head.read_head.Given as goal
 
 abbrev pub invariant-bytes : goal.invariant-bytes
 invariant-bytes g l = record {
-  len : length l.lines ≡ l._count;
+  short : length l.lines ≤ 8192;
   none : HasNoRequest l.lines;
-  left : l.left ≤ l.fn.left;
-  read : (input : List ℕ) → g.R.Read.remaining l.fn.reader ≡ Some input → (rest : List ℕ) × (g.R.Read.remaining l.reader ≡ Some rest) × (input ≡ l.lines ++ rest);
+  left : l.reader.left ≤ l.fn.reader.left;
+  sound : l.reader.has_failed ≡ l.fn.reader.has_failed;
+  read : (input : List ℕ) → l.fn.reader.remaining ≡ Some input → (rest : List ℕ) × (l.reader.remaining ≡ Some rest) × (input ≡ l.lines ++ rest);
 }
+
+abbrev pub decreases-bytes : goal.decreases-bytes
+decreases-bytes g l = 8192 - length l.lines

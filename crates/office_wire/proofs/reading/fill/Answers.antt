@@ -23,5 +23,6 @@ parts-preserved g c =
     record {
       within = search rules;
       left = omega (arith, inv.left, given.spent);
+      whole = given.whole ∙ inv.whole;
       given = subst (Consumes _ _) (sym (front_then at room c.in_ok-count.count c.parts.buf c.read_some.new.buf inv.within given.bound)) (Consumes-trans _ _ _ _ _ inv.given given.given);
     }

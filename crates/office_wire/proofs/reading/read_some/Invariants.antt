@@ -1,12 +1,13 @@
-use Rattle.std.proofs.Common.{◌≤◌}
+use Rattle.std.proofs.Common.{◌≤◌, ◌≡◌}
 use Rattle.std.specs.Io.KnownBytes.{Keeps}
 use Rattle.office_wire.proofs.reading.read_some.Given as goal
 
 abbrev pub invariant-tries : goal.invariant-tries
 invariant-tries g l = record {
-  kept : Keeps (g.R.Read.remaining l.fn.reader) (g.R.Read.remaining l.reader);
-  left : l.left ≤ l.fn.left;
+  kept : Keeps l.fn.reader.remaining l.reader.remaining;
+  left : l.reader.left ≤ l.fn.reader.left;
+  whole : l.reader.has_failed ≡ l.fn.reader.has_failed;
 }
 
 abbrev pub decreases-tries : goal.decreases-tries
-decreases-tries g l = l.left
+decreases-tries g l = l.reader.left

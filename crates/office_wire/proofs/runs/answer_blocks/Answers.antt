@@ -1,4 +1,4 @@
-use Rattle.std.proofs.Common.{[], ◌∷◌, ◌++◌, Err, sym, ap, subst, refl, ◌∙◌}
+use Rattle.std.proofs.Common.{[], ◌∷◌, ◌++◌, Err, arith, sym, ap, subst, refl, ◌∙◌}
 use Rattle.std.proofs.lemmas.Result.{err_from_is_err_and}
 use Rattle.std.specs.Io.KnownBytes.{Appends}
 use Rattle.office_wire.specs.Runs.{Step, office_left}
@@ -7,12 +7,18 @@ use Rattle.office_wire.proofs.runs.answer_blocks.Goals as goal
 
 pub rounds-init : goal.rounds-init
 rounds-init g c = record {
+  spent = omega arith;
+  all_read = refl;
+  all_written = refl;
   before = λ h. h;
-  ran = λ h input e s holds. record { steps = []; rest = input; now = e; count = refl; answered = answered_none g.D.Responder.meaning.answers input s (g.W.Write.contents c.args.writer.now); holds = holds };
+  ran = λ h input e s holds. record { steps = []; rest = input; now = e; count = refl; answered = answered_none g.D.Responder.meaning.answers input s c.args.writer.now.contents; holds = holds };
 }
 
 pub rounds-preserved : goal.rounds-preserved
 rounds-preserved g c = record {
+  spent = omega (arith, c.rounds.invariant.spent, c.in_ok-moment.ensures.spent, c.in-Ok.ensures.counted);
+  all_read = c.in-Ok.ensures.sound ∙ (c.in_ok-moment.ensures.sound ∙ c.rounds.invariant.all_read);
+  all_written = c.in_ok-send-in-Ok.ensures.sound ∙ c.rounds.invariant.all_written;
   before = λ h. c.rounds.invariant.before (c.answer-answer.ensures.before h);
   ran = λ h input e s holds.
       let A = g.D.Responder.meaning.answers in

@@ -13,10 +13,10 @@ returns-in_err-flush-clause-served g c h input e s holds =
     let A = g.D.Responder.meaning.answers in
     let (t, served, held) = c.in_ok-answer_one.ensures.served h input e s holds in
     let p = err_from_is_err_and c.from_residual-in_err-flush.result c.from_residual-in_err-flush.ensures.1 in
-    (t, rw (p.1, p.2) (served_unflushed A tt input _ c.args.moment s t _ _ (served_kept A (Ok tt) input _ c.args.moment s t _ _ _ served c.flush.ensures)), held)
+    (t, rw (p.1, p.2) (served_unflushed A tt input _ c.args.moment s t _ _ (served_kept A (Ok tt) input _ c.args.moment s t _ _ _ served c.flush.ensures.kept)), held)
 
 pub returns-clause-served : goal.returns-clause-served
 returns-clause-served g c h input e s holds =
     let A = g.D.Responder.meaning.answers in
     let (t, served, held) = c.in_ok-answer_one.ensures.served h input e s holds in
-    (t, served_kept A (Ok tt) input _ c.args.moment s t _ _ _ served c.flush.ensures, held)
+    (t, served_kept A (Ok tt) input _ c.args.moment s t _ _ _ served c.flush.ensures.kept, held)

@@ -18,3 +18,19 @@ returns-clause-none c = refl
 pub returns-clause-more : goal.returns-clause-more
 unfolding clap_on_literals procure
 returns-clause-more c = refl
+
+pub returns-clause-right : goal.returns-clause-right
+unfolding clap_on_literals procure
+returns-clause-right c = refl
+
+pub returns-clause-no_word : goal.returns-clause-no_word
+unfolding clap_on_literals procure
+returns-clause-no_word c = refl
+
+pub returns-clause-no_path : goal.returns-clause-no_path
+unfolding clap_on_literals procure
+returns-clause-no_path c = refl
+
+pub returns-clause-unknown : goal.returns-clause-unknown
+unfolding clap_on_literals procure
+returns-clause-unknown c = refl

@@ -1,0 +1,15 @@
+-- The test that nothing was taken from contracts that wasn't put in.
+use Rattle.std.specs.Prelude.{◌≡◌, ◌≤◌, true, List, [], ◌∷◌}
+use Rattle.std.specs.List.{AllByRecursion, list_all}
+use Rattle.std.proofs.Common.{refl}
+use Rattle.std.proofs.lemmas.Bool.{and_parts, and_from, leb-true, le-leb}
+use Rattle.office_base.specs.LineSums.{is_within}
+use Rattle.office_base.specs.declared.ledger.ContractSums.{ContractSums}
+
+pub all_within : (contracts : List ContractSums) → list_all is_within contracts ≡ true → AllByRecursion (λ (sums : ContractSums). sums.lost ≤ sums.gained) contracts
+all_within [] e = tt
+all_within (x ∷ xs) e = let (first, rest) = and_parts _ _ e in (leb-true _ _ first, all_within xs rest)
+
+pub within_all : (contracts : List ContractSums) → AllByRecursion (λ (sums : ContractSums). sums.lost ≤ sums.gained) contracts → list_all is_within contracts ≡ true
+within_all [] h = refl
+within_all (x ∷ xs) h = and_from _ _ (le-leb _ _ h.0) (within_all xs h.1)

@@ -1,0 +1,10 @@
+use Rattle.std.proofs.Common.{◌≡◌, ◌+◌, ◌-◌, ◌≤◌, ◌^◌, min, drop}
+use Rattle.office_base.specs.Sums.{sum_over}
+use Rattle.office_base.specs.LineSums.{paid_in}
+use Rattle.office_base.proofs.pots.paid_of.Given as goal
+
+-- what is added up so far and the rest come to the whole, up to the greatest number
+abbrev pub invariant-loop-sums : goal.invariant-loop-sums
+invariant-loop-sums l =
+    (min (l.sum + sum_over paid_in (drop l.sums-index l.contracts)) (2 ^ 128 - 1) ≡ min (sum_over paid_in l.contracts) (2 ^ 128 - 1))
+    × (l.sum ≤ 2 ^ 128 - 1)

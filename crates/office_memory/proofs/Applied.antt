@@ -1,0 +1,17 @@
+-- All changes made in memory.
+use Rattle.std.specs.Prelude.{◌≡◌, ℕ, List, Ok}
+use Rattle.std.proofs.Common.{sym, ap, ◌∙◌}
+use Rattle.office_base.specs.Tables.{Tables, after_puts, ChangesKeepOrder}
+use Rattle.office_base.specs.Shelves.{Alters}
+use Rattle.office_memory.specs.MemoryMeaning.{memory_meaning}
+use Rattle.office_base.specs.declared.puts.Put.{Put}
+use Rattle.office_base.specs.declared.shelf.ShelfFault.{ShelfFault}
+
+pub all_made : ChangesKeepOrder → (old new : Tables × ℕ) (ps : List Put) → new.0 ≡ after_puts ps old.0 → Alters {T = Unit {0}} {E = ShelfFault} memory_meaning old new (Ok tt) (after_puts ps)
+all_made kept old new ps made = record {
+  before = λ h. tt;
+  all = λ h t held. (made ∙ ap (after_puts ps) held.0, kept ps t held.1);
+  none = λ h t held. tt;
+  stop_all = λ h t held u left. sym left ∙ made ∙ ap (after_puts ps) held.0;
+  stop_none = λ h t held. tt;
+}

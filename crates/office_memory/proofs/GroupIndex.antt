@@ -1,0 +1,126 @@
+-- Rows of a group by the index.
+use Rattle.std.specs.Prelude.{◌≡◌, Bool, true, false, cond, ◌&&◌, List, [], ◌∷◌, filter, Some, Result, Ok, Err, OnOk, OnErr}
+use Rattle.std.proofs.Common.{refl, sym, ap, ◌∙◌, subst}
+use Rattle.std.specs.BTreeMap.{get, is_at}
+use Rattle.std.specs.BTreeSet.{BTreeSet, contains}
+use Rattle.std.specs.Cmp.{IsTotalOrder}
+use Rattle.std.specs.List.{AllByRecursion, list_any, filter_map}
+use Rattle.std.specs.List.Sorted.{IsStrictlySortedBy}
+use Rattle.std.specs.Map.{lookup}
+use Rattle.std.specs.Ordering.{is_eq}
+use Rattle.std.specs.declared.cmp.Ordering.{Ordering}
+use Rattle.std.specs.declared.cmp.Ordering.TheVariants.{Equal}
+use Rattle.std.proofs.lemmas.Bool.{and_parts, or_left}
+use Rattle.office_memory.specs.Inside.GroupIndex.{KeysOfGroups, keys_in, keys_of, has_key, HasRows, IsIndexed}
+use Rattle.office_base.specs.Rows.{row_at, row_put, row_drop, IsInOrder}
+use Rattle.office_memory.proofs.KeyLists.{all_found}
+use Rattle.office_base.proofs.Orders.{same_key, equal_from_test}
+use Rattle.office_base.proofs.RowLaws.{all-put}
+use Rattle.office_memory.proofs.RowsDropped.{all-drop}
+
+pub contains_more : (test was : Bool) → was ≡ true → cond test true was ≡ true
+contains_more true was h = refl
+contains_more false was h = h
+
+-- a key is the one of a list of one
+pub is_only : {K : Type 0} {R : K → K → Ordering} → IsTotalOrder R → (key : K) → list_any (is_at (R key)) (key ∷ []) ≡ true
+is_only {K} {R} o key = or_left (is_eq (R key key)) false (ap is_eq (same_key o key))
+
+module _ {G K : Type 0} {S : G → G → Ordering} {R : K → K → Ordering} (s : IsTotalOrder S) (o : IsTotalOrder R) where
+  lookup_alike : {X : Type 0} (a b : G) (es : List (G × X)) → S a b ≡ Equal → lookup (is_at (S a)) es ≡ lookup (is_at (S b)) es
+  lookup_alike a b [] e = refl
+  lookup_alike a b (x ∷ es) e = rw (s.congr a b x.0 e, lookup_alike a b es e) refl
+
+  -- groups that compare as equal have the same keys
+  alike_keys : (a b : G) (index : KeysOfGroups G K) → S a b ≡ Equal → keys_of S a index ≡ keys_of S b index
+  alike_keys a b index e = ap keys_in (lookup_alike a b index.entries e)
+
+  more_step : (g q : G) (k : K) (index next : KeysOfGroups G K) (keys : BTreeSet K)
+      → get S next q ≡ cond (is_at (S g) q) (Some keys) (get S index q)
+      → ((j : K) → list_any (is_at (R j)) (keys_of S g index) ≡ true → contains R keys j ≡ true)
+      → has_key S R index q k ≡ true → (c : Bool) → is_at (S g) q ≡ c → has_key S R next q k ≡ true
+  more_step g q k index next keys updates more has true e =
+      ap (λ found. list_any (is_at (R k)) (keys_in found)) (updates ∙ ap (λ b. cond b (Some keys) (get S index q)) e)
+      ∙ more k (ap (λ ks. list_any (is_at (R k)) ks) (alike_keys g q index (equal_from_test (S g q) e)) ∙ has)
+  more_step g q k index next keys updates more has false e =
+      ap (λ found. list_any (is_at (R k)) (keys_in found)) (updates ∙ ap (λ b. cond b (Some keys) (get S index q)) e) ∙ has
+
+  -- where the keys of one group are others, but at least those that were there, none leaves the index
+  pub more_keys : (g : G) (index next : KeysOfGroups G K) (keys : BTreeSet K)
+      → ((q : G) → get S next q ≡ cond (is_at (S g) q) (Some keys) (get S index q))
+      → ((j : K) → list_any (is_at (R j)) (keys_of S g index) ≡ true → contains R keys j ≡ true)
+      → (q : G) (k : K) → has_key S R index q k ≡ true → has_key S R next q k ≡ true
+  more_keys g index next keys updates more q k has = more_step g q k index next keys (updates q) more has (is_at (S g) q) refl
+
+  module _ {X : Type 0} (group : X → G) (key : X → K) where
+    -- ---- the rows of a group
+
+    module _ (same : G → G → Bool) (ties : (x y : G) → same x y ≡ is_eq (S x y)) where
+      row_of_it : (g : G) (index : KeysOfGroups G K) (r : X) → has_key S R index (group r) (key r) ≡ true → same (group r) g ≡ true
+          → list_any (is_at (R (key r))) (keys_of S g index) ≡ true
+      row_of_it g index r has of_it =
+          ap (λ ks. list_any (is_at (R (key r))) ks) (sym (alike_keys (group r) g index (equal_from_test _ (sym (ties (group r) g) ∙ of_it)))) ∙ has
+
+      rows_of_it : (g : G) (rows : List X) (index : KeysOfGroups G K) → HasRows S R group key rows index
+          → AllByRecursion (λ r. same (group r) g ≡ true → list_any (is_at (R (key r))) (keys_of S g index) ≡ true) rows
+      rows_of_it g [] index has = tt
+      rows_of_it g (r ∷ rows) index has = (row_of_it g index r has.0, rows_of_it g rows index has.1)
+
+      -- the keys that an index has of a group find its rows
+      pub rows_found : (g : G) (rows : List X) (index : KeysOfGroups G K) (keys : List K) → HasRows S R group key rows index → keys ≡ keys_of S g index
+          → IsStrictlySortedBy R keys → IsInOrder R key rows
+          → filter (λ r. same (group r) g) (filter_map (row_at R key rows) keys) ≡ filter (λ r. same (group r) g) rows
+      rows_found g rows index keys has are sorted order =
+          let family : List K → Type 0 = λ ks. AllByRecursion (λ r. same (group r) g ≡ true → list_any (is_at (R (key r))) ks ≡ true) rows in
+          all_found o key (λ r. same (group r) g) keys rows sorted order (subst family (sym are) (rows_of_it g rows index has))
+
+      -- where it has none, there are none
+      pub no_rows : (g : G) (rows : List X) (index : KeysOfGroups G K) → HasRows S R group key rows index → [] ≡ keys_of S g index → IsInOrder R key rows
+          → [] ≡ filter (λ r. same (group r) g) rows
+      unfolding IsStrictlySortedBy
+      no_rows g rows index has are order = rows_found g rows index [] has are tt order
+
+    -- ---- the index after a change of the table
+
+    has_all : (rows : List X) (index next : KeysOfGroups G K) → ((q : G) (k : K) → has_key S R index q k ≡ true → has_key S R next q k ≡ true)
+        → HasRows S R group key rows index → HasRows S R group key rows next
+    has_all [] index next kept h = tt
+    has_all (r ∷ rows) index next kept h = (kept (group r) (key r) h.0, has_all rows index next kept h.1)
+
+    -- keys are added to it
+    pub still_indexed : (rows : List X) (index next : KeysOfGroups G K) (is_whole : Bool) → IsIndexed S R group key rows index is_whole
+        → ((q : G) (k : K) → has_key S R index q k ≡ true → has_key S R next q k ≡ true) → IsIndexed S R group key rows next is_whole
+    still_indexed rows index next is_whole h more whole = has_all rows index next more (h whole)
+
+    -- a row that it has is put
+    indexed-put : (r : X) (rows : List X) (index : KeysOfGroups G K) (is_whole now_whole : Bool) → IsIndexed S R group key rows index is_whole
+        → (now_whole ≡ true → (is_whole ≡ true) × (has_key S R index (group r) (key r) ≡ true)) → IsIndexed S R group key (row_put R key rows r) index now_whole
+    indexed-put r rows index is_whole now_whole h has whole =
+        all-put o key (λ x. has_key S R index (group x) (key x) ≡ true) rows r (has whole).1 (h (has whole).0)
+
+    by_result : {Y E : Type 0} (r : X) (rows after : List X) (index : KeysOfGroups G K) (is_whole : Bool) (result : Result Y E)
+        → IsIndexed S R group key rows index is_whole → has_key S R index (group r) (key r) ≡ true
+        → OnOk result (after ≡ row_put R key rows r) → OnErr result (after ≡ rows) → IsIndexed S R group key after index is_whole
+    by_result r rows after index is_whole (Ok x) h has put kept = rw put (indexed-put r rows index is_whole is_whole h (λ whole. (whole, has)))
+    by_result r rows after index is_whole (Err e) h has put kept = rw kept h
+
+    -- a key is added to it and then its row put, or refused
+    pub indexed_after_put : {Y E : Type 0} (r : X) (rows after : List X) (index next : KeysOfGroups G K) (is_whole : Bool) (result : Result Y E)
+        → IsIndexed S R group key rows index is_whole → has_key S R next (group r) (key r) ≡ true
+        → ((q : G) (k : K) → has_key S R index q k ≡ true → has_key S R next q k ≡ true)
+        → OnOk result (after ≡ row_put R key rows r) → OnErr result (after ≡ rows) → IsIndexed S R group key after next is_whole
+    indexed_after_put r rows after index next is_whole result h has more put kept =
+        by_result r rows after next is_whole result (still_indexed rows index next is_whole h more) has put kept
+
+    -- a row that was replaced comes again
+    pub indexed_again : (r : X) (rows : List X) (index : KeysOfGroups G K) (is_whole is_listed : Bool) → IsIndexed S R group key rows index is_whole
+        → is_listed ≡ has_key S R index (group r) (key r) → IsIndexed S R group key (row_put R key rows r) index (is_whole && is_listed)
+    indexed_again r rows index is_whole is_listed h has =
+        indexed-put r rows index is_whole (is_whole && is_listed) h
+        (λ whole. ((and_parts is_whole is_listed whole).0, sym has ∙ (and_parts is_whole is_listed whole).1))
+
+    -- a row is dropped
+    pub indexed_after_drop : (k : K) (rows : List X) (index : KeysOfGroups G K) (is_whole : Bool) → IsIndexed S R group key rows index is_whole
+        → IsIndexed S R group key (row_drop R key rows k) index is_whole
+    indexed_after_drop k rows index is_whole h whole =
+        all-drop R key (λ r. has_key S R index (group r) (key r) ≡ true) rows k (h whole)

@@ -1,0 +1,13 @@
+pub mod RowsDropped
+pub mod KeyedTrees
+pub mod RowRanges
+pub mod KeyLists
+pub mod IdBounds
+pub mod KeyBounds
+pub mod GroupIndex
+pub mod Undone
+pub mod Undoing
+pub mod SealsDropped
+pub mod Applied
+pub mod Reserved
+pub mod AddedUp

@@ -1,0 +1,11 @@
+-- What lots have reserved, read off the rows that are borrowed.
+use Rattle.std.specs.Prelude.{◌≡◌, List, [], ◌∷◌, map}
+use Rattle.std.proofs.Common.{Bor, refl, ap, ◌∙◌}
+use Rattle.office_base.specs.declared.records.LotRow.{LotRow}
+
+each_reserved : (lots : List (Bor LotRow)) → map (λ lot. lot.now.reserved) lots ≡ map (λ (lot : LotRow). lot.reserved) (map (λ lot. lot.now) lots)
+each_reserved [] = refl
+each_reserved (lot ∷ lots) = ap (λ amounts. lot.now.reserved ∷ amounts) (each_reserved lots)
+
+pub reserved_is : (lots : List (Bor LotRow)) (rows : List LotRow) → map (λ lot. lot.now) lots ≡ rows → map (λ lot. lot.now.reserved) lots ≡ map (λ (lot : LotRow). lot.reserved) rows
+reserved_is lots rows e = each_reserved lots ∙ ap (map (λ (lot : LotRow). lot.reserved)) e

@@ -1,0 +1,147 @@
+-- Rows that are dropped, and rows that are put after that.
+use Rattle.std.specs.Prelude.{◌≡◌, Bool, true, false, cond, not, List, [], ◌∷◌, ◌++◌, filter}
+use Rattle.std.proofs.Common.{refl, sym, ap, ◌∙◌}
+use Rattle.std.specs.List.{AllByRecursion}
+use Rattle.std.specs.Cmp.{IsTotalOrder}
+use Rattle.std.specs.Ordering.{is_eq, eq_by_cmp, ordering_reverse}
+use Rattle.std.specs.declared.cmp.Ordering.{Ordering}
+use Rattle.std.specs.declared.cmp.Ordering.TheVariants.{Less, Equal, Greater}
+use Rattle.office_base.specs.RowLaws.{RowsAreKept}
+use Rattle.office_base.specs.Rows.{by_order, row_put, row_drop, StartsAbove, IsInOrder}
+use Rattle.office_base.proofs.Orders.{alike_right}
+use Rattle.office_memory.specs.Inside.Drops.{rows_drop}
+
+all_step : {X : Type 0} (P : X → Type 0) (x : X) (xs dropped : List X) → P x × AllByRecursion P xs → AllByRecursion P dropped → (c : Ordering) → AllByRecursion P (by_order c (x ∷ xs) xs (x ∷ dropped))
+all_step P x xs dropped h ih Less = h
+all_step P x xs dropped h ih Equal = h.1
+all_step P x xs dropped h ih Greater = (h.0, ih)
+
+-- what holds of all rows holds of all when one is dropped
+pub all-drop : {K X : Type 0} (R : K → K → Ordering) (key : X → K) (P : X → Type 0) (xs : List X) (k : K) → AllByRecursion P xs → AllByRecursion P (row_drop R key xs k)
+unfolding row_drop
+all-drop R key P [] k h = tt
+all-drop R key P (x ∷ xs) k h = all_step P x xs (row_drop R key xs k) h (all-drop R key P xs k h.1) (R k (key x))
+
+cons_cond : {X : Type 0} (b : Bool) (x : X) (xs ys : List X) → x ∷ cond b xs ys ≡ cond b (x ∷ xs) (x ∷ ys)
+cons_cond true x xs ys = refl
+cons_cond false x xs ys = refl
+
+module _ {K X : Type 0} {R : K → K → Ordering} (o : IsTotalOrder R) (key : X → K) where
+  above : (k : K) (x : X) (xs : List X) → R k (key x) ≡ Less → StartsAbove R key (key x) xs → StartsAbove R key k xs
+  above k x [] e h = tt
+  above k x (y ∷ ys) e h = o.trans k (key x) (key y) e h
+
+  level : (k : K) (x : X) (xs : List X) → R k (key x) ≡ Equal → StartsAbove R key (key x) xs → StartsAbove R key k xs
+  level k x [] e h = tt
+  level k x (y ∷ ys) e h = o.congr k (key x) (key y) e ∙ h
+
+  above_step : (j k : K) (x : X) (xs : List X) → R j (key x) ≡ Less → StartsAbove R key (key x) xs → (c : Ordering) → StartsAbove R key j (by_order c (x ∷ xs) xs (x ∷ row_drop R key xs k))
+  above_step j k x xs e h Less = e
+  above_step j k x xs e h Equal = above j x xs e h
+  above_step j k x xs e h Greater = e
+
+  -- rows above a key stay above it
+  above-drop : (j k : K) (xs : List X) → StartsAbove R key j xs → IsInOrder R key xs → StartsAbove R key j (row_drop R key xs k)
+  unfolding row_drop
+  above-drop j k [] s h = tt
+  above-drop j k (x ∷ xs) s h = above_step j k x xs s h.0 (R k (key x))
+
+  -- a row below all comes first
+  put_first : (r : X) (xs : List X) → StartsAbove R key (key r) xs → row_put R key xs r ≡ r ∷ xs
+  unfolding row_put
+  put_first r [] s = refl
+  put_first r (x ∷ xs) s = ap (λ c. by_order c (r ∷ x ∷ xs) (r ∷ xs) (x ∷ row_put R key xs r)) s
+
+  after_it : (a b : K) → R a b ≡ Greater → R b a ≡ Less
+  after_it a b e = o.antisymm b a ∙ ap ordering_reverse e
+
+  one_step : (k : K) (r : X) (c : Ordering) → R k (key r) ≡ c → r ∷ [] ≡ cond (is_eq c) (r ∷ []) (by_order c (r ∷ []) [] (r ∷ []))
+  one_step k r Less e = refl
+  one_step k r Equal e = refl
+  one_step k r Greater e = refl
+
+  -- the row comes before the first
+  put_before : (k : K) (r x : X) (xs : List X) → R (key r) (key x) ≡ Less → IsInOrder R key (x ∷ xs) → (c : Ordering) → R k (key r) ≡ c
+      → row_put R key (row_drop R key (x ∷ xs) k) r ≡ cond (is_eq c) (r ∷ x ∷ xs) (by_order c (r ∷ x ∷ xs) (x ∷ xs) (r ∷ row_drop R key (x ∷ xs) k))
+  unfolding row_put row_drop
+  put_before k r x xs e h Less c =
+      ap (λ a. row_put R key (by_order a (x ∷ xs) xs (x ∷ row_drop R key xs k)) r) (o.trans k (key r) (key x) c e)
+      ∙ ap (λ b. by_order b (r ∷ x ∷ xs) (r ∷ xs) (x ∷ row_put R key xs r)) e
+  put_before k r x xs e h Equal c =
+      ap (λ a. row_put R key (by_order a (x ∷ xs) xs (x ∷ row_drop R key xs k)) r) (o.congr k (key r) (key x) c ∙ e)
+      ∙ ap (λ b. by_order b (r ∷ x ∷ xs) (r ∷ xs) (x ∷ row_put R key xs r)) e
+  put_before k r x xs e h Greater c = put_first r (row_drop R key (x ∷ xs) k) (above-drop (key r) k (x ∷ xs) e h)
+
+  -- it takes the place of the first
+  put_at : (k : K) (r x : X) (xs : List X) → R (key r) (key x) ≡ Equal → IsInOrder R key (x ∷ xs) → (c : Ordering) → R k (key r) ≡ c
+      → row_put R key (row_drop R key (x ∷ xs) k) r ≡ cond (is_eq c) (r ∷ xs) (by_order c (r ∷ xs) xs (r ∷ row_drop R key xs k))
+  unfolding row_put row_drop
+  put_at k r x xs e h Less c =
+      ap (λ a. row_put R key (by_order a (x ∷ xs) xs (x ∷ row_drop R key xs k)) r) (sym (alike_right o k (key r) (key x) e) ∙ c)
+      ∙ ap (λ b. by_order b (r ∷ x ∷ xs) (r ∷ xs) (x ∷ row_put R key xs r)) e
+  put_at k r x xs e h Equal c =
+      ap (λ a. row_put R key (by_order a (x ∷ xs) xs (x ∷ row_drop R key xs k)) r) (sym (alike_right o k (key r) (key x) e) ∙ c)
+      ∙ put_first r xs (level (key r) x xs e h.0)
+  put_at k r x xs e h Greater c =
+      ap (λ a. row_put R key (by_order a (x ∷ xs) xs (x ∷ row_drop R key xs k)) r) (sym (alike_right o k (key r) (key x) e) ∙ c)
+      ∙ ap (λ b. by_order b (r ∷ x ∷ row_drop R key xs k) (r ∷ row_drop R key xs k) (x ∷ row_put R key (row_drop R key xs k) r)) e
+
+  -- it comes after the first
+  put_after : (k : K) (r x : X) (xs : List X) → R (key r) (key x) ≡ Greater
+      → row_put R key (row_drop R key xs k) r ≡ cond (eq_by_cmp R k (key r)) (row_put R key xs r) (row_drop R key (row_put R key xs r) k)
+      → (a : Ordering) → R k (key x) ≡ a
+      → row_put R key (by_order a (x ∷ xs) xs (x ∷ row_drop R key xs k)) r
+      ≡ cond (eq_by_cmp R k (key r)) (x ∷ row_put R key xs r) (by_order a (x ∷ row_put R key xs r) (row_put R key xs r) (x ∷ row_drop R key (row_put R key xs r) k))
+  unfolding row_put
+  put_after k r x xs e ih Less a =
+      ap (λ b. by_order b (r ∷ x ∷ xs) (r ∷ xs) (x ∷ row_put R key xs r)) e
+      ∙ sym (ap (λ c. cond (is_eq c) (x ∷ row_put R key xs r) (x ∷ row_put R key xs r)) (o.trans k (key x) (key r) a (after_it (key r) (key x) e)))
+  put_after k r x xs e ih Equal a =
+      sym (ap (λ c. cond (is_eq c) (x ∷ row_put R key xs r) (row_put R key xs r)) (o.congr k (key x) (key r) a ∙ after_it (key r) (key x) e))
+  put_after k r x xs e ih Greater a =
+      ap (λ b. by_order b (r ∷ x ∷ row_drop R key xs k) (r ∷ row_drop R key xs k) (x ∷ row_put R key (row_drop R key xs k) r)) e
+      ∙ ap (λ rows. x ∷ rows) ih
+      ∙ cons_cond (eq_by_cmp R k (key r)) x (row_put R key xs r) (row_drop R key (row_put R key xs r) k)
+
+  put_step : (k : K) (r x : X) (xs : List X) → IsInOrder R key (x ∷ xs)
+      → row_put R key (row_drop R key xs k) r ≡ cond (eq_by_cmp R k (key r)) (row_put R key xs r) (row_drop R key (row_put R key xs r) k)
+      → (b : Ordering) → R (key r) (key x) ≡ b
+      → row_put R key (row_drop R key (x ∷ xs) k) r
+      ≡ cond (eq_by_cmp R k (key r)) (by_order b (r ∷ x ∷ xs) (r ∷ xs) (x ∷ row_put R key xs r)) (row_drop R key (by_order b (r ∷ x ∷ xs) (r ∷ xs) (x ∷ row_put R key xs r)) k)
+  unfolding row_drop
+  put_step k r x xs h ih Less e = put_before k r x xs e h (R k (key r)) refl
+  put_step k r x xs h ih Equal e = put_at k r x xs e h (R k (key r)) refl
+  put_step k r x xs h ih Greater e = put_after k r x xs e ih (R k (key x)) refl
+
+  -- a row put after a drop: the drop is for nothing where it was of the same key, and else it may come after
+  pub put_dropped : (xs : List X) (k : K) (r : X) → IsInOrder R key xs
+      → row_put R key (row_drop R key xs k) r ≡ cond (eq_by_cmp R k (key r)) (row_put R key xs r) (row_drop R key (row_put R key xs r) k)
+  unfolding row_put row_drop
+  put_dropped [] k r h = one_step k r (R k (key r)) refl
+  put_dropped (x ∷ xs) k r h = put_step k r x xs h (put_dropped xs k r h.1) (R (key r) (key x)) refl
+
+  module _ (laws : RowsAreKept R key) where
+    keep_step : (keep : K → Bool) (k : K) (ks : List K) (r : X) (xs : List X)
+        → row_put R key (row_drop R key xs k) r ≡ cond (eq_by_cmp R k (key r)) (row_put R key xs r) (row_drop R key (row_put R key xs r) k)
+        → row_put R key (rows_drop R key (row_drop R key xs k) ks) r ≡ rows_drop R key (row_put R key (row_drop R key xs k) r) (filter keep ks)
+        → (b : Bool) → eq_by_cmp R k (key r) ≡ b → (c : Bool) → keep k ≡ c → c ≡ not b
+        → row_put R key (rows_drop R key (row_drop R key xs k) ks) r ≡ rows_drop R key (row_put R key xs r) (cond c (k ∷ filter keep ks) (filter keep ks))
+    keep_step keep k ks r xs one ih true e true kept same = cc
+    keep_step keep k ks r xs one ih true e false kept same =
+        ih ∙ ap (λ rows. rows_drop R key rows (filter keep ks)) (one ∙ ap (λ b. cond b (row_put R key xs r) (row_drop R key (row_put R key xs r) k)) e)
+    keep_step keep k ks r xs one ih false e true kept same =
+        ih ∙ ap (λ rows. rows_drop R key rows (filter keep ks)) (one ∙ ap (λ b. cond b (row_put R key xs r) (row_drop R key (row_put R key xs r) k)) e)
+    keep_step keep k ks r xs one ih false e false kept same = cc
+
+    -- a row put after several drops: those of other keys may come after
+    pub put_over_drops : (keep : K → Bool) (ks : List K) (xs : List X) (r : X) → ((k : K) → keep k ≡ not (eq_by_cmp R k (key r))) → IsInOrder R key xs
+        → row_put R key (rows_drop R key xs ks) r ≡ rows_drop R key (row_put R key xs r) (filter keep ks)
+    put_over_drops keep [] xs r same h = refl
+    put_over_drops keep (k ∷ ks) xs r same h =
+        keep_step keep k ks r xs (put_dropped xs k r h) (put_over_drops keep ks (row_drop R key xs k) r same (laws.order_drop xs k h))
+        (eq_by_cmp R k (key r)) refl (keep k) refl (same k)
+
+-- one drop more
+pub rows_drop-push : {K X : Type 0} (R : K → K → Ordering) (key : X → K) (xs : List X) (ks : List K) (k : K) → rows_drop R key xs (ks ++ k ∷ []) ≡ row_drop R key (rows_drop R key xs ks) k
+rows_drop-push R key xs [] k = refl
+rows_drop-push R key xs (j ∷ ks) k = rows_drop-push R key (row_drop R key xs j) ks k

@@ -1,0 +1,13 @@
+use Rattle.std.proofs.Common.{◌≡◌, ◌+◌, ◌≤◌, length, vec_len, vec_capacity}
+use Rattle.office_base.specs.Tables.{after_puts}
+use Rattle.office_memory.specs.Inside.Drops.{without_seals}
+use Rattle.office_memory.specs.MemoryTables.{tables_of, after_undos, CanUndoAll}
+use Rattle.office_memory.proofs.tables.apply_all.Given as goal
+
+-- the changes that are left lead where all lead; what was made can be taken back, and there is room to remember the rest
+abbrev pub invariant-loop-put : goal.invariant-loop-put
+invariant-loop-put l =
+    (after_puts l.put-iterator.rest.items (without_seals l.drops.items (tables_of l.tables)) ≡ after_puts l.fn.puts.items (tables_of l.fn.tables))
+    × CanUndoAll l.undos.items (tables_of l.tables)
+    × (after_undos l.undos.items (tables_of l.tables) ≡ tables_of l.fn.tables)
+    × (vec_len l.undos + length l.put-iterator.rest.items ≤ vec_capacity l.undos)

@@ -1,0 +1,16 @@
+use Rattle.std.proofs.Common.{ap, ◌∙◌, List}
+use Rattle.std.specs.Ordering.{nat_cmp}
+use Rattle.office_base.specs.Tables.{seal_key, put_seal}
+use Rattle.office_base.specs.declared.records.SealRow.{SealRow}
+use Rattle.office_memory.specs.Inside.Drops.{rows_drop}
+use Rattle.office_memory.specs.MemoryTables.{tables_of}
+use Rattle.office_memory.proofs.SealsDropped.{seal_put}
+use Rattle.office_memory.proofs.tables.put_seal.Goals as goal
+
+pub returns-clause-after : goal.returns-clause-after
+returns-clause-after c =
+    let old = c.args.tables.now.seals in
+    ap (λ (seals : List SealRow). record (tables_of c.args.tables.now) { seals = seals })
+    (ap (λ rows. rows_drop nat_cmp seal_key rows c.forget.new.drops.items) c.in_ok-replaced.ensures.rows
+    ∙ ap (rows_drop nat_cmp seal_key (put_seal old c.args.row)) (rw c.key-receipt.ensures at c.forget.ensures)
+    ∙ seal_put c.rows_are_kept.ensures old c.args.drops.now.items c.args.row c.keys_rise.ensures)

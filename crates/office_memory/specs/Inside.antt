@@ -1,0 +1,6 @@
+-- Words of private clauses: no public clause speaks of them.
+pub mod Keyed
+pub mod Drops
+pub mod IdBounds
+pub mod GroupIndex
+pub mod Adding

@@ -1,0 +1,96 @@
+//! Which rows belong to which: by their keys, or by an index.
+ghost use Rattle.office_values.specs.Ids.{same_id};
+ghost use Rattle.office_base.specs.Tables.{same_number, of_notice};
+
+use crate::child::Child;
+use crate::id_bounds::{greatest_id, least_id};
+use crate::indexed_table::Grouped;
+use office_base::records::{
+    AwardRow, ContractRow, EntryRow, EnvelopeRow, LotRow, ReleaseRow, SecurityRow,
+};
+use office_values::id::Id;
+
+// Lots belong to their notice by their keys.
+impl Child for LotRow {
+    type Parent = Id;
+
+    ghost is_of = { of_notice };
+
+    fn key_range(notice: &Id) -> ((Id, Id), (Id, Id)) {
+        ((*notice, least_id()), (*notice, greatest_id()))
+    }
+}
+
+// Entries belong to their contract by their keys.
+impl Child for EntryRow {
+    type Parent = u64;
+
+    ghost is_of = { λ contract e. same_number e.contract contract };
+
+    fn key_range(contract: &u64) -> ((u64, Id), (u64, Id)) {
+        ((*contract, least_id()), (*contract, greatest_id()))
+    }
+}
+
+// Releases belong to their notice by their keys.
+impl Child for ReleaseRow {
+    type Parent = Id;
+
+    ghost is_of = { λ notice r. same_id r.notice notice };
+
+    fn key_range(notice: &Id) -> ((Id, u64), (Id, u64)) {
+        ((*notice, 0), (*notice, u64::MAX))
+    }
+}
+
+// Lots are listed by their budget line.
+impl Grouped for LotRow {
+    type Group = Id;
+
+    ghost group_of = { λ r. r.line };
+
+    fn group(&self) -> Id {
+        self.line
+    }
+}
+
+// The rest are listed by their notice.
+impl Grouped for EnvelopeRow {
+    type Group = Id;
+
+    ghost group_of = { λ r. r.notice };
+
+    fn group(&self) -> Id {
+        self.notice
+    }
+}
+
+impl Grouped for SecurityRow {
+    type Group = Id;
+
+    ghost group_of = { λ r. r.notice };
+
+    fn group(&self) -> Id {
+        self.notice
+    }
+}
+
+impl Grouped for AwardRow {
+    type Group = Id;
+
+    ghost group_of = { λ r. r.notice };
+
+    fn group(&self) -> Id {
+        self.notice
+    }
+}
+
+impl Grouped for ContractRow {
+    type Group = Id;
+
+    ghost group_of = { λ r. r.notice };
+
+    fn group(&self) -> Id {
+        self.notice
+    }
+}

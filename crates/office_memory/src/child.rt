@@ -1,0 +1,56 @@
+//! Rows whose keys begin with those of their parents.
+ghost use Rattle.std.specs.Prelude.{◌≡◌, ◌<◌, ◌^◌, Bool, IfOk, filter, length};
+ghost use Rattle.std.specs.BTreeMap.Range.{IsLeBy};
+ghost use Rattle.std.specs.Map.{values_of};
+ghost use Rattle.std.specs.Map.Iter.{ShowsInOrder, deref_pair};
+ghost use Rattle.office_memory.specs.RowRanges.{is_between};
+
+use crate::boxed::Boxed;
+use crate::known::Known;
+use crate::table::Table;
+use office_base::row::{Row, copy_of};
+use std::alloc::{AllocError, Global};
+use std::collections::btree_map::Range;
+
+/// A row whose key begins with that of its parent, so that the rows of a parent stand together in a table.
+pub trait Child: Row
+where
+    Self::Key: Known,
+{
+    type Parent: Copy;
+
+    // Whether it is of this parent.
+    ghost is_of: { Self.Parent → Self → Bool };
+
+    /// Two keys in order: between them lie the keys of this parent's rows, and no others.
+    fn key_range(parent: &Self::Parent) -> (Self::Key, Self::Key)
+        ensures in_order { IsLeBy Self.Key.cmp result.0 result.1 }
+        ensures between { (r : Self) → Self.Key.is_known (Self.key_of r)
+            → is_between Self.Key.cmp result.0 result.1 (Self.key_of r) ≡ is_of parent.now r };
+}
+
+impl<R: Child + Drop> Table<R>
+where
+    R::Key: Known,
+{
+    /// The rows of a parent, in the order of their keys. Costs the logarithm of the rows.
+    pub fn of_parent(&self, parent: &R::Parent) -> Range<'_, R::Key, Boxed<R>>
+        ensures rows { values_of result ≡ filter (R.is_of parent.now) self.now }
+        ensures runs { ShowsInOrder (deref_pair {K = R.Key} {X = R}) }
+        ensures fits { length result < 2 ^ 63 }
+    {
+        let (first, last) = R::key_range(parent);
+        self.range(&first, &last)
+    }
+
+    /// The rows of a parent, copied, in the order of their keys. Costs what it copies, and the logarithm of the rows.
+    pub fn copy_of_parent(&self, alloc: Global, parent: &R::Parent) -> Result<Vec<R>, AllocError>
+        ensures { IfOk result (λ rows. rows.items ≡ filter (R.is_of parent.now) self.now) }
+    {
+        let mut copied = Vec::new(alloc);
+        for (_, row) in self.of_parent(parent) {
+            copied.push(copy_of(row.get())?)?;
+        }
+        Ok(copied)
+    }
+}

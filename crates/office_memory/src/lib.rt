@@ -1,0 +1,16 @@
+//! The tables of an office in memory.
+#![tactic(auto)]
+
+mod belonging;
+pub mod boxed;
+pub mod child;
+mod group_index;
+mod id_bounds;
+pub mod indexed_table;
+pub mod known;
+pub mod memory;
+#[cfg(test)]
+mod record_tests;
+mod sums;
+pub mod table;
+pub mod tables;

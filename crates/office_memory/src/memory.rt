@@ -1,0 +1,290 @@
+//! An office in memory.
+ghost use Rattle.std.specs.Prelude.{◌≡◌};
+ghost use Rattle.office_base.specs.Faults.{one_fault_more};
+ghost use Rattle.office_base.specs.Tables.{no_tables};
+ghost use Rattle.office_memory.specs.MemoryMeaning.{memory_meaning};
+ghost use Rattle.office_base.specs.declared.shelf.ShelfFault.TheVariants.{NoMemory};
+
+use crate::tables::MemoryTables;
+use crate::{sums, tables};
+use office_base::counts::Sequence;
+use office_base::laws::changes_keep_order;
+use office_base::ledger::{ContractSums, LedgerRow};
+use office_base::puts::Put;
+use office_base::records::{
+    AwardRow, BatchRow, ClockRow, CompiledRow, ContractRow, EntryRow, EnvelopeRow, LineRow, LotRow,
+    NoticeRow, ReleaseRow, SealRow, SecurityRow, TendererRow,
+};
+use office_base::shelf::{Lookups, Shelf, ShelfFault};
+use office_values::given::AskedNumber;
+use office_values::id::Id;
+use office_values::money::Amount;
+use std::alloc::Global;
+use std::marker::Model;
+
+/// An office in memory: its tables, and how many faults it answered. Want of memory is a fault, and a sum of the ledger that is out of
+/// its range.
+#[derive(Drop)]
+pub struct MemoryShelf {
+    alloc: Global,
+    tables: MemoryTables,
+    faults: u64,
+}
+
+impl Model for MemoryShelf {
+    ghost use Rattle.std.specs.Prelude.{ℕ};
+    ghost use Rattle.office_base.specs.Tables.{Tables};
+    ghost use Rattle.office_memory.specs.MemoryTables.{tables_of};
+
+    ghost Value = { Tables × ℕ };
+
+    ghost view = { λ s. (tables_of s.tables, s.faults) };
+}
+
+impl MemoryShelf {
+    /// An empty office. Takes no memory.
+    pub fn new(alloc: Global) -> MemoryShelf
+        ensures empty { result ≡ (no_tables, 0) }
+        ensures holds { memory_meaning.holds result no_tables }
+    {
+        MemoryShelf {
+            alloc,
+            tables: tables::empty(alloc),
+            faults: 0,
+        }
+    }
+
+    // Counts a fault.
+    fn counted(&mut self, fault: ShelfFault) -> ShelfFault
+        ensures fault { result ≡ fault }
+        ensures kept { self.new.0 ≡ self.old.0 }
+        ensures counted { self.new.1 ≡ one_fault_more self.old.1 }
+    {
+        self.faults = self.faults.saturating_add(1);
+        fault
+    }
+
+    // Counts a refusal of memory.
+    fn refused(&mut self) -> ShelfFault
+        ensures fault { result ≡ NoMemory }
+        ensures kept { self.new.0 ≡ self.old.0 }
+        ensures counted { self.new.1 ≡ one_fault_more self.old.1 }
+    {
+        self.counted(ShelfFault::NoMemory)
+    }
+}
+
+impl Lookups for MemoryShelf {
+    ghost meaning = { memory_meaning };
+
+    ghost held_sorted = { λ shelf t held. held.1 };
+
+    fn get_line(&mut self, line: &Id) -> Result<Option<LineRow>, ShelfFault> {
+        match self.tables.lines.copy_at(line) {
+            Ok(found) => Ok(found),
+            Err(_) => Err(self.refused()),
+        }
+    }
+
+    fn get_batch(&mut self, batch: &Id) -> Result<Option<BatchRow>, ShelfFault> {
+        match self.tables.batches.copy_at(batch) {
+            Ok(found) => Ok(found),
+            Err(_) => Err(self.refused()),
+        }
+    }
+
+    fn get_tenderer(&mut self, tenderer: &Id) -> Result<Option<TendererRow>, ShelfFault> {
+        match self.tables.tenderers.copy_at(tenderer) {
+            Ok(found) => Ok(found),
+            Err(_) => Err(self.refused()),
+        }
+    }
+
+    fn get_notice(&mut self, notice: &Id) -> Result<Option<NoticeRow>, ShelfFault> {
+        match self.tables.notices.copy_at(notice) {
+            Ok(found) => Ok(found),
+            Err(_) => Err(self.refused()),
+        }
+    }
+
+    fn get_lot(&mut self, notice: &Id, lot: &Id) -> Result<Option<LotRow>, ShelfFault> {
+        match self.tables.lots.rows().copy_at(&(*notice, *lot)) {
+            Ok(found) => Ok(found),
+            Err(_) => Err(self.refused()),
+        }
+    }
+
+    fn get_envelope(&mut self, receipt: AskedNumber) -> Result<Option<EnvelopeRow>, ShelfFault> {
+        match self.tables.envelopes.rows().copy_at(&receipt.get()) {
+            Ok(found) => Ok(found),
+            Err(_) => Err(self.refused()),
+        }
+    }
+
+    fn get_seal(&mut self, receipt: AskedNumber) -> Result<Option<SealRow>, ShelfFault> {
+        match self.tables.seals.copy_at(&receipt.get()) {
+            Ok(found) => Ok(found),
+            Err(_) => Err(self.refused()),
+        }
+    }
+
+    fn get_security(&mut self, security: AskedNumber) -> Result<Option<SecurityRow>, ShelfFault> {
+        match self.tables.securities.rows().copy_at(&security.get()) {
+            Ok(found) => Ok(found),
+            Err(_) => Err(self.refused()),
+        }
+    }
+
+    fn get_award(&mut self, award: AskedNumber) -> Result<Option<AwardRow>, ShelfFault> {
+        match self.tables.awards.rows().copy_at(&award.get()) {
+            Ok(found) => Ok(found),
+            Err(_) => Err(self.refused()),
+        }
+    }
+
+    fn get_contract(&mut self, contract: AskedNumber) -> Result<Option<ContractRow>, ShelfFault> {
+        match self.tables.contracts.rows().copy_at(&contract.get()) {
+            Ok(found) => Ok(found),
+            Err(_) => Err(self.refused()),
+        }
+    }
+
+    fn get_entry(
+        &mut self,
+        contract: AskedNumber,
+        entry: &Id,
+    ) -> Result<Option<EntryRow>, ShelfFault> {
+        match self.tables.entries.copy_at(&(contract.get(), *entry)) {
+            Ok(found) => Ok(found),
+            Err(_) => Err(self.refused()),
+        }
+    }
+
+    fn get_release(
+        &mut self,
+        notice: &Id,
+        seq: Sequence,
+    ) -> Result<Option<ReleaseRow>, ShelfFault> {
+        match self.tables.releases.copy_at(&(*notice, seq.get())) {
+            Ok(found) => Ok(found),
+            Err(_) => Err(self.refused()),
+        }
+    }
+
+    fn get_compiled(&mut self, notice: &Id) -> Result<Option<CompiledRow>, ShelfFault> {
+        match self.tables.compiled.copy_at(notice) {
+            Ok(found) => Ok(found),
+            Err(_) => Err(self.refused()),
+        }
+    }
+
+    fn get_clock(&mut self) -> Result<ClockRow, ShelfFault> {
+        Ok(self.tables.clock)
+    }
+
+    fn list_lines(&mut self) -> Result<Vec<LineRow>, ShelfFault> {
+        match self.tables.lines.copy_all(self.alloc) {
+            Ok(rows) => Ok(rows),
+            Err(_) => Err(self.refused()),
+        }
+    }
+
+    fn list_lots_of_notice(&mut self, notice: &Id) -> Result<Vec<LotRow>, ShelfFault> {
+        match self.tables.lots.rows().copy_of_parent(self.alloc, notice) {
+            Ok(rows) => Ok(rows),
+            Err(_) => Err(self.refused()),
+        }
+    }
+
+    fn list_lots_of_line(&mut self, line: &Id) -> Result<Vec<LotRow>, ShelfFault> {
+        match self.tables.lots.copy_of_group(self.alloc, line) {
+            Ok(rows) => Ok(rows),
+            Err(_) => Err(self.refused()),
+        }
+    }
+
+    fn list_envelopes_of_notice(&mut self, notice: &Id) -> Result<Vec<EnvelopeRow>, ShelfFault> {
+        match self.tables.envelopes.copy_of_group(self.alloc, notice) {
+            Ok(rows) => Ok(rows),
+            Err(_) => Err(self.refused()),
+        }
+    }
+
+    fn list_securities_of_notice(&mut self, notice: &Id) -> Result<Vec<SecurityRow>, ShelfFault> {
+        match self.tables.securities.copy_of_group(self.alloc, notice) {
+            Ok(rows) => Ok(rows),
+            Err(_) => Err(self.refused()),
+        }
+    }
+
+    fn list_awards_of_notice(&mut self, notice: &Id) -> Result<Vec<AwardRow>, ShelfFault> {
+        match self.tables.awards.copy_of_group(self.alloc, notice) {
+            Ok(rows) => Ok(rows),
+            Err(_) => Err(self.refused()),
+        }
+    }
+
+    fn list_contracts_of_notice(&mut self, notice: &Id) -> Result<Vec<ContractRow>, ShelfFault> {
+        match self.tables.contracts.copy_of_group(self.alloc, notice) {
+            Ok(rows) => Ok(rows),
+            Err(_) => Err(self.refused()),
+        }
+    }
+
+    fn list_entries_of_contract(
+        &mut self,
+        contract: AskedNumber,
+    ) -> Result<Vec<EntryRow>, ShelfFault> {
+        match self
+            .tables
+            .entries
+            .copy_of_parent(self.alloc, &contract.get())
+        {
+            Ok(rows) => Ok(rows),
+            Err(_) => Err(self.refused()),
+        }
+    }
+
+    fn list_releases_of_notice(&mut self, notice: &Id) -> Result<Vec<ReleaseRow>, ShelfFault> {
+        match self.tables.releases.copy_of_parent(self.alloc, notice) {
+            Ok(rows) => Ok(rows),
+            Err(_) => Err(self.refused()),
+        }
+    }
+
+    fn list_reservations_of_line(&mut self, line: &Id) -> Result<Vec<Amount>, ShelfFault> {
+        match sums::reservations_of_line(self.alloc, &self.tables, line) {
+            Ok(amounts) => Ok(amounts),
+            Err(_) => Err(self.refused()),
+        }
+    }
+
+    fn list_contract_sums_of_line(&mut self, line: &Id) -> Result<Vec<ContractSums>, ShelfFault> {
+        match sums::contract_sums_of_line(self.alloc, &self.tables, line) {
+            Ok(sums) => Ok(sums),
+            Err(_) => Err(self.refused()),
+        }
+    }
+
+    fn ledger(&mut self) -> Result<Vec<LedgerRow>, ShelfFault> {
+        match sums::ledger(self.alloc, &self.tables) {
+            Ok(Some(rows)) => Ok(rows),
+            Ok(None) => Err(self.counted(ShelfFault::Store)),
+            Err(_) => Err(self.refused()),
+        }
+    }
+
+    fn faults(&mut self) -> u64 {
+        self.faults
+    }
+}
+
+impl Shelf for MemoryShelf {
+    fn apply(&mut self, puts: Vec<Put>) -> Result<(), ShelfFault> {
+        changes_keep_order();
+        match tables::apply_all(self.alloc, &mut self.tables, puts) {
+            Ok(()) => Ok(()),
+            Err(_) => Err(self.refused()),
+        }
+    }
+}

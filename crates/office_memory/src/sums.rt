@@ -1,0 +1,156 @@
+//! What the rows of an office in memory add up to.
+ghost use Rattle.std.specs.Prelude.{◌≡◌, ◌+◌, ℕ, ◌++◌, IfOk, OnOk, option_map, map};
+ghost use Rattle.office_base.specs.Joined.{reservations, sums_of, sums_under, sums_of_line};
+ghost use Rattle.office_base.specs.Tables.{IsSorted, contracts_of_lot, lot_key};
+ghost use Rattle.office_memory.specs.Inside.Adding.{with_entry, HasRoom, IsLedgerRow, IsLedger};
+ghost use Rattle.office_memory.specs.MemoryTables.{tables_of};
+
+use crate::table::Table;
+use crate::tables::MemoryTables;
+use office_base::ledger::{ContractSums, LedgerRow};
+use office_base::pots::{joined_sums, pots_over};
+use office_base::records::{ContractRow, EntryKind, EntryRow, LineRow, LotRow};
+use office_values::id::Id;
+use office_values::money::Amount;
+use std::alloc::{AllocError, Global};
+
+// What each of these lots has reserved.
+fn reserved_by(alloc: Global, lots: &[&LotRow]) -> Result<Vec<Amount>, AllocError>
+    ensures { IfOk result (λ amounts. amounts.items ≡ map (λ lot. lot.now.reserved) lots.now) }
+{
+    let mut amounts = Vec::with_capacity(alloc, lots.len())?;
+    for lot in lots {
+        amounts.push(lot.reserved)?;
+    }
+    Ok(amounts)
+}
+
+/// What the lots of a line have reserved, in the order of their keys.
+pub fn reservations_of_line(
+    alloc: Global,
+    tables: &MemoryTables,
+    line: &Id,
+) -> Result<Vec<Amount>, AllocError>
+    ensures { IfOk result (λ amounts. amounts.items ≡ reservations line.now (tables_of tables.now)) }
+{
+    reserved_by(alloc, &tables.lots.rows_of_group(alloc, line)?)
+}
+
+// The sums with one entry more.
+fn with_entry(sums: ContractSums, entry: &EntryRow) -> ContractSums
+    requires { HasRoom 1 sums }
+    ensures sums { result ≡ with_entry sums entry.now }
+    ensures room { (n : ℕ) → HasRoom (n + 1) sums → HasRoom n result }
+{
+    let amount = entry.amount.get() as u128;
+    match entry.kind {
+        EntryKind::Raise => ContractSums {
+            gained: sums.gained + amount,
+            ..sums
+        },
+        EntryKind::Cut => ContractSums {
+            lost: sums.lost + amount,
+            ..sums
+        },
+        EntryKind::Payment => ContractSums {
+            lost: sums.lost + amount,
+            paid: sums.paid + amount,
+            ..sums
+        },
+    }
+}
+
+// What a contract comes to.
+fn sums_of(entries: &Table<EntryRow>, contract: &ContractRow) -> ContractSums
+    ensures { result ≡ sums_of entries.now contract.now }
+{
+    let mut sums = ContractSums {
+        gained: contract.signed.units() as u128,
+        lost: contract.released.units() as u128,
+        paid: 0,
+    };
+    for (_, entry) in entries.of_parent(&contract.contract.get()) {
+        sums = with_entry(sums, entry.get());
+    }
+    sums
+}
+
+// Adds what each contract of a lot comes to.
+fn push_sums(
+    alloc: Global,
+    tables: &MemoryTables,
+    lot: &LotRow,
+    sums: &mut Vec<ContractSums>,
+) -> Result<(), AllocError>
+    ensures { OnOk result (sums.new.items ≡ sums.old.items ++ map (sums_of (tables_of tables.now).entries) (contracts_of_lot (lot_key lot.now) (tables_of tables.now))) }
+{
+    for contract in tables.contracts.rows_of_group(alloc, &lot.notice)? {
+        if contract.lot == lot.lot {
+            sums.push(sums_of(&tables.entries, contract))?;
+        }
+    }
+    Ok(())
+}
+
+// What the contracts of these lots come to, lot by lot.
+fn sums_under(
+    alloc: Global,
+    tables: &MemoryTables,
+    lots: Vec<&LotRow>,
+) -> Result<Vec<ContractSums>, AllocError>
+    ensures { IfOk result (λ sums. sums.items ≡ sums_under (tables_of tables.now) (map (λ lot. lot.now) lots.entry.items)) }
+{
+    let mut sums = Vec::new(alloc);
+    for lot in lots {
+        push_sums(alloc, tables, lot, &mut sums)?;
+    }
+    Ok(sums)
+}
+
+/// What each contract of the lots of a line comes to, lot by lot, in the order of their keys. Costs, for each lot, a look at the
+/// contracts of its notice, and the entries of its own.
+pub fn contract_sums_of_line(
+    alloc: Global,
+    tables: &MemoryTables,
+    line: &Id,
+) -> Result<Vec<ContractSums>, AllocError>
+    ensures { IfOk result (λ sums. sums.items ≡ sums_of_line line.now (tables_of tables.now)) }
+{
+    sums_under(alloc, tables, tables.lots.rows_of_group(alloc, line)?)
+}
+
+// A line in the ledger; None where a sum is out of its range.
+fn ledger_row(
+    alloc: Global,
+    tables: &MemoryTables,
+    row: &LineRow,
+) -> Result<Option<LedgerRow>, AllocError>
+    ensures { IsSorted (tables_of tables.now) → IfOk result (IsLedgerRow (tables_of tables.now) row.now) }
+{
+    joined_sums();
+    let lots = tables.lots.rows_of_group(alloc, &row.line)?;
+    let reserved = reserved_by(alloc, &lots)?;
+    let sums = sums_under(alloc, tables, lots)?;
+    match pots_over(row, &reserved, &sums) {
+        Some(pots) => Ok(Some(LedgerRow {
+            line: row.line,
+            pots,
+        })),
+        None => Ok(None),
+    }
+}
+
+/// The ledger, in the order of the lines; None where a sum of a line is out of its range. One pass over the lines: costs a look at each
+/// lot, at each entry, and, for each lot, at the contracts of its notice.
+pub fn ledger(alloc: Global, tables: &MemoryTables) -> Result<Option<Vec<LedgerRow>>, AllocError>
+    ensures { IsSorted (tables_of tables.now) → IfOk result (λ rows. IsLedger (tables_of tables.now) (option_map (λ found. found.items) rows)) }
+{
+    let mut rows = Vec::new(alloc);
+    for line in tables.lines.iter() {
+        let Some(row) = ledger_row(alloc, tables, line.get())? else {
+            return Ok(None);
+        };
+        rows.push(row)?;
+    }
+    Ok(Some(rows))
+}

@@ -1,0 +1,82 @@
+//! A writer that remembers a failure.
+ghost use Rattle.std.specs.Prelude.{◌≡◌, ◌<◌, ◌≤◌, true, false, length, take, IfOk, OnOk, OnErr};
+ghost use Rattle.std.specs.Io.KnownBytes.{Appends, Keeps};
+
+use crate::sending::WriteFault;
+use std::io::Write;
+use std::marker::Model;
+
+/// A writer, and whether it has failed: a write or a flush of it gave an error, be it that it was interrupted, or it took no more.
+#[derive(Drop)]
+pub struct WatchedWriter<W: Write> {
+    writer: W,
+    has_failed: bool,
+}
+
+impl<W: Write> Model for WatchedWriter<W> {
+    ghost use Rattle.office_wire.specs.Sending.{WriterView};
+
+    ghost Value = { WriterView };
+
+    ghost view = { λ s. record { contents = W.contents s.writer; has_failed = s.has_failed } };
+}
+
+impl<W: Write> WatchedWriter<W> {
+    /// A writer that hasn't failed.
+    pub fn new(writer: W) -> WatchedWriter<W>
+        ensures contents { result.contents ≡ W.contents writer }
+        ensures whole { result.has_failed ≡ false }
+    {
+        WatchedWriter {
+            writer,
+            has_failed: false,
+        }
+    }
+
+    /// Whether a write or a flush has failed.
+    pub fn has_failed(&self) -> bool
+        ensures { result ≡ self.now.has_failed }
+    {
+        self.has_failed
+    }
+
+    /// The writer.
+    pub fn into_inner(self) -> W
+        ensures { W.contents result ≡ self.contents }
+    {
+        let WatchedWriter { writer, .. } = self;
+        writer
+    }
+
+    /// Writes once, and answers how many bytes were taken: one at least.
+    pub fn try_write(&mut self, bytes: &[u8]) -> Result<usize, WriteFault>
+        requires { 0 < length bytes.now }
+        ensures bound { IfOk result (λ n. n ≤ length bytes.now) }
+        ensures some { IfOk result (λ n. 0 < n) }
+        ensures taken { IfOk result (λ n. Appends self.old.contents self.new.contents (take n bytes.now)) }
+        ensures kept { OnErr result (Keeps self.old.contents self.new.contents) }
+        ensures cause { OnErr result (self.new.has_failed ≡ true) }
+        ensures sound { OnOk result (self.new.has_failed ≡ self.old.has_failed) }
+    {
+        match self.writer.write(bytes) {
+            Ok(0) => {}
+            Ok(count) => return Ok(count),
+            Err(_) => {}
+        }
+        self.has_failed = true;
+        Err(WriteFault)
+    }
+
+    /// Hands on what the writer still buffers.
+    pub fn flush(&mut self) -> Result<(), WriteFault>
+        ensures kept { Keeps self.old.contents self.new.contents }
+        ensures cause { OnErr result (self.new.has_failed ≡ true) }
+        ensures sound { OnOk result (self.new.has_failed ≡ self.old.has_failed) }
+    {
+        if self.writer.flush().is_ok() {
+            return Ok(());
+        }
+        self.has_failed = true;
+        Err(WriteFault)
+    }
+}
