@@ -2,6 +2,7 @@
 # Makes offices of 10,000 lines, 50,000 lots, 20,000 contracts and 100,000 entries, and of a tenth of it each, and prints the ratio of the times that their
 # ledgers take. It takes a few minutes, more where the crates below were not checked before. The program is no crate of the repository, so that its gate does
 # not prove and run it; its source ends in `.in`, since the gate refuses a `.rt` file of no crate.
+# Where all processors are taken, a long ledger is interrupted and a short one isn't. BY='chrt -f 1' has the program run once more, by that command.
 set -eu
 here=$(cd "$(dirname "$0")" && pwd)
 root=$(cd "$here/../.." && pwd)
@@ -15,3 +16,4 @@ printf 'program: office_memory office_base office_acts office_values anyhow\n' >
 printf 'Handles allowed: none.\n' > "$work/HANDLES"
 cd "$work/crates/program"
 rt run --jobs 1 2> log || { cat log; exit 1; }
+[ -z "${BY:-}" ] || $BY out/program

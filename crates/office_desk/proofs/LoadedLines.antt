@@ -29,7 +29,8 @@ from_by t m s q here all true e there =
     here ∙ ap (columns_at (standings t)) (sym same)
 from_by t m s q here all false e there = all q there
 
-there_by : (b : Bool) (s : Standing) (found : Option Standing) → is_some found ≡ true → is_some (cond b (Some s) found) ≡ true
+-- a standing that is there stays so, where one is put or not
+pub there_by : (b : Bool) (s : Standing) (found : Option Standing) → is_some found ≡ true → is_some (cond b (Some s) found) ≡ true
 there_by true s found h = refl
 there_by false s found h = h
 

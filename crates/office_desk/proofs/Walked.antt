@@ -13,11 +13,8 @@ use Rattle.office_base.specs.declared.standing.Columns.{Columns}
 use Rattle.office_base.specs.declared.standing.Standing.{Standing}
 use Rattle.office_base.specs.RowLaws.{RowsAreKept}
 use Rattle.office_base.proofs.RowLaws.{all-put, all-found}
+use Rattle.office_desk.proofs.LoadedLines.{there_by}
 use Rattle.office_desk.specs.Inside.Walks.{AreNamed, IsAtMost, AreAtMost}
-
-there_by : (b : Bool) (s : Standing) (found : Option Standing) → is_some found ≡ true → is_some (cond b (Some s) found) ≡ true
-there_by true s found h = refl
-there_by false s found h = h
 
 -- a row taken leaves the lines named
 pub named_after : RowsAreKept id_cmp standing_key → (m : List Standing) (row : BudgetRow) (rows : List BudgetRow) → AreNamed m rows → AreNamed (after_row m row) rows

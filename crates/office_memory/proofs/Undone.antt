@@ -5,10 +5,11 @@ use Rattle.std.specs.Cmp.{IsTotalOrder}
 use Rattle.std.specs.declared.cmp.Ordering.{Ordering}
 use Rattle.std.specs.declared.cmp.Ordering.TheVariants.{Less, Equal, Greater}
 use Rattle.office_base.specs.Rows.{row_at, row_put, row_drop}
+use Rattle.office_base.specs.RowLaws.{RowsAreKept}
 use Rattle.office_memory.specs.Replacing.{with_old, IsThere}
 use Rattle.office_base.proofs.Orders.{same_key, equal_back}
 
-module _ {K X : Type 0} {R : K → K → Ordering} (o : IsTotalOrder R) (key : X → K) where
+module _ {K X : Type 0} {R : K → K → Ordering} (o : IsTotalOrder R) (key : X → K) (laws : RowsAreKept R key) where
   new_step : (r x : X) (xs : List X) → (row_at R key xs (key r) ≡ None → row_drop R key (row_put R key xs r) (key r) ≡ xs)
       → (c : Ordering) → R (key r) (key x) ≡ c → row_at R key (x ∷ xs) (key r) ≡ None → row_drop R key (row_put R key (x ∷ xs) r) (key r) ≡ x ∷ xs
   unfolding row_at row_put row_drop
@@ -21,19 +22,6 @@ module _ {K X : Type 0} {R : K → K → Ordering} (o : IsTotalOrder R) (key : X
   unfolding row_at row_put row_drop
   dropped_again r [] none = rw (same_key o (key r)) refl
   dropped_again r (x ∷ xs) none = new_step r x xs (dropped_again r xs) (R (key r) (key x)) refl none
-
-  found_step : (k : K) (v x : X) (xs : List X) → (row_at R key xs k ≡ Some v → R k (key v) ≡ Equal)
-      → (c : Ordering) → R k (key x) ≡ c → row_at R key (x ∷ xs) k ≡ Some v → R k (key v) ≡ Equal
-  unfolding row_at
-  found_step k v x xs ih Less h found = let none : None ≡ Some v = sym (rw h refl) ∙ found in cc
-  found_step k v x xs ih Equal h found = let one : Some x ≡ Some v = sym (rw h refl) ∙ found in let same : x ≡ v = cc in ap (λ w. R k (key w)) (sym same) ∙ h
-  found_step k v x xs ih Greater h found = ih (sym (rw h refl) ∙ found)
-
-  -- a row that was found has the key asked for
-  pub found_compares : (k : K) (v : X) (xs : List X) → row_at R key xs k ≡ Some v → R k (key v) ≡ Equal
-  unfolding row_at
-  found_compares k v [] found = cc
-  found_compares k v (x ∷ xs) found = found_step k v x xs (found_compares k v xs) (R k (key x)) refl found
 
   old_step : (r old x : X) (xs : List X) → R (key r) (key old) ≡ Equal → (row_at R key xs (key r) ≡ Some old → row_put R key (row_put R key xs r) old ≡ xs)
       → (c : Ordering) → R (key r) (key x) ≡ c → row_at R key (x ∷ xs) (key r) ≡ Some old → row_put R key (row_put R key (x ∷ xs) r) old ≡ x ∷ xs
@@ -53,20 +41,7 @@ module _ {K X : Type 0} {R : K → K → Ordering} (o : IsTotalOrder R) (key : X
   unfolding row_at row_put
   replaced_again r old [] found = cc
   replaced_again r old (x ∷ xs) found =
-      old_step r old x xs (found_compares (key r) old (x ∷ xs) found) (replaced_again r old xs) (R (key r) (key x)) refl found
-
-  put_step : (r x : X) (xs : List X) → row_at R key (row_put R key xs r) (key r) ≡ Some r
-      → (c : Ordering) → R (key r) (key x) ≡ c → row_at R key (row_put R key (x ∷ xs) r) (key r) ≡ Some r
-  unfolding row_at row_put
-  put_step r x xs ih Less h = rw (h, same_key o (key r)) refl
-  put_step r x xs ih Equal h = rw (h, same_key o (key r)) refl
-  put_step r x xs ih Greater h = rw (h, h) ih
-
-  -- a row that was put is found
-  pub put_is_found : (r : X) (xs : List X) → row_at R key (row_put R key xs r) (key r) ≡ Some r
-  unfolding row_at row_put
-  put_is_found r [] = rw (same_key o (key r)) refl
-  put_is_found r (x ∷ xs) = put_step r x xs (put_is_found r xs) (R (key r) (key x)) refl
+      old_step r old x xs (laws.found_key (x ∷ xs) (key r) old found) (replaced_again r old xs) (R (key r) (key x)) refl found
 
   -- keys that compare as equal find the same
   pub alike_found : (k q : K) (xs : List X) → R k q ≡ Equal → row_at R key xs k ≡ row_at R key xs q
@@ -82,5 +57,5 @@ module _ {K X : Type 0} {R : K → K → Ordering} (o : IsTotalOrder R) (key : X
   pub there : (r : X) (xs : List X) (old : Option X) → old ≡ row_at R key xs (key r) → IsThere R key old (row_put R key xs r)
   there r xs None found = tt
   there r xs (Some v) found =
-      let same : R (key r) (key v) ≡ Equal = found_compares (key r) v xs (sym found) in
-      rw (sym (alike_found (key r) (key v) (row_put R key xs r) same) ∙ put_is_found r xs) refl
+      let same : R (key r) (key v) ≡ Equal = laws.found_key xs (key r) v (sym found) in
+      rw (sym (alike_found (key r) (key v) (row_put R key xs r) same) ∙ laws.own_found xs r) refl

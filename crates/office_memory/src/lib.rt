@@ -9,8 +9,6 @@ mod id_bounds;
 pub mod indexed_table;
 pub mod known;
 pub mod memory;
-#[cfg(test)]
-mod record_tests;
 mod sums;
 pub mod table;
 pub mod tables;

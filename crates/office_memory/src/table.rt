@@ -10,6 +10,7 @@ ghost use Rattle.office_memory.specs.Replacing.{taken_back, CanTakeBack};
 
 use crate::boxed::Boxed;
 use crate::known::Known;
+use office_base::laws::rows_are_kept;
 use office_base::row::{Row, copy_of};
 use std::alloc::{AllocError, Global};
 use std::collections::BTreeMap;
@@ -122,6 +123,7 @@ where
         ensures can { IfOk result (λ replaced. CanTakeBack R.Key.cmp R.key_of replaced self.new) }
         ensures kept { OnErr result (self.new ≡ self.old) }
     {
+        rows_are_kept::<R>();
         let key = row.key();
         let old = self.insert(Boxed::new(self.alloc, row)?)?;
         Ok(Replaced { key, old })

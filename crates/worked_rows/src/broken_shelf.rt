@@ -197,8 +197,16 @@ impl Lookups for BrokenShelf {
         passed!(self, self.shelf.list_contract_sums_of_line(line))
     }
 
+    // Each fault is named, since the contract of the ledger says for each why it comes.
     fn ledger(&mut self) -> Result<Vec<LedgerRow>, ShelfFault> {
-        passed!(self, self.shelf.ledger())
+        if self.breaks() {
+            return Err(self.counted(ShelfFault::Store));
+        }
+        match self.shelf.ledger() {
+            Ok(rows) => Ok(rows),
+            Err(ShelfFault::NoMemory) => Err(self.counted(ShelfFault::NoMemory)),
+            Err(ShelfFault::Store) => Err(self.counted(ShelfFault::Store)),
+        }
     }
 
     fn faults(&mut self) -> u64 {

@@ -2,6 +2,8 @@
 #![tactic(auto)]
 
 #[cfg(test)]
+mod asked;
+#[cfg(test)]
 mod broken_shelf;
 #[cfg(test)]
 mod desks;
@@ -12,4 +14,8 @@ mod office;
 #[cfg(test)]
 mod publications;
 #[cfg(test)]
+mod requests;
+#[cfg(test)]
 mod runs;
+#[cfg(test)]
+mod steps;

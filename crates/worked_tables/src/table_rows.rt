@@ -1,0 +1,108 @@
+//! A table takes rows of each type.
+use crate::rows;
+use office_base::reading::Reading;
+use office_base::records::EntryKind;
+use office_base::row::{Row, copy_of};
+use office_base::standing::Standing;
+use office_memory::known::Known;
+use office_memory::table::Table;
+use std::alloc::{AllocError, Global};
+use std::process::Abort;
+
+// A row is put and taken back; how many rows there are before, between and after.
+fn put_and_take_back<R: Row + Drop>(
+    alloc: Global,
+    table: &mut Table<R>,
+    row: R,
+) -> Result<[usize; 3], AllocError>
+where
+    R::Key: Known,
+{
+    let before = table.copy_all(alloc)?.len();
+    let replaced = table.put(row)?;
+    let between = table.copy_all(alloc);
+    table.take_back(replaced);
+    Ok([before, between?.len(), table.copy_all(alloc)?.len()])
+}
+
+// A row is put, replaced by its copy, and removed; whether it is found before and after that.
+fn replace_and_remove<R: Row + Drop>(
+    table: &mut Table<R>,
+    row: R,
+    copy: R,
+) -> Result<[bool; 2], AllocError>
+where
+    R::Key: Known,
+{
+    let key = row.key();
+    table.put(row)?;
+    if table.get(&copy.key()).is_some() {
+        table.replace(copy);
+    }
+    let found = table.copy_at(&key)?.is_some();
+    table.remove(&key);
+    Ok([found, table.get(&key).is_some()])
+}
+
+// What a new table answers of this row.
+fn answers<R: Row + Drop>(alloc: Global, row: &R) -> Result<([usize; 3], [bool; 2]), AllocError>
+where
+    R::Key: Known,
+{
+    let mut table = Table::new(alloc);
+    let counts = put_and_take_back(alloc, &mut table, copy_of(row)?)?;
+    let found = replace_and_remove(&mut table, copy_of(row)?, copy_of(row)?)?;
+    Ok((counts, found))
+}
+
+// The table takes the row, at the second try where the first finds no memory.
+fn takes<R: Row + Drop>(rt: &impl Abort, alloc: Global, row: Option<R>)
+where
+    R::Key: Known,
+{
+    let found = match &row {
+        Some(row) => answers(alloc, row).or_else(|_| answers(alloc, row)).ok(),
+        None => None,
+    };
+    assert_eq!(rt; found, Some(([0, 1, 0], [true, false])), "no memory");
+}
+
+#[test]
+fn tables_take_rows_of_the_budget(rt: HostRuntime) {
+    let alloc = rt.alloc();
+    takes(&rt, alloc, rows::line(alloc, "1000", "Roads", (7, 5)));
+    takes(&rt, alloc, rows::batch("B1", 5, 2));
+    takes(
+        &rt,
+        alloc,
+        rows::id("1000").map(|line| Standing {
+            line,
+            columns: None,
+        }),
+    );
+}
+
+#[test]
+fn tables_take_rows_of_notices(rt: HostRuntime) {
+    let alloc = rt.alloc();
+    takes(&rt, alloc, rows::tenderer(alloc, "T1", 7));
+    takes(&rt, alloc, rows::notice(alloc, "N1", 1));
+    takes(&rt, alloc, rows::lot(alloc, ("N1", "L1"), "1000", 600));
+    takes(&rt, alloc, rows::release(alloc, "N1", 1, "{}"));
+    takes(&rt, alloc, rows::compiled(alloc, "N1", "{}"));
+}
+
+#[test]
+fn tables_take_rows_of_tenders(rt: HostRuntime) {
+    let alloc = rt.alloc();
+    takes(
+        &rt,
+        alloc,
+        rows::envelope(1, "N1", Some(Reading::Nonconforming)),
+    );
+    takes(&rt, alloc, rows::seal(alloc, 1, 65));
+    takes(&rt, alloc, rows::security(1, "N1", 50));
+    takes(&rt, alloc, rows::award(1, "N1", 1, 90));
+    takes(&rt, alloc, rows::contract(1, ("N1", "L1"), 90));
+    takes(&rt, alloc, rows::entry(1, "E1", EntryKind::Raise, 10));
+}
