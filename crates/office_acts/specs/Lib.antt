@@ -1,3 +1,6 @@
+pub mod Callers
+pub mod Commands
+pub mod Queries
 pub mod Identified
 pub mod Items
 pub mod Lots

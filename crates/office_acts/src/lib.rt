@@ -4,12 +4,16 @@
 pub mod amounts;
 pub mod budget;
 pub mod command;
+pub mod commands;
+pub mod contract;
 pub mod identified;
 pub mod item;
 pub mod lot;
 pub mod notice;
 #[cfg(test)]
 mod notice_tests;
+pub mod queries;
 pub mod sealed;
+pub mod tender;
 #[cfg(test)]
 mod tests;

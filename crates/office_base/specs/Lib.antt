@@ -15,3 +15,9 @@ pub mod Machine
 pub mod Moves
 pub mod Accounts
 pub mod Looking
+pub mod States
+pub mod Limits
+pub mod Readings
+pub mod RuleParts
+pub mod Parents
+pub mod Deciding

@@ -248,7 +248,13 @@ awards_of_notice notice t = filter (λ (a : AwardRow). same_id a.notice notice) 
 abbrev pub contracts_of_notice : List ℕ → Tables → List ContractRow
 contracts_of_notice notice t = filter (λ (c : ContractRow). same_id c.notice notice) t.contracts
 
--- the contracts of a lot
+-- the envelopes, securities and contracts of a lot
+abbrev pub envelopes_of_lot : List ℕ → List ℕ → Tables → List EnvelopeRow
+envelopes_of_lot notice lot t = filter (λ (e : EnvelopeRow). same_id e.notice notice && same_id e.lot lot) t.envelopes
+
+abbrev pub securities_of_lot : List ℕ → List ℕ → Tables → List SecurityRow
+securities_of_lot notice lot t = filter (λ (s : SecurityRow). same_id s.notice notice && same_id s.lot lot) t.securities
+
 abbrev pub contracts_of_lot : List ℕ × List ℕ → Tables → List ContractRow
 contracts_of_lot lot t = filter (λ (c : ContractRow). same_id c.notice lot.0 && same_id c.lot lot.1) t.contracts
 

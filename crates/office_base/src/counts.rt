@@ -16,9 +16,6 @@ pub type Sequence = Bounded<1, 9_999>;
 /// The length of a tender's bytes: 1 to 32,768.
 pub type TenderLength = Bounded<1, 32_768>;
 
-/// The points for a tender's quality: 0 to 100.
-pub type Quality = Bounded<0, 100>;
-
 /// How many figures of a tender its correction changed. A tender may be read against any list of items, so that no limit of an office
 /// bounds it, but the greatest whole number of a store does.
 pub type CorrectionCount = Bounded<0, 9_223_372_036_854_775_807>;

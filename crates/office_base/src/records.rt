@@ -1,11 +1,13 @@
 //! The records of an office.
-use crate::counts::{AmendmentCount, Quality, ReleaseCount, RowCount, Sequence, TenderLength};
+use crate::counts::{AmendmentCount, ReleaseCount, RowCount, Sequence, TenderLength};
 use crate::json_text::JsonText;
 use crate::reading::Reading;
 use office_acts::amounts::{EntryAmount, Estimate, SecurityAmount};
+use office_acts::contract::How;
 use office_acts::item::Items;
 use office_acts::notice::{Standstill, Validity, Weight};
 use office_acts::sealed::SealedBytes;
+use office_acts::tender::Quality;
 use office_values::given::{GivenNumber, LastNumber};
 use office_values::id::Id;
 use office_values::moment::Moment;
@@ -162,13 +164,6 @@ pub struct AwardRow {
     pub price: Amount,
     pub moment: Moment,
     pub state: AwardState,
-}
-
-/// How a contract ended.
-#[derive(Clone, Copy, Debug, PartialEq, Eq)]
-pub enum How {
-    Regular,
-    ForDefault,
 }
 
 /// A contract on a lot, whose number is that of its award: what was signed for, and, where it has ended, when, how, and what of it was

@@ -2,4 +2,4 @@ pub mod RecordSteps
 pub mod ReaderSteps
 pub mod FourSteps
 pub mod BudgetSteps
-pub mod WorkedBudgets
+pub mod TenderSteps

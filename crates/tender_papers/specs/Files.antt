@@ -1,5 +1,6 @@
 -- CSV files (RFC 4180), as the crate `csv` reads them.
-use Rattle.std.specs.Prelude.{ℕ, List, [], ◌∷◌, Bool, nat_eq, Option, Some, None}
+use Rattle.std.specs.Prelude.{ℕ, List, [], ◌∷◌, Bool, false, ◌&&◌, nat_eq, Option, Some, None}
+use Rattle.std.specs.Option.{option_map_or}
 use Rattle.std.specs.Cmp.Lexicographic.{pointwise}
 use Rattle.csv.specs.Reading.{records, default_config, strip_bom}
 
@@ -23,3 +24,23 @@ four_of (a ∷ b ∷ c ∷ d ∷ e ∷ rest) = None
 -- whether a field is a word
 abbrev pub is_word : List ℕ → List ℕ → Bool
 is_word word field = pointwise nat_eq field word
+
+-- whether four fields are four words
+abbrev pub are_words : Four → Four → Bool
+are_words (a, b, c, d) (p, q, r, s) = is_word a p && is_word b q && is_word c r && is_word d s
+
+-- whether a record is four words
+abbrev pub says : Four → List (List ℕ) → Bool
+says words fields = option_map_or (are_words words) (four_of fields) false
+
+-- all of a list but its last
+unfoldable pub but_last : {X : Type 0} → List X → List X
+but_last [] = []
+but_last (x ∷ []) = []
+but_last (x ∷ y ∷ rest) = x ∷ but_last (y ∷ rest)
+
+-- the last of a list, where it has one
+unfoldable pub last_of : {X : Type 0} → List X → Option X
+last_of [] = None
+last_of (x ∷ []) = Some x
+last_of (x ∷ y ∷ rest) = last_of (y ∷ rest)

@@ -1,3 +1,9 @@
 pub mod Files
 pub mod Budget
+pub mod Tender
+pub mod Lines
+pub mod Register
+pub mod Ledger
+pub mod Minutes
+pub mod WorkedPapers
 pub mod Inside

@@ -1,17 +1,14 @@
 //! Budget files.
 ghost use Rattle.std.specs.Prelude.{◌≡◌, ◌+◌, ◌<◌, ◌^◌, length, IfOk};
 ghost use Rattle.csv.specs.Records.{fields_of};
-ghost use Rattle.office_values.specs.Numbers.{number_of};
 ghost use Rattle.tender_papers.specs.Files.{csv_records};
 ghost use Rattle.tender_papers.specs.Inside.Reading.{IsReading, records_left};
 ghost use Rattle.tender_papers.specs.Budget.{Gives, budget_of, is_head, kind_of, row_of, row_of_four, rows_from};
 
-use crate::records::{four_fields, next_record, records_of};
+use crate::records::{four_fields, next_record, records_of, says, total_in};
 use csv::{ByteRecord, Reader};
 use office_acts::budget::{BudgetKind, BudgetRow, BudgetRows};
 use office_values::id::Id;
-use office_values::money::Total;
-use office_values::number::read_number;
 use office_values::text::TextLine;
 use std::alloc::{AllocError, AllocFailed, Global};
 use thiserror::Error;
@@ -58,13 +55,6 @@ fn kind_in(word: &[u8]) -> Option<BudgetKind>
     } else {
         None
     }
-}
-
-// The sum that a field writes.
-fn total_in(field: &[u8]) -> Option<Total>
-    ensures { result ≡ number_of field.now }
-{
-    Total::read(read_number(field)?)
 }
 
 // The row that four fields are.
@@ -115,15 +105,7 @@ fn row_in(alloc: Global, row: &ByteRecord) -> Result<Option<BudgetRow>, AllocErr
 fn is_head(row: &ByteRecord) -> bool
     ensures { result ≡ is_head (fields_of row.now) }
 {
-    match four_fields(row) {
-        Some((line, kind, amount, title)) => {
-            line == b"line".as_slice()
-                && kind == b"kind".as_slice()
-                && amount == b"amount".as_slice()
-                && title == b"title".as_slice()
-        }
-        None => false,
-    }
+    says(row, b"line", b"kind", b"amount", b"title")
 }
 
 // The rows behind the head, each read into the one `row`.

@@ -1,7 +1,15 @@
-//! Papers of a procurement office: files that come in, as CSV.
+//! Papers of a procurement office: files that come in, as CSV, and texts that go out.
 #![tactic(auto)]
 
 pub mod budget;
+pub mod examples;
+pub mod ledger;
+mod lines;
+pub mod minutes;
+#[cfg(test)]
+mod paper_tests;
 mod records;
+pub mod register;
+pub mod tender;
 #[cfg(test)]
 mod tests;

@@ -3,10 +3,13 @@ ghost use Rattle.std.specs.Prelude.{◌≡◌, ◌∷◌, [], IfOk, IsTrue, opti
 ghost use Rattle.std.specs.Bool.{MatchBool};
 ghost use Rattle.csv.specs.Reading.{error_kind};
 ghost use Rattle.csv.specs.Records.{fields_of};
-ghost use Rattle.tender_papers.specs.Files.{csv_records, four_of};
+ghost use Rattle.office_values.specs.Numbers.{number_of};
+ghost use Rattle.tender_papers.specs.Files.{csv_records, four_of, says};
 ghost use Rattle.tender_papers.specs.Inside.Reading.{IsOfSource, IsReading, records_left};
 
 use csv::{ByteRecord, Error, ErrorKind, Reader, ReaderBuilder, Trim};
+use office_values::money::Total;
+use office_values::number::read_number;
 use std::alloc::{AllocError, Global};
 
 /// A reader of the records of a text, before the first. It takes records of any number of fields.
@@ -58,4 +61,27 @@ pub(crate) fn four_fields(row: &ByteRecord) -> Option<(&[u8], &[u8], &[u8], &[u8
         return None;
     }
     Some((row.get(0)?, row.get(1)?, row.get(2)?, row.get(3)?))
+}
+
+/// Whether a record is these four words.
+pub(crate) fn says(
+    row: &ByteRecord,
+    first: &[u8],
+    second: &[u8],
+    third: &[u8],
+    fourth: &[u8],
+) -> bool
+    ensures { result ≡ says (first.now, second.now, third.now, fourth.now) (fields_of row.now) }
+{
+    match four_fields(row) {
+        Some((a, b, c, d)) => a == first && b == second && c == third && d == fourth,
+        None => false,
+    }
+}
+
+/// The sum that a field writes.
+pub(crate) fn total_in(field: &[u8]) -> Option<Total>
+    ensures { result ≡ number_of field.now }
+{
+    Total::read(read_number(field)?)
 }

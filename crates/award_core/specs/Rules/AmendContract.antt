@@ -1,0 +1,89 @@
+-- A contract is raised or cut.
+use Rattle.std.specs.Prelude.{ℕ, ◌+◌, ◌-◌, Bool, true, false, not, ◌&&◌, ◌||◌, List, [], ◌∷◌, Option, Some, is_some, nat_lt, nat_le, length}
+use Rattle.std.specs.List.{list_any}
+use Rattle.office_values.specs.Ids.{same_id}
+use Rattle.office_base.specs.Limits.{entry_limit}
+use Rattle.office_acts.specs.declared.contract.ChangeKind.{ChangeKind}
+use Rattle.office_acts.specs.declared.contract.ChangeKind.TheVariants as change_kinds
+use Rattle.office_base.specs.declared.records.EntryKind.{EntryKind}
+use Rattle.office_base.specs.declared.records.EntryKind.TheVariants as entry_kinds
+use Rattle.office_values.specs.declared.refusal.Thing.TheVariants as things
+use Rattle.office_values.specs.declared.refusal.Refusal.{Refusal}
+use Rattle.office_values.specs.declared.refusal.Refusal.TheVariants.{NoSuch, Exists, InsufficientFunds, MoreThanOutstanding, ContractEnded, LimitReached}
+use Rattle.office_base.specs.Rows.{holds_of}
+use Rattle.office_base.specs.RuleParts.{clock_put, released, has_all_releases}
+use Rattle.office_base.specs.Joined.{free_in, outstanding}
+use Rattle.office_base.specs.declared.records.LineRow.{LineRow}
+use Rattle.office_base.specs.declared.records.NoticeRow.{NoticeRow}
+use Rattle.office_base.specs.declared.records.ContractRow.{ContractRow}
+use Rattle.office_base.specs.declared.records.EntryRow.{EntryRow}
+use Rattle.office_base.specs.declared.records.ClockRow.{ClockRow}
+use Rattle.office_base.specs.declared.puts.Put.TheVariants as puts
+use Rattle.office_base.specs.declared.puts.Put.{Put}
+use Rattle.office_base.specs.Tables.{Tables, contract_at, entries_of_contract}
+use Rattle.office_base.specs.Parents.{notice_of_contract, lot_of_contract, line_of_lot}
+use Rattle.award_core.specs.declared.amend_contract.AmendContractRows.{AmendContractRows}
+
+abbrev pub is_running : ContractRow → Bool
+is_running c = not (is_some c.ended)
+
+abbrev pub has_ended : ContractRow → Bool
+has_ended c = is_some c.ended
+
+-- the contract runs, and less is outstanding
+abbrev pub is_beyond : List EntryRow → ℕ → ContractRow → Bool
+is_beyond entries amount c = is_running c && nat_lt (outstanding entries c) amount
+
+-- one of the entries has this identifier
+abbrev pub is_taken : List ℕ → EntryRow → Bool
+is_taken entry e = same_id e.entry entry
+
+abbrev pub has_all_entries : List EntryRow → Bool
+has_all_entries entries = nat_le entry_limit (length entries)
+
+abbrev pub is_raising : ChangeKind → Bool
+is_raising change_kinds.Raise = true
+is_raising change_kinds.Cut = false
+
+abbrev pub entry_kind : ChangeKind → EntryKind
+entry_kind change_kinds.Raise = entry_kinds.Raise
+entry_kind change_kinds.Cut = entry_kinds.Cut
+
+-- the contract, its entries, its notice, and its lot's line
+abbrev pub amend_contract_tests : Option ContractRow → List EntryRow → Option NoticeRow → Option LineRow → List ℕ → ChangeKind → ℕ → List (Bool × Refusal)
+amend_contract_tests contract entries notice line entry kind amount =
+    (not (is_some contract), NoSuch things.Contract)
+    ∷ (list_any (is_taken entry) entries, Exists)
+    ∷ (holds_of is_running contract && is_raising kind && nat_lt (free_in line) amount, InsufficientFunds)
+    ∷ (not (is_raising kind) && holds_of (is_beyond entries amount) contract, MoreThanOutstanding)
+    ∷ (holds_of has_ended contract, ContractEnded)
+    ∷ (has_all_entries entries || has_all_releases notice, LimitReached)
+    ∷ []
+
+-- the line of a raise, and of a cut
+abbrev pub line_after : ChangeKind → ℕ → LineRow → LineRow
+line_after change_kinds.Raise amount r = record r { free = r.free - amount }
+line_after change_kinds.Cut amount r = record r { free = r.free + amount }
+
+abbrev pub change_row : ℕ → ContractRow → List ℕ → ChangeKind → ℕ → List ℕ → EntryRow
+change_row t c entry kind amount rationale =
+    record { contract = c.contract; entry = entry; kind = entry_kind kind; amount = amount; moment = t; rationale = Some rationale }
+
+abbrev pub amend_contract_puts : ClockRow → ℕ → Option ContractRow → Option NoticeRow → Option LineRow → List ℕ → ChangeKind → ℕ → List ℕ → List Put
+amend_contract_puts clock t (Some c) (Some n) (Some r) entry kind amount rationale =
+    puts.Entry (change_row t c entry kind amount rationale)
+    ∷ puts.Line (line_after kind amount r)
+    ∷ puts.Notice (released n)
+    ∷ clock_put clock t
+    ∷ []
+amend_contract_puts clock t contract notice line entry kind amount rationale = []
+
+-- the rows that the amendment of a contract looks at
+abbrev pub amend_contract_rows : Tables → ℕ → AmendContractRows
+amend_contract_rows s contract = record {
+  contract = contract_at contract s;
+  entries = entries_of_contract contract s;
+  notice = notice_of_contract (contract_at contract s) s;
+  line = line_of_lot (lot_of_contract (contract_at contract s) s) s;
+  clock = s.clock;
+}

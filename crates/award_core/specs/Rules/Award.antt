@@ -1,0 +1,162 @@
+-- The award of a lot to the best tender in effect (Model Law, articles 43 and 22).
+use Rattle.std.specs.Prelude.{ℕ, ◌+◌, ◌-◌, ◌*◌, ◌/◌, Bool, false, not, cond, ◌&&◌, ◌||◌, List, [], ◌∷◌, Option, Some, None, is_some, unwrap_or, nat_lt, nat_eq}
+use Rattle.std.specs.List.{list_any}
+use Rattle.office_base.specs.Readings.{is_priced, price_in}
+use Rattle.office_values.specs.declared.refusal.Thing.TheVariants as things
+use Rattle.office_values.specs.declared.refusal.Refusal.{Refusal}
+use Rattle.office_values.specs.declared.refusal.Refusal.TheVariants.{NoSuch, NotOpened, AlreadyDecided, NotAllExamined, Expired, InsufficientFunds, LimitReached}
+use Rattle.office_base.specs.Rows.{holds_of}
+use Rattle.office_base.specs.Joined.{free_in}
+use Rattle.office_base.specs.RuleParts.{clock_put, award_clock, released, has_all_releases, is_expired, securities_returned}
+use Rattle.office_base.specs.States.{is_opened, is_read, is_undecided}
+use Rattle.office_base.specs.declared.records.LotState.TheVariants as lot_states
+use Rattle.office_base.specs.declared.records.AwardState.TheVariants as award_states
+use Rattle.office_base.specs.declared.records.LineRow.{LineRow}
+use Rattle.office_base.specs.declared.records.NoticeRow.{NoticeRow}
+use Rattle.office_base.specs.declared.records.LotRow.{LotRow}
+use Rattle.office_base.specs.declared.records.EnvelopeRow.{EnvelopeRow}
+use Rattle.office_base.specs.declared.records.SecurityRow.{SecurityRow}
+use Rattle.office_base.specs.declared.records.AwardRow.{AwardRow}
+use Rattle.office_base.specs.declared.records.ClockRow.{ClockRow}
+use Rattle.office_base.specs.declared.puts.Put.TheVariants as puts
+use Rattle.office_base.specs.declared.puts.Put.{Put}
+use Rattle.office_base.specs.Tables.{Tables, notice_at, lot_at, envelopes_of_lot, securities_of_lot}
+use Rattle.office_base.specs.Parents.{line_of_lot}
+use Rattle.award_core.specs.declared.award.AwardRows.{AwardRows}
+
+abbrev pub is_responsive : Option Bool → Bool
+is_responsive None = false
+is_responsive (Some b) = b
+
+abbrev pub price_of : EnvelopeRow → ℕ
+price_of e = price_in e.reading
+
+-- opened, priced, examined as responsive, and not failed
+abbrev pub is_admissible : EnvelopeRow → Bool
+is_admissible e = is_read e.state && is_priced e.reading && is_responsive e.responsive && not e.failed
+
+-- the lesser of a price and one that may be absent
+abbrev pub lesser : ℕ → Option ℕ → ℕ
+lesser n None = n
+lesser n (Some m) = cond (nat_lt m n) m n
+
+-- the lowest price of the admissible ones
+abbrev pub lowest_price : List EnvelopeRow → Option ℕ
+lowest_price [] = None
+lowest_price (e ∷ es) = cond (is_admissible e) (Some (lesser (price_of e) (lowest_price es))) (lowest_price es)
+
+-- thousandths of points: for the price its share of the lowest, rounded down, and for quality
+abbrev pub price_points : ℕ → ℕ → ℕ → ℕ
+price_points weight lowest price = cond (nat_eq price 0) (weight * 1000) (weight * 1000 * lowest / price)
+
+abbrev pub points : ℕ → ℕ → EnvelopeRow → ℕ
+points weight lowest e = price_points weight lowest (price_of e) + 1000 * unwrap_or e.quality 0
+
+-- the lower price is better, then the lower receipt
+abbrev pub is_cheaper : EnvelopeRow → EnvelopeRow → Bool
+is_cheaper x y = nat_lt (price_of x) (price_of y) || (nat_eq (price_of x) (price_of y) && nat_lt x.receipt y.receipt)
+
+-- where points decide, more of them are better first
+abbrev pub is_better : ℕ → ℕ → EnvelopeRow → EnvelopeRow → Bool
+is_better weight lowest x y =
+    cond (nat_eq weight 0) (is_cheaper x y)
+    (nat_lt (points weight lowest y) (points weight lowest x) || (nat_eq (points weight lowest x) (points weight lowest y) && is_cheaper x y))
+
+-- the better of two, one of which may be absent
+abbrev pub better : ℕ → ℕ → EnvelopeRow → Option EnvelopeRow → EnvelopeRow
+better weight lowest e None = e
+better weight lowest e (Some f) = cond (is_better weight lowest f e) f e
+
+-- the best of those that pass, by one pass
+abbrev pub best_with : ℕ → ℕ → List EnvelopeRow → Option EnvelopeRow
+best_with weight lowest [] = None
+best_with weight lowest (e ∷ es) =
+    cond (is_admissible e) (Some (better weight lowest e (best_with weight lowest es))) (best_with weight lowest es)
+
+-- the best tender of a lot, with what the price weighs (0: it alone decides)
+abbrev pub best_of : ℕ → List EnvelopeRow → Option EnvelopeRow
+best_of weight rows = best_with weight (unwrap_or (lowest_price rows) 0) rows
+
+abbrev pub weight_in : Option NoticeRow → ℕ
+weight_in None = 0
+weight_in (Some n) = n.weight
+
+-- the best of a lot's envelopes by the notice's criteria
+abbrev pub winner : Option NoticeRow → List EnvelopeRow → Option EnvelopeRow
+winner notice envelopes = best_of (weight_in notice) envelopes
+
+-- a priced tender waits for its examination
+abbrev pub isnt_examined : EnvelopeRow → Bool
+isnt_examined e = is_priced e.reading && not (is_some e.responsive)
+
+abbrev pub reserved_in : Option LotRow → ℕ
+reserved_in None = 0
+reserved_in (Some l) = l.reserved
+
+-- the price is above what the lot has reserved and its line has free
+abbrev pub is_above : ℕ → EnvelopeRow → Bool
+is_above funds e = nat_lt funds (price_of e)
+
+-- the notice, the lot, its line, its envelopes
+abbrev pub award_tests : ℕ → Option NoticeRow → Option LotRow → Option LineRow → List EnvelopeRow → List (Bool × Refusal)
+award_tests t notice lot line envelopes =
+    (not (is_some notice), NoSuch things.Notice)
+    ∷ (not (is_some lot), NoSuch things.Lot)
+    ∷ (holds_of (λ (n : NoticeRow). not (is_opened n.state)) notice, NotOpened)
+    ∷ (holds_of (λ (l : LotRow). not (is_undecided l.state)) lot, AlreadyDecided)
+    ∷ (list_any isnt_examined envelopes, NotAllExamined)
+    ∷ (list_any is_admissible envelopes && holds_of (is_expired t) notice, Expired)
+    ∷ (holds_of (is_above (reserved_in lot + free_in line)) (winner notice envelopes), InsufficientFunds)
+    ∷ (has_all_releases notice, LimitReached)
+    ∷ []
+
+-- the lot without a winner, and with one
+abbrev pub unsuccessful : LotRow → LotRow
+unsuccessful l = record l { state = lot_states.Unsuccessful; reserved = 0 }
+
+abbrev pub awarded : EnvelopeRow → LotRow → LotRow
+awarded e l = record l { state = lot_states.Awarded; reserved = price_of e }
+
+abbrev pub award_row : ClockRow → ℕ → LotRow → EnvelopeRow → AwardRow
+award_row clock t l e = record {
+  award = clock.awards + 1;
+  notice = l.notice;
+  lot = l.lot;
+  receipt = e.receipt;
+  price = price_of e;
+  moment = t;
+  state = award_states.Active;
+}
+
+-- with no admissible tender the lot is unsuccessful; else the best one has it at its corrected price, and as much is reserved
+abbrev pub decision_puts : ClockRow → ℕ → NoticeRow → LotRow → LineRow → Option EnvelopeRow → List SecurityRow → List Put
+decision_puts clock t n l r None securities =
+    puts.Lot (unsuccessful l)
+    ∷ puts.Line (record r { free = r.free + l.reserved })
+    ∷ puts.Notice (released n)
+    ∷ clock_put clock t
+    ∷ securities_returned securities
+decision_puts clock t n l r (Some e) securities =
+    puts.Award (award_row clock t l e)
+    ∷ puts.Lot (awarded e l)
+    ∷ puts.Line (record r { free = (r.free + l.reserved) - price_of e })
+    ∷ puts.Notice (released n)
+    ∷ award_clock clock t
+    ∷ []
+
+-- with the lot's securities
+abbrev pub award_puts : ClockRow → ℕ → Option NoticeRow → Option LotRow → Option LineRow → List EnvelopeRow → List SecurityRow → List Put
+award_puts clock t (Some n) (Some l) (Some r) envelopes securities =
+    decision_puts clock t n l r (winner (Some n) envelopes) securities
+award_puts clock t notice lot line envelopes securities = []
+
+-- the rows that an award looks at
+abbrev pub award_rows : Tables → List ℕ → List ℕ → AwardRows
+award_rows s notice lot = record {
+  notice = notice_at notice s;
+  lot = lot_at (notice, lot) s;
+  line = line_of_lot (lot_at (notice, lot) s) s;
+  envelopes = envelopes_of_lot notice lot s;
+  securities = securities_of_lot notice lot s;
+  clock = s.clock;
+}

@@ -1,0 +1,51 @@
+-- The end of a contract: what is outstanding is free again.
+use Rattle.std.specs.Prelude.{ℕ, ◌+◌, Bool, not, List, [], ◌∷◌, Option, Some, is_some}
+use Rattle.office_acts.specs.declared.contract.How.{How}
+use Rattle.office_values.specs.declared.refusal.Thing.TheVariants as things
+use Rattle.office_values.specs.declared.refusal.Refusal.{Refusal}
+use Rattle.office_values.specs.declared.refusal.Refusal.TheVariants.{NoSuch, ContractEnded, LimitReached}
+use Rattle.office_base.specs.Rows.{holds_of}
+use Rattle.office_base.specs.RuleParts.{clock_put, released, has_all_releases}
+use Rattle.office_base.specs.Joined.{outstanding}
+use Rattle.award_core.specs.Rules.AmendContract.{has_ended}
+use Rattle.office_base.specs.declared.records.LineRow.{LineRow}
+use Rattle.office_base.specs.declared.records.NoticeRow.{NoticeRow}
+use Rattle.office_base.specs.declared.records.ContractRow.{ContractRow}
+use Rattle.office_base.specs.declared.records.EntryRow.{EntryRow}
+use Rattle.office_base.specs.declared.records.ClockRow.{ClockRow}
+use Rattle.office_base.specs.declared.puts.Put.TheVariants as puts
+use Rattle.office_base.specs.declared.puts.Put.{Put}
+use Rattle.office_base.specs.Tables.{Tables, contract_at, entries_of_contract}
+use Rattle.office_base.specs.Parents.{notice_of_contract, lot_of_contract, line_of_lot}
+use Rattle.award_core.specs.declared.end.EndRows.{EndRows}
+
+-- the contract, and its notice
+abbrev pub end_tests : Option ContractRow → Option NoticeRow → List (Bool × Refusal)
+end_tests contract notice =
+    (not (is_some contract), NoSuch things.Contract)
+    ∷ (holds_of has_ended contract, ContractEnded)
+    ∷ (has_all_releases notice, LimitReached)
+    ∷ []
+
+abbrev pub ended_contract : ℕ → How → List EntryRow → ContractRow → ContractRow
+ended_contract t how entries c = record c { ended = Some t; how = Some how; released = outstanding entries c }
+
+-- with its entries, and its lot's line
+abbrev pub end_puts : ClockRow → ℕ → How → Option ContractRow → List EntryRow → Option NoticeRow → Option LineRow → List Put
+end_puts clock t how (Some c) entries (Some n) (Some r) =
+    puts.Contract (ended_contract t how entries c)
+    ∷ puts.Line (record r { free = r.free + outstanding entries c })
+    ∷ puts.Notice (released n)
+    ∷ clock_put clock t
+    ∷ []
+end_puts clock t how contract entries notice line = []
+
+-- the rows that the end of a contract looks at
+abbrev pub end_rows : Tables → ℕ → EndRows
+end_rows s contract = record {
+  contract = contract_at contract s;
+  entries = entries_of_contract contract s;
+  notice = notice_of_contract (contract_at contract s) s;
+  line = line_of_lot (lot_of_contract (contract_at contract s) s) s;
+  clock = s.clock;
+}

@@ -1,0 +1,69 @@
+-- The examination of an opened tender (Model Law, article 43).
+use Rattle.std.specs.Prelude.{ℕ, ◌+◌, Bool, not, cond, ◌&&◌, ◌||◌, List, [], ◌∷◌, Option, Some, None, is_some, nat_lt}
+use Rattle.office_base.specs.Readings.{is_priced}
+use Rattle.office_values.specs.declared.refusal.Thing.TheVariants as things
+use Rattle.office_values.specs.declared.refusal.Refusal.{Refusal}
+use Rattle.office_values.specs.declared.refusal.Refusal.TheVariants.{BadBody, NoSuch, NotOpened, AlreadyDecided}
+use Rattle.office_values.specs.declared.refusal.BadPart.TheVariants.{Field}
+use Rattle.office_values.specs.declared.refusal.Field.TheVariants.{Quality}
+use Rattle.office_base.specs.Rows.{holds_of}
+use Rattle.office_base.specs.RuleParts.{clock_put}
+use Rattle.office_base.specs.States.{is_read, is_undecided}
+use Rattle.office_base.specs.declared.records.NoticeRow.{NoticeRow}
+use Rattle.office_base.specs.declared.records.LotRow.{LotRow}
+use Rattle.office_base.specs.declared.records.EnvelopeRow.{EnvelopeRow}
+use Rattle.office_base.specs.declared.records.ClockRow.{ClockRow}
+use Rattle.office_base.specs.declared.puts.Put.TheVariants as puts
+use Rattle.office_base.specs.declared.puts.Put.{Put}
+use Rattle.office_base.specs.Tables.{Tables, envelope_at}
+use Rattle.office_base.specs.Parents.{notice_of_envelope, lot_of_envelope}
+use Rattle.award_core.specs.declared.examine.ExamineRows.{ExamineRows}
+
+-- the notice decides by points, and quality has its share
+abbrev pub has_points : NoticeRow → Bool
+has_points n = nat_lt 0 n.weight
+
+-- quality and price together weigh more than a hundred
+abbrev pub is_too_much : NoticeRow → ℕ → Bool
+is_too_much n quality = nat_lt 100 (n.weight + quality)
+
+-- quality is given exactly where points decide and the tender is responsive, and keeps within what the price leaves
+abbrev pub is_bad_quality : Bool → Option ℕ → NoticeRow → Bool
+is_bad_quality responsive quality n =
+    cond (has_points n && responsive) (not (is_some quality) || holds_of (is_too_much n) quality) (is_some quality)
+
+abbrev pub isnt_read : EnvelopeRow → Bool
+isnt_read e = not (is_read e.state)
+
+abbrev pub cant_be_examined : EnvelopeRow → Bool
+cant_be_examined e = not (is_priced e.reading) || is_some e.responsive
+
+-- the envelope, its notice and its lot
+abbrev pub examine_tests : Option EnvelopeRow → Option NoticeRow → Option LotRow → Bool → Option ℕ → List (Bool × Refusal)
+examine_tests envelope notice lot responsive quality =
+    (is_some envelope && holds_of (is_bad_quality responsive quality) notice, (BadBody (Field Quality)))
+    ∷ (not (is_some envelope), NoSuch things.Tender)
+    ∷ (holds_of isnt_read envelope, NotOpened)
+    ∷ (holds_of cant_be_examined envelope || holds_of (λ (l : LotRow). not (is_undecided l.state)) lot, AlreadyDecided)
+    ∷ []
+
+-- the quality that is given, or the one that stands where none is
+abbrev pub quality_after : Option ℕ → Option ℕ → Option ℕ
+quality_after None held = held
+quality_after (Some quality) held = Some quality
+
+abbrev pub examined : Bool → Option ℕ → EnvelopeRow → EnvelopeRow
+examined responsive quality e = record e { responsive = Some responsive; quality = quality_after quality e.quality }
+
+abbrev pub examine_puts : ClockRow → ℕ → Option EnvelopeRow → Bool → Option ℕ → List Put
+examine_puts clock t None responsive quality = []
+examine_puts clock t (Some e) responsive quality = puts.Envelope (examined responsive quality e) ∷ clock_put clock t ∷ []
+
+-- the rows that an examination looks at
+abbrev pub examine_rows : Tables → ℕ → ExamineRows
+examine_rows s receipt = record {
+  envelope = envelope_at receipt s;
+  notice = notice_of_envelope (envelope_at receipt s) s;
+  lot = lot_of_envelope (envelope_at receipt s) s;
+  clock = s.clock;
+}

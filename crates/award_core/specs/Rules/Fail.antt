@@ -1,0 +1,74 @@
+-- A winner who doesn't sign is passed over (Model Law, article 22): the award fails, and the security is forfeited.
+use Rattle.std.specs.Prelude.{ℕ, ◌+◌, Bool, true, not, List, [], ◌∷◌, ◌++◌, Option, Some, is_some, nat_lt}
+use Rattle.office_base.specs.Limits.{days}
+use Rattle.office_values.specs.declared.refusal.Thing.TheVariants as things
+use Rattle.office_values.specs.declared.refusal.Refusal.{Refusal}
+use Rattle.office_values.specs.declared.refusal.Refusal.TheVariants.{NoSuch, AlreadyDecided, Expired, Standstill, LimitReached}
+use Rattle.office_base.specs.Rows.{holds_of}
+use Rattle.office_base.specs.RuleParts.{clock_put, released, has_all_releases, is_expired, security_forfeited, put_if}
+use Rattle.office_base.specs.States.{is_active}
+use Rattle.office_base.specs.declared.records.LotState.TheVariants as lot_states
+use Rattle.office_base.specs.declared.records.AwardState.TheVariants as award_states
+use Rattle.office_base.specs.declared.records.NoticeRow.{NoticeRow}
+use Rattle.office_base.specs.declared.records.LotRow.{LotRow}
+use Rattle.office_base.specs.declared.records.EnvelopeRow.{EnvelopeRow}
+use Rattle.office_base.specs.declared.records.SecurityRow.{SecurityRow}
+use Rattle.office_base.specs.declared.records.AwardRow.{AwardRow}
+use Rattle.office_base.specs.declared.records.ClockRow.{ClockRow}
+use Rattle.office_base.specs.declared.puts.Put.TheVariants as puts
+use Rattle.office_base.specs.declared.puts.Put.{Put}
+use Rattle.office_base.specs.Tables.{Tables, award_at}
+use Rattle.office_base.specs.Parents.{notice_of_award, lot_of_award, envelope_of_award, security_of_envelope}
+use Rattle.award_core.specs.declared.fail.FailRows.{FailRows}
+
+abbrev pub isnt_active : AwardRow → Bool
+isnt_active a = not (is_active a.state)
+
+-- the standstill after the award isn't over
+abbrev pub stands_still : ℕ → NoticeRow → AwardRow → Bool
+stands_still t n a = nat_lt t (a.moment + days n.standstill)
+
+abbrev pub is_standing_still : ℕ → Option NoticeRow → AwardRow → Bool
+is_standing_still t notice a = holds_of (λ (n : NoticeRow). stands_still t n a) notice
+
+-- the award, and its notice
+abbrev pub fail_tests : ℕ → Option AwardRow → Option NoticeRow → List (Bool × Refusal)
+fail_tests t award notice =
+    (not (is_some award), NoSuch things.Award)
+    ∷ (holds_of isnt_active award, AlreadyDecided)
+    ∷ (holds_of (is_expired t) notice, Expired)
+    ∷ (holds_of (is_standing_still t notice) award, Standstill)
+    ∷ (has_all_releases notice, LimitReached)
+    ∷ []
+
+abbrev pub failed_award : AwardRow → AwardRow
+failed_award a = record a { state = award_states.Failed }
+
+abbrev pub failed_envelope : EnvelopeRow → EnvelopeRow
+failed_envelope e = record e { failed = true }
+
+-- what was reserved stays so
+abbrev pub undecided_again : LotRow → LotRow
+undecided_again l = record l { state = lot_states.Undecided }
+
+-- the award, its notice, its lot, its tender, and that tender's security
+abbrev pub fail_puts : ClockRow → ℕ → Option AwardRow → Option NoticeRow → Option LotRow → Option EnvelopeRow → Option SecurityRow → List Put
+fail_puts clock t (Some a) (Some n) (Some l) envelope security =
+    puts.Award (failed_award a)
+    ∷ puts.Lot (undecided_again l)
+    ∷ puts.Notice (released n)
+    ∷ clock_put clock t
+    ∷ put_if (λ e. puts.Envelope (failed_envelope e)) envelope
+    ++ put_if security_forfeited security
+fail_puts clock t award notice lot envelope security = []
+
+-- the rows that the failing of an award looks at
+abbrev pub fail_rows : Tables → ℕ → FailRows
+fail_rows s award = record {
+  award = award_at award s;
+  notice = notice_of_award (award_at award s) s;
+  lot = lot_of_award (award_at award s) s;
+  envelope = envelope_of_award (award_at award s) s;
+  security = security_of_envelope (envelope_of_award (award_at award s) s) s;
+  clock = s.clock;
+}

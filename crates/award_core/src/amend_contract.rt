@@ -1,0 +1,123 @@
+//! The decision on the amendment of a contract.
+ghost use Rattle.std.specs.Prelude.{◌≡◌, ◌&&◌, IfSome, nat_lt};
+ghost use Rattle.office_base.specs.Deciding.{Decides};
+ghost use Rattle.office_base.specs.Joined.{free_in};
+ghost use Rattle.office_base.specs.Rules.{first_of};
+ghost use Rattle.award_core.specs.Rules.AmendContract.{is_running, is_raising, entry_kind, line_after, amend_contract_tests, amend_contract_puts};
+
+use crate::entries::{has_all_entries, has_entry, is_beyond};
+use crate::lines::{free_on, with_free};
+use office_acts::amounts::EntryAmount;
+use office_acts::contract::ChangeKind;
+use office_base::parts::{at_moment, has_all_releases, released};
+use office_base::puts::Put;
+use office_base::records::{ClockRow, ContractRow, EntryKind, EntryRow, LineRow, NoticeRow};
+use office_base::rows::Rows;
+use office_values::id::Id;
+use office_values::moment::Moment;
+use office_values::refusal::{Refusal, Thing};
+use office_values::text::TextLine;
+use std::alloc::Global;
+
+/// The rows that the amendment of a contract looks at: the contract with its entries, its notice and its lot's line, and the clock.
+#[derive(Drop)]
+pub struct AmendContractRows {
+    pub contract: Option<ContractRow>,
+    pub entries: Rows<EntryRow>,
+    pub notice: Option<NoticeRow>,
+    pub line: Option<LineRow>,
+    pub clock: ClockRow,
+}
+
+// Whether the contract runs and is to be raised by more than is free on its line.
+fn is_short(
+    line: &Option<LineRow>,
+    kind: ChangeKind,
+    amount: EntryAmount,
+    contract: &ContractRow,
+) -> bool
+    ensures { result ≡ (is_running contract.now && is_raising kind && nat_lt (free_in line.now) amount) }
+{
+    contract.ended.is_none() && kind == ChangeKind::Raise && free_on(line).units() < amount.get()
+}
+
+// What the amendment enters.
+fn entry_kind(kind: ChangeKind) -> EntryKind
+    ensures { result ≡ entry_kind kind }
+{
+    match kind {
+        ChangeKind::Raise => EntryKind::Raise,
+        ChangeKind::Cut => EntryKind::Cut,
+    }
+}
+
+// The line after it: a raise takes what is free, a cut gives it back. None above 10^15.
+fn line_after(kind: ChangeKind, amount: EntryAmount, line: LineRow) -> Option<LineRow>
+    ensures { IfSome result (λ row. row ≡ line_after kind amount line) }
+{
+    let free = line.free.units() as u128;
+    let amount = amount.get() as u128;
+    match kind {
+        ChangeKind::Raise => with_free(line, free.saturating_sub(amount)),
+        ChangeKind::Cut => with_free(line, free + amount),
+    }
+}
+
+/// Decides the amendment of a contract: its refusal, or what it puts. `Unavailable` where the office lacks the contract's notice or
+/// line, or the line would have more free than 10^15, as in none that commands reach.
+#[tactic(auto, unfolding(office_base::specs::Deciding::Decides))]
+pub fn decide_amend_contract(
+    alloc: Global,
+    t: Moment,
+    rows: AmendContractRows,
+    entry: Id,
+    kind: ChangeKind,
+    amount: EntryAmount,
+    rationale: TextLine,
+) -> Result<Vec<Put>, Refusal>
+    ensures { Decides result (first_of (amend_contract_tests rows.contract rows.entries rows.notice rows.line entry kind amount)) (amend_contract_puts rows.clock t rows.contract rows.notice rows.line entry kind amount rationale) }
+{
+    let AmendContractRows {
+        contract,
+        entries,
+        notice,
+        line,
+        clock,
+    } = rows;
+    let Some(contract) = contract else {
+        return Err(Refusal::NoSuch(Thing::Contract));
+    };
+    if has_entry(entries.as_slice(), &entry) {
+        return Err(Refusal::Exists);
+    }
+    if is_short(&line, kind, amount, &contract) {
+        return Err(Refusal::InsufficientFunds);
+    }
+    if kind == ChangeKind::Cut && is_beyond(entries.as_slice(), amount, &contract) {
+        return Err(Refusal::MoreThanOutstanding);
+    }
+    if contract.ended.is_some() {
+        return Err(Refusal::ContractEnded);
+    }
+    if has_all_entries(entries.as_slice()) || has_all_releases(&notice) {
+        return Err(Refusal::LimitReached);
+    }
+    let (Some(notice), Some(line)) = (notice, line) else {
+        return Err(Refusal::Unavailable);
+    };
+    let notice = released(notice).ok_or(Refusal::Unavailable)?;
+    let line = line_after(kind, amount, line).ok_or(Refusal::Unavailable)?;
+    let mut made = Vec::with_capacity(alloc, 4)?;
+    made.push(Put::Entry(EntryRow {
+        contract: contract.contract,
+        entry,
+        kind: entry_kind(kind),
+        amount,
+        moment: t,
+        rationale: Some(rationale),
+    }))?;
+    made.push(Put::Line(line))?;
+    made.push(Put::Notice(notice))?;
+    made.push(Put::Clock(at_moment(clock, t)))?;
+    Ok(made)
+}

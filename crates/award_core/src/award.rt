@@ -1,0 +1,198 @@
+//! The decision on the award of a lot.
+ghost use Rattle.std.specs.Prelude.{◌≡◌, ◌+◌, ◌-◌, IfOk, IfErr, IfSome, Some, None, []};
+ghost use Rattle.std.specs.List.{list_any};
+ghost use Rattle.office_values.specs.declared.refusal.Refusal.TheVariants.{Unavailable};
+ghost use Rattle.office_base.specs.Deciding.{Decides};
+ghost use Rattle.office_base.specs.Joined.{free_in};
+ghost use Rattle.office_base.specs.declared.records.AwardState.TheVariants as award_states;
+ghost use Rattle.office_base.specs.Rules.{first_of};
+ghost use Rattle.award_core.specs.Rules.Award.{is_admissible, price_of, isnt_examined, is_above, decision_puts, award_row, award_tests, award_puts};
+
+use crate::best::{best_row, is_admissible, is_priced, price_of};
+use crate::lines::{free_on, with_free};
+use crate::securities::push_returned;
+use office_base::parts::{at_moment, has_all_releases, is_expired, released};
+use office_base::puts::Put;
+use office_base::records::{
+    AwardRow, AwardState, ClockRow, EnvelopeRow, LineRow, LotRow, LotState, NoticeRow, NoticeState,
+    SecurityRow,
+};
+use office_base::rows::Rows;
+use office_values::given::{GivenNumber, LastNumber};
+use office_values::moment::Moment;
+use office_values::money::Amount;
+use office_values::refusal::{Refusal, Thing};
+use std::alloc::Global;
+
+/// The most releases of a notice.
+const RELEASE_LIMIT: u64 = 9_999;
+
+/// The rows that an award looks at: the notice, the lot with its line, its tenders and its securities, and the clock.
+#[derive(Drop)]
+pub struct AwardRows {
+    pub notice: Option<NoticeRow>,
+    pub lot: Option<LotRow>,
+    pub line: Option<LineRow>,
+    pub envelopes: Rows<EnvelopeRow>,
+    pub securities: Rows<SecurityRow>,
+    pub clock: ClockRow,
+}
+
+// Whether a priced tender among these waits for its examination.
+fn some_isnt_examined(rows: &[EnvelopeRow]) -> bool
+    ensures { result ≡ list_any isnt_examined rows.now }
+{
+    rows.iter()
+        .any(|row| is_priced(row) && row.responsive.is_none())
+}
+
+// Whether one of these tenders may win.
+fn some_is_admissible(rows: &[EnvelopeRow]) -> bool
+    ensures { result ≡ list_any is_admissible rows.now }
+{
+    rows.iter().any(|row| is_admissible(row))
+}
+
+// Whether the price is above what the lot has reserved and its line has free.
+fn is_above_funds(lot: &LotRow, line: &Option<LineRow>, winner: &EnvelopeRow) -> bool
+    ensures { result ≡ is_above (lot.now.reserved + free_in line.now) winner.now }
+{
+    lot.reserved.units() + free_on(line).units() < price_of(winner).units()
+}
+
+// The line with what the lot had reserved free, but for the price. None above 10^15.
+fn line_after(line: LineRow, reserved: Amount, price: Amount) -> Option<LineRow>
+    ensures { IfSome result (λ row. row ≡ record line { free = (line.free + reserved) - price }) }
+{
+    let free = line.free.units() as u128 + reserved.units() as u128;
+    with_free(line, free.saturating_sub(price.units() as u128))
+}
+
+// The award of the lot to this tender, under this number.
+fn award_row(award: GivenNumber, t: Moment, lot: &LotRow, winner: &EnvelopeRow) -> AwardRow
+    ensures { result ≡ record { award = award; notice = lot.now.notice; lot = lot.now.lot; receipt = winner.now.receipt; price = price_of winner.now; moment = t; state = award_states.Active } }
+{
+    AwardRow {
+        award,
+        notice: lot.notice,
+        lot: lot.lot,
+        receipt: winner.receipt,
+        price: price_of(winner),
+        moment: t,
+        state: AwardState::Active,
+    }
+}
+
+// The lot goes to this tender: the award, the lot, its line, the notice and the clock.
+fn won(
+    alloc: Global,
+    t: Moment,
+    clock: ClockRow,
+    notice: NoticeRow,
+    lot: LotRow,
+    line: LineRow,
+    winner: &EnvelopeRow,
+) -> Result<Vec<Put>, Refusal>
+    ensures puts { IfOk result (λ made. made.items ≡ decision_puts clock t notice lot line (Some winner.now) []) }
+    ensures fault { IfErr result (λ e. e ≡ Unavailable) }
+{
+    let award = GivenNumber::read(clock.awards.get() + 1).ok_or(Refusal::Unavailable)?;
+    let notice = released(notice).ok_or(Refusal::Unavailable)?;
+    let price = price_of(winner);
+    let line = line_after(line, lot.reserved, price).ok_or(Refusal::Unavailable)?;
+    let award_row = award_row(award, t, &lot, winner);
+    let mut made = Vec::with_capacity(alloc, 5)?;
+    made.push(Put::Award(award_row))?;
+    made.push(Put::Lot(LotRow {
+        state: LotState::Awarded,
+        reserved: price,
+        ..lot
+    }))?;
+    made.push(Put::Line(line))?;
+    made.push(Put::Notice(notice))?;
+    made.push(Put::Clock(ClockRow {
+        moment: t,
+        receipts: clock.receipts,
+        awards: LastNumber::read(award.get()).unwrap(),
+    }))?;
+    Ok(made)
+}
+
+// The lot goes to nobody: the lot, its line, the notice, the clock and the held securities.
+fn lost(
+    alloc: Global,
+    t: Moment,
+    clock: ClockRow,
+    notice: NoticeRow,
+    lot: LotRow,
+    line: LineRow,
+    securities: &[SecurityRow],
+) -> Result<Vec<Put>, Refusal>
+    ensures puts { IfOk result (λ made. made.items ≡ decision_puts clock t notice lot line None securities.now) }
+    ensures fault { IfErr result (λ e. e ≡ Unavailable) }
+{
+    let notice = released(notice).ok_or(Refusal::Unavailable)?;
+    let nothing = Amount::read(0).unwrap();
+    let line = line_after(line, lot.reserved, nothing).ok_or(Refusal::Unavailable)?;
+    let mut made = Vec::with_capacity(alloc, 4)?;
+    made.push(Put::Lot(LotRow {
+        state: LotState::Unsuccessful,
+        reserved: nothing,
+        ..lot
+    }))?;
+    made.push(Put::Line(line))?;
+    made.push(Put::Notice(notice))?;
+    made.push(Put::Clock(at_moment(clock, t)))?;
+    push_returned(&mut made, securities)?;
+    Ok(made)
+}
+
+/// Decides the award of a lot: its refusal, or what it puts. `Unavailable` where all 10^9 numbers of awards are given out, and where the
+/// office lacks the lot's line, or the line would have more free than 10^15, as in none that commands reach.
+#[tactic(auto, unfolding(office_base::specs::Deciding::Decides))]
+pub fn decide_award(alloc: Global, t: Moment, rows: AwardRows) -> Result<Vec<Put>, Refusal>
+    ensures { Decides result (first_of (award_tests t rows.notice rows.lot rows.line rows.envelopes)) (award_puts rows.clock t rows.notice rows.lot rows.line rows.envelopes rows.securities) }
+{
+    let AwardRows {
+        notice,
+        lot,
+        line,
+        envelopes,
+        securities,
+        clock,
+    } = rows;
+    let Some(notice) = notice else {
+        return Err(Refusal::NoSuch(Thing::Notice));
+    };
+    let Some(lot) = lot else {
+        return Err(Refusal::NoSuch(Thing::Lot));
+    };
+    if notice.state != NoticeState::Opened {
+        return Err(Refusal::NotOpened);
+    }
+    if lot.state != LotState::Undecided {
+        return Err(Refusal::AlreadyDecided);
+    }
+    if some_isnt_examined(envelopes.as_slice()) {
+        return Err(Refusal::NotAllExamined);
+    }
+    if some_is_admissible(envelopes.as_slice()) && is_expired(t, &notice) {
+        return Err(Refusal::Expired);
+    }
+    let winner = best_row(notice.weight, envelopes.as_slice());
+    if let Some(row) = winner {
+        if is_above_funds(&lot, &line, row) {
+            return Err(Refusal::InsufficientFunds);
+        }
+    }
+    if notice.releases.get() >= RELEASE_LIMIT {
+        return Err(Refusal::LimitReached);
+    }
+    let Some(line) = line else {
+        return Err(Refusal::Unavailable);
+    };
+    match winner {
+        Some(row) => won(alloc, t, clock, notice, lot, line, row),
+        None => lost(alloc, t, clock, notice, lot, line, securities.as_slice()),
+    }
+}

@@ -1,0 +1,70 @@
+//! The decision on the end of a contract.
+ghost use Rattle.std.specs.Prelude.{◌≡◌, IfSome};
+ghost use Rattle.office_base.specs.Deciding.{Decides};
+ghost use Rattle.office_base.specs.Rules.{first_of};
+ghost use Rattle.award_core.specs.Rules.End.{end_tests, end_puts, ended_contract};
+
+use crate::entries::outstanding;
+use crate::lines::with_free;
+use office_acts::contract::How;
+use office_base::parts::{at_moment, has_all_releases, released};
+use office_base::puts::Put;
+use office_base::records::{ClockRow, ContractRow, EntryRow, LineRow, NoticeRow};
+use office_base::rows::Rows;
+use office_values::moment::Moment;
+use office_values::money::Total;
+use office_values::refusal::{Refusal, Thing};
+use std::alloc::Global;
+
+/// The rows that the end of a contract looks at: the contract with its entries, its notice and its lot's line, and the clock.
+#[derive(Drop)]
+pub struct EndRows {
+    pub contract: Option<ContractRow>,
+    pub entries: Rows<EntryRow>,
+    pub notice: Option<NoticeRow>,
+    pub line: Option<LineRow>,
+    pub clock: ClockRow,
+}
+
+/// Decides the end of a contract: its refusal, or what it puts. `Unavailable` where the office lacks the notice or the line, or holds
+/// sums above their bounds, which none has that commands reach.
+#[tactic(auto, unfolding(office_base::specs::Deciding::Decides))]
+pub fn decide_end(alloc: Global, t: Moment, rows: EndRows, how: How) -> Result<Vec<Put>, Refusal>
+    ensures { Decides result (first_of (end_tests rows.contract rows.notice)) (end_puts rows.clock t how rows.contract rows.entries rows.notice rows.line) }
+{
+    let EndRows {
+        contract,
+        entries,
+        notice,
+        line,
+        clock,
+    } = rows;
+    let Some(contract) = contract else {
+        return Err(Refusal::NoSuch(Thing::Contract));
+    };
+    if contract.ended.is_some() {
+        return Err(Refusal::ContractEnded);
+    }
+    if has_all_releases(&notice) {
+        return Err(Refusal::LimitReached);
+    }
+    let (Some(notice), Some(line)) = (notice, line) else {
+        return Err(Refusal::Unavailable);
+    };
+    let rest = outstanding(entries.as_slice(), &contract);
+    let free = line.free.units() as u128 + rest;
+    let notice = released(notice).ok_or(Refusal::Unavailable)?;
+    let line = with_free(line, free).ok_or(Refusal::Unavailable)?;
+    let contract = ContractRow {
+        ended: Some(t),
+        how: Some(how),
+        released: Total::of_sum(rest).ok_or(Refusal::Unavailable)?,
+        ..contract
+    };
+    let mut made = Vec::with_capacity(alloc, 4)?;
+    made.push(Put::Contract(contract))?;
+    made.push(Put::Line(line))?;
+    made.push(Put::Notice(notice))?;
+    made.push(Put::Clock(at_moment(clock, t)))?;
+    Ok(made)
+}

@@ -1,0 +1,82 @@
+//! What the entries of a contract come to.
+ghost use Rattle.std.specs.Prelude.{◌≡◌, ◌<◌, ◌^◌, ◌||◌};
+ghost use Rattle.std.specs.List.{list_any};
+ghost use Rattle.office_base.specs.EntryKinds.{is_raise, is_less};
+ghost use Rattle.office_base.specs.Joined.{entry_sum, outstanding};
+ghost use Rattle.office_base.specs.RuleParts.{has_all_releases};
+ghost use Rattle.office_base.specs.Tables.{same_number};
+ghost use Rattle.award_core.specs.Rules.AmendContract.{is_beyond, is_taken, has_all_entries};
+
+use office_acts::amounts::EntryAmount;
+use office_base::records::{ContractRow, EntryKind, EntryRow};
+use office_values::given::GivenNumber;
+use office_values::id::Id;
+
+/// The most entries of a contract.
+const ENTRY_LIMIT: usize = 200;
+
+// Whether the entry is of the contract with this number.
+fn is_of(entry: &EntryRow, contract: GivenNumber) -> bool
+    ensures { result ≡ same_number entry.now.contract contract }
+{
+    entry.contract.cmp(&contract).is_eq()
+}
+
+// What the entries of the contract raise it by.
+fn raised(entries: &[EntryRow], contract: GivenNumber) -> u128
+    ensures sum { result ≡ entry_sum is_raise entries.now contract }
+    ensures small { result < 2 ^ 110 }
+{
+    let mut sum = 0;
+    for entry in entries {
+        if entry.kind == EntryKind::Raise && is_of(entry, contract) {
+            sum += entry.amount.get() as u128;
+        }
+    }
+    sum
+}
+
+// What the entries of the contract cut and pay.
+fn lessened(entries: &[EntryRow], contract: GivenNumber) -> u128
+    ensures sum { result ≡ entry_sum is_less entries.now contract }
+    ensures small { result < 2 ^ 110 }
+{
+    let mut sum = 0;
+    for entry in entries {
+        if entry.kind != EntryKind::Raise && is_of(entry, contract) {
+            sum += entry.amount.get() as u128;
+        }
+    }
+    sum
+}
+
+// What is outstanding of the contract; nothing where more has gone than came.
+pub(crate) fn outstanding(entries: &[EntryRow], contract: &ContractRow) -> u128
+    ensures rest { result ≡ outstanding entries.now contract.now }
+    ensures small { result < 2 ^ 111 }
+{
+    let came = contract.signed.units() as u128 + raised(entries, contract.contract);
+    let gone = lessened(entries, contract.contract) + contract.released.units() as u128;
+    came.saturating_sub(gone)
+}
+
+// Whether the contract runs, and less than this amount is outstanding.
+pub(crate) fn is_beyond(entries: &[EntryRow], amount: EntryAmount, contract: &ContractRow) -> bool
+    ensures { result ≡ is_beyond entries.now amount contract.now }
+{
+    contract.ended.is_none() && outstanding(entries, contract) < amount.get() as u128
+}
+
+// Whether one of the entries has this identifier.
+pub(crate) fn has_entry(entries: &[EntryRow], entry: &Id) -> bool
+    ensures { result ≡ list_any (is_taken entry.now) entries.now }
+{
+    entries.iter().any(|row| row.entry == *entry)
+}
+
+// Whether the contract has all the entries that it can have.
+pub(crate) fn has_all_entries(entries: &[EntryRow]) -> bool
+    ensures { result ≡ has_all_entries entries.now }
+{
+    entries.len() >= ENTRY_LIMIT
+}

@@ -1,0 +1,111 @@
+//! The decision on the examination of a tender.
+ghost use Rattle.std.specs.Prelude.{◌≡◌, ◌||◌, not};
+ghost use Rattle.office_base.specs.Rows.{holds_of};
+ghost use Rattle.office_base.specs.States.{is_undecided};
+ghost use Rattle.office_base.specs.Deciding.{Decides};
+ghost use Rattle.office_base.specs.Rules.{first_of};
+ghost use Rattle.award_core.specs.Rules.Examine.{is_bad_quality, cant_be_examined, examined, examine_tests, examine_puts};
+
+use crate::best::is_priced;
+use office_acts::tender::Quality;
+use office_base::parts::at_moment;
+use office_base::puts::Put;
+use office_base::records::{ClockRow, EnvelopeRow, EnvelopeState, LotRow, LotState, NoticeRow};
+use office_values::moment::Moment;
+use office_values::refusal::{BadPart, Field, Refusal, Thing};
+use std::alloc::Global;
+
+/// The rows that an examination looks at: the tender with its notice and its lot, and the clock.
+#[derive(Drop)]
+pub struct ExamineRows {
+    pub envelope: Option<EnvelopeRow>,
+    pub notice: Option<NoticeRow>,
+    pub lot: Option<LotRow>,
+    pub clock: ClockRow,
+}
+
+// Whether quality is missing where points decide on a responsive tender, or above what the price leaves of a hundred there; or is given
+// elsewhere.
+fn is_bad_quality(responsive: bool, quality: &Option<Quality>, notice: &NoticeRow) -> bool
+    ensures { result ≡ is_bad_quality responsive quality.now notice.now }
+{
+    if notice.weight.get() == 0 || !responsive {
+        return quality.is_some();
+    }
+    match quality {
+        Some(points) => notice.weight.get() + points.get() > 100,
+        None => true,
+    }
+}
+
+// Whether a notice that is there finds the quality bad.
+fn is_refused(responsive: bool, quality: &Option<Quality>, notice: &Option<NoticeRow>) -> bool
+    ensures { result ≡ holds_of (is_bad_quality responsive quality.now) notice.now }
+{
+    match notice {
+        Some(row) => is_bad_quality(responsive, quality, row),
+        None => false,
+    }
+}
+
+// Whether nothing is left to find: the tender has no price or was examined before, or its lot was decided.
+fn is_decided(envelope: &EnvelopeRow, lot: &Option<LotRow>) -> bool
+    ensures { result ≡ (cant_be_examined envelope.now || holds_of (λ l. not (is_undecided l.state)) lot.now) }
+{
+    let is_closed = match lot {
+        Some(row) => row.state != LotState::Undecided,
+        None => false,
+    };
+    !is_priced(envelope) || envelope.responsive.is_some() || is_closed
+}
+
+// The tender with what was found: the quality that is given, or the one that it has where none is.
+fn examined(responsive: bool, quality: Option<Quality>, envelope: EnvelopeRow) -> EnvelopeRow
+    ensures { result ≡ examined responsive quality envelope }
+{
+    let quality = match quality {
+        Some(points) => Some(points),
+        None => envelope.quality,
+    };
+    EnvelopeRow {
+        responsive: Some(responsive),
+        quality,
+        ..envelope
+    }
+}
+
+/// Decides the examination of a tender: its refusal, or what it puts.
+#[tactic(auto, unfolding(office_base::specs::Deciding::Decides))]
+pub fn decide_examine(
+    alloc: Global,
+    t: Moment,
+    rows: ExamineRows,
+    responsive: bool,
+    quality: Option<Quality>,
+) -> Result<Vec<Put>, Refusal>
+    ensures { Decides result (first_of (examine_tests rows.envelope rows.notice rows.lot responsive quality)) (examine_puts rows.clock t rows.envelope responsive quality) }
+{
+    let ExamineRows {
+        envelope,
+        notice,
+        lot,
+        clock,
+    } = rows;
+    let Some(envelope) = envelope else {
+        return Err(Refusal::NoSuch(Thing::Tender));
+    };
+    if is_refused(responsive, &quality, &notice) {
+        return Err(Refusal::BadBody(BadPart::Field(Field::Quality)));
+    }
+    if envelope.state != EnvelopeState::Opened {
+        return Err(Refusal::NotOpened);
+    }
+    if is_decided(&envelope, &lot) {
+        return Err(Refusal::AlreadyDecided);
+    }
+    let envelope = examined(responsive, quality, envelope);
+    let mut made = Vec::with_capacity(alloc, 2)?;
+    made.push(Put::Envelope(envelope))?;
+    made.push(Put::Clock(at_moment(clock, t)))?;
+    Ok(made)
+}

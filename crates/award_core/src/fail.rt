@@ -1,0 +1,127 @@
+//! The decision on an award whose winner doesn't sign.
+ghost use Rattle.std.specs.Prelude.{◌≡◌, ◌++◌, OnOk};
+ghost use Rattle.office_base.specs.Deciding.{Decides};
+ghost use Rattle.office_base.specs.RuleParts.{put_if, security_forfeited};
+ghost use Rattle.office_base.specs.Rules.{first_of};
+ghost use Rattle.office_base.specs.declared.puts.Put.TheVariants as puts;
+ghost use Rattle.award_core.specs.Rules.Fail.{stands_still, failed_envelope, fail_tests, fail_puts};
+
+use office_base::parts::{at_moment, forfeited, has_all_releases, is_expired, released};
+use office_base::puts::Put;
+use office_base::records::{
+    AwardRow, AwardState, ClockRow, EnvelopeRow, LotRow, LotState, NoticeRow, SecurityRow,
+};
+use office_values::moment::Moment;
+use office_values::refusal::{Refusal, Thing};
+use std::alloc::{AllocError, Global};
+
+/// The seconds of a day.
+const DAY: u64 = 86_400;
+
+/// The rows that the failing of an award looks at: the award with its notice, its lot, its tender and that tender's security, and the
+/// clock.
+#[derive(Drop)]
+pub struct FailRows {
+    pub award: Option<AwardRow>,
+    pub notice: Option<NoticeRow>,
+    pub lot: Option<LotRow>,
+    pub envelope: Option<EnvelopeRow>,
+    pub security: Option<SecurityRow>,
+    pub clock: ClockRow,
+}
+
+// Whether the standstill after the award isn't over.
+fn stands_still(t: Moment, notice: &NoticeRow, award: &AwardRow) -> bool
+    ensures { result ≡ stands_still t notice.now award.now }
+{
+    t.second() < award.moment.second() + DAY * notice.standstill.get()
+}
+
+// Why an award can neither fail nor be signed.
+pub(crate) fn refusal_of(
+    t: Moment,
+    award: &Option<AwardRow>,
+    notice: &Option<NoticeRow>,
+) -> Option<Refusal>
+    ensures { result ≡ first_of (fail_tests t award.now notice.now) }
+{
+    let Some(award) = award else {
+        return Some(Refusal::NoSuch(Thing::Award));
+    };
+    if award.state != AwardState::Active {
+        return Some(Refusal::AlreadyDecided);
+    }
+    let Some(row) = notice else {
+        return None;
+    };
+    if is_expired(t, row) {
+        return Some(Refusal::Expired);
+    }
+    if stands_still(t, row, award) {
+        return Some(Refusal::Standstill);
+    }
+    if has_all_releases(notice) {
+        return Some(Refusal::LimitReached);
+    }
+    None
+}
+
+// The tender, passed over from now on.
+fn push_failed(made: &mut Vec<Put>, envelope: Option<EnvelopeRow>) -> Result<(), AllocError>
+    ensures { OnOk result (made.new.items ≡ made.old.items ++ put_if (λ e. puts.Envelope (failed_envelope e)) envelope) }
+{
+    if let Some(row) = envelope {
+        made.push(Put::Envelope(EnvelopeRow {
+            failed: true,
+            ..row
+        }))?;
+    }
+    Ok(())
+}
+
+// The tender's security, forfeited.
+fn push_forfeited(made: &mut Vec<Put>, security: Option<SecurityRow>) -> Result<(), AllocError>
+    ensures { OnOk result (made.new.items ≡ made.old.items ++ put_if security_forfeited security) }
+{
+    if let Some(row) = security {
+        made.push(Put::Security(forfeited(row)))?;
+    }
+    Ok(())
+}
+
+/// Decides the failing of an award: its refusal, or what it puts. `Unavailable` where the office lacks the award's notice or lot, which
+/// none does that commands reach.
+#[tactic(auto, unfolding(office_base::specs::Deciding::Decides))]
+pub fn decide_fail(alloc: Global, t: Moment, rows: FailRows) -> Result<Vec<Put>, Refusal>
+    ensures { Decides result (first_of (fail_tests t rows.award rows.notice)) (fail_puts rows.clock t rows.award rows.notice rows.lot rows.envelope rows.security) }
+{
+    let FailRows {
+        award,
+        notice,
+        lot,
+        envelope,
+        security,
+        clock,
+    } = rows;
+    if let Some(why) = refusal_of(t, &award, &notice) {
+        return Err(why);
+    }
+    let (Some(award), Some(notice), Some(lot)) = (award, notice, lot) else {
+        return Err(Refusal::Unavailable);
+    };
+    let notice = released(notice).ok_or(Refusal::Unavailable)?;
+    let mut made = Vec::with_capacity(alloc, 6)?;
+    made.push(Put::Award(AwardRow {
+        state: AwardState::Failed,
+        ..award
+    }))?;
+    made.push(Put::Lot(LotRow {
+        state: LotState::Undecided,
+        ..lot
+    }))?;
+    made.push(Put::Notice(notice))?;
+    made.push(Put::Clock(at_moment(clock, t)))?;
+    push_failed(&mut made, envelope)?;
+    push_forfeited(&mut made, security)?;
+    Ok(made)
+}

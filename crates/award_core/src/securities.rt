@@ -1,0 +1,37 @@
+//! Securities that go back.
+ghost use Rattle.std.specs.Prelude.{◌≡◌, ◌++◌, OnOk};
+ghost use Rattle.office_base.specs.RuleParts.{returned, securities_returned};
+
+use office_base::puts::Put;
+use office_base::records::{SecurityRow, SecurityState};
+use std::alloc::AllocError;
+
+// A copy of the security, gone back to its tenderer.
+fn returned_copy(security: &SecurityRow) -> SecurityRow
+    ensures { result ≡ returned security.now }
+{
+    SecurityRow {
+        security: security.security,
+        tenderer: security.tenderer,
+        notice: security.notice,
+        lot: security.lot,
+        reference: security.reference,
+        amount: security.amount,
+        state: SecurityState::Returned,
+    }
+}
+
+// Puts the held ones of these securities back.
+pub(crate) fn push_returned(
+    made: &mut Vec<Put>,
+    securities: &[SecurityRow],
+) -> Result<(), AllocError>
+    ensures { OnOk result (made.new.items ≡ made.old.items ++ securities_returned securities.now) }
+{
+    for security in securities {
+        if security.state == SecurityState::Held {
+            made.push(Put::Security(returned_copy(security)))?;
+        }
+    }
+    Ok(())
+}

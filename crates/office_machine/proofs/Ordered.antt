@@ -1,0 +1,53 @@
+-- The refusals of each command stand in order.
+use Rattle.std.proofs.Common.{◌≡◌, ℕ, ◌≤◌, Bool, true, false, cond, List, [], ◌∷◌, Some, refl, ap, arith}
+use Rattle.std.specs.List.{AllByRecursion}
+use Rattle.office_acts.specs.declared.commands.Command.{Command}
+use Rattle.office_acts.specs.declared.commands.Command.TheVariants.{Import, Register, Publish, AmendNotice, Cancel, Open, Present, Modify, Withdraw, Examine, Award, Fail, Sign, AmendContract, Pay, End}
+use Rattle.office_machine.specs.Order.{IsLeast, LeastIsAnswered, NumbersNeverFall, NeverFall}
+use Rattle.office_values.specs.declared.refusal.Refusal.{Refusal}
+use Rattle.office_values.specs.Refusals.{number_of}
+use Rattle.office_base.specs.Rules.{first_of}
+use Rattle.office_base.specs.Tables.{Tables}
+use Rattle.office_acts.specs.declared.command.Caller.{Caller}
+use Rattle.office_machine.specs.Machine.{tests, tests_for}
+
+of_command : (command : Command) (s : Tables) (t : ℕ) (caller : Caller) → NeverFall 7 (tests_for s t caller command)
+of_command (Import batch rows) s t caller = (omega arith, (omega arith, (omega arith, (omega arith, tt))))
+of_command (Register tenderer name address key) s t caller = (omega arith, tt)
+of_command (Publish notice content) s t caller = (omega arith, (omega arith, (omega arith, (omega arith, (omega arith, tt)))))
+of_command (AmendNotice notice deadline rationale) s t caller = (omega arith, (omega arith, (omega arith, (omega arith, (omega arith, tt)))))
+of_command (Cancel notice rationale) s t caller = (omega arith, (omega arith, (omega arith, tt)))
+of_command (Open notice) s t caller = (omega arith, (omega arith, (omega arith, (omega arith, (omega arith, tt)))))
+of_command (Present notice lot security bytes) s t caller = (omega arith, (omega arith, (omega arith, (omega arith, (omega arith, (omega arith, (omega arith, (omega arith, tt))))))))
+of_command (Modify receipt bytes) s t caller = (omega arith, (omega arith, (omega arith, (omega arith, (omega arith, tt)))))
+of_command (Withdraw receipt) s t caller = (omega arith, (omega arith, (omega arith, (omega arith, tt))))
+of_command (Examine receipt responsive quality) s t caller = (omega arith, (omega arith, (omega arith, (omega arith, tt))))
+of_command (Award notice lot) s t caller = (omega arith, (omega arith, (omega arith, (omega arith, (omega arith, (omega arith, (omega arith, (omega arith, tt))))))))
+of_command (Fail award) s t caller = (omega arith, (omega arith, (omega arith, (omega arith, (omega arith, tt)))))
+of_command (Sign award) s t caller = (omega arith, (omega arith, (omega arith, (omega arith, (omega arith, tt)))))
+of_command (AmendContract contract entry kind amount rationale) s t caller = (omega arith, (omega arith, (omega arith, (omega arith, (omega arith, (omega arith, tt))))))
+of_command (Pay contract entry amount) s t caller = (omega arith, (omega arith, (omega arith, (omega arith, (omega arith, tt)))))
+of_command (End contract how) s t caller = (omega arith, (omega arith, (omega arith, tt)))
+
+pub never_fall : NumbersNeverFall
+never_fall x = (omega arith, of_command x.command x.before _ x.caller)
+
+-- numbers that never fall stay above the first
+above : (m n : ℕ) (tests : List (Bool × Refusal)) → m ≤ n → NeverFall n tests → AllByRecursion (λ (test : Bool × Refusal). test.0 ≡ true → m ≤ number_of test.1) tests
+above m n [] le h = tt
+above m n (test ∷ tests) le h = (λ e. omega (arith, h.0), above m (number_of test.1) tests (omega (arith, h.0)) h.1)
+
+least_by : (n : ℕ) (test : Bool × Refusal) (tests : List (Bool × Refusal)) (why : Refusal) → NeverFall n (test ∷ tests) → (first_of tests ≡ Some why → IsLeast tests why)
+    → (b : Bool) → test.0 ≡ b → cond b (Some test.1) (first_of tests) ≡ Some why → IsLeast (test ∷ tests) why
+least_by n test tests why h rest true is found =
+    let same : test.1 ≡ why = cc in
+    let number : number_of test.1 ≡ number_of why = ap number_of same in
+    (λ e. omega (arith, number), above (number_of why) (number_of test.1) tests (omega (arith, number)) h.1)
+least_by n test tests why h rest false is found = (λ e. let f = is in absurd cc, rest found)
+
+least : (n : ℕ) (tests : List (Bool × Refusal)) (why : Refusal) → NeverFall n tests → first_of tests ≡ Some why → IsLeast tests why
+least n [] why h e = cc
+least n (test ∷ tests) why h e = least_by n test tests why h (λ found. least (number_of test.1) tests why h.1 found) test.0 refl e
+
+pub least_answered : LeastIsAnswered
+least_answered x why e = least 0 (tests x) why (never_fall x) e

@@ -1,0 +1,22 @@
+-- The worked examples, computed.
+pub mod Dates
+pub mod Budgets
+pub mod Registering
+pub mod Publishing
+pub mod Amending
+pub mod Receiving
+pub mod Replacing
+pub mod Looking
+pub mod Securities
+pub mod Opening
+pub mod Examining
+pub mod Awarding
+pub mod Signing
+pub mod Contracts
+pub mod Cancelling
+pub mod Releases
+pub mod Rights
+pub mod Refusing
+pub mod Fates
+pub mod Seals
+pub mod WholeRun

@@ -1,0 +1,22 @@
+-- Worked examples of amending, computed.
+use Rattle.std.proofs.Common.{refl}
+use Rattle.office_base.specs.Rows.{row_at, row_put, row_drop}
+use Rattle.office_machine.specs.Worked.Amending.{AmendingWorked}
+
+pub amending_worked : AmendingWorked
+unfolding row_at row_put row_drop
+amending_worked = record {
+  moves_later = refl;
+  notice_is = refl;
+  stays = refl;
+  not_earlier = refl;
+  at_last_second = refl;
+  not_at_deadline = refl;
+  late_is_in_time = refl;
+  tender_is_sealed = refl;
+  no_such_notice = refl;
+  not_once_cancelled = refl;
+  fiftieth_amendment = refl;
+  amendments_are_bounded = refl;
+  releases_are_bounded = refl;
+}

@@ -1,0 +1,20 @@
+-- Worked examples of releases, computed.
+use Rattle.std.proofs.Common.{refl}
+use Rattle.office_base.specs.Rows.{row_at, row_put, row_drop}
+use Rattle.office_machine.specs.Worked.Releases.{ReleasesWorked}
+
+pub releases_worked : ReleasesWorked
+unfolding row_at row_put row_drop
+releases_worked = record {
+  four_releases = refl;
+  are_counted = refl;
+  counted_on = refl;
+  payment_is_counted = refl;
+  failing_is_counted = refl;
+  no_more_of_notice = refl;
+  no_award = refl;
+  no_signing = refl;
+  no_more_of_contract = refl;
+  tenders_come = refl;
+  last_one = refl;
+}

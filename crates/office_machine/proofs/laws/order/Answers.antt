@@ -1,0 +1,5 @@
+use Rattle.office_machine.proofs.SortedTables.{sorted}
+use Rattle.office_machine.proofs.laws.order.Goals as goal
+
+pub returns : goal.returns
+returns c = sorted

@@ -1,0 +1,5 @@
+use Rattle.office_machine.proofs.ParentsThere.{parents_there}
+use Rattle.office_machine.proofs.laws.parents.Goals as goal
+
+pub returns : goal.returns
+returns c = parents_there

@@ -1,0 +1,5 @@
+use Rattle.office_machine.proofs.AllFit.{sums_fit}
+use Rattle.office_machine.proofs.laws.sums.Goals as goal
+
+pub returns : goal.returns
+returns c = sums_fit

@@ -1,0 +1,5 @@
+use Rattle.office_machine.proofs.WorldsSealed.{steps_stay}
+use Rattle.office_machine.proofs.laws.worlds.Goals as goal
+
+pub returns : goal.returns
+returns c = steps_stay

@@ -1,0 +1,5 @@
+use Rattle.office_machine.proofs.SealsKept.{seals_kept}
+use Rattle.office_machine.proofs.seals.seals.Goals as goal
+
+pub returns : goal.returns
+returns c = seals_kept

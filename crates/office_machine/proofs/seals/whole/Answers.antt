@@ -1,0 +1,5 @@
+use Rattle.office_machine.proofs.WholeRuns.{whole_runs}
+use Rattle.office_machine.proofs.seals.whole.Goals as goal
+
+pub returns : goal.returns
+returns c = whole_runs

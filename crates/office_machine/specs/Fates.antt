@@ -1,0 +1,230 @@
+-- What accepted commands make of each tender and of each security.
+use Rattle.std.specs.Prelude.{◌≡◌, ℕ, zero, suc, ◌+◌, Bool, true, false, not, cond, ◌&&◌, List, [], ◌∷◌, map, Option, Some, None, length, nat_lt, option_map}
+use Rattle.std.specs.Ordering.{nat_cmp}
+use Rattle.std.specs.List.{list_any}
+use Rattle.office_values.specs.Ids.{same_id}
+use Rattle.office_base.specs.Tables.{same_number, Tables, envelope_key, seal_key, security_key, notice_at, envelope_at, seal_at, security_at, award_at, envelopes_of_lot}
+use Rattle.office_acts.specs.declared.tender.NamedSecurity.{NamedSecurity}
+use Rattle.office_acts.specs.Callers.{tenderer_of}
+use Rattle.office_acts.specs.declared.commands.Command.{Command}
+use Rattle.office_acts.specs.declared.commands.Command.TheVariants.{Cancel, Open, Present, Modify, Withdraw, Award, Fail, Sign}
+use Rattle.office_base.specs.Rows.{holds_of, IsInOrder}
+use Rattle.office_base.specs.declared.records.NoticeRow.{NoticeRow}
+use Rattle.office_base.specs.declared.records.EnvelopeRow.{EnvelopeRow}
+use Rattle.office_base.specs.declared.records.SealRow.{SealRow}
+use Rattle.office_base.specs.declared.records.SecurityRow.{SecurityRow}
+use Rattle.office_base.specs.declared.records.AwardRow.{AwardRow}
+use Rattle.office_base.specs.declared.records.EnvelopeState.TheVariants as envelope_states
+use Rattle.office_base.specs.declared.records.EnvelopeState.{EnvelopeState}
+use Rattle.office_base.specs.declared.records.SecurityState.TheVariants as security_states
+use Rattle.office_base.specs.declared.records.SecurityState.{SecurityState}
+use Rattle.office_base.specs.RuleParts.{is_in_time}
+use Rattle.award_core.specs.Rules.Award.{is_admissible}
+use Rattle.office_machine.specs.Machine.{Given, Means, Reaches, time_of}
+
+-- what came in with a receipt: for which lot, from whom, its bytes, whether in time, the security that was named with it, and the
+-- number of the security that it carries
+pub record Reception : Type 0 where
+  pub notice : List ℕ
+  pub lot : List ℕ
+  pub tenderer : List ℕ
+  pub bytes : List ℕ
+  pub in_time : Bool
+  pub named : Option NamedSecurity
+  pub security : Option ℕ
+
+-- a tender that is presented; the security that is named with it has the receipt's number
+abbrev pub presented : Given → List ℕ → List ℕ → Option NamedSecurity → List ℕ → Reception
+presented x notice lot security bytes = record {
+  notice = notice;
+  lot = lot;
+  tenderer = tenderer_of x.caller;
+  bytes = bytes;
+  in_time = holds_of (is_in_time (time_of x)) (notice_at notice x.before);
+  named = security;
+  security = option_map (λ (named : NamedSecurity). x.before.clock.receipts + 1) security;
+}
+
+-- one that replaces another carries what that one carried
+abbrev pub replacing : List ℕ → Reception → Reception
+replacing bytes old = record old { bytes = bytes; in_time = true; named = None }
+
+-- what a command takes in, after what came in before
+abbrev pub brought : Command → Given → (ℕ → Option Reception) → Option Reception
+brought (Present notice lot security bytes) x earlier = Some (presented x notice lot security bytes)
+brought (Modify receipt bytes) x earlier = option_map (replacing bytes) (earlier receipt)
+brought _ x earlier = None
+
+-- what came in with a receipt stays
+abbrev pub came_after : Option Reception → Option Reception → Option Reception
+came_after None new = new
+came_after (Some old) new = Some old
+
+-- what came in with a receipt, if it was given out: an accepted command takes its tender in under the next number
+abbrev pub came : List Given → ℕ → Option Reception
+came [] r = None
+came (x ∷ xs) r = came_after (came xs r) (cond (same_number r (x.before.clock.receipts + 1)) (brought x.command x (λ q. came xs q)) None)
+
+abbrev pub is_of_notice : List ℕ → Option Reception → Bool
+is_of_notice notice None = false
+is_of_notice notice (Some c) = same_id c.notice notice
+
+abbrev pub is_of_lot : List ℕ → List ℕ → Option Reception → Bool
+is_of_lot notice lot None = false
+is_of_lot notice lot (Some c) = same_id c.notice notice && same_id c.lot lot
+
+-- before the deadline of its notice
+abbrev pub is_before_deadline : ℕ → NoticeRow → Bool
+is_before_deadline t n = nat_lt t n.deadline
+
+abbrev pub is_effective : Given → Option Reception → Bool
+is_effective x None = false
+is_effective x (Some c) = holds_of (is_before_deadline (time_of x)) (notice_at c.notice x.before)
+
+abbrev pub has_number : ℕ → Option ℕ → Bool
+has_number s None = false
+has_number s (Some n) = same_number s n
+
+abbrev pub carries : ℕ → Option Reception → Bool
+carries s None = false
+carries s (Some c) = has_number s c.security
+
+-- The fate of a tender.
+
+abbrev pub first_state : Reception → EnvelopeState
+first_state c = cond c.in_time envelope_states.Sealed envelope_states.Returned
+
+-- what a command decides of a sealed tender: sealed is undecided
+abbrev pub tender_decided : Command → Given → (ℕ → Option Reception) → ℕ → EnvelopeState
+tender_decided (Modify receipt bytes) x earlier r = cond (same_number r receipt) envelope_states.Withdrawn envelope_states.Sealed
+tender_decided (Withdraw receipt) x earlier r = cond (same_number r receipt && is_effective x (earlier r)) envelope_states.Withdrawn envelope_states.Sealed
+tender_decided (Open notice) x earlier r = cond (is_of_notice notice (earlier r)) envelope_states.Opened envelope_states.Sealed
+tender_decided (Cancel notice rationale) x earlier r = cond (is_of_notice notice (earlier r)) envelope_states.Returned envelope_states.Sealed
+tender_decided _ x earlier r = envelope_states.Sealed
+
+-- the first command that decides it, from its reception on
+abbrev pub fate_after : Option EnvelopeState → Option Reception → EnvelopeState → Option EnvelopeState
+fate_after None now decided = option_map first_state now
+fate_after (Some envelope_states.Sealed) now decided = Some decided
+fate_after (Some envelope_states.Withdrawn) now decided = Some envelope_states.Withdrawn
+fate_after (Some envelope_states.Returned) now decided = Some envelope_states.Returned
+fate_after (Some envelope_states.Opened) now decided = Some envelope_states.Opened
+
+abbrev pub fate_of_tender : List Given → ℕ → Option EnvelopeState
+fate_of_tender [] r = None
+fate_of_tender (x ∷ xs) r = fate_after (fate_of_tender xs r) (came (x ∷ xs) r) (tender_decided x.command x (came xs) r)
+
+-- The fate of a security.
+
+abbrev pub first_security : Reception → NamedSecurity → SecurityState
+first_security c named = cond c.in_time security_states.Held security_states.Returned
+
+abbrev pub security_received : Option Reception → Option SecurityState
+security_received None = None
+security_received (Some c) = option_map (first_security c) c.named
+
+-- no tender of the lot is admissible
+abbrev pub is_for_nobody : Given → List ℕ → List ℕ → Bool
+is_for_nobody x notice lot = not (list_any is_admissible (envelopes_of_lot notice lot x.before))
+
+-- the lot of an award
+abbrev pub is_of_award : Option AwardRow → Option Reception → Bool
+is_of_award None c = false
+is_of_award (Some w) c = is_of_lot w.notice w.lot c
+
+-- the tender of an award carries it
+abbrev pub is_award_security : ℕ → (ℕ → Option Reception) → Option AwardRow → Bool
+is_award_security s earlier None = false
+is_award_security s earlier (Some w) = carries s (earlier w.receipt)
+
+-- what a command decides of a held security: held is undecided
+abbrev pub security_decided : Command → Given → (ℕ → Option Reception) → ℕ → SecurityState
+security_decided (Withdraw receipt) x earlier s = cond (carries s (earlier receipt) && is_effective x (earlier receipt)) security_states.Returned security_states.Held
+security_decided (Cancel notice rationale) x earlier s = cond (is_of_notice notice (earlier s)) security_states.Returned security_states.Held
+security_decided (Award notice lot) x earlier s = cond (is_of_lot notice lot (earlier s) && is_for_nobody x notice lot) security_states.Returned security_states.Held
+security_decided (Sign award) x earlier s = cond (is_of_award (award_at award x.before) (earlier s)) security_states.Returned security_states.Held
+security_decided (Fail award) x earlier s = cond (is_award_security s earlier (award_at award x.before)) security_states.Forfeited security_states.Held
+security_decided _ x earlier s = security_states.Held
+
+-- the first command that decides it, from its reception on
+abbrev pub security_after : Option SecurityState → Option Reception → SecurityState → Option SecurityState
+security_after None now decided = security_received now
+security_after (Some security_states.Held) now decided = Some decided
+security_after (Some security_states.Returned) now decided = Some security_states.Returned
+security_after (Some security_states.Forfeited) now decided = Some security_states.Forfeited
+
+abbrev pub fate_of_security : List Given → ℕ → Option SecurityState
+fate_of_security [] s = None
+fate_of_security (x ∷ xs) s = security_after (fate_of_security xs s) (came (x ∷ xs) s) (security_decided x.command x (came xs) s)
+
+-- What holds of the tables.
+
+-- the bytes are kept
+abbrev pub is_kept : EnvelopeState → Bool
+is_kept envelope_states.Sealed = true
+is_kept envelope_states.Withdrawn = false
+is_kept envelope_states.Returned = false
+is_kept envelope_states.Opened = true
+
+-- an envelope is what came in with its receipt, in the state of its fate; and its seal has the bytes, while they are kept
+pub record EnvelopeIs (digest : List ℕ → List ℕ) (r : ℕ) (c : Reception) (fate : Option EnvelopeState) (e : EnvelopeRow) (seal : Option SealRow) : Type 0 where
+  pub of_notice : e.notice ≡ c.notice
+  pub of_lot : e.lot ≡ c.lot
+  pub of_tenderer : e.tenderer ≡ c.tenderer
+  pub security_is : e.security ≡ c.security
+  pub length_is : e.length ≡ length c.bytes
+  pub digest_is : e.digest ≡ digest c.bytes
+  pub fate_is : fate ≡ Some e.state
+  pub seal_is : seal ≡ cond (is_kept e.state) (Some (record { receipt = r; bytes = c.bytes })) None
+
+-- a security is what was named with its receipt, in the state of its fate
+pub record SecurityIs (s : ℕ) (c : Reception) (named : NamedSecurity) (fate : Option SecurityState) (w : SecurityRow) : Type 0 where
+  pub number_is : w.security ≡ s
+  pub of_notice : w.notice ≡ c.notice
+  pub of_lot : w.lot ≡ c.lot
+  pub of_tenderer : w.tenderer ≡ c.tenderer
+  pub reference_is : w.reference ≡ named.reference
+  pub amount_is : w.amount ≡ named.amount
+  pub fate_is : fate ≡ Some w.state
+
+-- the envelope of a receipt and its seal: there if something came in with it, and then as its fate says
+abbrev pub TenderIs : (List ℕ → List ℕ) → ℕ → Option Reception → Option EnvelopeState → Option EnvelopeRow → Option SealRow → Type 0
+TenderIs digest r None fate None seal = (fate ≡ None) × (seal ≡ None)
+TenderIs digest r None fate (Some e) seal = ⊥
+TenderIs digest r (Some c) fate None seal = ⊥
+TenderIs digest r (Some c) fate (Some e) seal = EnvelopeIs digest r c fate e seal
+
+-- the row of a security: there if one was named with its receipt, and then as its fate says
+abbrev pub NamedIs : ℕ → Reception → Option NamedSecurity → Option SecurityState → Option SecurityRow → Type 0
+NamedIs s c None fate None = fate ≡ None
+NamedIs s c None fate (Some w) = ⊥
+NamedIs s c (Some named) fate None = ⊥
+NamedIs s c (Some named) fate (Some w) = SecurityIs s c named fate w
+
+abbrev pub HasFate : ℕ → Option Reception → Option SecurityState → Option SecurityRow → Type 0
+HasFate s None fate None = fate ≡ None
+HasFate s None fate (Some w) = ⊥
+HasFate s (Some c) fate row = NamedIs s c c.named fate row
+
+-- 1, 2 and so on
+abbrev pub numbers : ℕ → ℕ → List ℕ
+numbers from zero = []
+numbers from (suc n) = from ∷ numbers (from + 1) n
+
+-- the receipts that were given out have one envelope each, and there are no others; each envelope and its seal are what came in, in
+-- the state of its fate
+pub record TendersHaveFates (means : Means) (xs : List Given) (t : Tables) : Type 0 where
+  pub numbered : map envelope_key t.envelopes ≡ numbers 1 t.clock.receipts
+  pub each : (r : ℕ) → TenderIs means.digest r (came xs r) (fate_of_tender xs r) (envelope_at r t) (seal_at r t)
+  pub seals_in_order : IsInOrder nat_cmp seal_key t.seals
+
+-- the securities are those named at accepted receptions, each in the state of its fate
+pub record SecuritiesHaveFates (xs : List Given) (t : Tables) : Type 0 where
+  pub each : (s : ℕ) → HasFate s (came xs s) (fate_of_security xs s) (security_at s t)
+  pub in_order : IsInOrder nat_cmp security_key t.securities
+
+abbrev pub TendersAreKept : Type 0
+TendersAreKept = (means : Means) (xs : List Given) (t : Tables) → Reaches means xs t → TendersHaveFates means xs t
+
+abbrev pub SecuritiesAreKept : Type 0
+SecuritiesAreKept = (means : Means) (xs : List Given) (t : Tables) → Reaches means xs t → SecuritiesHaveFates xs t

@@ -1,0 +1,174 @@
+-- What accepted commands move between the pots of budget lines.
+use Rattle.std.specs.Prelude.{◌≡◌, ℕ, ◌+◌, ◌-◌, Bool, true, false, cond, ◌&&◌, List, [], ◌∷◌, ◌++◌, map, filter, Option, Some, None, nat_le}
+use Rattle.office_values.specs.Ids.{same_id}
+use Rattle.office_base.specs.Tables.{same_number, Tables, notice_at, lot_at, award_at, contract_at, lots_of_notice, envelopes_of_lot}
+use Rattle.office_acts.specs.declared.budget.BudgetRow.{BudgetRow}
+use Rattle.office_acts.specs.declared.lot.NewLot.{NewLot}
+use Rattle.office_acts.specs.declared.commands.Command.{Command}
+use Rattle.office_acts.specs.declared.commands.Command.TheVariants.{Import, Publish, Cancel, Award, Sign, AmendContract, Pay, End}
+use Rattle.office_acts.specs.declared.contract.ChangeKind.{ChangeKind}
+use Rattle.office_acts.specs.declared.contract.ChangeKind.TheVariants as change_kinds
+use Rattle.office_base.specs.Sums.{sum_over}
+use Rattle.office_base.specs.declared.records.LotRow.{LotRow}
+use Rattle.office_base.specs.declared.records.EnvelopeRow.{EnvelopeRow}
+use Rattle.office_base.specs.declared.records.AwardRow.{AwardRow}
+use Rattle.tender_core.specs.Rules.Import.{is_cut}
+use Rattle.tender_core.specs.Rules.Cancel.{is_open_lot}
+use Rattle.award_core.specs.Rules.Award.{price_of, winner}
+use Rattle.office_base.specs.Parents.{lot_of_award, lot_of_contract}
+use Rattle.office_machine.specs.Machine.{Given}
+
+-- where money can be; outside is where appropriations come from
+pub data Pot : Type 0 where
+  Outside : Pot
+  Free : Pot
+  Reserved : Pot
+  Contracted : Pot
+  Paid : Pot
+
+-- whether two pots are the same
+abbrev pub same_pot : Pot → Pot → Bool
+same_pot Outside Outside = true
+same_pot Free Free = true
+same_pot Reserved Reserved = true
+same_pot Contracted Contracted = true
+same_pot Paid Paid = true
+same_pot p q = false
+
+-- an amount that goes from one pot of a line to another
+pub record Move : Type 0 where
+  pub line : List ℕ
+  pub from : Pot
+  pub to : Pot
+  pub amount : ℕ
+
+-- the lot of these identifiers, as (notice, lot)
+abbrev pub same_lot : List ℕ × List ℕ → List ℕ × List ℕ → Bool
+same_lot a b = same_id a.0 b.0 && same_id a.1 b.1
+
+-- the estimate of the lot with this identifier among those that are published, or what it was before
+abbrev pub estimate_in : List NewLot → List ℕ → ℕ → ℕ
+estimate_in [] id before = before
+estimate_in (lot ∷ lots) id before = cond (same_id lot.id id) lot.estimate (estimate_in lots id before)
+
+-- the price of an award of a tender, or what it was before
+abbrev pub price_after : Option EnvelopeRow → ℕ → ℕ
+price_after None before = before
+price_after (Some e) before = price_of e
+
+-- what is to be held for a lot after a command, before which it was this
+abbrev pub holding_after : Tables → Command → List ℕ × List ℕ → ℕ → ℕ
+holding_after s (Publish notice content) lot before = cond (same_id notice lot.0) (estimate_in content.lots lot.1 before) before
+holding_after s (Award notice id) lot before =
+    cond (same_lot (notice, id) lot) (price_after (winner (notice_at notice s) (envelopes_of_lot notice id s)) before) before
+holding_after s command lot before = before
+
+-- the price of the lot's last award of a tender, or else its estimate as it was published
+abbrev pub held_for : List Given → List ℕ × List ℕ → ℕ
+held_for [] lot = 0
+held_for (x ∷ xs) lot = holding_after x.before x.command lot (held_for xs lot)
+
+-- the line of a lot; nothing where it isn't there
+abbrev pub line_in : Option LotRow → List ℕ
+line_in None = []
+line_in (Some l) = l.line
+
+-- the lot of an award, as (notice, lot)
+abbrev pub lot_in_award : Option AwardRow → List ℕ × List ℕ
+lot_in_award None = ([], [])
+lot_in_award (Some a) = (a.notice, a.lot)
+
+-- what a contract gets, and what it gives, by a change of this kind
+abbrev pub raised_by : ChangeKind → ℕ → ℕ
+raised_by change_kinds.Raise amount = amount
+raised_by change_kinds.Cut amount = 0
+
+abbrev pub cut_by : ChangeKind → ℕ → ℕ
+cut_by change_kinds.Raise amount = 0
+cut_by change_kinds.Cut amount = amount
+
+-- what a command brings into contracted for a contract, with what is held for each lot before it
+abbrev pub brought_by : Tables → Command → (List ℕ × List ℕ → ℕ) → ℕ → ℕ
+brought_by s (Sign award) held contract = cond (same_number award contract) (held (lot_in_award (award_at award s))) 0
+brought_by s (AmendContract changed entry kind amount rationale) held contract = cond (same_number changed contract) (raised_by kind amount) 0
+brought_by s command held contract = 0
+
+-- what it takes out of contracted for a contract, of which this was owed before it
+abbrev pub taken_by : Command → ℕ → ℕ → ℕ
+taken_by (AmendContract changed entry kind amount rationale) owed contract = cond (same_number changed contract) (cut_by kind amount) 0
+taken_by (Pay paying entry amount) owed contract = cond (same_number paying contract) amount 0
+taken_by (End ending how) owed contract = cond (same_number ending contract) owed 0
+taken_by command owed contract = 0
+
+-- what accepted commands brought into contracted for a contract, and what they took out
+abbrev pub brought : List Given → ℕ → ℕ
+brought [] contract = 0
+brought (x ∷ xs) contract = brought_by x.before x.command (held_for xs) contract + brought xs contract
+
+abbrev pub taken : List Given → ℕ → ℕ
+taken [] contract = 0
+taken (x ∷ xs) contract = taken_by x.command (brought xs contract - taken xs contract) contract + taken xs contract
+
+-- what is still owed of a contract
+abbrev pub owed : List Given → ℕ → ℕ
+owed xs contract = brought xs contract - taken xs contract
+
+-- a row that adds brings money from outside, a row that cuts takes it back
+abbrev pub move_of_row : BudgetRow → Move
+move_of_row row = record { line = row.line; from = cond (is_cut row.kind) Free Outside; to = cond (is_cut row.kind) Outside Free; amount = row.amount }
+
+-- a lot that is published reserves its estimate
+abbrev pub move_of_lot : NewLot → Move
+move_of_lot lot = record { line = lot.line; from = Free; to = Reserved; amount = lot.estimate }
+
+-- what is held for a lot is free again
+abbrev pub move_back : (List ℕ × List ℕ → ℕ) → LotRow → Move
+move_back held lot = record { line = lot.line; from = Reserved; to = Free; amount = held (lot.notice, lot.lot) }
+
+-- an award holds its price in place of what was held for the lot; without a winner all that is free again
+abbrev pub move_of_award : List ℕ → ℕ → Option EnvelopeRow → Move
+move_of_award line held None = record { line = line; from = Reserved; to = Free; amount = held }
+move_of_award line held (Some e) =
+    cond (nat_le (price_of e) held)
+    (record { line = line; from = Reserved; to = Free; amount = held - price_of e })
+    (record { line = line; from = Free; to = Reserved; amount = price_of e - held })
+
+abbrev pub move_of_change : ChangeKind → List ℕ → ℕ → Move
+move_of_change change_kinds.Raise line amount = record { line = line; from = Free; to = Contracted; amount = amount }
+move_of_change change_kinds.Cut line amount = record { line = line; from = Contracted; to = Free; amount = amount }
+
+-- what a command moves, after those accepted before it, the last one first
+abbrev pub moves_for : Tables → Command → List Given → List Move
+moves_for s (Import batch rows) earlier = map move_of_row rows
+moves_for s (Publish notice content) earlier = map move_of_lot content.lots
+moves_for s (Cancel notice rationale) earlier = map (move_back (held_for earlier)) (filter is_open_lot (lots_of_notice notice s))
+moves_for s (Award notice id) earlier =
+    move_of_award (line_in (lot_at (notice, id) s)) (held_for earlier (notice, id)) (winner (notice_at notice s) (envelopes_of_lot notice id s)) ∷ []
+moves_for s (Sign award) earlier =
+    record { line = line_in (lot_of_award (award_at award s) s); from = Reserved; to = Contracted; amount = held_for earlier (lot_in_award (award_at award s)) } ∷ []
+moves_for s (AmendContract contract entry kind amount rationale) earlier = move_of_change kind (line_in (lot_of_contract (contract_at contract s) s)) amount ∷ []
+moves_for s (Pay contract entry amount) earlier =
+    record { line = line_in (lot_of_contract (contract_at contract s) s); from = Contracted; to = Paid; amount = amount } ∷ []
+moves_for s (End contract how) earlier =
+    record { line = line_in (lot_of_contract (contract_at contract s) s); from = Contracted; to = Free; amount = owed earlier contract } ∷ []
+moves_for s command earlier = []
+
+abbrev pub moves_by : Given → List Given → List Move
+moves_by x earlier = moves_for x.before x.command earlier
+
+-- what accepted commands, the last one first, moved
+abbrev pub moves : List Given → List Move
+moves [] = []
+moves (x ∷ xs) = moves_by x xs ++ moves xs
+
+-- what they brought into a pot of a line, and what they took out of it
+abbrev pub came : List Move → List ℕ → Pot → ℕ
+came ms line pot = sum_over (λ (m : Move). cond (same_pot m.to pot && same_id m.line line) m.amount 0) ms
+
+abbrev pub went : List Move → List ℕ → Pot → ℕ
+went ms line pot = sum_over (λ (m : Move). cond (same_pot m.from pot && same_id m.line line) m.amount 0) ms
+
+-- this is what came into the pot, less what went out of it; for outside it is what left it, less what came back
+abbrev pub IsBalance : List Move → List ℕ → Pot → ℕ → Type 0
+IsBalance ms line Outside n = n + came ms line Outside ≡ went ms line Outside
+IsBalance ms line pot n = n + went ms line pot ≡ came ms line pot

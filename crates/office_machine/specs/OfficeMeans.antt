@@ -1,0 +1,9 @@
+-- What the office's machine takes from elsewhere, but for the texts of releases: tenders are read as their papers say, and digests are SHA-256 (FIPS 180-4).
+use Rattle.std.specs.Prelude.{ℕ, List}
+use Rattle.sha2.specs.Sha256.{sha256}
+use Rattle.tender_papers.specs.Files.{csv_records}
+use Rattle.tender_papers.specs.Tender.{reading_of}
+use Rattle.office_machine.specs.Machine.{Given, Means}
+
+abbrev pub office_means : (Given → List ℕ) → Means
+office_means release = record { read = λ bytes items. reading_of items (csv_records bytes); digest = sha256; release = release }

@@ -1,0 +1,31 @@
+-- The releases of a notice are counted.
+use Rattle.std.specs.Prelude.{◌≡◌, ℕ, ◌+◌, ◌≤◌, Bool, cond, ◌&&◌, List, [], ◌∷◌, Option, is_some, nat_le}
+use Rattle.office_values.specs.Ids.{same_id}
+use Rattle.office_base.specs.Limits.{release_limit}
+use Rattle.office_base.specs.Rows.{holds_of}
+use Rattle.office_base.specs.Tables.{Tables, notice_at, release_at}
+use Rattle.office_machine.specs.Publications.{published_for, releases_in}
+use Rattle.office_machine.specs.Machine.{Means, Given, Reaches}
+
+abbrev pub is_for : List ℕ → Option (List ℕ) → Bool
+is_for notice o = holds_of (λ n. same_id n notice) o
+
+-- how many releases accepted commands published of a notice
+abbrev pub releases_by : List Given → List ℕ → ℕ
+releases_by [] notice = 0
+releases_by (x ∷ xs) notice = cond (is_for notice (published_for x.before x.command)) 1 0 + releases_by xs notice
+
+pub record AreCounted (notice : List ℕ) (xs : List Given) (t : Tables) : Type 0 where
+  pub counted : releases_in (notice_at notice t) ≡ releases_by xs notice
+  pub within : releases_in (notice_at notice t) ≤ release_limit
+
+-- the row counts the publishing commands, and they are at most as many as there are numbers for
+abbrev pub ReleasesAreCounted : Type 0
+ReleasesAreCounted = (means : Means) (xs : List Given) (t : Tables) → Reaches means xs t → (notice : List ℕ) → AreCounted notice xs t
+
+-- a release of each number from 1 to the count of its notice is there, and no other
+abbrev pub AreNumbered : Tables → Type 0
+AreNumbered t = (notice : List ℕ) (number : ℕ) → is_some (release_at (notice, number) t) ≡ (nat_le 1 number && nat_le number (releases_in (notice_at notice t)))
+
+abbrev pub ReleasesAreNumbered : Type 0
+ReleasesAreNumbered = (means : Means) (xs : List Given) (t : Tables) → Reaches means xs t → AreNumbered t

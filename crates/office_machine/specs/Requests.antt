@@ -1,0 +1,91 @@
+-- Requests, each perhaps answered Unavailable, and runs of them.
+use Rattle.std.specs.Prelude.{ℕ, Bool, cond, List, [], ◌∷◌, Option, Some, None}
+use Rattle.office_acts.specs.declared.command.Caller.{Caller}
+use Rattle.office_acts.specs.declared.commands.Command.{Command}
+use Rattle.office_acts.specs.declared.queries.Query.{Query}
+use Rattle.office_values.specs.declared.refusal.Refusal.{Refusal}
+use Rattle.office_values.specs.declared.refusal.Refusal.TheVariants.{Unavailable}
+use Rattle.office_base.specs.Tables.{Tables}
+use Rattle.office_machine.specs.Machine.{Means, Given, CanBeGiven, Reaches, time_of, refusal_of, next}
+use Rattle.office_machine.specs.Replies.{Reply, Refused, reply_for}
+use Rattle.office_machine.specs.Sights.{Packages, told}
+
+-- what is asked: a command or a query
+pub data Demand : Type 0 where
+  Asks : (command : Command) → Demand
+  Looks : (query : Query) → Demand
+
+-- a request at the moment handed in; it may be answered Unavailable
+pub record Request : Type 0 where
+  pub moment : ℕ
+  pub caller : Caller
+  pub demand : Demand
+  pub unavailable : Bool
+
+abbrev pub asked : Tables → Request → Command → Given
+asked s a command = record { before = s; moment = a.moment; caller = a.caller; command = command }
+
+abbrev pub reply_by : Option Refusal → Means → Given → Reply
+reply_by None means x = reply_for means x.before (next means x) (time_of x) x.caller x.command
+reply_by (Some why) means x = Refused why
+
+abbrev pub office_by : Option Refusal → Means → Given → Tables
+office_by None means x = next means x
+office_by (Some why) means x = x.before
+
+abbrev pub joined_by : Option Refusal → Given → List Given → List Given
+joined_by None x xs = x ∷ xs
+joined_by (Some why) x xs = xs
+
+abbrev pub demand_reply : Means → Packages → Tables → Request → Demand → Reply
+demand_reply means packages s a (Asks command) = reply_by (refusal_of (asked s a command)) means (asked s a command)
+demand_reply means packages s a (Looks query) = told packages s a.caller query
+
+abbrev pub demand_office : Means → Tables → Request → Demand → Tables
+demand_office means s a (Asks command) = office_by (refusal_of (asked s a command)) means (asked s a command)
+demand_office means s a (Looks query) = s
+
+abbrev pub demand_joined : Tables → Request → Demand → List Given → List Given
+demand_joined s a (Asks command) xs = joined_by (refusal_of (asked s a command)) (asked s a command) xs
+demand_joined s a (Looks query) xs = xs
+
+-- how a request is answered, the office after it, and the accepted commands with it, the last one first
+abbrev pub reply_to : Means → Packages → Tables → Request → Reply
+reply_to means packages s a = cond a.unavailable (Refused Unavailable) (demand_reply means packages s a a.demand)
+
+abbrev pub office_after : Means → Tables → Request → Tables
+office_after means s a = cond a.unavailable s (demand_office means s a a.demand)
+
+abbrev pub joined : Tables → Request → List Given → List Given
+joined s a xs = cond a.unavailable xs (demand_joined s a a.demand xs)
+
+-- after all requests of a list
+abbrev pub last_office : Means → Tables → List Request → Tables
+last_office means s [] = s
+last_office means s (a ∷ rest) = last_office means (office_after means s a) rest
+
+abbrev pub all_joined : Means → Tables → List Given → List Request → List Given
+all_joined means s xs [] = xs
+all_joined means s xs (a ∷ rest) = all_joined means (office_after means s a) (joined s a xs) rest
+
+abbrev pub replies : Means → Packages → Tables → List Request → List Reply
+replies means packages s [] = []
+replies means packages s (a ∷ rest) = reply_to means packages s a ∷ replies means packages (office_after means s a) rest
+
+-- the refusal of a request, if it is refused
+abbrev pub refusal_in : Reply → Option Refusal
+refusal_in (Refused why) = Some why
+refusal_in _ = None
+
+-- each command can be given to the office that the requests before it left
+abbrev pub IsDemand : Tables → Request → Demand → Type 0
+IsDemand s a (Asks command) = CanBeGiven (asked s a command)
+IsDemand s a (Looks query) = Unit {0}
+
+abbrev pub AreRequests : Means → Tables → List Request → Type 0
+AreRequests means s [] = Unit {0}
+AreRequests means s (a ∷ rest) = IsDemand s a a.demand × AreRequests means (office_after means s a) rest
+
+-- what a run from a reached office accepts reaches its last office
+abbrev pub RunsReach : Type 0
+RunsReach = (means : Means) (xs : List Given) (s : Tables) → Reaches means xs s → (rest : List Request) → AreRequests means s rest → Reaches means (all_joined means s xs rest) (last_office means s rest)

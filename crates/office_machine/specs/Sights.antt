@@ -1,0 +1,78 @@
+-- What queries see, and who may look.
+use Rattle.std.specs.Prelude.{ℕ, Bool, cond, ◌||◌, List, map, filter, Option, Some, None}
+use Rattle.office_acts.specs.declared.command.Caller.{Caller}
+use Rattle.office_acts.specs.declared.queries.Query.{Query}
+use Rattle.office_acts.specs.declared.queries.Query.TheVariants as queries
+use Rattle.office_acts.specs.Queries.{kind_of}
+use Rattle.office_acts.specs.Callers.{is_by}
+use Rattle.office_acts.specs.Rights.{is_clerk, may_look}
+use Rattle.office_values.specs.declared.refusal.Thing.TheVariants as things
+use Rattle.office_values.specs.declared.refusal.Refusal.TheVariants.{Forbidden, NoSuch, NotYourTender, NotOpened}
+use Rattle.office_base.specs.States.{is_read, is_opened}
+use Rattle.office_base.specs.Joined.{pots_of, ledger_of}
+use Rattle.office_base.specs.declared.records.LineRow.{LineRow}
+use Rattle.office_base.specs.declared.records.TendererRow.{TendererRow}
+use Rattle.office_base.specs.declared.records.NoticeRow.{NoticeRow}
+use Rattle.office_base.specs.declared.records.LotRow.{LotRow}
+use Rattle.office_base.specs.declared.records.EnvelopeRow.{EnvelopeRow}
+use Rattle.office_base.specs.declared.records.SecurityRow.{SecurityRow}
+use Rattle.office_base.specs.Tables.{Tables, find_tenderer, line_at, notice_at, envelope_at, security_at, lots_of_notice, envelopes_of_notice}
+use Rattle.office_machine.specs.Replies.{Reply, Refused, LineSeen, LedgerSeen, Tender, Security, Registry, Minutes, Package, Registered, Minuted}
+
+-- the line's two columns and the sums over the rows that are joined with it
+abbrev pub line_told : Tables → Option LineRow → Reply
+line_told s None = Refused (NoSuch things.Line)
+line_told s (Some row) = LineSeen row.line row.title (pots_of row s)
+
+-- a tender is shown to whoever presented it
+abbrev pub tender_told : Caller → Option EnvelopeRow → Reply
+tender_told caller None = Refused (NoSuch things.Tender)
+tender_told caller (Some e) =
+    cond (is_by caller e.tenderer) (Tender e.digest e.length e.notice e.lot e.moment e.receipt e.security e.state) (Refused NotYourTender)
+
+abbrev pub registered : EnvelopeRow → Registered
+registered e = record { receipt = e.receipt; lot = e.lot; moment = e.moment; length = e.length; state = e.state }
+
+abbrev pub register_told : Option NoticeRow → List EnvelopeRow → Reply
+register_told None envelopes = Refused (NoSuch things.Notice)
+register_told (Some n) envelopes = Registry (map registered envelopes)
+
+abbrev pub minuted : List TendererRow → EnvelopeRow → Minuted
+minuted tenderers e = record { receipt = e.receipt; lot = e.lot; tenderer = e.tenderer; party = find_tenderer tenderers e.tenderer; reading = e.reading }
+
+abbrev pub is_read_envelope : EnvelopeRow → Bool
+is_read_envelope e = is_read e.state
+
+abbrev pub minutes_told : Option NoticeRow → List LotRow → List TendererRow → List EnvelopeRow → Reply
+minutes_told None lots tenderers envelopes = Refused (NoSuch things.Notice)
+minutes_told (Some n) lots tenderers envelopes =
+    cond (is_opened n.state) (Minutes n lots (map (minuted tenderers) (filter is_read_envelope envelopes))) (Refused NotOpened)
+
+-- a security is shown to whoever named it and to the clerk
+abbrev pub security_told : Caller → Option SecurityRow → Reply
+security_told caller None = Refused (NoSuch things.Security)
+security_told caller (Some w) =
+    cond (is_clerk caller || is_by caller w.tenderer) (Security w.amount w.reference w.security w.state w.tenderer) (Refused NotYourTender)
+
+-- the text of a package of a notice that is there
+abbrev pub package_told : Option NoticeRow → List ℕ → Reply
+package_told None text = Refused (NoSuch things.Notice)
+package_told (Some n) text = Package text
+
+-- the texts of packages: what is published is written elsewhere
+abbrev pub Packages : Type 0
+Packages = Query → Tables → List ℕ
+
+-- what a caller who may look sees
+abbrev pub shown : Packages → Tables → Caller → Query → Reply
+shown packages s caller (queries.Line line) = line_told s (line_at line s)
+shown packages s caller queries.Ledger = LedgerSeen (ledger_of s)
+shown packages s caller (queries.Minutes notice) = minutes_told (notice_at notice s) (lots_of_notice notice s) s.tenderers (envelopes_of_notice notice s)
+shown packages s caller (queries.Register notice) = register_told (notice_at notice s) (envelopes_of_notice notice s)
+shown packages s caller (queries.Releases notice) = package_told (notice_at notice s) (packages (queries.Releases notice) s)
+shown packages s caller (queries.Record notice) = package_told (notice_at notice s) (packages (queries.Record notice) s)
+shown packages s caller (queries.Tender receipt) = tender_told caller (envelope_at receipt s)
+shown packages s caller (queries.Security security) = security_told caller (security_at security s)
+
+abbrev pub told : Packages → Tables → Caller → Query → Reply
+told packages s caller query = cond (may_look caller (kind_of query)) (shown packages s caller query) (Refused Forbidden)

@@ -1,0 +1,84 @@
+-- Worked examples of fates: what accepted commands make of each tender and each security, receipt by receipt.
+use Rattle.std.specs.Prelude.{◌++◌, ◌∷◌, ◌≡◌, List, None, Option, Some, [], codes, map, ℕ}
+use Rattle.office_acts.specs.declared.commands.Command.TheVariants.{Modify, Withdraw}
+use Rattle.office_values.specs.declared.refusal.Refusal.TheVariants.{AlreadyDecided, DeadlinePassed, NotOpenForTenders, NotSealed}
+use Rattle.office_base.specs.declared.records.EnvelopeState.{EnvelopeState}
+use Rattle.office_base.specs.declared.records.EnvelopeState.TheVariants as envelope
+use Rattle.office_base.specs.declared.records.SecurityState.{SecurityState}
+use Rattle.office_base.specs.declared.records.SecurityState.TheVariants as security_in
+use Rattle.office_machine.specs.Fates.{fate_of_security, fate_of_tender}
+use Rattle.office_machine.specs.Requests.{Request}
+use Rattle.office_machine.specs.Worked.Office.{accepted, awards, by, cancels, deadline, decided, examines, fails, february, opens, presents, refused, second_end, setup, signs, standstill_end, states_of_securities, states_of_tenders, t1, t2}
+
+-- T1 presents (1), modifies (2) and withdraws 2; withdrawing 2 again is refused; T1 presents anew (3), and T2 too (4), who withdraws
+-- too late and after the opening presents once more (5); T1 wins and doesn't sign, T2 does
+abbrev pub competition : List Request
+competition =
+    presents t1 february (codes "700")
+    ∷ by t1 february (Modify 1 (codes "650"))
+    ∷ by t1 february (Withdraw 2)
+    ∷ by t1 february (Withdraw 2)
+    ∷ presents t1 february (codes "500")
+    ∷ presents t2 february (codes "550")
+    ∷ by t2 deadline (Withdraw 4)
+    ∷ opens deadline
+    ∷ presents t2 deadline (codes "300")
+    ∷ examines 3
+    ∷ examines 4
+    ∷ awards decided
+    ∷ fails standstill_end 1
+    ∷ awards standstill_end
+    ∷ signs standstill_end 1
+    ∷ signs second_end 2
+    ∷ []
+
+-- a sealed tender whose notice is cancelled, and which can't be opened then
+abbrev pub cancellation : List Request
+cancellation = presents t1 february (codes "700") ∷ cancels february ∷ opens deadline ∷ []
+
+-- the fates of these receipts after the setup and these requests
+abbrev pub fates : List Request → List ℕ → List (Option EnvelopeState)
+fates asked receipts = map (fate_of_tender (accepted (setup ++ asked))) receipts
+
+-- the fates of these securities
+abbrev pub security_fates : List Request → List ℕ → List (Option SecurityState)
+security_fates asked numbers = map (fate_of_security (accepted (setup ++ asked))) numbers
+
+pub record FatesWorked : Type 0 where
+  -- what of it is refused
+  pub competition_is_told : refused setup competition
+      ≡ None
+      ∷ None
+      ∷ None
+      ∷ Some NotSealed
+      ∷ None
+      ∷ None
+      ∷ Some DeadlinePassed
+      ∷ None
+      ∷ None
+      ∷ None
+      ∷ None
+      ∷ None
+      ∷ None
+      ∷ None
+      ∷ Some AlreadyDecided
+      ∷ None
+      ∷ []
+  -- a modified tender counts as withdrawn; there are no receipts but those given out
+  pub fates_of_tenders : fates competition (0 ∷ 1 ∷ 2 ∷ 3 ∷ 4 ∷ 5 ∷ 6 ∷ [])
+      ≡ None ∷ Some envelope.Withdrawn ∷ Some envelope.Withdrawn ∷ Some envelope.Opened ∷ Some envelope.Opened ∷ Some envelope.Returned ∷ None ∷ []
+  -- the same security came with 1 and 2; the winner who didn't sign has forfeited the third
+  pub fates_of_securities : security_fates competition (1 ∷ 2 ∷ 3 ∷ 4 ∷ 5 ∷ [])
+      ≡ Some security_in.Returned ∷ None ∷ Some security_in.Forfeited ∷ Some security_in.Returned ∷ Some security_in.Returned ∷ []
+  -- the rows of the tenders say the same
+  pub rows_of_tenders : states_of_tenders (setup ++ competition)
+      ≡ envelope.Withdrawn ∷ envelope.Withdrawn ∷ envelope.Opened ∷ envelope.Opened ∷ envelope.Returned ∷ []
+  -- and so do those of the securities
+  pub rows_of_securities : states_of_securities (setup ++ competition)
+      ≡ security_in.Returned ∷ security_in.Forfeited ∷ security_in.Returned ∷ security_in.Returned ∷ []
+  -- a cancelled notice isn't opened
+  pub cancellation_is_told : refused setup cancellation ≡ None ∷ None ∷ Some NotOpenForTenders ∷ []
+  -- its sealed tender is returned
+  pub returned_by_it : fates cancellation (1 ∷ 2 ∷ []) ≡ Some envelope.Returned ∷ None ∷ []
+  -- and so is the security that was held
+  pub security_returned_by_it : security_fates cancellation (1 ∷ 2 ∷ []) ≡ Some security_in.Returned ∷ None ∷ []

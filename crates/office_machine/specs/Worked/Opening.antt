@@ -1,0 +1,112 @@
+-- Worked examples of opening: when tenders are opened, how they read, and what the minutes say.
+use Rattle.std.specs.Prelude.{◌++◌, ◌+◌, ◌-◌, ◌∷◌, ◌≡◌, List, None, Option, Some, [], codes, map, ℕ}
+use Rattle.office_acts.specs.declared.command.Caller.TheVariants.{Public}
+use Rattle.office_acts.specs.declared.commands.Command.TheVariants.{Withdraw}
+use Rattle.office_acts.specs.declared.queries.Query.TheVariants as queries
+use Rattle.office_values.specs.declared.refusal.Refusal.TheVariants.{AlreadyOpened, NoSuch, NotOpenForTenders, TooEarlyToOpen}
+use Rattle.office_values.specs.declared.refusal.Thing.TheVariants as things
+use Rattle.office_base.specs.declared.reading.Reading.{Reading}
+use Rattle.office_base.specs.declared.reading.Reading.TheVariants.{Nonconforming, Priced, Unreadable}
+use Rattle.office_base.specs.declared.records.EnvelopeRow.{EnvelopeRow}
+use Rattle.office_base.specs.declared.records.EnvelopeState.TheVariants as envelope
+use Rattle.office_base.specs.declared.records.LotRow.{LotRow}
+use Rattle.office_base.specs.declared.records.LotState.TheVariants as lot_in
+use Rattle.office_base.specs.declared.records.NoticeRow.{NoticeRow}
+use Rattle.office_base.specs.declared.records.NoticeState.TheVariants as notice_in
+use Rattle.office_base.specs.declared.records.ReleaseRow.{ReleaseRow}
+use Rattle.office_machine.specs.Replies.{Minuted, Minutes, OpenedAll, Refused}
+use Rattle.office_machine.specs.Requests.{Request}
+use Rattle.office_machine.specs.Worked.Office.{by, cancels, deadline, february, l1, looks, money, n1, office, opens, paving, presents, published, refused, roads, setup, states_of_tenders, t1, t2, t3, tendered, told, two_notices}
+
+-- anybody looks at the minutes
+abbrev pub sees_minutes : Request
+sees_minutes = looks Public deadline (queries.Minutes n1)
+
+-- T1's tender is withdrawn, T3's comes one second after the deadline, and T2's alone is there to be opened
+abbrev pub one_of_three : List Request
+one_of_three =
+    setup
+    ++ presents t1 february (codes "500")
+    ∷ by t1 february (Withdraw 1)
+    ∷ presents t2 february (codes "550")
+    ∷ presents t3 (deadline + 1) (codes "400")
+    ∷ []
+
+-- the readings of the opened tenders of these texts, by T1, T2 and T3
+abbrev pub readings : List ℕ → List ℕ → List ℕ → List (Option Reading)
+readings first second third =
+    map (λ (e : EnvelopeRow). e.reading)
+    (office (setup ++ presents t1 february first ∷ presents t2 february second ∷ presents t3 february third ∷ opens deadline ∷ [])).envelopes
+
+-- the notice and its lot once opened at a moment, with so many releases
+abbrev pub notice_opened : ℕ → ℕ → NoticeRow
+notice_opened moment releases = record {
+  notice = n1;
+  title = codes "Road repair";
+  published = published;
+  deadline = deadline;
+  validity = 90;
+  standstill = 10;
+  weight = 0;
+  state = notice_in.Opened;
+  opened = Some moment;
+  amendments = 0;
+  releases = releases;
+}
+
+-- the lot, still undecided
+abbrev pub lot_then : LotRow
+lot_then = record {
+  notice = n1;
+  lot = l1;
+  title = codes "North";
+  line = roads;
+  estimate = 600;
+  security = 50;
+  items = paving;
+  state = lot_in.Undecided;
+  reserved = 600;
+}
+
+-- a line of the minutes
+abbrev pub minuted : ℕ → List ℕ → List ℕ → Reading → Minuted
+minuted receipt who name reading = record {
+  receipt = receipt;
+  lot = l1;
+  tenderer = who;
+  party = Some (record { tenderer = who; name = name; address = codes "High Street 1"; key = [] });
+  reading = Some reading;
+}
+
+pub record OpeningWorked : Type 0 where
+  -- tenders aren't opened one second before the deadline
+  pub too_early : told tendered (opens (deadline - 1) ∷ []) ≡ Refused TooEarlyToOpen ∷ []
+  -- they are at the deadline, once
+  pub at_deadline : told tendered (opens deadline ∷ opens deadline ∷ []) ≡ OpenedAll n1 2 2 deadline ∷ Refused AlreadyOpened ∷ []
+  -- also where there are none
+  pub without_tenders : told setup (opens deadline ∷ []) ≡ OpenedAll n1 0 2 deadline ∷ []
+  -- a notice that isn't there can't be opened
+  pub no_such_notice : told money (opens deadline ∷ []) ≡ Refused (NoSuch things.Notice) ∷ []
+  -- nor can a cancelled one
+  pub not_once_cancelled : refused tendered (cancels february ∷ opens deadline ∷ []) ≡ None ∷ Some NotOpenForTenders ∷ []
+  -- the minutes are anybody's then: who tendered, and how each tender reads
+  pub minutes_are_seen : told (tendered ++ opens deadline ∷ []) (sees_minutes ∷ [])
+      ≡ Minutes (notice_opened deadline 2) (lot_then ∷ [])
+      (minuted 1 t1 (codes "Alpha") (Priced 500 500 0) ∷ minuted 2 t2 (codes "Beta") (Priced 550 550 0) ∷ [])
+      ∷ []
+  -- a withdrawn tender and a late one are not opened, and not in the minutes
+  pub one_is_opened : told one_of_three (opens (deadline + 2) ∷ sees_minutes ∷ [])
+      ≡ OpenedAll n1 1 2 (deadline + 2)
+      ∷ Minutes (notice_opened (deadline + 2) 2) (lot_then ∷ []) (minuted 2 t2 (codes "Beta") (Priced 550 550 0) ∷ [])
+      ∷ []
+  -- they stay as they were
+  pub others_stay : states_of_tenders (one_of_three ++ opens (deadline + 2) ∷ []) ≡ envelope.Withdrawn ∷ envelope.Opened ∷ envelope.Returned ∷ []
+  -- and so do the tenders of another notice
+  pub other_notice_stays : states_of_tenders (two_notices ++ opens deadline ∷ []) ≡ envelope.Opened ∷ envelope.Opened ∷ envelope.Sealed ∷ []
+  -- an opened tender's bytes are kept
+  pub bytes_are_kept : (office (tendered ++ opens deadline ∷ [])).seals
+      ≡ record { receipt = 1; bytes = codes "500" } ∷ record { receipt = 2; bytes = codes "550" } ∷ []
+  -- a tender can be unreadable, offer something else, or state a price that comes to another
+  pub readings_are : readings (codes "abc") (codes "-") (codes "550/480") ≡ Some Unreadable ∷ Some Nonconforming ∷ Some (Priced 550 480 1) ∷ []
+  -- the opening is published as the notice's second release
+  pub release_is : map (λ (r : ReleaseRow). r.seq) (office (tendered ++ opens deadline ∷ [])).releases ≡ 1 ∷ 2 ∷ []

@@ -1,0 +1,49 @@
+-- Worked examples of rights: who may give which command.
+use Rattle.std.specs.Prelude.{◌++◌, ◌∷◌, ◌≡◌, List, None, [], codes, false, map, replicate, true}
+use Rattle.office_acts.specs.declared.command.Caller.TheVariants.{Public}
+use Rattle.office_acts.specs.declared.commands.Command.{Command}
+use Rattle.office_acts.specs.declared.commands.Command.TheVariants.{AmendContract, AmendNotice, Award, Cancel, End, Examine, Fail, Import, Modify, Open, Pay, Present, Publish, Register, Sign, Withdraw}
+use Rattle.office_acts.specs.declared.contract.ChangeKind.TheVariants as changes
+use Rattle.office_acts.specs.declared.contract.How.TheVariants.{Regular}
+use Rattle.office_acts.specs.declared.notice.Criteria.TheVariants.{Price}
+use Rattle.office_values.specs.declared.refusal.Refusal.TheVariants.{Forbidden}
+use Rattle.office_machine.specs.Replies.{Refused}
+use Rattle.office_machine.specs.Requests.{Asks, Request}
+use Rattle.office_machine.specs.Worked.Office.{by, by_clerk, february, l1, lot, money, n1, n2, next_day, notice, security, t1, tendered, told}
+
+-- every command of the clerk
+abbrev pub commands_of_clerk : List Command
+commands_of_clerk =
+    Import (codes "B2") []
+    ∷ Register (codes "T4") (codes "Delta") (codes "Low Street 4") []
+    ∷ Publish n2 (notice next_day Price (lot l1 100 ∷ []))
+    ∷ AmendNotice n1 next_day (codes "More time")
+    ∷ Cancel n1 (codes "Plans")
+    ∷ Open n1
+    ∷ Examine 1 true None
+    ∷ Award n1 l1
+    ∷ Fail 1
+    ∷ Sign 1
+    ∷ AmendContract 1 (codes "E1") changes.Raise 1 (codes "Changed")
+    ∷ Pay 1 (codes "E1") 1
+    ∷ End 1 Regular
+    ∷ []
+
+-- every command of a tenderer
+abbrev pub commands_of_tenderer : List Command
+commands_of_tenderer = Present n1 l1 security (codes "500") ∷ Modify 1 (codes "450") ∷ Withdraw 1 ∷ []
+
+-- a command by the public
+abbrev pub by_public : Command → Request
+by_public command = record { moment = february; caller = Public; demand = Asks command; unavailable = false }
+
+pub record RightsWorked : Type 0 where
+  -- the public gives no command
+  pub public_commands_nothing : told tendered (map by_public (commands_of_clerk ++ commands_of_tenderer)) ≡ replicate 16 (Refused Forbidden)
+  -- a tenderer gives none of the clerk's
+  pub tenderer_is_no_clerk : told tendered (map (by t1 february) commands_of_clerk) ≡ replicate 13 (Refused Forbidden)
+  -- and the clerk none of a tenderer's
+  pub clerk_is_no_tenderer : told tendered (map (by_clerk february) commands_of_tenderer) ≡ replicate 3 (Refused Forbidden)
+  -- who may not ask isn't told whether a thing is there
+  pub nothing_is_told : told money (by_public (Open n1) ∷ by t1 february (Pay 99 (codes "E1") 1) ∷ by_clerk february (Withdraw 99) ∷ [])
+      ≡ replicate 3 (Refused Forbidden)

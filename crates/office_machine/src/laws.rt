@@ -1,0 +1,60 @@
+ghost use Rattle.office_machine.specs.Accounts.{AccountsAreKept, TablesAreInOrder};
+ghost use Rattle.office_machine.specs.Decided.{RulesAreTheMachines};
+ghost use Rattle.office_machine.specs.Fits.{SumsFit};
+ghost use Rattle.office_machine.specs.Order.{LeastIsAnswered, NumbersNeverFall};
+ghost use Rattle.office_machine.specs.Parents.{ParentsAreThere};
+ghost use Rattle.office_machine.specs.Releases.{ReleasesAreCounted, ReleasesAreNumbered};
+ghost use Rattle.office_machine.specs.Requests.{RunsReach};
+ghost use Rattle.office_machine.specs.Worlds.{StepsStayAlike};
+
+/// Wherever accepted commands lead from the empty office, each pot of each line, summed from joined rows, is what they moved
+/// into it less what they moved out of it, and a line's appropriation is the sum of its four pots.
+pub fn accounts()
+    ensures { AccountsAreKept }
+{}
+
+/// Wherever accepted commands lead, the rows of each table stand in the order of their keys, each key once.
+pub fn order()
+    ensures { TablesAreInOrder }
+{}
+
+/// A command's tests and puts in an office are those of its rule over the rows that the rule speaks of, and so what is decided over these
+/// rows is what the machine does.
+pub fn decisions()
+    ensures { RulesAreTheMachines }
+{}
+
+/// The refusals of each command are tried in the order of their numbers, so that the one answered is the least whose condition
+/// holds.
+pub fn refusals()
+    ensures order { NumbersNeverFall }
+    ensures least { LeastIsAnswered }
+{}
+
+/// What a run of requests accepts after commands that reached its first office leads to its last office.
+pub fn runs()
+    ensures { RunsReach }
+{}
+
+/// No sum over the rows that accepted commands lead to is out of its range: not of a line, a lot or a contract.
+pub fn sums()
+    ensures { SumsFit }
+{}
+
+/// Of each row that accepted commands lead to, the rows that it speaks of are there.
+pub fn parents()
+    ensures { ParentsAreThere }
+{}
+
+/// The row of a notice counts the commands that published a release of it, at most as many as there are numbers for; and a release of
+/// each number from 1 to that count is there, and no other.
+pub fn releases()
+    ensures counted { ReleasesAreCounted }
+    ensures numbered { ReleasesAreNumbered }
+{}
+
+/// Two commands that differ in the bytes that one tenderer seals for a lot alone are answered alike, and leave two offices alike
+/// that were: they differ in digests and seals of such envelopes alone. An opening has to find equal seals.
+pub fn worlds()
+    ensures { StepsStayAlike }
+{}

@@ -1,0 +1,4 @@
+mod ImportsAgree
+mod LinesAgree
+mod ReadingsPut
+mod Walked

@@ -1,0 +1,64 @@
+-- Publications and cancellations over lines that agree on the lines of their lots.
+use Rattle.std.specs.Prelude.{◌≡◌, ℕ, ◌+◌, ◌-◌, Bool, not, ◌||◌, nat_lt, List, [], ◌∷◌, ◌++◌, map, filter, is_some, Option, Some, None}
+use Rattle.std.specs.List.{list_any}
+use Rattle.std.proofs.Common.{refl, ap, ◌∙◌}
+use Rattle.office_acts.specs.declared.lot.NewLot.{NewLot}
+use Rattle.office_acts.specs.declared.notice.NewNotice.{NewNotice}
+use Rattle.office_base.specs.Joined.{free_in}
+use Rattle.office_base.specs.declared.records.LineRow.{LineRow}
+use Rattle.office_base.specs.declared.records.LotRow.{LotRow}
+use Rattle.office_base.specs.declared.records.ClockRow.{ClockRow}
+use Rattle.office_base.specs.declared.puts.Put.{Put}
+use Rattle.office_base.specs.declared.puts.Put.TheVariants as puts
+use Rattle.tender_core.specs.Rules.Publish.{wanted, is_on_no_line, is_short, publish_tests, publish_puts, notice_put, no_line}
+use Rattle.tender_core.specs.Rules.Publish as published
+use Rattle.tender_core.specs.Rules.Cancel as cancelled
+use Rattle.tender_core.specs.Rules.Cancel.{is_open_lot, cancel_puts}
+use Rattle.tender_core.specs.Agreeing.{AgreeOnNewLots, AgreeOnLots, PublishesAgree, CancelsAgree}
+
+no_line-agree : (m n : List LineRow) (lots : List NewLot) → AgreeOnNewLots m n lots → list_any (is_on_no_line m) lots ≡ list_any (is_on_no_line n) lots
+no_line-agree m n [] h = refl
+no_line-agree m n (lot ∷ lots) h =
+    ap (λ o. not (is_some o) || list_any (is_on_no_line m) lots) h.0 ∙ ap (λ b. is_on_no_line n lot || b) (no_line-agree m n lots h.1)
+
+short-agree : (m n : List LineRow) (all lots : List NewLot) → AgreeOnNewLots m n lots → list_any (is_short m all) lots ≡ list_any (is_short n all) lots
+short-agree m n all [] h = refl
+short-agree m n all (lot ∷ lots) h =
+    ap (λ o. nat_lt (free_in o) (wanted lot.line all) || list_any (is_short m all) lots) h.0
+    ∙ ap (λ b. is_short n all lot || b) (short-agree m n all lots h.1)
+
+abbrev published_line : List NewLot → NewLot → Option LineRow → Put
+published_line all lot o =
+    puts.Line (record (Rattle.std.specs.Prelude.unwrap_or o (no_line lot.line)) { line = lot.line; free = free_in o - wanted lot.line all })
+
+published-agree : (m n : List LineRow) (all lots : List NewLot) → AgreeOnNewLots m n lots → map (published.line_put m all) lots ≡ map (published.line_put n all) lots
+published-agree m n all [] h = refl
+published-agree m n all (lot ∷ lots) h =
+    ap (λ o. published_line all lot o ∷ map (published.line_put m all) lots) h.0
+    ∙ ap (λ ps. published.line_put n all lot ∷ ps) (published-agree m n all lots h.1)
+
+publish_tests-agree : (m n : List LineRow) (exists : Bool) (t : ℕ) (content : NewNotice) → AgreeOnNewLots m n content.lots
+    → publish_tests m exists t content ≡ publish_tests n exists t content
+publish_tests-agree m n exists t content h = rw (no_line-agree m n content.lots h, short-agree m n content.lots content.lots h) refl
+
+publish_puts-agree : (clock : ClockRow) (t : ℕ) (notice : List ℕ) (m n : List LineRow) (content : NewNotice) → AgreeOnNewLots m n content.lots
+    → publish_puts clock t notice m content ≡ publish_puts clock t notice n content
+publish_puts-agree clock t notice m n content h = rw (published-agree m n content.lots content.lots h) refl
+
+pub publishes_agree : PublishesAgree
+publishes_agree = record { tests = publish_tests-agree; puts = publish_puts-agree }
+
+abbrev cancelled_line : List LotRow → LotRow → Option LineRow → Put
+cancelled_line all l o =
+    puts.Line (record (Rattle.std.specs.Prelude.unwrap_or o (no_line l.line)) { line = l.line; free = free_in o + cancelled.freed l.line all })
+
+cancelled-agree : (m n : List LineRow) (all lots : List LotRow) → AgreeOnLots m n lots → map (cancelled.line_put m all) lots ≡ map (cancelled.line_put n all) lots
+cancelled-agree m n all [] h = refl
+cancelled-agree m n all (l ∷ lots) h =
+    ap (λ o. cancelled_line all l o ∷ map (cancelled.line_put m all) lots) h.0
+    ∙ ap (λ ps. cancelled.line_put n all l ∷ ps) (cancelled-agree m n all lots h.1)
+
+pub cancels_agree : CancelsAgree
+cancels_agree clock t m n None lots awards envelopes securities h = refl
+cancels_agree clock t m n (Some notice) lots awards envelopes securities h =
+    rw (cancelled-agree m n (filter is_open_lot lots) (filter is_open_lot lots) h) refl

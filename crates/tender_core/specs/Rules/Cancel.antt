@@ -1,0 +1,115 @@
+-- The cancellation of a procurement (Model Law, article 19): of a notice, the lots that are still undecided or awarded.
+use Rattle.std.specs.Prelude.{ℕ, ◌+◌, Bool, not, cond, ◌&&◌, List, [], ◌∷◌, ◌++◌, map, filter, Option, Some, None, is_some}
+use Rattle.std.specs.List.{list_any}
+use Rattle.office_values.specs.Ids.{same_id}
+use Rattle.office_values.specs.declared.refusal.Thing.TheVariants as things
+use Rattle.office_values.specs.declared.refusal.Refusal.{Refusal}
+use Rattle.office_values.specs.declared.refusal.Refusal.TheVariants.{NoSuch, NothingToCancel, LimitReached}
+use Rattle.office_base.specs.Sums.{sum_over}
+use Rattle.office_base.specs.Rows.{holds_of}
+use Rattle.office_base.specs.RuleParts.{clock_put, has_all_releases, is_held_security, security_returned}
+use Rattle.office_base.specs.States.{is_open, is_receiving, is_active, is_sealed}
+use Rattle.office_base.specs.declared.records.NoticeState.TheVariants as notice_states
+use Rattle.office_base.specs.declared.records.LotState.TheVariants as lot_states
+use Rattle.office_base.specs.declared.records.EnvelopeState.TheVariants as envelope_states
+use Rattle.office_base.specs.declared.records.AwardState.TheVariants as award_states
+use Rattle.office_base.specs.Tables.{Tables, find_line, find_lot, notice_at, lots_of_notice, awards_of_notice, envelopes_of_notice, securities_of_notice}
+use Rattle.office_base.specs.Joined.{free_in}
+use Rattle.tender_core.specs.Rules.Publish.{line_found}
+use Rattle.office_base.specs.declared.records.LineRow.{LineRow}
+use Rattle.office_base.specs.declared.records.NoticeRow.{NoticeRow}
+use Rattle.office_base.specs.declared.records.LotRow.{LotRow}
+use Rattle.office_base.specs.declared.records.EnvelopeRow.{EnvelopeRow}
+use Rattle.office_base.specs.declared.records.SecurityRow.{SecurityRow}
+use Rattle.office_base.specs.declared.records.AwardRow.{AwardRow}
+use Rattle.office_base.specs.declared.records.ClockRow.{ClockRow}
+use Rattle.office_base.specs.declared.puts.Put.TheVariants as puts
+use Rattle.office_base.specs.declared.puts.Put.{Put}
+use Rattle.tender_core.specs.declared.cancel.CancelRows.{CancelRows}
+
+abbrev pub is_open_lot : LotRow → Bool
+is_open_lot l = is_open l.state
+
+-- the notice, and its lots
+abbrev pub cancel_tests : Option NoticeRow → List LotRow → List (Bool × Refusal)
+cancel_tests notice lots =
+    (not (is_some notice), NoSuch things.Notice)
+    ∷ (not (list_any is_open_lot lots), NothingToCancel)
+    ∷ (has_all_releases notice, LimitReached)
+    ∷ []
+
+abbrev pub cancelled_lot : LotRow → LotRow
+cancelled_lot l = record l { state = lot_states.Cancelled; reserved = 0 }
+
+abbrev pub lot_put : LotRow → Put
+lot_put l = puts.Lot (cancelled_lot l)
+
+-- what these lots have reserved of a line
+abbrev pub freed : List ℕ → List LotRow → ℕ
+freed line lots = sum_over (λ (l : LotRow). cond (same_id l.line line) l.reserved 0) lots
+
+-- the line of a lot, with what all these lots had reserved free again
+abbrev pub line_row : List LineRow → List LotRow → LotRow → LineRow
+line_row lines lots l = record (line_found lines l.line) { line = l.line; free = free_in (find_line lines l.line) + freed l.line lots }
+
+abbrev pub line_put : List LineRow → List LotRow → LotRow → Put
+line_put lines lots l = puts.Line (line_row lines lots l)
+
+-- the lot of these identifiers is one of those that end
+abbrev pub ends : List LotRow → List ℕ → List ℕ → Bool
+ends lots notice lot = holds_of is_open_lot (find_lot lots (notice, lot))
+
+-- an active award of a lot that ends
+abbrev pub is_ended_award : List LotRow → AwardRow → Bool
+is_ended_award lots a = is_active a.state && ends lots a.notice a.lot
+
+abbrev pub cancelled_award : AwardRow → AwardRow
+cancelled_award a = record a { state = award_states.Cancelled }
+
+abbrev pub award_put : AwardRow → Put
+award_put a = puts.Award (cancelled_award a)
+
+-- a sealed tender of a lot that ends
+abbrev pub is_ended_envelope : List LotRow → EnvelopeRow → Bool
+is_ended_envelope lots e = is_sealed e.state && ends lots e.notice e.lot
+
+abbrev pub returned_envelope : EnvelopeRow → EnvelopeRow
+returned_envelope e = record e { state = envelope_states.Returned }
+
+abbrev pub envelope_put : EnvelopeRow → Put
+envelope_put e = puts.Envelope (returned_envelope e)
+
+abbrev pub drop_put : EnvelopeRow → Put
+drop_put e = puts.DropSeal e.receipt
+
+-- a held security of a lot that ends
+abbrev pub is_ended_security : List LotRow → SecurityRow → Bool
+is_ended_security lots s = is_held_security s && ends lots s.notice s.lot
+
+-- a notice that was receiving tenders is cancelled, an opened one stays so
+abbrev pub cancelled_notice : NoticeRow → NoticeRow
+cancelled_notice n = record n { state = cond (is_receiving n.state) notice_states.Cancelled n.state; releases = n.releases + 1 }
+
+-- the lines, the notice, and its lots, awards, envelopes and securities
+abbrev pub cancel_puts : ClockRow → ℕ → List LineRow → Option NoticeRow → List LotRow → List AwardRow → List EnvelopeRow → List SecurityRow → List Put
+cancel_puts clock t lines None lots awards envelopes securities = []
+cancel_puts clock t lines (Some n) lots awards envelopes securities =
+    map (line_put lines (filter is_open_lot lots)) (filter is_open_lot lots)
+    ++ (map lot_put (filter is_open_lot lots)
+    ++ (map award_put (filter (is_ended_award lots) awards)
+    ++ (map envelope_put (filter (is_ended_envelope lots) envelopes)
+    ++ (map drop_put (filter (is_ended_envelope lots) envelopes)
+    ++ (map security_returned (filter (is_ended_security lots) securities)
+    ++ (puts.Notice (cancelled_notice n) ∷ clock_put clock t ∷ []))))))
+
+-- the rows of an office that a cancellation looks at
+abbrev pub cancel_rows : Tables → List ℕ → CancelRows
+cancel_rows s notice = record {
+  notice = notice_at notice s;
+  lines = s.lines;
+  lots = lots_of_notice notice s;
+  awards = awards_of_notice notice s;
+  envelopes = envelopes_of_notice notice s;
+  securities = securities_of_notice notice s;
+  clock = s.clock;
+}

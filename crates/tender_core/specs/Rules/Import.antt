@@ -1,0 +1,100 @@
+-- The import of a budget file: its rows are taken in order.
+use Rattle.std.specs.Prelude.{ℕ, ◌+◌, ◌-◌, Bool, true, false, cond, not, ◌&&◌, ◌||◌, List, [], ◌∷◌, ◌++◌, Option, Some, None, is_some, nat_lt, map, length}
+use Rattle.office_values.specs.Money.{total_limit}
+use Rattle.office_acts.specs.declared.budget.BudgetKind.{BudgetKind}
+use Rattle.office_acts.specs.declared.budget.BudgetKind.TheVariants.{Add, Cut}
+use Rattle.office_acts.specs.declared.budget.BudgetRow.{BudgetRow}
+use Rattle.office_values.specs.declared.refusal.Thing.TheVariants as things
+use Rattle.office_values.specs.declared.refusal.Refusal.{Refusal}
+use Rattle.office_values.specs.declared.refusal.Refusal.TheVariants.{NoSuch, Exists, InsufficientFunds, LimitReached}
+use Rattle.office_base.specs.Standings.{columns_at, put_standing, standings}
+use Rattle.office_base.specs.declared.records.LineRow.{LineRow}
+use Rattle.office_base.specs.declared.records.ClockRow.{ClockRow}
+use Rattle.office_base.specs.declared.puts.Put.TheVariants as puts
+use Rattle.office_base.specs.declared.puts.Put.{Put}
+use Rattle.office_base.specs.declared.standing.Columns.{Columns}
+use Rattle.office_base.specs.declared.standing.Standing.{Standing}
+use Rattle.office_base.specs.Tables.{Tables, batch_at}
+use Rattle.tender_core.specs.declared.import.ImportRows.{ImportRows}
+
+-- the most rows of one file
+abbrev pub row_limit : ℕ
+row_limit = 500
+
+abbrev pub is_cut : BudgetKind → Bool
+is_cut Add = false
+is_cut Cut = true
+
+abbrev pub appropriation_of : Option Columns → ℕ
+appropriation_of None = 0
+appropriation_of (Some c) = c.appropriation
+
+abbrev pub free_of : Option Columns → ℕ
+free_of None = 0
+free_of (Some c) = c.free
+
+-- a row adds its amount to both columns of its line, or cuts it from both
+abbrev pub columns_after : Option Columns → BudgetRow → Columns
+columns_after held row =
+    cond (is_cut row.kind)
+    (record { appropriation = appropriation_of held - row.amount; free = free_of held - row.amount })
+    (record { appropriation = appropriation_of held + row.amount; free = free_of held + row.amount })
+
+-- the lines after one row, and after rows in order
+abbrev pub after_row : List Standing → BudgetRow → List Standing
+after_row m row = put_standing m (record { line = row.line; columns = Some (columns_after (columns_at m row.line) row) })
+
+abbrev pub after_rows : List Standing → List BudgetRow → List Standing
+after_rows m [] = m
+after_rows m (row ∷ rows) = after_rows (after_row m row) rows
+
+-- whether, taking rows in order, the test holds at one of them
+abbrev pub some_row : (Option Columns → BudgetRow → Bool) → List Standing → List BudgetRow → Bool
+some_row test m [] = false
+some_row test m (row ∷ rows) = test (columns_at m row.line) row || some_row test (after_row m row) rows
+
+-- a cut of a line that is neither held nor made by an earlier row
+abbrev pub cuts_nothing : Option Columns → BudgetRow → Bool
+cuts_nothing held row = is_cut row.kind && not (is_some held)
+
+-- the line's free would go below 0
+abbrev pub cuts_too_much : Option Columns → BudgetRow → Bool
+cuts_too_much held row = is_cut row.kind && nat_lt (free_of held) row.amount
+
+-- the line's appropriation would pass the bound
+abbrev pub passes_limit : Option Columns → BudgetRow → Bool
+passes_limit held row = not (is_cut row.kind) && nat_lt total_limit (appropriation_of held + row.amount)
+
+-- when an import is refused, in the order of the refusals
+abbrev pub import_tests : List Standing → Bool → List BudgetRow → List (Bool × Refusal)
+import_tests m exists rows =
+    (some_row cuts_nothing m rows, NoSuch things.Line)
+    ∷ (exists, Exists)
+    ∷ (some_row cuts_too_much m rows, InsufficientFunds)
+    ∷ (nat_lt row_limit (length rows) || some_row passes_limit m rows, LimitReached)
+    ∷ []
+
+-- the line of a row, with its columns after all rows and the title of this one
+abbrev pub line_row : List Standing → BudgetRow → LineRow
+line_row after row = record {
+  line = row.line;
+  title = row.title;
+  appropriation = appropriation_of (columns_at after row.line);
+  free = free_of (columns_at after row.line);
+}
+
+abbrev pub line_put : List Standing → BudgetRow → Put
+line_put after row = puts.Line (line_row after row)
+
+-- each row's line, the batch and the clock
+abbrev pub puts_after : ClockRow → ℕ → List ℕ → List Standing → List BudgetRow → List Put
+puts_after clock t batch after rows =
+    map (line_put after) rows ++ (puts.Batch (record { batch = batch; moment = t; rows = length rows }) ∷ puts.Clock (record clock { moment = t }) ∷ [])
+
+-- what an import puts
+abbrev pub import_puts : ClockRow → ℕ → List ℕ → List Standing → List BudgetRow → List Put
+import_puts clock t batch m rows = puts_after clock t batch (after_rows m rows) rows
+
+-- the rows of an office that the import of a file looks at
+abbrev pub import_rows : Tables → List ℕ → List BudgetRow → ImportRows
+import_rows s batch budget = record { batch = batch_at batch s; file = record { lines = standings s; rows = budget }; clock = s.clock }

@@ -1,0 +1,113 @@
+-- The publication of a tender notice: its lots reserve their estimates (UNCITRAL Model Law 2011, articles 33 and 39, as far as
+-- the books are concerned).
+use Rattle.std.specs.Prelude.{ℕ, ◌-◌, Bool, cond, not, ◌||◌, List, [], ◌∷◌, ◌++◌, None, is_some, unwrap_or, nat_lt, nat_le, map, length}
+use Rattle.std.specs.List.{list_any}
+use Rattle.office_values.specs.Ids.{same_id}
+use Rattle.office_acts.specs.Notices.{weight_of}
+use Rattle.office_acts.specs.declared.lot.NewLot.{NewLot}
+use Rattle.office_acts.specs.declared.notice.NewNotice.{NewNotice}
+use Rattle.office_values.specs.declared.refusal.Thing.TheVariants as things
+use Rattle.office_values.specs.declared.refusal.Refusal.{Refusal}
+use Rattle.office_values.specs.declared.refusal.Refusal.TheVariants.{NoSuch, Exists, DeadlinePassed, InsufficientFunds, LimitReached}
+use Rattle.office_base.specs.Sums.{sum_over}
+use Rattle.office_base.specs.Tables.{Tables, find_line, notice_at}
+use Rattle.office_base.specs.Joined.{free_in}
+use Rattle.office_base.specs.declared.records.LineRow.{LineRow}
+use Rattle.office_base.specs.declared.records.ClockRow.{ClockRow}
+use Rattle.office_base.specs.declared.records.NoticeRow.{NoticeRow}
+use Rattle.office_base.specs.declared.records.NoticeState.TheVariants.{Receiving}
+use Rattle.office_base.specs.declared.records.LotRow.{LotRow}
+use Rattle.office_base.specs.declared.records.LotState.TheVariants.{Undecided}
+use Rattle.office_base.specs.declared.puts.Put.TheVariants as puts
+use Rattle.office_base.specs.declared.puts.Put.{Put}
+use Rattle.tender_core.specs.declared.publish.PublishRows.{PublishRows}
+
+-- the most lots of a notice, and the most items of a lot
+abbrev pub lot_limit : ℕ
+lot_limit = 20
+
+abbrev pub item_limit : ℕ
+item_limit = 50
+
+-- what the lots want of a line: the estimates of those that are of it, added up
+abbrev pub wanted : List ℕ → List NewLot → ℕ
+wanted line lots = sum_over (λ (lot : NewLot). cond (same_id lot.line line) lot.estimate 0) lots
+
+-- the lot's line isn't held
+abbrev pub is_on_no_line : List LineRow → NewLot → Bool
+is_on_no_line lines lot = not (is_some (find_line lines lot.line))
+
+-- the lots want more of this one's line than is free on it
+abbrev pub is_short : List LineRow → List NewLot → NewLot → Bool
+is_short lines lots lot = nat_lt (free_in (find_line lines lot.line)) (wanted lot.line lots)
+
+abbrev pub has_too_many_items : NewLot → Bool
+has_too_many_items lot = nat_lt item_limit (length lot.items)
+
+-- when a publication is refused, in the order of the refusals; a new notice has no releases, so their limit isn't reached
+abbrev pub publish_tests : List LineRow → Bool → ℕ → NewNotice → List (Bool × Refusal)
+publish_tests lines exists t notice =
+    (list_any (is_on_no_line lines) notice.lots, NoSuch things.Line)
+    ∷ (exists, Exists)
+    ∷ (nat_le notice.deadline t, DeadlinePassed)
+    ∷ (list_any (is_short lines notice.lots) notice.lots, InsufficientFunds)
+    ∷ (nat_lt lot_limit (length notice.lots) || list_any has_too_many_items notice.lots, LimitReached)
+    ∷ []
+
+abbrev pub no_line : List ℕ → LineRow
+no_line line = record { line = line; title = []; appropriation = 0; free = 0 }
+
+abbrev pub line_found : List LineRow → List ℕ → LineRow
+line_found lines line = unwrap_or (find_line lines line) (no_line line)
+
+-- the line of a lot, with what all lots want of it no longer free
+abbrev pub line_row : List LineRow → List NewLot → NewLot → LineRow
+line_row lines lots lot = record (line_found lines lot.line) { line = lot.line; free = free_in (find_line lines lot.line) - wanted lot.line lots }
+
+abbrev pub line_put : List LineRow → List NewLot → NewLot → Put
+line_put lines lots lot = puts.Line (line_row lines lots lot)
+
+-- the lot, undecided, with its estimate reserved
+abbrev pub lot_row : List ℕ → NewLot → LotRow
+lot_row notice lot = record {
+  notice = notice;
+  lot = lot.id;
+  title = lot.title;
+  line = lot.line;
+  estimate = lot.estimate;
+  security = lot.security;
+  items = lot.items;
+  state = Undecided;
+  reserved = lot.estimate;
+}
+
+abbrev pub lot_put : List ℕ → NewLot → Put
+lot_put notice lot = puts.Lot (lot_row notice lot)
+
+-- the notice, open for tenders, with its first release
+abbrev pub notice_row : ℕ → List ℕ → NewNotice → NoticeRow
+notice_row t notice new = record {
+  notice = notice;
+  title = new.title;
+  published = t;
+  deadline = new.deadline;
+  validity = new.validity;
+  standstill = new.standstill;
+  weight = weight_of new.criteria;
+  state = Receiving;
+  opened = None;
+  amendments = 0;
+  releases = 1;
+}
+
+abbrev pub notice_put : ℕ → List ℕ → NewNotice → Put
+notice_put t notice new = puts.Notice (notice_row t notice new)
+
+-- what a publication puts: the lines of its lots, the lots, the notice and the clock
+abbrev pub publish_puts : ClockRow → ℕ → List ℕ → List LineRow → NewNotice → List Put
+publish_puts clock t notice lines new =
+    map (line_put lines new.lots) new.lots ++ map (lot_put notice) new.lots ++ (notice_put t notice new ∷ puts.Clock (record clock { moment = t }) ∷ [])
+
+-- the rows of an office that a publication looks at
+abbrev pub publish_rows : Tables → List ℕ → PublishRows
+publish_rows s notice = record { notice = notice_at notice s; lines = s.lines; clock = s.clock }

@@ -1,0 +1,27 @@
+-- The registration of a tenderer.
+use Rattle.std.specs.Prelude.{ℕ, Bool, ◌||◌, List, [], ◌∷◌, Option, is_some, codes}
+use Rattle.office_values.specs.Ids.{same_id}
+use Rattle.office_values.specs.declared.refusal.Refusal.{Refusal}
+use Rattle.office_values.specs.declared.refusal.Refusal.TheVariants.{Exists}
+use Rattle.office_base.specs.RuleParts.{clock_put}
+use Rattle.office_base.specs.declared.records.TendererRow.{TendererRow}
+use Rattle.office_base.specs.declared.records.ClockRow.{ClockRow}
+use Rattle.office_base.specs.declared.puts.Put.TheVariants as puts
+use Rattle.office_base.specs.declared.puts.Put.{Put}
+use Rattle.office_base.specs.Tables.{Tables, tenderer_at}
+use Rattle.tender_core.specs.declared.register.RegisterRows.{RegisterRows}
+
+-- the clerk's own name is taken
+abbrev pub clerk_id : List ℕ
+clerk_id = codes "clerk"
+
+abbrev pub register_tests : Option TendererRow → List ℕ → List (Bool × Refusal)
+register_tests held tenderer = (is_some held || same_id tenderer clerk_id, Exists) ∷ []
+
+abbrev pub register_puts : ClockRow → ℕ → List ℕ → List ℕ → List ℕ → List ℕ → List Put
+register_puts clock t tenderer name address key =
+    puts.Tenderer (record { tenderer = tenderer; name = name; address = address; key = key }) ∷ clock_put clock t ∷ []
+
+-- the rows of an office that a registration looks at
+abbrev pub register_rows : Tables → List ℕ → RegisterRows
+register_rows s tenderer = record { tenderer = tenderer_at tenderer s; clock = s.clock }

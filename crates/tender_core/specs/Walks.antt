@@ -1,0 +1,24 @@
+-- The lines that a budget file names, as they stand before it.
+use Rattle.std.specs.Prelude.{ℕ, ◌≤◌, List, Option, Some, None, All, IsSome}
+use Rattle.std.specs.List.{AllByRecursion}
+use Rattle.office_acts.specs.declared.budget.BudgetRow.{BudgetRow}
+use Rattle.office_base.specs.Standings.{find_standing}
+use Rattle.office_base.specs.declared.standing.Columns.{Columns}
+use Rattle.office_base.specs.declared.standing.Standing.{Standing}
+
+-- each row's line is among them
+abbrev pub AreNamed : List Standing → List BudgetRow → Type 0
+AreNamed m rows = All (λ (row : BudgetRow). IsSome (find_standing m row.line)) rows
+
+-- the columns are at most this
+abbrev pub IsAtMost : ℕ → Option Columns → Type 0
+IsAtMost n None = Unit {0}
+IsAtMost n (Some c) = (c.appropriation ≤ n) × (c.free ≤ n)
+
+abbrev pub AreAtMost : ℕ → List Standing → Type 0
+AreAtMost n m = AllByRecursion (λ (s : Standing). IsAtMost n s.columns) m
+
+-- the rows of a file, with the lines that they name
+pub record FileOnLines : Type 0 where
+  pub lines : List Standing
+  pub rows : List BudgetRow

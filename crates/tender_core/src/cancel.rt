@@ -1,0 +1,131 @@
+//! The decision on the cancellation of a notice.
+ghost use Rattle.std.specs.Prelude.{◌≡◌, ◌∷◌, ◌++◌, [], IfOk, IfErr, IfSome, IfNone, OnOk, Some, true};
+ghost use Rattle.std.specs.List.{list_any};
+ghost use Rattle.office_values.specs.declared.refusal.Refusal.TheVariants.{Unavailable};
+ghost use Rattle.office_base.specs.Deciding.{Decides};
+ghost use Rattle.office_base.specs.Rules.{first_of};
+ghost use Rattle.office_base.specs.RuleParts.{has_all_releases, clock_put};
+ghost use Rattle.office_base.specs.declared.puts.Put.TheVariants as puts;
+ghost use Rattle.tender_core.specs.Rules.Cancel.{is_open_lot, cancelled_notice, cancel_tests, cancel_puts};
+
+use crate::ended::{
+    is_open, push_awards, push_drops, push_envelopes, push_lines, push_lots, push_securities,
+};
+use office_base::counts::ReleaseCount;
+use office_base::parts::{at_moment, has_all_releases};
+use office_base::puts::Put;
+use office_base::records::{
+    AwardRow, ClockRow, EnvelopeRow, LineRow, LotRow, NoticeRow, NoticeState, SecurityRow,
+};
+use office_base::row::copy_of;
+use office_base::rows::Rows;
+use office_memory::table::Table;
+use office_values::moment::Moment;
+use office_values::refusal::{Refusal, Thing};
+use std::alloc::Global;
+
+/// The rows that a cancellation looks at: the notice, its lots with the lines of those that are open, its awards, its tenders and
+/// their securities, and the clock.
+#[derive(Drop)]
+pub struct CancelRows {
+    pub notice: Option<NoticeRow>,
+    pub lines: Table<LineRow>,
+    pub lots: Rows<LotRow>,
+    pub awards: Rows<AwardRow>,
+    pub envelopes: Rows<EnvelopeRow>,
+    pub securities: Rows<SecurityRow>,
+    pub clock: ClockRow,
+}
+
+// Whether a lot is still undecided or awarded.
+fn some_is_open(lots: &[LotRow]) -> bool
+    ensures { result ≡ list_any is_open_lot lots.now }
+{
+    lots.iter().any(|row| is_open(row))
+}
+
+// The first refusal whose condition holds.
+fn refusal_of(rows: &CancelRows) -> Option<Refusal>
+    ensures { result ≡ first_of (cancel_tests rows.now.notice rows.now.lots) }
+{
+    if rows.notice.is_none() {
+        return Some(Refusal::NoSuch(Thing::Notice));
+    }
+    if !some_is_open(rows.lots.as_slice()) {
+        return Some(Refusal::NothingToCancel);
+    }
+    if has_all_releases(&rows.notice) {
+        return Some(Refusal::LimitReached);
+    }
+    None
+}
+
+// The notice with one release more, cancelled where it was receiving tenders; None exactly where it has all that it can have.
+fn cancelled(notice: NoticeRow) -> Option<NoticeRow>
+    ensures found { IfSome result (λ row. row ≡ cancelled_notice notice) }
+    ensures none { IfNone result (has_all_releases (Some notice) ≡ true) }
+{
+    let releases = ReleaseCount::read(notice.releases.get() + 1)?;
+    let state = match notice.state {
+        NoticeState::Receiving => NoticeState::Cancelled,
+        NoticeState::Opened => NoticeState::Opened,
+        NoticeState::Cancelled => NoticeState::Cancelled,
+    };
+    Some(NoticeRow {
+        state,
+        releases,
+        ..notice
+    })
+}
+
+// The notice and the clock.
+fn push_notice(
+    made: &mut Vec<Put>,
+    t: Moment,
+    clock: ClockRow,
+    notice: &NoticeRow,
+) -> Result<(), Refusal>
+    ensures puts { OnOk result (made.new.items ≡ made.old.items ++ (puts.Notice (cancelled_notice notice.now) ∷ clock_put clock t ∷ [])) }
+    ensures fault { IfErr result (λ e. e ≡ Unavailable) }
+{
+    let row = cancelled(copy_of(notice)?).ok_or(Refusal::Unavailable)?;
+    made.push(Put::Notice(row))?;
+    made.push(Put::Clock(at_moment(clock, t)))?;
+    Ok(())
+}
+
+// The lines, the lots, their awards, their tenders and the securities of these, the notice and the clock.
+fn cancel_puts(
+    alloc: Global,
+    t: Moment,
+    rows: &CancelRows,
+    notice: &NoticeRow,
+) -> Result<Vec<Put>, Refusal>
+    ensures puts { IfOk result (λ made. made.items ≡ cancel_puts rows.now.clock t rows.now.lines (Some notice.now) rows.now.lots rows.now.awards rows.now.envelopes rows.now.securities) }
+    ensures fault { IfErr result (λ e. e ≡ Unavailable) }
+{
+    let lots = rows.lots.as_slice();
+    let mut made = Vec::new(alloc);
+    push_lines(&mut made, &rows.lines, lots)?;
+    push_lots(&mut made, lots)?;
+    push_awards(&mut made, lots, rows.awards.as_slice())?;
+    push_envelopes(&mut made, lots, rows.envelopes.as_slice())?;
+    push_drops(&mut made, lots, rows.envelopes.as_slice())?;
+    push_securities(&mut made, lots, rows.securities.as_slice())?;
+    push_notice(&mut made, t, rows.clock, notice)?;
+    Ok(made)
+}
+
+/// Decides the cancellation of a notice: its refusal, or what it puts. Of the lines, those of the lots that are open are looked at.
+#[tactic(auto, unfolding(office_base::specs::Deciding::Decides))]
+pub fn decide_cancel(alloc: Global, t: Moment, rows: CancelRows) -> Result<Vec<Put>, Refusal>
+    ensures { Decides result (first_of (cancel_tests rows.notice rows.lots)) (cancel_puts rows.clock t rows.lines rows.notice rows.lots rows.awards rows.envelopes rows.securities) }
+{
+    if let Some(why) = refusal_of(&rows) {
+        return Err(why);
+    }
+    match &rows.notice {
+        Some(notice) => cancel_puts(alloc, t, &rows, notice),
+        None => Err(Refusal::Unavailable),
+    }
+}

@@ -1,0 +1,17 @@
+//! The commands from the budget to the opening of tenders: their rules, and the decisions by them.
+#![tactic(auto)]
+
+pub mod amend_notice;
+pub mod budget_file;
+pub mod cancel;
+mod ended;
+pub mod import;
+pub mod laws;
+pub mod modify;
+pub mod opening;
+pub mod present;
+pub mod publish;
+mod receipts;
+pub mod register;
+mod tenders;
+pub mod withdraw;

@@ -1,0 +1,122 @@
+//! The decision on the opening of the tenders of a notice.
+ghost use Rattle.std.specs.Prelude.{◌≡◌, ◌++◌, IfSome, IfNone, IfErr, OnOk, Some, true, false, map, filter};
+ghost use Rattle.office_values.specs.declared.refusal.Refusal.TheVariants.{Unavailable};
+ghost use Rattle.office_base.specs.Deciding.{Decides};
+ghost use Rattle.office_base.specs.Rules.{first_of};
+ghost use Rattle.office_base.specs.RuleParts.{has_all_releases};
+ghost use Rattle.tender_core.specs.Rules.Open.{is_sealed_envelope, read_envelope, read_put, opened_notice, open_tests, opened_with};
+
+use office_base::counts::ReleaseCount;
+use office_base::parts::at_moment;
+use office_base::puts::Put;
+use office_base::reading::Reading;
+use office_base::records::{ClockRow, EnvelopeRow, EnvelopeState, NoticeRow, NoticeState};
+use office_base::rows::Rows;
+use office_values::moment::Moment;
+use office_values::refusal::{Refusal, Thing};
+use std::alloc::Global;
+
+/// A sealed tender, with what was read in it.
+#[derive(Drop)]
+pub struct OpenedTender {
+    pub envelope: EnvelopeRow,
+    pub reading: Reading,
+}
+
+/// The rows that an opening looks at, beside the sealed tenders: the notice, and the clock.
+#[derive(Drop)]
+pub struct OpenRows {
+    pub notice: Option<NoticeRow>,
+    pub clock: ClockRow,
+}
+
+/// The sealed ones of a notice's tenders, which alone are opened: none that came late, was withdrawn or was given back. Takes no
+/// memory.
+pub fn keep_sealed(envelopes: &mut Vec<EnvelopeRow>)
+    ensures { envelopes.new.items ≡ filter is_sealed_envelope envelopes.old.items }
+{
+    envelopes.retain(|row| row.state == EnvelopeState::Sealed);
+}
+
+// The tender, opened and read.
+fn read_envelope(tender: &OpenedTender) -> EnvelopeRow
+    ensures { result ≡ read_envelope tender.now }
+{
+    let envelope = &tender.envelope;
+    EnvelopeRow {
+        receipt: envelope.receipt,
+        notice: envelope.notice,
+        lot: envelope.lot,
+        tenderer: envelope.tenderer,
+        moment: envelope.moment,
+        length: envelope.length,
+        digest: envelope.digest,
+        security: envelope.security,
+        state: EnvelopeState::Opened,
+        reading: Some(tender.reading),
+        responsive: envelope.responsive,
+        quality: envelope.quality,
+        failed: envelope.failed,
+    }
+}
+
+// All tenders, opened and read.
+fn push_tenders(made: &mut Vec<Put>, tenders: &[OpenedTender]) -> Result<(), Refusal>
+    ensures puts { OnOk result (made.new.items ≡ made.old.items ++ map read_put tenders.now) }
+    ensures fault { IfErr result (λ e. e ≡ Unavailable) }
+{
+    for tender in tenders {
+        made.push(Put::Envelope(read_envelope(tender)))?;
+    }
+    Ok(())
+}
+
+// The notice, opened at this moment, with one release more; None exactly where it has all that it can have.
+fn opened(t: Moment, notice: NoticeRow) -> Option<NoticeRow>
+    ensures found { IfSome result (λ row. row ≡ opened_notice t notice) }
+    ensures few { IfSome result (λ _. has_all_releases (Some notice) ≡ false) }
+    ensures none { IfNone result (has_all_releases (Some notice) ≡ true) }
+{
+    let releases = ReleaseCount::read(notice.releases.get() + 1)?;
+    Some(NoticeRow {
+        state: NoticeState::Opened,
+        opened: Some(t),
+        releases,
+        ..notice
+    })
+}
+
+/// Decides the opening of the tenders of a notice: its refusal, or what it puts. The tenders are the sealed ones of the notice, each
+/// with what was read in it.
+#[tactic(auto, unfolding(office_base::specs::Deciding::Decides))]
+pub fn decide_open(
+    alloc: Global,
+    t: Moment,
+    rows: OpenRows,
+    tenders: Rows<OpenedTender>,
+) -> Result<Vec<Put>, Refusal>
+    ensures { Decides result (first_of (open_tests t rows.notice)) (opened_with rows.clock t rows.notice tenders) }
+{
+    let OpenRows { notice, clock } = rows;
+    let Some(row) = notice else {
+        return Err(Refusal::NoSuch(Thing::Notice));
+    };
+    if row.state == NoticeState::Cancelled {
+        return Err(Refusal::NotOpenForTenders);
+    }
+    if t.second() < row.deadline.second() {
+        return Err(Refusal::TooEarlyToOpen);
+    }
+    if row.state == NoticeState::Opened {
+        return Err(Refusal::AlreadyOpened);
+    }
+    let Some(row) = opened(t, row) else {
+        return Err(Refusal::LimitReached);
+    };
+    let mut made = Vec::new(alloc);
+    made.reserve(tenders.as_slice().len().saturating_add(2))?;
+    push_tenders(&mut made, tenders.as_slice())?;
+    made.push(Put::Notice(row))?;
+    made.push(Put::Clock(at_moment(clock, t)))?;
+    Ok(made)
+}

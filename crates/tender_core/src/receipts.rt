@@ -1,0 +1,38 @@
+//! Receipts, as they are given out.
+ghost use Rattle.std.specs.Prelude.{◌≡◌, ◌+◌, IfSome, IfNone, true, false, length};
+ghost use Rattle.office_base.specs.RuleParts.{has_all_receipts, receipt_clock};
+
+use office_acts::sealed::Sealed;
+use office_base::counts::TenderLength;
+use office_base::puts::Put;
+use office_base::records::ClockRow;
+use office_values::given::{GivenNumber, LastNumber};
+use office_values::moment::Moment;
+
+/// The number of the next receipt; None exactly where all are given out.
+pub fn next_receipt(clock: &ClockRow) -> Option<GivenNumber>
+    ensures found { IfSome result (λ receipt. receipt ≡ clock.now.receipts + 1) }
+    ensures few { IfSome result (λ _. has_all_receipts clock.now ≡ false) }
+    ensures none { IfNone result (has_all_receipts clock.now ≡ true) }
+{
+    GivenNumber::read(clock.receipts.get() + 1)
+}
+
+/// The clock at the moment of the tender that got this receipt.
+pub fn receipt_clock(clock: ClockRow, t: Moment, receipt: GivenNumber) -> Put
+    requires { receipt ≡ clock.receipts + 1 }
+    ensures { result ≡ receipt_clock clock t }
+{
+    Put::Clock(ClockRow {
+        moment: t,
+        receipts: LastNumber::read(receipt.get()).unwrap(),
+        awards: clock.awards,
+    })
+}
+
+/// How many bytes are sealed.
+pub fn length_of(sealed: &Sealed<'_>) -> TenderLength
+    ensures { result ≡ length sealed.now }
+{
+    TenderLength::read(sealed.as_slice().len() as u64).unwrap()
+}

@@ -1,0 +1,53 @@
+//! The decision on the registration of a tenderer.
+ghost use Rattle.std.specs.Prelude.{◌≡◌};
+ghost use Rattle.office_base.specs.Deciding.{Decides};
+ghost use Rattle.office_base.specs.Rules.{first_of};
+ghost use Rattle.tender_core.specs.Rules.Register.{register_tests, register_puts};
+
+use office_base::parts::at_moment;
+use office_base::puts::Put;
+use office_base::records::{ClockRow, TendererRow};
+use office_values::id::Id;
+use office_values::moment::Moment;
+use office_values::refusal::Refusal;
+use office_values::text::TextLine;
+use std::alloc::Global;
+
+/// The rows that a registration looks at: the tenderer of that identifier, and the clock.
+#[derive(Drop)]
+pub struct RegisterRows {
+    pub tenderer: Option<TendererRow>,
+    pub clock: ClockRow,
+}
+
+/// Decides the registration of a tenderer, with the SHA-256 of the tenderer's key: its refusal, or what it puts.
+#[tactic(auto, unfolding(office_base::specs::Deciding::Decides))]
+pub fn decide_register(
+    alloc: Global,
+    t: Moment,
+    rows: RegisterRows,
+    tenderer: Id,
+    name: TextLine,
+    address: TextLine,
+    key: [u8; 32],
+) -> Result<Vec<Put>, Refusal>
+    ensures { Decides result (first_of (register_tests rows.tenderer tenderer)) (register_puts rows.clock t tenderer name address key) }
+{
+    let RegisterRows {
+        tenderer: held,
+        clock,
+    } = rows;
+    // The clerk's own name is taken.
+    if held.is_some() || tenderer.as_bytes() == b"clerk".as_slice() {
+        return Err(Refusal::Exists);
+    }
+    let mut made = Vec::with_capacity(alloc, 2)?;
+    made.push(Put::Tenderer(TendererRow {
+        tenderer,
+        name,
+        address,
+        key,
+    }))?;
+    made.push(Put::Clock(at_moment(clock, t)))?;
+    Ok(made)
+}

@@ -1,0 +1,53 @@
+//! Tenders and their tenderers.
+ghost use Rattle.std.specs.Prelude.{◌≡◌};
+ghost use Rattle.office_acts.specs.Callers.{is_by};
+ghost use Rattle.office_base.specs.Rows.{holds_of};
+ghost use Rattle.office_base.specs.RuleParts.{is_in_time, is_past_deadline};
+ghost use Rattle.tender_core.specs.Rules.Modify.{withdrawn};
+
+use office_acts::command::Caller;
+use office_base::parts;
+use office_base::records::{EnvelopeRow, EnvelopeState, NoticeRow};
+use office_values::id::Id;
+use office_values::moment::Moment;
+
+/// Whether this tenderer calls.
+pub fn is_by(caller: &Caller, tenderer: &Id) -> bool
+    ensures { result ≡ is_by caller.now tenderer.now }
+{
+    match caller {
+        Caller::Public => false,
+        Caller::Clerk => false,
+        Caller::Tenderer(id) => *id == *tenderer,
+    }
+}
+
+/// Whether the notice is there and a tender that comes at this moment is in time.
+pub fn is_in_time(t: Moment, notice: &Option<NoticeRow>) -> bool
+    ensures { result ≡ holds_of (is_in_time t) notice.now }
+{
+    match notice {
+        Some(row) => parts::is_in_time(t, row),
+        None => false,
+    }
+}
+
+/// Whether the notice is there and it is too late to modify or withdraw a tender of it.
+pub fn is_past_deadline(t: Moment, notice: &Option<NoticeRow>) -> bool
+    ensures { result ≡ holds_of (is_past_deadline t) notice.now }
+{
+    match notice {
+        Some(row) => parts::is_past_deadline(t, row),
+        None => false,
+    }
+}
+
+/// The tender, taken back by its tenderer.
+pub fn withdrawn(envelope: EnvelopeRow) -> EnvelopeRow
+    ensures { result ≡ withdrawn envelope }
+{
+    EnvelopeRow {
+        state: EnvelopeState::Withdrawn,
+        ..envelope
+    }
+}

@@ -1,0 +1,16 @@
+use Rattle.std.proofs.Common.{refl}
+use Rattle.std.specs.Fmt.{digits}
+use Rattle.office_values.specs.Moments.{moment_text, month_after, year_after}
+use Rattle.tender_papers.proofs.examples.worked_printed_texts.Goals as goal
+
+pub returns-clause-ledger : goal.returns-clause-ledger
+unfolding digits moment_text month_after year_after
+returns-clause-ledger c = refl
+
+pub returns-clause-register : goal.returns-clause-register
+unfolding digits moment_text month_after year_after
+returns-clause-register c = refl
+
+pub returns-clause-minutes : goal.returns-clause-minutes
+unfolding digits moment_text month_after year_after
+returns-clause-minutes c = refl

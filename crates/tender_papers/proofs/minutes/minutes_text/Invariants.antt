@@ -1,0 +1,7 @@
+use Rattle.std.proofs.Common.{◌≡◌, ◌++◌, take}
+use Rattle.std.specs.List.{flat_map}
+use Rattle.tender_papers.specs.Minutes.{lot_lines, minutes_head}
+use Rattle.tender_papers.proofs.minutes.minutes_text.Given as goal
+
+abbrev pub invariant-loop-lot : goal.invariant-loop-lot
+invariant-loop-lot l = l.lines ≡ minutes_head l.fn.notice l.fn.opened ++ flat_map (lot_lines l.tenders) (take l.lot-index l.lots)

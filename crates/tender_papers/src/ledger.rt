@@ -1,0 +1,52 @@
+//! The ledger of an office.
+ghost use Rattle.std.specs.Prelude.{◌≡◌, ◌++◌, IfOk};
+ghost use Rattle.tender_papers.specs.Ledger.{ledger_columns, ledger_line, ledger_text};
+ghost use Rattle.tender_papers.specs.Lines.{line};
+
+use crate::lines::Lines;
+use office_base::ledger::LedgerRow;
+use office_values::text::Bytes;
+use std::alloc::{AllocError, Global};
+
+// As much as the head takes at most, and a row.
+const HEAD_ROOM: usize = 64;
+
+const ROW_ROOM: usize = 128;
+
+// The names of the columns, behind what is there.
+fn put_columns(lines: &mut Lines) -> Result<(), AllocError>
+    ensures { IfOk result (λ _. lines.new ≡ lines.old ++ line ledger_columns) }
+{
+    lines.field(b"line")?;
+    lines.field(b"appropriation")?;
+    lines.field(b"free")?;
+    lines.field(b"reserved")?;
+    lines.field(b"contracted")?;
+    lines.last(b"paid")
+}
+
+// The line of a budget line, behind what is there.
+fn put_line(lines: &mut Lines, row: &LedgerRow) -> Result<(), AllocError>
+    ensures { IfOk result (λ _. lines.new ≡ lines.old ++ ledger_line row.now) }
+{
+    lines.field(row.line.as_bytes())?;
+    lines.number(row.pots.appropriation.units())?;
+    lines.number(row.pots.free.units())?;
+    lines.number(row.pots.reserved.units())?;
+    lines.number(row.pots.contracted.units())?;
+    lines.last_number(row.pots.paid.units())
+}
+
+/// The text of a ledger: a line that names it, one of the columns, and one for each of these budget lines, in their order. A tab stands
+/// between two fields, and a line feed behind each line.
+pub fn ledger_text(alloc: Global, rows: &[LedgerRow]) -> Result<Bytes, AllocError>
+    ensures { IfOk result (λ text. text ≡ ledger_text rows.now) }
+{
+    let mut lines = Lines::with_room(alloc, HEAD_ROOM, rows.len(), ROW_ROOM)?;
+    lines.last(b"LEDGER")?;
+    put_columns(&mut lines)?;
+    for row in rows {
+        put_line(&mut lines, row)?;
+    }
+    Ok(lines.into_bytes())
+}

@@ -1,0 +1,138 @@
+//! Budget files that are taken in.
+ghost use Rattle.std.specs.Prelude.{◌≡◌, ◌∷◌, [], IfSome, IsSome};
+ghost use Rattle.office_values.specs.Money.{total_limit};
+ghost use Rattle.office_base.specs.Standings.{find_standing};
+ghost use Rattle.tender_core.specs.Walks.{IsAtMost, AreAtMost};
+
+use crate::answers::{Case, answers};
+use crate::rows;
+use office_acts::budget::{BudgetKind, BudgetRow, BudgetRows};
+use office_base::laws::rows_are_kept;
+use office_base::puts::Put;
+use office_base::standing::{Columns, Standing};
+use office_memory::table::Table;
+use office_values::id::Id;
+use office_values::money::Total;
+use office_values::refusal::Refusal;
+use std::alloc::Global;
+use tender_core::budget_file::BudgetFile;
+use tender_core::import::{ImportRows, decide_import};
+
+// A line, with this sum appropriated and free where it is held.
+fn standing(line: Id, held: Option<Total>) -> Standing
+    ensures line { result.line ≡ line }
+    ensures fits { IsAtMost total_limit result.columns }
+{
+    let columns = match held {
+        Some(sum) => Some(Columns {
+            appropriation: sum.units() as u128,
+            free: sum.units() as u128,
+        }),
+        None => None,
+    };
+    Standing { line, columns }
+}
+
+#[tactic(auto, unfolding(office_base::specs::Rows::row_put))]
+fn lines(alloc: Global, standing: Standing) -> Option<Table<Standing>>
+    requires fits { IsAtMost total_limit standing.columns }
+    ensures there { IfSome result (λ lines. IsSome (find_standing lines standing.line)) }
+    ensures fit { IfSome result (λ lines. AreAtMost total_limit lines) }
+{
+    rows_are_kept::<Standing>();
+    let mut lines = Table::new(alloc);
+    lines.put(standing).ok()?;
+    Some(lines)
+}
+
+fn row(alloc: Global, line: Id, kind: BudgetKind, units: u64) -> Option<BudgetRow>
+    ensures line { IfSome result (λ row. row.line ≡ line) }
+{
+    let amount = Total::read(units)?;
+    if amount.units() == 0 {
+        return None;
+    }
+    Some(BudgetRow {
+        line,
+        kind,
+        amount,
+        title: rows::text(alloc, "Roads")?,
+    })
+}
+
+fn both(alloc: Global, first: BudgetRow, second: BudgetRow) -> Option<BudgetRows>
+    ensures rows { IfSome result (λ rows. rows ≡ first ∷ second ∷ []) }
+{
+    let mut rows = Vec::new(alloc);
+    rows.push(first).ok()?;
+    rows.push(second).ok()?;
+    Some(BudgetRows::from_vec(rows))
+}
+
+// A file of two rows of the line 1000.
+fn file(alloc: Global, import: &Import) -> Option<BudgetFile> {
+    let line = rows::id("1000")?;
+    let lines = lines(
+        alloc,
+        standing(line, import.held.and_then(|units| Total::read(units))),
+    )?;
+    let first = row(alloc, line, import.first.0, import.first.1)?;
+    let second = row(alloc, line, import.second.0, import.second.1)?;
+    Some(BudgetFile::of(lines, both(alloc, first, second)?))
+}
+
+// The import of two rows of a line with this sum, appropriated and free, where it is held.
+#[derive(Clone, Copy)]
+struct Import {
+    held: Option<u64>,
+    first: (BudgetKind, u64),
+    second: (BudgetKind, u64),
+}
+
+impl Case for Import {
+    fn decide(&self, alloc: Global) -> Option<Result<Vec<Put>, Refusal>> {
+        let (t, batch, clock) = (rows::at(8)?, rows::id("B1")?, rows::clock(1, 0)?);
+        let rows = ImportRows {
+            batch: None,
+            file: file(alloc, self)?,
+            clock,
+        };
+        Some(decide_import(alloc, t, rows, batch))
+    }
+}
+
+#[test]
+fn rows_of_a_file_are_taken_in_order(rt: HostRuntime) {
+    let alloc = rt.alloc();
+    let case = Import {
+        held: Some(900),
+        first: (BudgetKind::Add, 100),
+        second: (BudgetKind::Cut, 1000),
+    };
+    let wanted = "line 1000 Roads 0 0;line 1000 Roads 0 0;batch B1 8 2;clock 8 1 0;";
+    answers(&rt, alloc, &case, wanted);
+    let case = Import {
+        held: Some(900),
+        first: (BudgetKind::Cut, 901),
+        second: (BudgetKind::Add, 100),
+    };
+    answers(&rt, alloc, &case, "InsufficientFunds");
+}
+
+#[test]
+fn lines_come_to_be_held_by_a_file(rt: HostRuntime) {
+    let alloc = rt.alloc();
+    let case = Import {
+        held: None,
+        first: (BudgetKind::Add, 100),
+        second: (BudgetKind::Cut, 40),
+    };
+    let wanted = "line 1000 Roads 60 60;line 1000 Roads 60 60;batch B1 8 2;clock 8 1 0;";
+    answers(&rt, alloc, &case, wanted);
+    let case = Import {
+        held: None,
+        first: (BudgetKind::Cut, 40),
+        second: (BudgetKind::Add, 100),
+    };
+    answers(&rt, alloc, &case, "NoSuch line");
+}
