@@ -1,0 +1,10 @@
+pub mod MomentReads
+pub mod FormSteps
+pub mod FieldSteps
+pub mod ParameterSteps
+pub mod ElementSteps
+pub mod BodySteps
+pub mod SegmentSteps
+pub mod RouteSteps
+pub mod OnLiterals
+pub mod WorkedRequests

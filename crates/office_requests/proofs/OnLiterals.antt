@@ -1,0 +1,60 @@
+-- What a proof unfolds to compute what a request asks, on a literal.
+use Rattle.std.specs.Prelude.{⊤}
+use Rattle.std.specs.Str.{is_utf8, chars}
+use lib.Utf8.{encode}
+use Rattle.csv.proofs.OnLiterals.{csv_on_literals}
+use Rattle.form_urlencoded.proofs.OnLiterals.{form_urlencoded_on_literals}
+use Rattle.hex.proofs.OnLiterals.{hex_on_literals}
+use Rattle.matchit.proofs.OnLiterals.{matchit_on_literals}
+use Rattle.serde_json.proofs.OnLiterals.{serde_json_on_literals}
+use Rattle.office_values.specs.Fields.{is_id, is_text_line}
+use Rattle.office_values.specs.Moments.{moment_text, year_after, month_after}
+use Rattle.tender_papers.specs.Budget.{rows_from}
+use Rattle.office_requests.specs.Paths.{segment}
+use Rattle.office_requests.specs.Moments.{moment_of, second_named, days_to_year, days_to_month}
+use Rattle.office_requests.specs.Forms.{id_of, line_of, within, amount_of, digest_of, change_of, ending_of, basis_of}
+use Rattle.office_requests.specs.Fields.{text_at, flag_at, number_at, needed, perhaps_number_in, absent_in}
+use Rattle.office_requests.specs.Bodies.{object_of, registration_in, notice_amendment_in, cancellation_in, examination_in, contract_amendment_in, payment_in, ending_in, sealed_in}
+use Rattle.office_requests.specs.Publications.{each_of, array_at, elements_at, item_of, items_of, lot_of, lots_in, criteria_with, criteria_in, notice_in}
+use Rattle.office_requests.specs.Parameters.{given_from, security_in}
+use Rattle.office_requests.specs.Asking.{named_command, lot_command, numbered_command, command_at, query_at, asked_by}
+
+-- what a text or a number writes
+unfoldable pub forms_on_literals : ⊤
+unfolding hex_on_literals is_utf8 chars encode is_id is_text_line id_of line_of within amount_of digest_of change_of ending_of basis_of
+forms_on_literals = tt
+
+-- the moment that a text writes
+unfoldable pub moments_on_literals : ⊤
+unfolding moment_text year_after month_after moment_of second_named days_to_year days_to_month
+moments_on_literals = tt
+
+-- what a path asks
+unfoldable pub paths_on_literals : ⊤
+unfolding forms_on_literals matchit_on_literals segment
+paths_on_literals = tt
+
+-- what a field of a body says
+unfoldable pub fields_on_literals : ⊤
+unfolding forms_on_literals moments_on_literals serde_json_on_literals text_at flag_at number_at needed perhaps_number_in absent_in object_of
+fields_on_literals = tt
+
+-- what a publication says
+unfoldable pub publications_on_literals : ⊤
+unfolding fields_on_literals each_of array_at elements_at item_of items_of lot_of lots_in criteria_with criteria_in notice_in
+publications_on_literals = tt
+
+-- what another body says
+unfoldable pub bodies_on_literals : ⊤
+unfolding fields_on_literals csv_on_literals rows_from registration_in notice_amendment_in cancellation_in examination_in contract_amendment_in payment_in ending_in
+bodies_on_literals = tt
+
+-- what a tender is
+unfoldable pub tenders_on_literals : ⊤
+unfolding form_urlencoded_on_literals given_from security_in sealed_in
+tenders_on_literals = tt
+
+-- what is asked
+unfoldable pub requests_on_literals : ⊤
+unfolding paths_on_literals publications_on_literals bodies_on_literals tenders_on_literals named_command lot_command numbered_command command_at query_at asked_by
+requests_on_literals = tt

@@ -1,0 +1,90 @@
+-- Requests whose meaning is known, computed.
+use Rattle.std.proofs.Common.{refl}
+use Rattle.office_requests.proofs.OnLiterals.{requests_on_literals}
+use Rattle.office_requests.specs.WorkedRequests.{RoutesAreTaken, PathsAreRefused, BodiesAreRefused, PublicationsAreRefused, TendersAreRefused}
+
+pub routes : RoutesAreTaken
+unfolding requests_on_literals
+routes = record {
+  imports = refl;
+  registers = refl;
+  publishes = refl;
+  amends = refl;
+  cancels = refl;
+  opens = refl;
+  presents = refl;
+  presents_alone = refl;
+  modifies = refl;
+  withdraws = refl;
+  examines = refl;
+  awards = refl;
+  fails = refl;
+  signs = refl;
+  amends_contracts = refl;
+  pays = refl;
+  ends = refl;
+  sees_lines = refl;
+  sees_the_ledger = refl;
+  sees_minutes = refl;
+  sees_registers = refl;
+  sees_releases = refl;
+  sees_records = refl;
+  sees_tenders = refl;
+  sees_securities = refl;
+}
+
+pub paths : PathsAreRefused
+unfolding requests_on_literals
+paths = record {
+  no_path = refl;
+  slash_behind = refl;
+  no_percent = refl;
+  leading_zero = refl;
+  zero_number = refl;
+  eleven_digits = refl;
+  not_posted = refl;
+  not_got = refl;
+  rights_first = refl;
+}
+
+pub bodies : BodiesAreRefused
+unfolding requests_on_literals
+bodies = record {
+  bad_row = refl;
+  empty_body = refl;
+  no_object = refl;
+  no_text = refl;
+  no_title = refl;
+  no_day = refl;
+  last_stays = refl;
+  short_key = refl;
+  null_quality = refl;
+  too_much_quality = refl;
+  no_change = refl;
+  nothing_paid = refl;
+  with_a_point = refl;
+  no_ending = refl;
+}
+
+pub publications : PublicationsAreRefused
+unfolding requests_on_literals
+publications = record {
+  weight_missing = refl;
+  weight_with_price = refl;
+  no_lots = refl;
+  no_items = refl;
+  wrong_item = refl;
+  same_items = refl;
+  same_lots = refl;
+}
+
+pub tenders : TendersAreRefused
+unfolding requests_on_literals
+tenders = record {
+  no_amount = refl;
+  no_security = refl;
+  wrong_alone = refl;
+  two_securities = refl;
+  two_amounts = refl;
+  nothing_sealed = refl;
+}

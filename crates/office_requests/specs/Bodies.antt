@@ -1,0 +1,81 @@
+-- The bodies of requests, as commands: the fields are read in their order, and the first that is missing or wrong is named.
+use Rattle.std.specs.Prelude.{ℕ, ◌^◌, List, length, if◌then◌else◌, Option, None, is_some, Result, Ok, Err}
+use Rattle.std.specs.Option.{option_map_or}
+use Rattle.std.specs.Str.{is_utf8}
+use Rattle.serde_json.specs.Data.{Data}
+use Rattle.serde_json.specs.Find.{as_object}
+use Rattle.serde_json.specs.Read.{read}
+use Rattle.office_values.specs.declared.refusal.BadPart.TheVariants.{Body, Row}
+use Rattle.office_values.specs.declared.refusal.Field.TheVariants as fields
+use Rattle.office_values.specs.declared.refusal.Refusal.{Refusal}
+use Rattle.office_values.specs.declared.refusal.Refusal.TheVariants.{BadBody}
+use Rattle.office_acts.specs.declared.budget.BudgetRow.{BudgetRow}
+use Rattle.office_acts.specs.declared.commands.Command.{Command}
+use Rattle.office_acts.specs.declared.commands.Command.TheVariants as commands
+use Rattle.office_requests.specs.Forms.{id_of, digest_of, change_of, ending_of, is_between}
+use Rattle.office_requests.specs.Moments.{moment_of}
+use Rattle.office_requests.specs.Fields.{◌>>=◌, text_in, line_in, flag_in, number_in, perhaps_number_in}
+
+-- the JSON value that a body is; nothing that is not UTF-8 is one
+abbrev pub json_of : List ℕ → Option Data
+json_of body = if is_utf8 body then read body else None
+
+-- a value that is an object
+abbrev pub object_if : Data → Result Data Refusal
+object_if value = if is_some (as_object value) then Ok value else Err (BadBody Body)
+
+-- the JSON object that a body is
+unfoldable pub object_of : List ℕ → Result Data Refusal
+object_of body = option_map_or object_if (json_of body) (Err (BadBody Body))
+
+-- the import of a budget file's rows, or its first faulty record
+abbrev pub import_of : List ℕ → Result (List BudgetRow) ℕ → Result Command Refusal
+import_of batch (Ok rows) = Ok (commands.Import batch rows)
+import_of batch (Err number) = Err (BadBody (Row number))
+
+unfoldable pub registration_in : List ℕ → Data → Result Command Refusal
+registration_in tenderer body = do
+  name ← line_in fields.Name body
+  address ← line_in fields.Address body
+  key ← text_in digest_of fields.Key body
+  Ok (commands.Register tenderer name address key)
+
+unfoldable pub notice_amendment_in : List ℕ → Data → Result Command Refusal
+notice_amendment_in notice body = do
+  deadline ← text_in moment_of fields.Deadline body
+  rationale ← line_in fields.Rationale body
+  Ok (commands.AmendNotice notice deadline rationale)
+
+unfoldable pub cancellation_in : List ℕ → Data → Result Command Refusal
+cancellation_in notice body = do
+  rationale ← line_in fields.Rationale body
+  Ok (commands.Cancel notice rationale)
+
+unfoldable pub examination_in : ℕ → Data → Result Command Refusal
+examination_in receipt body = do
+  responsive ← flag_in fields.Responsive body
+  quality ← perhaps_number_in 0 100 fields.Quality body
+  Ok (commands.Examine receipt responsive quality)
+
+unfoldable pub contract_amendment_in : ℕ → Data → Result Command Refusal
+contract_amendment_in contract body = do
+  entry ← text_in id_of fields.Id body
+  kind ← text_in change_of fields.Kind body
+  amount ← number_in 1 (10 ^ 12) fields.Amount body
+  rationale ← line_in fields.Rationale body
+  Ok (commands.AmendContract contract entry kind amount rationale)
+
+unfoldable pub payment_in : ℕ → Data → Result Command Refusal
+payment_in contract body = do
+  entry ← text_in id_of fields.Id body
+  amount ← number_in 1 (10 ^ 12) fields.Amount body
+  Ok (commands.Pay contract entry amount)
+
+unfoldable pub ending_in : ℕ → Data → Result Command Refusal
+ending_in contract body = do
+  how ← text_in ending_of fields.How body
+  Ok (commands.End contract how)
+
+-- the sealed bytes that a body is: 1 to 32,768
+unfoldable pub sealed_in : List ℕ → Result (List ℕ) Refusal
+sealed_in body = if is_between 1 32768 (length body) then Ok body else Err (BadBody Body)

@@ -1,0 +1,57 @@
+-- The fields of a JSON body: a value, or the refusal that names the field. Members of other names say nothing.
+use Rattle.std.specs.Prelude.{ℕ, Bool, is_some, List, Option, Some, None, option_and_then, Result, Ok, Err, if◌then◌else◌, ⊤}
+use Rattle.serde_json.specs.Data.{Data}
+use Rattle.serde_json.specs.Find.{get, as_bool, as_number, as_str, as_u64}
+use Rattle.office_values.specs.Refusals.{field_name}
+use Rattle.office_values.specs.declared.refusal.BadPart.TheVariants as parts
+use Rattle.office_values.specs.declared.refusal.Field.{Field}
+use Rattle.office_values.specs.declared.refusal.Refusal.{Refusal}
+use Rattle.office_values.specs.declared.refusal.Refusal.TheVariants.{BadBody}
+use Rattle.office_requests.specs.Forms.{line_of, within}
+
+-- a step, and where it gives a value the next one
+infixl 10 ◌>>=◌
+abbrev pub ◌>>=◌ : {A B : Type 0} → Result A Refusal → (A → Result B Refusal) → Result B Refusal
+Ok value >>= next = next value
+Err why >>= next = Err why
+
+-- a member that is a text of this form
+unfoldable pub text_at : {A : Type 0} → (List ℕ → Option A) → List ℕ → Data → Option A
+text_at form name body = option_and_then form (option_and_then as_str (get name body))
+
+-- a member that is true or false
+unfoldable pub flag_at : List ℕ → Data → Option Bool
+flag_at name body = option_and_then as_bool (get name body)
+
+-- a member that is a number from `low` to `high`, written without sign, point and exponent
+unfoldable pub number_at : ℕ → ℕ → List ℕ → Data → Option ℕ
+number_at low high name body = option_and_then (within low high) (option_and_then as_u64 (option_and_then as_number (get name body)))
+
+-- a field that is missing or wrong is named
+unfoldable pub needed : {A : Type 0} → Field → Option A → Result A Refusal
+needed field (Some value) = Ok value
+needed field None = Err (BadBody (parts.Field field))
+
+-- whether the body has the field, be it right or wrong
+abbrev pub has : Field → Data → Bool
+has field body = is_some (get (field_name field) body)
+
+abbrev pub text_in : {A : Type 0} → (List ℕ → Option A) → Field → Data → Result A Refusal
+text_in form field body = needed field (text_at form (field_name field) body)
+
+abbrev pub line_in : Field → Data → Result (List ℕ) Refusal
+line_in field body = text_in line_of field body
+
+abbrev pub flag_in : Field → Data → Result Bool Refusal
+flag_in field body = needed field (flag_at (field_name field) body)
+
+abbrev pub number_in : ℕ → ℕ → Field → Data → Result ℕ Refusal
+number_in low high field body = needed field (number_at low high (field_name field) body)
+
+-- a number that may be absent
+unfoldable pub perhaps_number_in : ℕ → ℕ → Field → Data → Result (Option ℕ) Refusal
+perhaps_number_in low high field body = if has field body then (number_in low high field body >>= λ number. Ok (Some number)) else Ok None
+
+-- a field that must be absent
+unfoldable pub absent_in : Field → Data → Result ⊤ Refusal
+absent_in field body = if has field body then Err (BadBody (parts.Field field)) else Ok tt

@@ -1,0 +1,11 @@
+pub mod Paths
+pub mod Moments
+pub mod Forms
+pub mod Routing
+pub mod Fields
+pub mod Bodies
+pub mod Publications
+pub mod Parameters
+pub mod Asking
+pub mod WorkedRequests
+pub mod Inside

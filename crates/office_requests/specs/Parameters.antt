@@ -1,0 +1,68 @@
+-- What the query of a target says: the security that is named with a tender.
+use Rattle.std.specs.Prelude.{ℕ, Bool, true, false, ◌&&◌, nat_eq, List, [], ◌∷◌, codes, if◌then◌else◌, Option, Some, None, Result, Ok}
+use Rattle.std.specs.Str.{is_utf8}
+use Rattle.std.specs.Str.Lossy.{utf8_lossy}
+use Rattle.std.specs.Cmp.Lexicographic.{pointwise}
+use Rattle.form_urlencoded.specs.Form as form
+use Rattle.office_values.specs.declared.refusal.Field.TheVariants as fields
+use Rattle.office_values.specs.declared.refusal.Refusal.{Refusal}
+use Rattle.office_acts.specs.declared.tender.NamedSecurity.{NamedSecurity}
+use Rattle.office_requests.specs.Forms.{id_of, amount_of}
+use Rattle.office_requests.specs.Fields.{◌>>=◌, needed}
+use Rattle.office_requests.specs.Paths.{behind}
+use Rattle.office_requests.specs.declared.parameters.Given.{Given}
+use Rattle.office_requests.specs.declared.parameters.Given.TheVariants.{Absent, Wrong, Right}
+
+-- the query of a target: what stands behind the first question mark (RFC 3986, section 3.4)
+abbrev pub query_of : List ℕ → List ℕ
+query_of target = behind 63 target
+
+-- what stands there as text: what is no UTF-8 becomes U+FFFD
+abbrev pub decoded : List ℕ → List ℕ
+decoded bytes = if is_utf8 (form.decode bytes) then form.decode bytes else utf8_lossy (form.decode bytes)
+
+-- a pair's name and value as text
+abbrev pub pair_text : List ℕ × List ℕ → List ℕ × List ℕ
+pair_text pair = (decoded pair.0, decoded pair.1)
+
+-- one more value: the first is what it reads as, a second makes the parameter wrong
+abbrev pub with_value : {A : Type 0} → Given A → Option A → Given A
+with_value Absent (Some value) = Right value
+with_value Absent None = Wrong
+with_value Wrong value = Wrong
+with_value (Right other) value = Wrong
+
+-- one more pair, which may have the name
+abbrev pub with_pair : {A : Type 0} → (List ℕ → Option A) → List ℕ → Given A → List ℕ × List ℕ → Given A
+with_pair read name given pair = if pointwise nat_eq pair.0 name then with_value given (read pair.1) else given
+
+-- what the pairs give for a name, behind what was given before
+unfoldable pub given_from : {A : Type 0} → (List ℕ → Option A) → List ℕ → Given A → List (List ℕ × List ℕ) → Given A
+given_from read name given [] = given
+given_from read name given (pair ∷ pairs) = given_from read name (with_pair read name given (pair_text pair)) pairs
+
+-- what a query gives for a name
+abbrev pub given_in : {A : Type 0} → (List ℕ → Option A) → List ℕ → List ℕ → Given A
+given_in read name query = given_from read name Absent (form.raw_pairs query)
+
+abbrev pub is_absent : {A : Type 0} → Given A → Bool
+is_absent Absent = true
+is_absent Wrong = false
+is_absent (Right value) = false
+
+abbrev pub right : {A : Type 0} → Given A → Option A
+right Absent = None
+right Wrong = None
+right (Right value) = Some value
+
+-- a security and its amount: both or neither
+abbrev pub security_with : Given (List ℕ) → Given ℕ → Result (Option NamedSecurity) Refusal
+security_with security amount =
+    if is_absent security && is_absent amount then Ok None
+    else do
+      reference ← needed fields.Security (right security)
+      worth ← needed fields.Amount (right amount)
+      Ok (Some (record { reference = reference; amount = worth }))
+
+unfoldable pub security_in : List ℕ → Result (Option NamedSecurity) Refusal
+security_in query = security_with (given_in id_of (codes "security") query) (given_in amount_of (codes "amount") query)

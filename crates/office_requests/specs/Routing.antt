@@ -1,0 +1,117 @@
+-- Which route a request takes.
+use Rattle.std.specs.Prelude.{ℕ, Bool, ◌==◌, ◌&&◌, not, nat_le, List, [], ◌∷◌, length, slice_index, codes, Option, Some, None, option_map, option_and_then, Result, Ok, Err, if◌then◌else◌, nat_eq}
+use Rattle.std.specs.Str.{is_utf8}
+use Rattle.std.specs.Cmp.Lexicographic.{pointwise}
+use Rattle.matchit.specs.Rows.{RowsOf}
+use Rattle.matchit.specs.Order.{placed}
+use Rattle.matchit.specs.Route.{Scan, parse_route}
+use Rattle.matchit.specs.Router.{RouteOf, route_from}
+use Rattle.matchit.specs.Seek.{first}
+use Rattle.matchit.specs.declared.error.InsertError.{InsertError}
+use Rattle.office_values.specs.Numbers.{number_of}
+use Rattle.office_acts.specs.declared.command.CommandKind.TheVariants as commands
+use Rattle.office_acts.specs.declared.command.QueryKind.TheVariants as queries
+use Rattle.office_values.specs.declared.refusal.Refusal.{Refusal}
+use Rattle.office_values.specs.declared.refusal.Refusal.TheVariants.{NoRoute, WrongMethod}
+use Rattle.office_requests.specs.Forms.{id_of, within}
+use Rattle.office_requests.specs.Paths.{path_of, segment}
+use Rattle.office_requests.specs.declared.route.Allow.{Allow}
+use Rattle.office_requests.specs.declared.route.Allow.TheVariants.{Get, Post}
+use Rattle.office_requests.specs.declared.route.Endpoint.{Endpoint}
+use Rattle.office_requests.specs.declared.route.Endpoint.TheVariants.{Commands, Queries}
+use Rattle.office_requests.specs.declared.route.Place.{Place}
+use Rattle.office_requests.specs.declared.route.Place.TheVariants.{Nowhere, Named, Within, Numbered}
+use Rattle.office_requests.specs.declared.route.Route.{Route}
+use Rattle.office_requests.specs.declared.route.Shape.{Shape}
+use Rattle.office_requests.specs.declared.route.Shape.TheVariants.{Plain, OneId, TwoIds, Number}
+
+-- the patterns of paths, what is asked there, and the parameters that a pattern has
+abbrev pub route_table : List (List ℕ × (Endpoint × Shape))
+route_table =
+    (codes "/budget/{batch}", (Commands commands.Import, OneId))
+    ∷ (codes "/tenderers/{id}", (Commands commands.Register, OneId))
+    ∷ (codes "/notices/{n}", (Commands commands.Publish, OneId))
+    ∷ (codes "/notices/{n}/amend", (Commands commands.AmendNotice, OneId))
+    ∷ (codes "/notices/{n}/cancel", (Commands commands.Cancel, OneId))
+    ∷ (codes "/notices/{n}/open", (Commands commands.Open, OneId))
+    ∷ (codes "/notices/{n}/lots/{l}/tenders", (Commands commands.Present, TwoIds))
+    ∷ (codes "/tenders/{r}/modify", (Commands commands.Modify, Number))
+    ∷ (codes "/tenders/{r}/withdraw", (Commands commands.Withdraw, Number))
+    ∷ (codes "/tenders/{r}/examine", (Commands commands.Examine, Number))
+    ∷ (codes "/notices/{n}/lots/{l}/award", (Commands commands.Award, TwoIds))
+    ∷ (codes "/awards/{a}/fail", (Commands commands.Fail, Number))
+    ∷ (codes "/awards/{a}/sign", (Commands commands.Sign, Number))
+    ∷ (codes "/contracts/{c}/amend", (Commands commands.AmendContract, Number))
+    ∷ (codes "/contracts/{c}/pay", (Commands commands.Pay, Number))
+    ∷ (codes "/contracts/{c}/end", (Commands commands.End, Number))
+    ∷ (codes "/lines/{b}", (Queries queries.Line, OneId))
+    ∷ (codes "/ledger", (Queries queries.Ledger, Plain))
+    ∷ (codes "/notices/{n}/minutes", (Queries queries.Minutes, OneId))
+    ∷ (codes "/notices/{n}/register", (Queries queries.Register, OneId))
+    ∷ (codes "/notices/{n}/releases", (Queries queries.Releases, OneId))
+    ∷ (codes "/notices/{n}/record", (Queries queries.Record, OneId))
+    ∷ (codes "/tenders/{r}", (Queries queries.Tender, Number))
+    ∷ (codes "/securities/{s}", (Queries queries.Security, Number))
+    ∷ []
+
+-- the rows of a router with one more pattern, if its text is one
+abbrev pub with_pattern : Result Scan InsertError → Endpoint × Shape → RowsOf (RouteOf (Endpoint × Shape)) → RowsOf (RouteOf (Endpoint × Shape))
+with_pattern (Ok s) asked rows = placed (s.pattern, route_from s asked) rows
+with_pattern (Err e) asked rows = rows
+
+-- the rows after these patterns are inserted, in their order
+abbrev pub inserted : List (List ℕ × (Endpoint × Shape)) → RowsOf (RouteOf (Endpoint × Shape)) → RowsOf (RouteOf (Endpoint × Shape))
+inserted [] rows = rows
+inserted (r ∷ rs) rows = inserted rs (with_pattern (parse_route r.0) r.1 rows)
+
+-- what is asked at a path, and the parameters of the pattern that it matches
+abbrev pub asked_at : List ℕ → Option (Endpoint × Shape)
+asked_at path = option_map (λ r. r.value) (first (inserted route_table []) path)
+
+-- the identifier that stands in a segment of a path
+abbrev pub id_in : ℕ → List ℕ → Option (List ℕ)
+id_in number path = id_of (segment number path)
+
+-- whether a text begins with another byte than 0
+abbrev pub is_unpadded : List ℕ → Bool
+is_unpadded text = nat_le 1 (length text) && not (slice_index text 0 == 48)
+
+-- the number that stands in a segment of a path: 1 to 10 digits, the first not 0
+abbrev pub number_in : ℕ → List ℕ → Option ℕ
+number_in number path =
+    if is_unpadded (segment number path) then option_and_then (within 1 9999999999) (number_of (segment number path)) else None
+
+-- the parameters of a path
+abbrev pub place_at : Shape → List ℕ → Option Place
+place_at Plain path = Some Nowhere
+place_at OneId path = option_map Named (id_in 2 path)
+place_at TwoIds path = option_and_then (λ outer. option_map (Within outer) (id_in 4 path)) (id_in 2 path)
+place_at Number path = option_map Numbered (number_in 2 path)
+
+-- what is asked, with the parameters of its path
+abbrev pub route_with : List ℕ → Endpoint × Shape → Option Route
+route_with path asked = option_map (λ place. record { endpoint = asked.0; place = place }) (place_at asked.1 path)
+
+-- the route of a path, which is UTF-8
+abbrev pub route_at : List ℕ → Option Route
+route_at path = if is_utf8 path then option_and_then (route_with path) (asked_at path) else None
+
+-- the one method of what is asked: commands are posted, queries are got
+abbrev pub method_of : Endpoint → Allow
+method_of (Commands kind) = Post
+method_of (Queries kind) = Get
+
+abbrev pub method_name : Allow → List ℕ
+method_name Get = codes "GET"
+method_name Post = codes "POST"
+
+-- the route, where the method is that of the path
+abbrev pub with_method : List ℕ → Option Route → Result Route (Refusal × Option Allow)
+with_method method None = Err (NoRoute, None)
+with_method method (Some route) =
+    if pointwise nat_eq method (method_name (method_of route.endpoint)) then Ok route
+    else Err (WrongMethod, Some (method_of route.endpoint))
+
+-- the route of a method and a target, or the refusal, with the method of the path where that is another
+abbrev pub routed : List ℕ → List ℕ → Result Route (Refusal × Option Allow)
+routed method target = with_method method (route_at (path_of target))

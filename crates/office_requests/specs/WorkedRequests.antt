@@ -1,0 +1,181 @@
+-- Worked examples: requests whose meaning is known, one for each route, and one for each kind of fault.
+use Rattle.std.specs.Prelude.{◌≡◌, ℕ, true, List, [], ◌∷◌, ◌++◌, codes, replicate, Option, Some, None, Result, Ok, Err}
+use Rattle.office_values.specs.declared.refusal.BadPart.{BadPart}
+use Rattle.office_values.specs.declared.refusal.BadPart.TheVariants as parts
+use Rattle.office_values.specs.declared.refusal.Field.TheVariants as fields
+use Rattle.office_values.specs.declared.refusal.Refusal.{Refusal}
+use Rattle.office_values.specs.declared.refusal.Refusal.TheVariants.{NoRoute, WrongMethod, Forbidden, BadBody}
+use Rattle.office_acts.specs.declared.command.Caller.{Caller}
+use Rattle.office_acts.specs.declared.command.Caller.TheVariants.{Public, Clerk, Tenderer}
+use Rattle.office_acts.specs.declared.commands.Command.{Command}
+use Rattle.office_acts.specs.declared.commands.Command.TheVariants as commands
+use Rattle.office_acts.specs.declared.contract.ChangeKind.TheVariants.{Cut}
+use Rattle.office_acts.specs.declared.contract.How.TheVariants.{ForDefault}
+use Rattle.office_acts.specs.declared.notice.Criteria.TheVariants.{Price}
+use Rattle.office_acts.specs.declared.notice.NewNotice.{NewNotice}
+use Rattle.office_acts.specs.declared.queries.Query.{Query}
+use Rattle.office_acts.specs.declared.queries.Query.TheVariants as queries
+use Rattle.office_wire.specs.Request.{RequestView}
+use Rattle.office_requests.specs.Asking.{asked}
+use Rattle.office_requests.specs.Routing.{routed}
+use Rattle.office_requests.specs.declared.asked.Asked.{Asked}
+use Rattle.office_requests.specs.declared.asked.Asked.TheVariants.{Does, Looks}
+use Rattle.office_requests.specs.declared.route.Allow.{Allow}
+use Rattle.office_requests.specs.declared.route.Allow.TheVariants.{Get, Post}
+use Rattle.office_requests.specs.declared.route.Route.{Route}
+
+-- a request of this method, target and body
+abbrev pub request_with : List ℕ → List ℕ → List ℕ → RequestView
+request_with method target body = record { head = record { method = method; target = target; fields = [] }; body = body }
+
+-- what a caller asks by a route, where the request takes one
+abbrev pub by_route : Caller → RequestView → Result Route (Refusal × Option Allow) → Result Asked Refusal
+by_route caller request (Ok route) = asked caller route request
+by_route caller request (Err why) = Err why.0
+
+-- what a caller asks by a request
+abbrev pub meaning : Caller → RequestView → Result Asked Refusal
+meaning caller request = by_route caller request (routed request.head.method request.head.target)
+
+-- the clerk gives this command
+abbrev pub ClerkDoes : List ℕ → List ℕ → Command → Type 0
+ClerkDoes target body command = meaning Clerk (request_with (codes "POST") target body) ≡ Ok (Does command)
+
+-- a tenderer gives this command
+abbrev pub TendererDoes : List ℕ → List ℕ → Command → Type 0
+TendererDoes target body command = meaning (Tenderer (codes "T1")) (request_with (codes "POST") target body) ≡ Ok (Does command)
+
+-- a caller asks this query
+abbrev pub Sees : Caller → List ℕ → Query → Type 0
+Sees caller target query = meaning caller (request_with (codes "GET") target []) ≡ Ok (Looks query)
+
+-- the clerk's body is refused for this part of it
+abbrev pub Refuses : List ℕ → List ℕ → BadPart → Type 0
+Refuses target body part = meaning Clerk (request_with (codes "POST") target body) ≡ Err (BadBody part)
+
+-- a tenderer's tender is refused for this part of its query or its body
+abbrev pub RefusesTender : List ℕ → List ℕ → BadPart → Type 0
+RefusesTender target body part = meaning (Tenderer (codes "T1")) (request_with (codes "POST") target body) ≡ Err (BadBody part)
+
+-- a path that no route has
+abbrev pub IsNoPath : List ℕ → Type 0
+IsNoPath target = routed (codes "GET") target ≡ Err (NoRoute, None)
+
+-- the body of a publication, with these criteria and these lots
+abbrev pub publication_with : List ℕ → List ℕ → List ℕ
+publication_with criteria lots =
+    codes "{\"title\":\"Road repair\",\"deadline\":\"2026-03-01T12:00:00Z\",\"validity_days\":90,\"standstill_days\":10,"
+    ++ criteria ++ codes ",\"lots\":[" ++ lots ++ codes "]}"
+
+abbrev pub by_price : List ℕ
+by_price = codes "\"criteria\":\"price\""
+
+-- a lot with these items
+abbrev pub lot_with : List ℕ → List ℕ
+lot_with items = codes "{\"id\":\"L1\",\"title\":\"North\",\"line\":\"1000\",\"estimate\":600,\"security\":50,\"items\":[" ++ items ++ codes "]}"
+
+abbrev pub one_item : List ℕ
+one_item = codes "{\"id\":\"I1\",\"title\":\"Paving\",\"quantity\":3}"
+
+-- what a publication by the price says, of one lot with one item; 1772366400 is 2026-03-01T12:00:00Z
+abbrev pub published : NewNotice
+published = record {
+  title = codes "Road repair";
+  deadline = 1772366400;
+  validity = 90;
+  standstill = 10;
+  criteria = Price;
+  lots = record {
+    id = codes "L1";
+    title = codes "North";
+    line = codes "1000";
+    estimate = 600;
+    security = 50;
+    items = record { id = codes "I1"; title = codes "Paving"; quantity = 3 } ∷ [];
+  } ∷ [];
+}
+
+-- each route is taken
+pub record RoutesAreTaken : Type 0 where
+  pub imports : ClerkDoes (codes "/budget/B1") (codes "line,kind,amount,title\n") (commands.Import (codes "B1") [])
+  pub registers : ClerkDoes (codes "/tenderers/T1")
+      (codes "{\"name\":\"Ann\",\"address\":\"Road 1\",\"key\":\"00000000000000000000000000000000000000000000000000000000000000fF\"}")
+      (commands.Register (codes "T1") (codes "Ann") (codes "Road 1") (replicate 31 0 ++ 255 ∷ []))
+  pub publishes : ClerkDoes (codes "/notices/N1") (publication_with by_price (lot_with one_item)) (commands.Publish (codes "N1") published)
+  pub amends : ClerkDoes (codes "/notices/N1/amend") (codes "{\"rationale\":\"late\",\"deadline\":\"1970-01-02T00:00:01Z\",\"more\":[1]}")
+      (commands.AmendNotice (codes "N1") 86401 (codes "late"))
+  pub cancels : ClerkDoes (codes "/notices/N1/cancel") (codes "{\"rationale\":\"none\"}") (commands.Cancel (codes "N1") (codes "none"))
+  pub opens : ClerkDoes (codes "/notices/N1/open") [] (commands.Open (codes "N1"))
+  pub presents : TendererDoes (codes "/notices/N1/lots/L1/tenders?x=1&security=G%31&amount=050&x=2") (codes "abc")
+      (commands.Present (codes "N1") (codes "L1") (Some (record { reference = codes "G1"; amount = 50 })) (codes "abc"))
+  pub presents_alone : TendererDoes (codes "/notices/N1/lots/L1/tenders") (codes "abc") (commands.Present (codes "N1") (codes "L1") None (codes "abc"))
+  pub modifies : TendererDoes (codes "/tenders/17/modify") (codes "abc") (commands.Modify 17 (codes "abc"))
+  pub withdraws : TendererDoes (codes "/tenders/17/withdraw") [] (commands.Withdraw 17)
+  pub examines : ClerkDoes (codes "/tenders/17/examine") (codes "{\"responsive\":true}") (commands.Examine 17 true None)
+  pub awards : ClerkDoes (codes "/notices/N1/lots/L1/award") [] (commands.Award (codes "N1") (codes "L1"))
+  pub fails : ClerkDoes (codes "/awards/17/fail") [] (commands.Fail 17)
+  pub signs : ClerkDoes (codes "/awards/17/sign") [] (commands.Sign 17)
+  pub amends_contracts : ClerkDoes (codes "/contracts/17/amend") (codes "{\"id\":\"E1\",\"kind\":\"cut\",\"amount\":5,\"rationale\":\"less\"}")
+      (commands.AmendContract 17 (codes "E1") Cut 5 (codes "less"))
+  pub pays : ClerkDoes (codes "/contracts/17/pay") (codes "{\"id\":\"E1\",\"amount\":5}") (commands.Pay 17 (codes "E1") 5)
+  pub ends : ClerkDoes (codes "/contracts/17/end") (codes "{\"how\":\"default\"}") (commands.End 17 ForDefault)
+  pub sees_lines : Sees Public (codes "/lines/1000?x=/y") (queries.Line (codes "1000"))
+  pub sees_the_ledger : Sees Public (codes "/ledger") queries.Ledger
+  pub sees_minutes : Sees Public (codes "/notices/N1/minutes") (queries.Minutes (codes "N1"))
+  pub sees_registers : Sees Clerk (codes "/notices/N1/register") (queries.Register (codes "N1"))
+  pub sees_releases : Sees Public (codes "/notices/N1/releases") (queries.Releases (codes "N1"))
+  pub sees_records : Sees Public (codes "/notices/N1/record") (queries.Record (codes "N1"))
+  pub sees_tenders : Sees (Tenderer (codes "T1")) (codes "/tenders/9999999999") (queries.Tender 9999999999)
+  pub sees_securities : Sees Clerk (codes "/securities/17") (queries.Security 17)
+
+-- no other path is one, another method is refused with the one of the path, and rights come before the body
+pub record PathsAreRefused : Type 0 where
+  pub no_path : IsNoPath (codes "/notices")
+  pub slash_behind : IsNoPath (codes "/lines/1000/")
+  pub no_percent : IsNoPath (codes "/lines/a%20b")
+  pub leading_zero : IsNoPath (codes "/tenders/01")
+  pub zero_number : IsNoPath (codes "/tenders/0")
+  pub eleven_digits : IsNoPath (codes "/tenders/10000000000")
+  pub not_posted : routed (codes "HEAD") (codes "/awards/17/sign") ≡ Err (WrongMethod, Some Post)
+  pub not_got : routed (codes "POST") (codes "/tenders/17") ≡ Err (WrongMethod, Some Get)
+  pub rights_first : meaning Public (request_with (codes "POST") (codes "/notices/N1") (codes "[]")) ≡ Err Forbidden
+
+-- the first field that is missing or wrong is named
+pub record BodiesAreRefused : Type 0 where
+  pub bad_row : Refuses (codes "/budget/B1") (codes "line,kind,amount,title\n1000,add,0,Roads\n") (parts.Row 2)
+  pub empty_body : Refuses (codes "/notices/N1") [] parts.Body
+  pub no_object : Refuses (codes "/notices/N1") (codes "[]") parts.Body
+  pub no_text : Refuses (codes "/notices/N1") (34 ∷ 255 ∷ 34 ∷ []) parts.Body
+  pub no_title : Refuses (codes "/notices/N1") (codes "{\"validity_days\":0}") (parts.Field fields.Title)
+  pub no_day : Refuses (codes "/notices/N1/amend") (codes "{\"deadline\":\"2026-02-30T12:00:00Z\"}") (parts.Field fields.Deadline)
+  pub last_stays : Refuses (codes "/notices/N1/cancel") (codes "{\"rationale\":\"late\",\"rationale\":1}") (parts.Field fields.Rationale)
+  pub short_key : Refuses (codes "/tenderers/T1") (codes "{\"name\":\"Ann\",\"address\":\"Road 1\",\"key\":\"00\"}") (parts.Field fields.Key)
+  pub null_quality : Refuses (codes "/tenders/17/examine") (codes "{\"responsive\":true,\"quality\":null}") (parts.Field fields.Quality)
+  pub too_much_quality : Refuses (codes "/tenders/17/examine") (codes "{\"responsive\":true,\"quality\":101}") (parts.Field fields.Quality)
+  pub no_change : Refuses (codes "/contracts/17/amend") (codes "{\"id\":\"E1\",\"kind\":\"Cut\",\"amount\":5,\"rationale\":\"less\"}") (parts.Field fields.Kind)
+  pub nothing_paid : Refuses (codes "/contracts/17/pay") (codes "{\"id\":\"E1\",\"amount\":0}") (parts.Field fields.Amount)
+  pub with_a_point : Refuses (codes "/contracts/17/pay") (codes "{\"id\":\"E1\",\"amount\":5.0}") (parts.Field fields.Amount)
+  pub no_ending : Refuses (codes "/contracts/17/end") (codes "{\"how\":null}") (parts.Field fields.How)
+
+-- a publication's weight goes with points alone, and any fault inside its lots is one of its lots
+pub record PublicationsAreRefused : Type 0 where
+  pub weight_missing : Refuses (codes "/notices/N1") (publication_with (codes "\"criteria\":\"points\"") []) (parts.Field fields.PriceWeight)
+  pub weight_with_price : Refuses (codes "/notices/N1")
+      (publication_with (codes "\"criteria\":\"price\",\"price_weight\":60") []) (parts.Field fields.PriceWeight)
+  pub no_lots : Refuses (codes "/notices/N1") (publication_with by_price []) (parts.Field fields.Lots)
+  pub no_items : Refuses (codes "/notices/N1") (publication_with by_price (lot_with [])) (parts.Field fields.Lots)
+  pub wrong_item : Refuses (codes "/notices/N1")
+      (publication_with by_price (lot_with (codes "{\"id\":\"I1\",\"title\":\"Paving\",\"quantity\":0}"))) (parts.Field fields.Lots)
+  pub same_items : Refuses (codes "/notices/N1")
+      (publication_with by_price (lot_with (one_item ++ codes "," ++ one_item))) (parts.Field fields.Lots)
+  pub same_lots : Refuses (codes "/notices/N1")
+      (publication_with by_price (lot_with one_item ++ codes "," ++ lot_with one_item)) (parts.Field fields.Lots)
+
+-- a security and its amount go together, each once, and come before the sealed bytes
+pub record TendersAreRefused : Type 0 where
+  pub no_amount : RefusesTender (codes "/notices/N1/lots/L1/tenders?security=G1") (codes "abc") (parts.Field fields.Amount)
+  pub no_security : RefusesTender (codes "/notices/N1/lots/L1/tenders?amount=50") (codes "abc") (parts.Field fields.Security)
+  pub wrong_alone : RefusesTender (codes "/notices/N1/lots/L1/tenders?security=!") (codes "abc") (parts.Field fields.Security)
+  pub two_securities : RefusesTender (codes "/notices/N1/lots/L1/tenders?security=G1&security=G1&amount=50") (codes "abc") (parts.Field fields.Security)
+  pub two_amounts : RefusesTender (codes "/notices/N1/lots/L1/tenders?security=G1&amount=50&amount=50") [] (parts.Field fields.Amount)
+  pub nothing_sealed : RefusesTender (codes "/notices/N1/lots/L1/tenders") [] parts.Body

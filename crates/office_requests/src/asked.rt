@@ -1,0 +1,197 @@
+//! What a request asks.
+ghost use Rattle.std.specs.Prelude.{◌≡◌, ◌≤◌, ◌⊎◌, false, length, Err, IfOk};
+ghost use Rattle.office_values.specs.declared.refusal.Refusal.TheVariants.{Forbidden, Unavailable};
+ghost use Rattle.office_acts.specs.Commands.{kind_of};
+ghost use Rattle.office_acts.specs.Queries as queries;
+ghost use Rattle.office_requests.specs.Inside.Answers.{ReadsAs};
+ghost use Rattle.office_requests.specs.Asking.{asked, asked_by, command_at, endpoint_of, lot_command, may_ask, named_command, numbered_command, query_at};
+
+use crate::bodies::{
+    cancellation, contract_amendment, ending, examination, import_of, notice_amendment, object_of,
+    payment, registration, sealed,
+};
+use crate::parameters::security;
+use crate::path::behind;
+use crate::publication::publication;
+use crate::route::{Endpoint, Place, Route};
+use office_acts::command::{Caller, CommandKind, QueryKind, may, may_look};
+use office_acts::commands::Command;
+use office_acts::queries::Query;
+use office_values::given::AskedNumber;
+use office_values::id::Id;
+use office_values::refusal::Refusal;
+use office_wire::request::Request;
+use std::alloc::Global;
+
+/// What is asked of the office. Sealed bytes are a slice of the request's body.
+#[derive(Drop)]
+pub enum Asked<'a> {
+    /// A command is given.
+    Does(Command<'a>),
+    /// Only a look is asked for.
+    Looks(Query),
+}
+
+// Whether the caller may ask this.
+fn may_ask(caller: &Caller, endpoint: Endpoint) -> bool
+    ensures { result ≡ may_ask caller.now endpoint }
+{
+    match endpoint {
+        Endpoint::Commands(kind) => may(caller, kind),
+        Endpoint::Queries(kind) => may_look(caller, kind),
+    }
+}
+
+// The command of a route whose path names one thing.
+#[tactic(auto, unfolding(crate::specs::Asking::named_command))]
+fn named_command<'a>(
+    alloc: Global,
+    kind: CommandKind,
+    name: Id,
+    body: &[u8],
+) -> Result<Command<'a>, Refusal>
+    requires { length body.now ≤ 65536 }
+    ensures read { ReadsAs result (named_command kind name body.now) }
+    ensures kind { IfOk result (λ command. kind_of command ≡ kind) }
+{
+    match kind {
+        CommandKind::Import => import_of(alloc, name, body),
+        CommandKind::Register => registration(alloc, name, &object_of(alloc, body)?),
+        CommandKind::Publish => publication(alloc, name, &object_of(alloc, body)?),
+        CommandKind::AmendNotice => notice_amendment(alloc, name, &object_of(alloc, body)?),
+        CommandKind::Cancel => cancellation(alloc, name, &object_of(alloc, body)?),
+        CommandKind::Open => Ok(Command::Open { notice: name }),
+        _ => Err(Refusal::NoRoute),
+    }
+}
+
+// The command of a route whose path names a lot of a notice.
+#[tactic(auto, unfolding(crate::specs::Asking::lot_command))]
+fn lot_command<'a>(
+    alloc: Global,
+    kind: CommandKind,
+    notice: Id,
+    lot: Id,
+    query: &[u8],
+    body: &'a [u8],
+) -> Result<Command<'a>, Refusal>
+    ensures read { ReadsAs result (lot_command kind notice lot query.now body.now) }
+    ensures kind { IfOk result (λ command. kind_of command ≡ kind) }
+{
+    match kind {
+        CommandKind::Present => Ok(Command::Present {
+            notice,
+            lot,
+            security: security(alloc, query)?,
+            sealed: sealed(body)?,
+        }),
+        CommandKind::Award => Ok(Command::Award { notice, lot }),
+        _ => Err(Refusal::NoRoute),
+    }
+}
+
+// The command of a route whose path has a number.
+#[tactic(auto, unfolding(crate::specs::Asking::numbered_command))]
+fn numbered_command<'a>(
+    alloc: Global,
+    kind: CommandKind,
+    number: AskedNumber,
+    body: &'a [u8],
+) -> Result<Command<'a>, Refusal>
+    ensures read { ReadsAs result (numbered_command kind number body.now) }
+    ensures kind { IfOk result (λ command. kind_of command ≡ kind) }
+{
+    match kind {
+        CommandKind::Modify => Ok(Command::Modify {
+            receipt: number,
+            sealed: sealed(body)?,
+        }),
+        CommandKind::Withdraw => Ok(Command::Withdraw { receipt: number }),
+        CommandKind::Examine => examination(number, &object_of(alloc, body)?),
+        CommandKind::Fail => Ok(Command::Fail { award: number }),
+        CommandKind::Sign => Ok(Command::Sign { award: number }),
+        CommandKind::AmendContract => contract_amendment(alloc, number, &object_of(alloc, body)?),
+        CommandKind::Pay => payment(number, &object_of(alloc, body)?),
+        CommandKind::End => ending(number, &object_of(alloc, body)?),
+        _ => Err(Refusal::NoRoute),
+    }
+}
+
+// The command of a route with this query and this body.
+#[tactic(auto, unfolding(crate::specs::Asking::command_at))]
+fn command_at<'a>(
+    alloc: Global,
+    kind: CommandKind,
+    place: Place,
+    query: &[u8],
+    body: &'a [u8],
+) -> Result<Command<'a>, Refusal>
+    requires { length body.now ≤ 65536 }
+    ensures read { ReadsAs result (command_at kind place query.now body.now) }
+    ensures kind { IfOk result (λ command. kind_of command ≡ kind) }
+{
+    match place {
+        Place::Nowhere => Err(Refusal::NoRoute),
+        Place::Named(name) => named_command(alloc, kind, name, body),
+        Place::Within(notice, lot) => lot_command(alloc, kind, notice, lot, query, body),
+        Place::Numbered(number) => numbered_command(alloc, kind, number, body),
+    }
+}
+
+// The query of a route.
+#[tactic(auto, unfolding(crate::specs::Asking::query_at))]
+fn query_at(kind: QueryKind, place: Place) -> Result<Query, Refusal>
+    ensures read { result ≡ query_at kind place }
+    ensures kind { IfOk result (λ look. queries.kind_of look ≡ kind) }
+{
+    match (kind, place) {
+        (QueryKind::Line, Place::Named(line)) => Ok(Query::Line { line }),
+        (QueryKind::Ledger, Place::Nowhere) => Ok(Query::Ledger),
+        (QueryKind::Minutes, Place::Named(notice)) => Ok(Query::Minutes { notice }),
+        (QueryKind::Register, Place::Named(notice)) => Ok(Query::Register { notice }),
+        (QueryKind::Releases, Place::Named(notice)) => Ok(Query::Releases { notice }),
+        (QueryKind::Record, Place::Named(notice)) => Ok(Query::Record { notice }),
+        (QueryKind::Tender, Place::Numbered(receipt)) => Ok(Query::Tender { receipt }),
+        (QueryKind::Security, Place::Numbered(security)) => Ok(Query::Security { security }),
+        _ => Err(Refusal::NoRoute),
+    }
+}
+
+// What a route asks with this query and this body.
+#[tactic(auto, unfolding(crate::specs::Asking::asked_by))]
+fn asked_by<'a>(
+    alloc: Global,
+    route: &Route,
+    query: &[u8],
+    body: &'a [u8],
+) -> Result<Asked<'a>, Refusal>
+    requires { length body.now ≤ 65536 }
+    ensures read { ReadsAs result (asked_by route.now.endpoint route.now.place query.now body.now) }
+    ensures kind { IfOk result (λ asked. endpoint_of asked ≡ route.now.endpoint) }
+{
+    match route.endpoint {
+        Endpoint::Commands(kind) => {
+            Ok(Asked::Does(command_at(alloc, kind, route.place, query, body)?))
+        }
+        Endpoint::Queries(kind) => Ok(Asked::Looks(query_at(kind, route.place)?)),
+    }
+}
+
+/// What the caller asks by a route and a request: `Forbidden` where the caller may not, and so no memory is taken; else `BadBody`
+/// where the query or the body is wrong; `Unavailable` where memory was refused. The route is that of this request.
+#[tactic(auto, using(crate::proofs::FieldSteps::read_or_wanting))]
+pub fn command_of<'a>(
+    alloc: Global,
+    caller: &Caller,
+    route: &Route,
+    request: &'a Request,
+) -> Result<Asked<'a>, Refusal>
+    ensures asked { (result ≡ asked caller.now route.now request.now) ⊎ (result ≡ Err Unavailable) }
+    ensures kind { IfOk result (λ asked. endpoint_of asked ≡ route.now.endpoint) }
+    ensures forbidden { may_ask caller.now route.now.endpoint ≡ false → result ≡ Err Forbidden }
+{
+    if !may_ask(caller, route.endpoint) {
+        return Err(Refusal::Forbidden);
+    }
+    asked_by(alloc, route, behind(request.target(), b'?'), request.body())
+}

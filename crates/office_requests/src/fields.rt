@@ -1,0 +1,159 @@
+//! The fields of a JSON body: each reader takes the body's object and the field, and answers the value, or the refusal that names the
+//! field. Members of other names are ignored.
+ghost use Rattle.std.specs.Prelude.{◌≡◌, IfOk, is_some, option_map, option_and_then};
+ghost use Rattle.serde_json.specs.Find.{get, as_number, as_str, as_u64};
+ghost use Rattle.serde_json.specs.View.{view};
+ghost use Rattle.office_requests.specs.Fields as spec;
+ghost use Rattle.office_requests.specs.Fields.{text_at, flag_at, number_at, text_in, line_in, flag_in, number_in, perhaps_number_in, absent_in};
+ghost use Rattle.office_requests.specs.Forms as forms;
+ghost use Rattle.office_requests.specs.Inside.Answers.{ReadsAs};
+
+use crate::forms::{FromText, line_of, within};
+use office_values::bounded::Bounded;
+use office_values::refusal::{BadPart, Field, Refusal};
+use office_values::text::TextLine;
+use serde_json::Value;
+use std::alloc::{AllocError, Global};
+
+// Whether there is a member of this name.
+fn has(body: &Value, name: &str) -> bool
+    ensures { result ≡ is_some (get name.now (view body.now)) }
+{
+    body.get(name).is_some()
+}
+
+// The text of a member.
+fn find_text<'a>(body: &'a Value, name: &str) -> Option<&'a str>
+    ensures { option_map (λ s. s.now) result ≡ option_and_then as_str (get name.now (view body.now)) }
+{
+    match body.get(name) {
+        Some(value) => value.as_str(),
+        None => None,
+    }
+}
+
+// The number of a member that is written without sign, point and exponent.
+fn find_number(body: &Value, name: &str) -> Option<u64>
+    ensures { result ≡ option_and_then as_u64 (option_and_then as_number (get name.now (view body.now))) }
+{
+    match body.get(name) {
+        Some(value) => value.as_u64(),
+        None => None,
+    }
+}
+
+/// What the text of a member writes.
+#[tactic(auto, unfolding(crate::specs::Fields::text_at))]
+pub fn text_at<T: FromText>(body: &Value, name: &str) -> Option<T>
+    ensures { result ≡ text_at T.of_text name.now (view body.now) }
+{
+    match find_text(body, name) {
+        Some(text) => T::from_text(text.as_bytes()),
+        None => None,
+    }
+}
+
+/// A member that is a line of text.
+#[tactic(auto, unfolding(crate::specs::Fields::text_at))]
+pub fn line_at(alloc: Global, body: &Value, name: &str) -> Result<Option<TextLine>, AllocError>
+    ensures { IfOk result (λ line. line ≡ text_at forms.line_of name.now (view body.now)) }
+{
+    match find_text(body, name) {
+        Some(text) => line_of(alloc, text.as_bytes()),
+        None => Ok(None),
+    }
+}
+
+// A member that is true or false.
+#[tactic(auto, unfolding(crate::specs::Fields::flag_at))]
+fn flag_at(body: &Value, name: &str) -> Option<bool>
+    ensures { result ≡ flag_at name.now (view body.now) }
+{
+    match body.get(name) {
+        Some(value) => value.as_bool(),
+        None => None,
+    }
+}
+
+/// A member that is a number within bounds, written without sign, point and exponent.
+#[tactic(auto, unfolding(crate::specs::Fields::number_at))]
+pub fn number_at<const LOW: u64, const HIGH: u64>(
+    body: &Value,
+    name: &str,
+) -> Option<Bounded<LOW, HIGH>>
+    ensures { result ≡ number_at LOW HIGH name.now (view body.now) }
+{
+    match find_number(body, name) {
+        Some(number) => within(number),
+        None => None,
+    }
+}
+
+/// The value, or the refusal that names the field.
+#[tactic(auto, unfolding(crate::specs::Fields::needed))]
+pub fn needed<T: Drop>(field: Field, value: Option<T>) -> Result<T, Refusal>
+    ensures { result ≡ spec.needed field value }
+{
+    match value {
+        Some(value) => Ok(value),
+        None => Err(Refusal::BadBody(BadPart::Field(field))),
+    }
+}
+
+/// What the text of a field writes.
+pub fn text<T: FromText>(body: &Value, field: Field) -> Result<T, Refusal>
+    ensures { result ≡ text_in T.of_text field (view body.now) }
+{
+    needed(field, text_at(body, field.name()))
+}
+
+/// A line of text. `Unavailable` where memory was refused.
+pub fn line(alloc: Global, body: &Value, field: Field) -> Result<TextLine, Refusal>
+    ensures { ReadsAs result (line_in field (view body.now)) }
+{
+    needed(field, line_at(alloc, body, field.name())?)
+}
+
+/// True or false.
+pub fn flag(body: &Value, field: Field) -> Result<bool, Refusal>
+    ensures { result ≡ flag_in field (view body.now) }
+{
+    needed(field, flag_at(body, field.name()))
+}
+
+/// A number within bounds.
+pub fn number<const LOW: u64, const HIGH: u64>(
+    body: &Value,
+    field: Field,
+) -> Result<Bounded<LOW, HIGH>, Refusal>
+    ensures { result ≡ number_in LOW HIGH field (view body.now) }
+{
+    needed(field, number_at(body, field.name()))
+}
+
+/// A number within bounds that may be absent.
+#[tactic(auto, unfolding(crate::specs::Fields::perhaps_number_in))]
+pub fn perhaps_number<const LOW: u64, const HIGH: u64>(
+    body: &Value,
+    field: Field,
+) -> Result<Option<Bounded<LOW, HIGH>>, Refusal>
+    ensures { result ≡ perhaps_number_in LOW HIGH field (view body.now) }
+{
+    if has(body, field.name()) {
+        Ok(Some(number(body, field)?))
+    } else {
+        Ok(None)
+    }
+}
+
+/// Whether the field is absent, as it must be.
+#[tactic(auto, unfolding(crate::specs::Fields::absent_in))]
+pub fn absent(body: &Value, field: Field) -> Result<(), Refusal>
+    ensures { result ≡ absent_in field (view body.now) }
+{
+    if has(body, field.name()) {
+        Err(Refusal::BadBody(BadPart::Field(field)))
+    } else {
+        Ok(())
+    }
+}

@@ -1,0 +1,15 @@
+//! What requests ask of the office: their routes, their bodies and their queries.
+#![tactic(auto)]
+
+pub mod asked;
+mod bodies;
+pub mod examples;
+mod fields;
+mod forms;
+mod parameters;
+mod path;
+mod publication;
+pub mod route;
+pub mod routes;
+#[cfg(test)]
+mod tests;

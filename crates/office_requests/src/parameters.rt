@@ -1,0 +1,88 @@
+//! The query of a target.
+ghost use Rattle.std.specs.Prelude.{◌≡◌, IfOk};
+ghost use Rattle.office_requests.specs.Inside.Answers.{ReadsAs};
+ghost use Rattle.office_requests.specs.Parameters.{with_value, with_pair, given_in, is_absent, right, security_in};
+
+use crate::fields::needed;
+use crate::forms::FromText;
+use office_acts::amounts::SecurityAmount;
+use office_acts::tender::NamedSecurity;
+use office_values::id::Id;
+use office_values::refusal::{Field, Refusal};
+use std::alloc::{AllocError, Global};
+
+/// What a query gives for a parameter.
+#[derive(Clone, Copy)]
+pub enum Given<T> {
+    Absent,
+    /// It has another form, or is given more than once.
+    Wrong,
+    Right(T),
+}
+
+impl<T: Copy> Given<T> {
+    // With one more value.
+    fn with_value(self, value: Option<T>) -> Given<T>
+        ensures { result ≡ with_value self value }
+    {
+        match (self, value) {
+            (Given::Absent, Some(value)) => Given::Right(value),
+            _ => Given::Wrong,
+        }
+    }
+
+    fn is_absent(self) -> bool
+        ensures { result ≡ is_absent self }
+    {
+        matches!(self, Given::Absent)
+    }
+
+    fn right(self) -> Option<T>
+        ensures { result ≡ right self }
+    {
+        match self {
+            Given::Right(value) => Some(value),
+            _ => None,
+        }
+    }
+}
+
+// What is given, with a pair that may have the name.
+fn with_pair<T: FromText>(given: Given<T>, name: &str, key: &str, value: &str) -> Given<T>
+    ensures { result ≡ with_pair T.of_text name.now given (key.now, value.now) }
+{
+    if key == name {
+        given.with_value(T::from_text(value.as_bytes()))
+    } else {
+        given
+    }
+}
+
+// A parameter of a query.
+fn given_in<T: FromText>(alloc: Global, query: &[u8], name: &str) -> Result<Given<T>, AllocError>
+    ensures { IfOk result (λ given. given ≡ given_in T.of_text name.now query.now) }
+{
+    let mut given = Given::Absent;
+    'pairs: for pair in form_urlencoded::parse(alloc, query) {
+        let (key, value) = pair?;
+        given = with_pair(given, name, key.as_str(), value.as_str());
+    }
+    Ok(given)
+}
+
+/// The security that a query names with its amount, if it names one; both must be given, or neither. Other parameters are ignored, a
+/// repeated one is wrong.
+#[tactic(auto, unfolding(crate::specs::Parameters::security_in))]
+pub fn security(alloc: Global, query: &[u8]) -> Result<Option<NamedSecurity>, Refusal>
+    ensures { ReadsAs result (security_in query.now) }
+{
+    let reference = given_in::<Id>(alloc, query, "security")?;
+    let amount = given_in::<SecurityAmount>(alloc, query, "amount")?;
+    if reference.is_absent() && amount.is_absent() {
+        return Ok(None);
+    }
+    Ok(Some(NamedSecurity {
+        reference: needed(Field::Security, reference.right())?,
+        amount: needed(Field::Amount, amount.right())?,
+    }))
+}

@@ -1,0 +1,74 @@
+//! Routes: what a path asks for.
+ghost use Rattle.std.specs.Prelude.{◌≡◌};
+ghost use Rattle.office_requests.specs.Routing.{method_of, method_name};
+
+use office_acts::command::{CommandKind, QueryKind};
+use office_values::given::AskedNumber;
+use office_values::id::Id;
+
+/// What is asked at a path.
+#[derive(Clone, Copy, Debug, PartialEq, Eq)]
+pub enum Endpoint {
+    Commands(CommandKind),
+    Queries(QueryKind),
+}
+
+/// The one method of a path (RFC 9110, section 10.2.1).
+#[derive(Clone, Copy, Debug, PartialEq, Eq)]
+pub enum Allow {
+    Get,
+    Post,
+}
+
+/// Which parameters a path has, and in which of its segments.
+#[derive(Clone, Copy)]
+pub enum Shape {
+    /// None.
+    Plain,
+    /// An identifier in segment 2.
+    OneId,
+    /// Identifiers in segments 2 and 4.
+    TwoIds,
+    /// A number in segment 2.
+    Number,
+}
+
+/// The parameters of a path.
+#[derive(Clone, Copy)]
+pub enum Place {
+    Nowhere,
+    Named(Id),
+    Within(Id, Id),
+    Numbered(AskedNumber),
+}
+
+/// A route: what is asked, with the parameters of its path.
+#[derive(Clone, Copy)]
+pub struct Route {
+    pub endpoint: Endpoint,
+    pub place: Place,
+}
+
+impl Endpoint {
+    /// The one method of its path: commands are posted, queries are got.
+    pub fn method(self) -> Allow
+        ensures { result ≡ method_of self }
+    {
+        match self {
+            Endpoint::Commands(_) => Allow::Post,
+            Endpoint::Queries(_) => Allow::Get,
+        }
+    }
+}
+
+impl Allow {
+    /// Its name in a request.
+    pub fn name(self) -> &'static str
+        ensures { result.now ≡ method_name self }
+    {
+        match self {
+            Allow::Get => "GET",
+            Allow::Post => "POST",
+        }
+    }
+}
