@@ -27,8 +27,8 @@ pub(crate) fn is_priced(row: &EnvelopeRow) -> bool
     }
 }
 
-// The corrected price; 0 where none was read.
-pub(crate) fn price_of(row: &EnvelopeRow) -> Amount
+/// The corrected price of a tender; 0 where none was read.
+pub fn price_of(row: &EnvelopeRow) -> Amount
     ensures { result ≡ price_of row.now }
 {
     match &row.reading {
@@ -143,8 +143,9 @@ fn best_with(weight: Weight, lowest: Amount, rows: &[EnvelopeRow]) -> Option<&En
     held
 }
 
-// The best of the rows that may win, with what the price weighs.
-pub(crate) fn best_row(weight: Weight, rows: &[EnvelopeRow]) -> Option<&EnvelopeRow>
+/// The best tender of a lot's, with what the price weighs in a hundred points (0: it alone decides); None where none of them may win.
+/// Takes no memory.
+pub fn best_row(weight: Weight, rows: &[EnvelopeRow]) -> Option<&EnvelopeRow>
     ensures { option_map (λ row. row.now) result ≡ best_of weight rows.now }
 {
     best_with(weight, lowest_price(rows).unwrap_or(nothing()), rows)

@@ -1,8 +1,8 @@
 //! What the entries of a contract come to.
-ghost use Rattle.std.specs.Prelude.{◌≡◌, ◌<◌, ◌^◌, ◌||◌};
+ghost use Rattle.std.specs.Prelude.{◌≡◌, ◌<◌, ◌+◌, ◌-◌, ◌^◌, ◌||◌};
 ghost use Rattle.std.specs.List.{list_any};
 ghost use Rattle.office_base.specs.EntryKinds.{is_raise, is_less};
-ghost use Rattle.office_base.specs.Joined.{entry_sum, outstanding};
+ghost use Rattle.office_base.specs.Joined.{entry_sum, minus, outstanding, plus};
 ghost use Rattle.office_base.specs.RuleParts.{has_all_releases};
 ghost use Rattle.office_base.specs.Tables.{same_number};
 ghost use Rattle.award_core.specs.Rules.AmendContract.{is_beyond, is_taken, has_all_entries};
@@ -50,14 +50,23 @@ fn lessened(entries: &[EntryRow], contract: GivenNumber) -> u128
     sum
 }
 
-// What is outstanding of the contract; nothing where more has gone than came.
-pub(crate) fn outstanding(entries: &[EntryRow], contract: &ContractRow) -> u128
-    ensures rest { result ≡ outstanding entries.now contract.now }
+/// What is outstanding of the contract once so much more has come and gone; nothing where more has gone than came.
+pub fn left_with(entries: &[EntryRow], contract: &ContractRow, more: u64, less: u128) -> u128
+    requires small { less < 2 ^ 111 }
+    ensures rest { result ≡ (plus entries.now contract.now + more) - (minus entries.now contract.now + less) }
     ensures small { result < 2 ^ 111 }
 {
     let came = contract.signed.units() as u128 + raised(entries, contract.contract);
     let gone = lessened(entries, contract.contract) + contract.released.units() as u128;
-    came.saturating_sub(gone)
+    (came + more as u128).saturating_sub(gone + less)
+}
+
+/// What is outstanding of the contract; nothing where more has gone than came.
+pub fn outstanding(entries: &[EntryRow], contract: &ContractRow) -> u128
+    ensures rest { result ≡ outstanding entries.now contract.now }
+    ensures small { result < 2 ^ 111 }
+{
+    left_with(entries, contract, 0, 0)
 }
 
 // Whether the contract runs, and less than this amount is outstanding.

@@ -5,7 +5,7 @@ pub mod amend_contract;
 pub mod award;
 pub mod best;
 pub mod end;
-mod entries;
+pub mod entries;
 pub mod examine;
 pub mod fail;
 pub mod laws;

@@ -17,7 +17,7 @@ use Rattle.office_acts.specs.declared.budget.BudgetRow.{BudgetRow}
 use Rattle.office_base.specs.Sums.{sum_over}
 use Rattle.office_values.specs.Money.{total_limit}
 use Rattle.office_machine.specs.Accounts.{appropriation}
-use Rattle.office_machine.proofs.Agreeing.{columns_at-after_row}
+use Rattle.tender_core.proofs.ImportsAgree.{columns_at-after_row}
 use Rattle.std.specs.Ordering.{eq_by_cmp}
 use Rattle.office_base.specs.declared.standing.Columns.{Columns}
 use Rattle.office_base.specs.declared.standing.Standing.{Standing}

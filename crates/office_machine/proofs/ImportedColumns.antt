@@ -14,7 +14,7 @@ use Rattle.office_base.specs.Joined.{appropriation_in, free_in}
 use Rattle.office_base.specs.declared.records.LineRow.{LineRow}
 use Rattle.office_base.specs.declared.standing.Columns.{Columns}
 use Rattle.office_base.specs.declared.standing.Standing.{Standing}
-use Rattle.office_machine.proofs.Agreeing.{columns_at-after_row, columns_at-standings}
+use Rattle.tender_core.proofs.ImportsAgree.{columns_at-after_row, columns_at-standings}
 use Rattle.office_base.proofs.ExactKeys.{ids_exact, equal_keys, equal_ids, same_id_is}
 use Rattle.office_machine.proofs.Passed.{neither, at_least}
 use Rattle.office_machine.proofs.RowsPut.{some_has, lines_put, found_after}

@@ -3,7 +3,6 @@ pub mod Passed
 pub mod Keyed
 pub mod Lists
 pub mod Mapped
-pub mod Agreeing
 pub mod ImportedColumns
 pub mod PublishedRows
 pub mod Kept
@@ -66,3 +65,5 @@ pub mod FatesKept
 pub mod RepliesAlike
 pub mod SealsKept
 pub mod WholeRuns
+pub mod NothingPublished
+pub mod Outstanding

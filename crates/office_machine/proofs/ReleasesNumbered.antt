@@ -1,6 +1,6 @@
 -- Releases of a notice are numbered from 1 to its count.
 use Rattle.std.proofs.Common.{◌≡◌, ℕ, ◌+◌, Bool, true, false, cond, ◌&&◌, List, [], ◌∷◌, ◌++◌, map, filter, Option, Some, None, is_some, option_map, refl, sym, ◌∙◌, ap, subst, arith}
-use Rattle.std.specs.Prelude.{nat_le}
+use Rattle.std.specs.Prelude.{nat_le, IsSome, option_and_then}
 use Rattle.std.proofs.lemmas.Bool.Decides.{nat_tests}
 use Rattle.std.specs.List.{AllByRecursion}
 use Rattle.std.specs.Ordering.{eq_by_cmp}
@@ -267,21 +267,27 @@ module _ (rows : List ReleaseRow) (r : ReleaseRow) (counts counts' : List ℕ �
       by true e = here n k (equal_keys keyed.releases.exact (n, k) (r.notice, r.seq) e)
       by false e = apart n k e (same_id r.notice n) refl
 
-numbered_by : (means : Means) (x : Given) → AreNumbered x.before → (key : Option (List ℕ)) → published_for x.before x.command ≡ key → Counts x.before.notices (next means x).notices key → AreNumbered (next means x)
-numbered_by means x old None e counts = λ n k.
-    ap (λ rows. is_some (find_release rows (n, k))) (releases_after means x.before x.moment x.caller x.command ∙ ap (λ o. with_release (option_map (Rattle.office_machine.specs.Machine.release_row means x) o) x.before.releases) e)
+abbrev released_rows : Means → Given → List ReleaseRow → Option (List ℕ) → List ReleaseRow
+released_rows means x rows o = with_release (option_and_then (Rattle.office_machine.specs.Machine.release_of_notice means x) o) rows
+
+numbered_by : (means : Means) (x : Given) → AreNumbered x.before → (text : Option (List ℕ)) → means.release x ≡ text → IsSome text → (key : Option (List ℕ)) → published_for x.before x.command ≡ key
+    → Counts x.before.notices (next means x).notices key → AreNumbered (next means x)
+numbered_by means x old None made some key e counts = cc
+numbered_by means x old (Some text) made some None e counts = λ n k.
+    ap (λ rows. is_some (find_release rows (n, k))) (releases_after means x.before x.moment x.caller x.command ∙ ap (released_rows means x x.before.releases) e)
     ∙ (old n k ∙ ap (among k) (let one = counts.count n in omega (arith, one)))
-numbered_by means x old (Some m) e counts = λ n k.
-    ap (λ rows. is_some (find_release rows (n, k))) (releases_after means x.before x.moment x.caller x.command ∙ ap (λ o. with_release (option_map (Rattle.office_machine.specs.Machine.release_row means x) o) x.before.releases) e)
-    ∙ step x.before.releases (Rattle.office_machine.specs.Machine.release_row means x m) (λ n. releases_in (find_notice x.before.notices n)) (λ n. releases_in (find_notice (next means x).notices n)) old refl (λ n. counts.count n) n k
+numbered_by means x old (Some text) made some (Some m) e counts = λ n k.
+    ap (λ rows. is_some (find_release rows (n, k))) (releases_after means x.before x.moment x.caller x.command ∙ ap (released_rows means x x.before.releases) e
+    ∙ ap (λ o. with_release (option_map (Rattle.office_machine.specs.Machine.release_row x m) o) x.before.releases) made)
+    ∙ step x.before.releases (Rattle.office_machine.specs.Machine.release_row x m text) (λ n. releases_in (find_notice x.before.notices n)) (λ n. releases_in (find_notice (next means x).notices n)) old refl (λ n. counts.count n) n k
 
 pub releases_numbered : ReleasesAreNumbered
 unfolding row_at
-releases_numbered means [] t reached = subst AreNumbered (sym reached) (λ n k. none k)
+releases_numbered means makes [] t reached = subst AreNumbered (sym reached) (λ n k. none k)
   where
     none : (k : ℕ) → false ≡ among k 0
     none k = grind (arith, nat_tests)
-releases_numbered means (x ∷ xs) t reached =
+releases_numbered means makes (x ∷ xs) t reached =
     subst AreNumbered (sym reached.is)
-    (numbered_by means x (releases_numbered means xs x.before reached.reached) (published_for x.before x.command) refl
+    (numbered_by means x (releases_numbered means makes xs x.before reached.reached) (means.release x) refl (makes x) (published_for x.before x.command) refl
     (published means x.before x.moment x.caller (parents_there means xs x.before reached.reached) x.command (allowed_by x reached.allowed)))

@@ -81,7 +81,7 @@ module _ (th : Theirs) (W : ℕ → Bool) where
 
   register_same : (o : Option NoticeRow) (es es' : List EnvelopeRow) → Pairs (Alike th W) es es' → register_told o es' ≡ register_told o es
   register_same None es es' all = refl
-  register_same (Some n) es es' all = ap Registry (pairs-same registered (λ _ _. refl) es es' all)
+  register_same (Some n) es es' all = ap (Registry n.notice) (pairs-same registered (λ _ _. refl) es es' all)
 
   minutes_same : (o : Option NoticeRow) (lots : List LotRow) (tenderers : List TendererRow) (es es' : List EnvelopeRow) → Pairs (Alike th W) es es' → minutes_told o lots tenderers es' ≡ minutes_told o lots tenderers es
   minutes_same None lots tenderers es es' all = refl

@@ -1,5 +1,6 @@
 -- Two runs that differ in sealed bytes alone stay alike.
 use Rattle.std.proofs.Common.{◌≡◌, ℕ, Bool, true, false, not, ◌&&◌, List, [], ◌∷◌, Option, Some, None, is_some, option_map, ◌+◌, refl, sym, ◌∙◌, ap, subst}
+use Rattle.std.specs.Prelude.{option_and_then}
 use Rattle.office_values.specs.Ids.{same_id}
 use Rattle.office_base.specs.Rows.{holds_of}
 use Rattle.office_acts.specs.declared.command.Caller.{Caller}
@@ -12,7 +13,7 @@ use Rattle.office_base.specs.declared.records.SealRow.{SealRow}
 use Rattle.office_machine.specs.Publications.{published_for, releases_in}
 use Rattle.office_base.specs.Tables.{Tables, notice_at, find_seal, envelope_at, seal_at, after_puts}
 use Rattle.office_base.specs.declared.records.ReleaseRow.{ReleaseRow}
-use Rattle.office_machine.specs.Machine.{Means, Given, IsCommand, CanBeGiven, Reaches, time_of, refusal_of, effect, next, publication_puts, publication, release_row}
+use Rattle.office_machine.specs.Machine.{Means, Given, IsCommand, CanBeGiven, Reaches, time_of, refusal_of, effect, next, publication_puts, publication, release_of_notice}
 use Rattle.office_machine.specs.Worlds.{Theirs, is_theirs, AlikeRows, Pairs, AlikeOffices, IsNext, SameBut, Same, Presented, Modified, OpensAlike}
 use Rattle.office_machine.specs.Requests.{Demand, Asks, Looks, Request, asked, reply_by, office_by, joined_by, reply_to, office_after, joined, IsDemand, AreRequests}
 use Rattle.office_machine.specs.Replies.{Refused}
@@ -106,8 +107,8 @@ module _ (means : Means) (packages : Packages) (publishes : PublishesBlindly mea
       same_publication : (command command' : Command) → SameBut th s caller command command' → OpensAlike command s other → publication means (given' command') ≡ publication means (given command)
       same_publication command command' (Same e) opens =
           subst (λ c. publication means (given' c) ≡ publication means (given command)) e
-          (ap (λ o. option_map (release_row means (given' command)) o) (published_same command)
-          ∙ (λ i. option_map (λ n. record { notice = n; seq = releases_in (notice_at n s) + 1; moment = time_of (given command); text = publishes (given command) es' ss' (but_digests th s.envelopes es' rows) opens i }) (published_for s command)))
+          (ap (λ o. option_and_then (release_of_notice means (given' command)) o) (published_same command)
+          ∙ (λ i. option_and_then (λ n. option_map (λ text. record { notice = n; seq = releases_in (notice_at n s) + 1; moment = time_of (given command); text = text }) (publishes (given command) es' ss' (but_digests th s.envelopes es' rows) opens i)) (published_for s command)))
       same_publication command command' (Presented security bytes bytes' len who is is') opens =
           subst (λ c. publication means (given' c) ≡ publication means (given command)) is'
           (subst (λ c. publication means (given' (commands.Present th.notice th.lot security bytes')) ≡ publication means (given c)) is refl)

@@ -12,6 +12,7 @@ pub mod Order
 pub mod Worlds
 pub mod Fates
 pub mod Replies
+pub mod Outstanding
 pub mod Sights
 pub mod Requests
 pub mod Seals

@@ -1,5 +1,5 @@
 -- The office machine: when a command is refused, and the office after it.
-use Rattle.std.specs.Prelude.{◌≡◌, ℕ, ◌+◌, Bool, false, not, List, [], ◌∷◌, ◌++◌, map, filter, Option, Some, None, is_some, IsSome, max, option_map}
+use Rattle.std.specs.Prelude.{◌≡◌, ℕ, ◌+◌, Bool, false, not, List, [], ◌∷◌, ◌++◌, map, filter, Option, Some, None, is_some, IsSome, max, option_map, option_and_then}
 use Rattle.office_acts.specs.Identified.{repeats_id}
 use Rattle.office_acts.specs.declared.item.Item.{Item}
 use Rattle.office_base.specs.declared.reading.Reading.{Reading}
@@ -107,18 +107,22 @@ tests x = (not (may_give x.caller x.command), Forbidden) ∷ command_tests x
 abbrev pub refusal_of : Given → Option Refusal
 refusal_of x = first_of (tests x)
 
--- what the machine takes from elsewhere: how a tender reads, the digest of bytes, and the text of a command's release
+-- what the machine takes from elsewhere: how a tender reads, the digest of bytes, and the text of a command's release; none where
+-- releases aren't made
 pub record Means : Type 0 where
   pub read : List ℕ → List Item → Reading
   pub digest : List ℕ → List ℕ
-  pub release : Given → List ℕ
+  pub release : Given → Option (List ℕ)
 
 -- what a command publishes: a release of its notice, under the next number
-abbrev pub release_row : Means → Given → List ℕ → ReleaseRow
-release_row means x notice = record { notice = notice; seq = releases_in (notice_at notice x.before) + 1; moment = time_of x; text = means.release x }
+abbrev pub release_row : Given → List ℕ → List ℕ → ReleaseRow
+release_row x notice text = record { notice = notice; seq = releases_in (notice_at notice x.before) + 1; moment = time_of x; text = text }
+
+abbrev pub release_of_notice : Means → Given → List ℕ → Option ReleaseRow
+release_of_notice means x notice = option_map (release_row x notice) (means.release x)
 
 abbrev pub publication : Means → Given → Option ReleaseRow
-publication means x = option_map (release_row means x) (published_for x.before x.command)
+publication means x = option_and_then (release_of_notice means x) (published_for x.before x.command)
 
 abbrev pub publication_puts : Option ReleaseRow → List Put
 publication_puts None = []

@@ -1,5 +1,5 @@
 -- The releases of a notice are counted.
-use Rattle.std.specs.Prelude.{◌≡◌, ℕ, ◌+◌, ◌≤◌, Bool, cond, ◌&&◌, List, [], ◌∷◌, Option, is_some, nat_le}
+use Rattle.std.specs.Prelude.{◌≡◌, ℕ, ◌+◌, ◌≤◌, Bool, cond, ◌&&◌, List, [], ◌∷◌, Option, is_some, IsSome, nat_le}
 use Rattle.office_values.specs.Ids.{same_id}
 use Rattle.office_base.specs.Limits.{release_limit}
 use Rattle.office_base.specs.Rows.{holds_of}
@@ -27,5 +27,9 @@ ReleasesAreCounted = (means : Means) (xs : List Given) (t : Tables) → Reaches 
 abbrev pub AreNumbered : Tables → Type 0
 AreNumbered t = (notice : List ℕ) (number : ℕ) → is_some (release_at (notice, number) t) ≡ (nat_le 1 number && nat_le number (releases_in (notice_at notice t)))
 
+-- a release is made of each command that publishes
+abbrev pub MakesReleases : Means → Type 0
+MakesReleases means = (x : Given) → IsSome (means.release x)
+
 abbrev pub ReleasesAreNumbered : Type 0
-ReleasesAreNumbered = (means : Means) (xs : List Given) (t : Tables) → Reaches means xs t → AreNumbered t
+ReleasesAreNumbered = (means : Means) → MakesReleases means → (xs : List Given) (t : Tables) → Reaches means xs t → AreNumbered t

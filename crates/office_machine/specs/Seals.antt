@@ -68,7 +68,7 @@ without_digest (Tender digest length notice lot moment receipt security state) =
 without_digest (LineSeen line title pots) = LineSeen line title pots
 without_digest (LedgerSeen rows) = LedgerSeen rows
 without_digest (Security amount reference security state tenderer) = Security amount reference security state tenderer
-without_digest (Registry rows) = Registry rows
+without_digest (Registry notice rows) = Registry notice rows
 without_digest (Minutes notice lots rows) = Minutes notice lots rows
 without_digest (Package text) = Package text
 

@@ -35,7 +35,7 @@ registered e = record { receipt = e.receipt; lot = e.lot; moment = e.moment; len
 
 abbrev pub register_told : Option NoticeRow → List EnvelopeRow → Reply
 register_told None envelopes = Refused (NoSuch things.Notice)
-register_told (Some n) envelopes = Registry (map registered envelopes)
+register_told (Some n) envelopes = Registry n.notice (map registered envelopes)
 
 abbrev pub minuted : List TendererRow → EnvelopeRow → Minuted
 minuted tenderers e = record { receipt = e.receipt; lot = e.lot; tenderer = e.tenderer; party = find_tenderer tenderers e.tenderer; reading = e.reading }

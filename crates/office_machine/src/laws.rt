@@ -1,7 +1,9 @@
 ghost use Rattle.office_machine.specs.Accounts.{AccountsAreKept, TablesAreInOrder};
 ghost use Rattle.office_machine.specs.Decided.{RulesAreTheMachines};
 ghost use Rattle.office_machine.specs.Fits.{SumsFit};
+ghost use Rattle.office_machine.specs.OfficeMeans.{NothingIsPublished};
 ghost use Rattle.office_machine.specs.Order.{LeastIsAnswered, NumbersNeverFall};
+ghost use Rattle.office_machine.specs.Outstanding.{LeftIsBooked, LeftIsKnown};
 ghost use Rattle.office_machine.specs.Parents.{ParentsAreThere};
 ghost use Rattle.office_machine.specs.Releases.{ReleasesAreCounted, ReleasesAreNumbered};
 ghost use Rattle.office_machine.specs.Requests.{RunsReach};
@@ -41,6 +43,13 @@ pub fn sums()
     ensures { SumsFit }
 {}
 
+/// What is outstanding of a contract after an accepted command on it, by the rows that the command looks at; and wherever accepted
+/// commands lead, a raise adds its amount, a cut or a payment takes its amount off what is there, and an end leaves nothing.
+pub fn outstanding()
+    ensures known { LeftIsKnown }
+    ensures booked { LeftIsBooked }
+{}
+
 /// Of each row that accepted commands lead to, the rows that it speaks of are there.
 pub fn parents()
     ensures { ParentsAreThere }
@@ -57,4 +66,9 @@ pub fn releases()
 /// that were: they differ in digests and seals of such envelopes alone. An opening has to find equal seals.
 pub fn worlds()
     ensures { StepsStayAlike }
+{}
+
+/// Where no releases are made, a command puts its effect and nothing else.
+pub fn nothing_published()
+    ensures { NothingIsPublished }
 {}

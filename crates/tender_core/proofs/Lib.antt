@@ -1,4 +1,4 @@
-mod ImportsAgree
+pub mod ImportsAgree
 mod LinesAgree
 mod ReadingsPut
 mod Walked

@@ -13,5 +13,5 @@ pub mod present;
 pub mod publish;
 mod receipts;
 pub mod register;
-mod tenders;
+pub mod tenders;
 pub mod withdraw;

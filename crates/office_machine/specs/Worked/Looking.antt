@@ -49,7 +49,7 @@ pub record LookingWorked : Type 0 where
       ≡ Refused NotYourTender ∷ Refused Forbidden ∷ Refused (NoSuch things.Security) ∷ []
   -- the clerk sees the register: no digest and no tenderer
   pub register_is_seen : told modified (sees_register Clerk n1 ∷ [])
-      ≡ Registry
+      ≡ Registry n1
       (record { receipt = 1; lot = l1; moment = february; length = 3; state = envelope.Withdrawn }
       ∷ record { receipt = 2; lot = l1; moment = february; length = 4; state = envelope.Sealed }
       ∷ [])

@@ -54,7 +54,7 @@ telling these those =
     ∷ Tender those 4 n1 l1 february 2 (Some 1) envelope.Sealed
     ∷ Refused NotYourTender
     ∷ Refused Forbidden
-    ∷ Registry
+    ∷ Registry n1
     (record { receipt = 1; lot = l1; moment = february; length = 3; state = envelope.Withdrawn }
     ∷ record { receipt = 2; lot = l1; moment = february; length = 4; state = envelope.Sealed }
     ∷ [])

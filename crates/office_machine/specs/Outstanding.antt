@@ -1,0 +1,79 @@
+-- What is outstanding of a contract after a command on it, in terms of the office before.
+use Rattle.std.specs.Prelude.{◌≡◌, ℕ, ◌+◌, ◌-◌, List, Option, Some, None}
+use Rattle.office_acts.specs.declared.commands.Command.{Command}
+use Rattle.office_acts.specs.declared.commands.Command.TheVariants.{AmendContract, Pay, End}
+use Rattle.office_acts.specs.declared.contract.ChangeKind.{ChangeKind}
+use Rattle.office_acts.specs.declared.contract.ChangeKind.TheVariants as change_kinds
+use Rattle.office_base.specs.Joined.{plus, minus, outstanding}
+use Rattle.office_base.specs.Parents.{notice_of_contract, lot_of_contract, line_of_lot}
+use Rattle.office_base.specs.Tables.{Tables, contract_at, entries_of_contract}
+use Rattle.office_base.specs.declared.records.LineRow.{LineRow}
+use Rattle.office_base.specs.declared.records.NoticeRow.{NoticeRow}
+use Rattle.office_base.specs.declared.records.ContractRow.{ContractRow}
+use Rattle.office_base.specs.declared.records.EntryRow.{EntryRow}
+use Rattle.office_machine.specs.Machine.{Means, Given, Reaches, refusal_of, next}
+use Rattle.office_machine.specs.Replies.{left_of}
+
+-- what is outstanding once so much more has come and gone
+abbrev pub left_with : List EntryRow → ContractRow → ℕ → ℕ → ℕ
+left_with entries c came gone = (plus entries c + came) - (minus entries c + gone)
+
+-- a payment goes; where the contract's notice isn't there, as in no office that commands reach, nothing is put
+abbrev pub left_by_payment : Option ContractRow → List EntryRow → Option NoticeRow → ℕ → ℕ
+left_by_payment (Some c) entries (Some n) amount = left_with entries c 0 amount
+left_by_payment contract entries notice amount = left_of contract entries
+
+-- a raise comes, a cut goes; likewise where the notice or the line isn't there
+abbrev pub left_changed : ChangeKind → List EntryRow → ContractRow → ℕ → ℕ
+left_changed change_kinds.Raise entries c amount = left_with entries c amount 0
+left_changed change_kinds.Cut entries c amount = left_with entries c 0 amount
+
+abbrev pub left_by_change : ChangeKind → Option ContractRow → List EntryRow → Option NoticeRow → Option LineRow → ℕ → ℕ
+left_by_change kind (Some c) entries (Some n) (Some w) amount = left_changed kind entries c amount
+left_by_change kind contract entries notice line amount = left_of contract entries
+
+-- an end releases what is outstanding, in place of what was released before
+abbrev pub left_by_end : Option ContractRow → List EntryRow → Option NoticeRow → Option LineRow → ℕ
+left_by_end (Some c) entries (Some n) (Some w) = left_with entries c c.released (outstanding entries c)
+left_by_end contract entries notice line = left_of contract entries
+
+-- what is outstanding of a contract after a command
+abbrev pub left_after : Means → Given → ℕ → ℕ
+left_after means x contract = left_of (contract_at contract (next means x)) (next means x).entries
+
+-- and before it, by the contract's own entries
+abbrev pub left_before : Tables → ℕ → ℕ
+left_before s contract = left_of (contract_at contract s) (entries_of_contract contract s)
+
+-- the notice of a contract, and its lot's line
+abbrev pub notice_under : ℕ → Tables → Option NoticeRow
+notice_under contract s = notice_of_contract (contract_at contract s) s
+
+abbrev pub line_under : ℕ → Tables → Option LineRow
+line_under contract s = line_of_lot (lot_of_contract (contract_at contract s) s) s
+
+-- after an accepted command, by the rows that it looks at, in any office
+abbrev pub IsLeft : Means → Given → Tables → Command → Type 0
+IsLeft means x s (AmendContract contract entry kind amount rationale) =
+    left_after means x contract
+    ≡ left_by_change kind (contract_at contract s) (entries_of_contract contract s) (notice_under contract s) (line_under contract s) amount
+IsLeft means x s (Pay contract entry amount) =
+    left_after means x contract ≡ left_by_payment (contract_at contract s) (entries_of_contract contract s) (notice_under contract s) amount
+IsLeft means x s (End contract how) =
+    left_after means x contract ≡ left_by_end (contract_at contract s) (entries_of_contract contract s) (notice_under contract s) (line_under contract s)
+IsLeft means x s command = Unit {0}
+
+abbrev pub LeftIsKnown : Type 0
+LeftIsKnown = (means : Means) (x : Given) → refusal_of x ≡ None → IsLeft means x x.before x.command
+
+-- in an office that commands reach: a raise adds its amount, a cut or a payment takes its amount off, and at most what is outstanding;
+-- an end leaves nothing
+abbrev pub IsBooked : Means → Given → Tables → Command → Type 0
+IsBooked means x s (AmendContract contract entry change_kinds.Raise amount rationale) = left_after means x contract ≡ left_before s contract + amount
+IsBooked means x s (AmendContract contract entry change_kinds.Cut amount rationale) = left_after means x contract + amount ≡ left_before s contract
+IsBooked means x s (Pay contract entry amount) = left_after means x contract + amount ≡ left_before s contract
+IsBooked means x s (End contract how) = left_after means x contract ≡ 0
+IsBooked means x s command = Unit {0}
+
+abbrev pub LeftIsBooked : Type 0
+LeftIsBooked = (means : Means) (xs : List Given) (x : Given) → Reaches means xs x.before → refusal_of x ≡ None → IsBooked means x x.before x.command
