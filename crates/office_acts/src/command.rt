@@ -1,10 +1,7 @@
-//! What is asked of an office, and by whom.
+//! Who asks of an office, and which kinds of commands and queries each may give.
 ghost use Rattle.std.specs.Prelude.{◌≡◌};
 ghost use Rattle.office_acts.specs.Rights.{may, may_look};
-ghost use Rattle.office_acts.specs.Kinds.{kind_of_command, kind_of_query};
 
-use crate::budget::BudgetRows;
-use crate::notice::NewNotice;
 use office_values::id::Id;
 
 /// Who asks: anybody, the office's clerk, or a registered tenderer.
@@ -47,48 +44,6 @@ pub enum QueryKind {
     Record,
     Tender,
     Security,
-}
-
-/// A command: what changes the office where it is accepted.
-#[derive(Drop)]
-pub enum Command {
-    /// Takes in a budget file under the name of its batch.
-    Import { batch: Id, rows: BudgetRows },
-    /// Publishes a tender notice, whose lots reserve their estimates.
-    Publish { notice: Id, content: NewNotice },
-}
-
-/// A query: what only looks.
-#[derive(Clone, Copy)]
-pub enum Query {
-    /// The pots of a budget line.
-    Line { line: Id },
-}
-
-impl Command {
-    /// Its kind.
-    pub fn kind(&self) -> CommandKind
-        ensures { result ≡ kind_of_command self.now }
-    {
-        match self {
-            Command::Import { batch: _, rows: _ } => CommandKind::Import,
-            Command::Publish {
-                notice: _,
-                content: _,
-            } => CommandKind::Publish,
-        }
-    }
-}
-
-impl Query {
-    /// Its kind.
-    pub fn kind(&self) -> QueryKind
-        ensures { result ≡ kind_of_query self.now }
-    {
-        match self {
-            Query::Line { line: _ } => QueryKind::Line,
-        }
-    }
 }
 
 /// Whether the caller may give a command of this kind: tenderers alone present, modify and withdraw tenders, and the

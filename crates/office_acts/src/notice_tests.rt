@@ -1,6 +1,7 @@
 //! Tender notices: bounds, what lots and items can be, and what weighs the price.
 use crate::amounts::{Estimate, amount_of};
-use crate::command::{Command, CommandKind};
+use crate::command::CommandKind;
+use crate::commands::Command;
 use crate::item::{Item, Items, Quantity};
 use crate::lot::{NewLot, NewLots};
 use crate::notice::{Criteria, NewNotice, PriceWeight, Standstill, Validity};

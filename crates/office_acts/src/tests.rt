@@ -1,6 +1,8 @@
 //! Tests of rights, kinds and sealed bytes.
 use crate::budget::{BudgetKind, BudgetRow, BudgetRows};
-use crate::command::{Caller, Command, CommandKind, Query, QueryKind, may, may_look};
+use crate::command::{Caller, CommandKind, QueryKind, may, may_look};
+use crate::commands::Command;
+use crate::queries::Query;
 use crate::sealed::{Sealed, SealedBytes};
 use office_values::id::Id;
 use office_values::money::Total;

@@ -1,20 +1,9 @@
 pub mod Orders
 pub mod RowLaws
 pub mod SortedTables
-pub mod Agreeing
 pub mod Looked
 pub mod PotsFound
 pub mod WithinTests
 pub mod JoinedSums
 pub mod SumsOver
 pub mod ExactKeys
-pub mod Passed
-pub mod RowsPut
-pub mod Kept
-pub mod Balance
-pub mod ImportedColumns
-pub mod ImportKeeps
-pub mod PublishedRows
-pub mod PublishKeeps
-pub mod AccountsKept
-mod WorkedAccounts

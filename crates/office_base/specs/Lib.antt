@@ -11,10 +11,6 @@ pub mod PotsAnswers
 pub mod WorkedOffice
 pub mod Standings
 pub mod Rules
-pub mod Machine
-pub mod Moves
-pub mod Accounts
-pub mod Looking
 pub mod States
 pub mod Limits
 pub mod Readings

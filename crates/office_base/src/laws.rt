@@ -1,6 +1,5 @@
 //! Laws of tables, for those who prove things of them.
 ghost use Rattle.office_base.specs.RowLaws.{RowsAreKept};
-ghost use Rattle.office_base.specs.Rules.Import.{ImportsAgree};
 ghost use Rattle.office_base.specs.Shelves.{LooksFollow};
 ghost use Rattle.office_base.specs.Tables.{ChangesKeepOrder};
 
@@ -20,9 +19,4 @@ pub fn changes_keep_order()
 /// A law: of two calls that leave a shelf's content, one after the other, both together do.
 pub fn looks_follow<H: Lookups>()
     ensures { LooksFollow H.meaning }
-{}
-
-/// A law: an import speaks of the lines that its rows name, and of no other.
-pub fn imports_agree()
-    ensures { ImportsAgree }
 {}

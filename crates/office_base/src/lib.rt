@@ -1,7 +1,6 @@
 //! The records of a procurement office, what keeps them, and what they add up to.
 #![tactic(auto)]
 
-pub mod accounts;
 pub mod counts;
 pub mod examples;
 pub mod json_text;

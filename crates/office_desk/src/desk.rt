@@ -1,21 +1,27 @@
 //! The desk.
 ghost use Rattle.std.specs.Prelude.{◌≡◌, ◌⊎◌, IfOk, IfErr, Some, None, Ok, Err, true, false, List, option_map, IsSome, IsNone};
-ghost use Rattle.office_acts.specs.Kinds.{kind_of_command, kind_of_query};
+ghost use Rattle.office_acts.specs.Commands as commands;
+ghost use Rattle.office_acts.specs.Queries as queries;
 ghost use Rattle.office_acts.specs.Rights.{may, may_look};
 ghost use Rattle.office_base.specs.Tables.{Tables, after_puts};
 ghost use Rattle.office_base.specs.Faults.{HasRisen};
 ghost use Rattle.office_base.specs.Shelves.{Looks, Alters};
-ghost use Rattle.office_base.specs.Machine.{Given, Reaches, next};
+ghost use Rattle.office_machine.specs.Machine.{Given, IsRegistered, Reaches, next};
+ghost use Rattle.office_machine.specs.OfficeMeans.{unpublished_means};
+ghost use Rattle.office_desk.specs.Asking.{given};
 ghost use Rattle.office_desk.specs.Callers.{caller_of, names_no_tenderer};
 ghost use Rattle.office_desk.specs.Steps.{IsPlan, IsPlanned, IsAnswered, IsSeen, Joins, read_text};
 
-use crate::callers::is_clerk;
-use crate::look::look_at_line;
-use crate::plan::{plan_import, plan_publish};
+use crate::asking::Asking;
+use crate::callers::{clerk_by, names_clerk, tenderer_named};
+use crate::commands::plan_command;
 use crate::planned::Planned;
-use office_acts::command::{Caller, Command, Query, may, may_look};
-use office_base::accounts;
+use crate::queries::look_at;
+use office_acts::command::{Caller, may, may_look};
+use office_acts::commands::Command;
+use office_acts::queries::Query;
 use office_base::shelf::{Lookups, Shelf};
+use office_machine::{fates, laws};
 use office_values::moment::Moment;
 use office_values::refusal::Refusal;
 use office_values::settings::Settings;
@@ -57,8 +63,8 @@ impl<H: Shelf + Drop> Desk<H> {
         self.shelf
     }
 
-    /// Who asks, by the name and the key of a request, each perhaps absent: the public with neither, the clerk with the clerk's key,
-    /// and else `BadKey`. Only a look-up of a tenderer can be answered `Unavailable`.
+    /// Who asks, by the name and the key of a request, each perhaps absent: the public with neither, the clerk with the clerk's key, a
+    /// registered tenderer with that tenderer's key, and else `BadKey`. Only a look-up of a tenderer can be answered `Unavailable`.
     pub fn caller(&mut self, name: Option<&[u8]>, key: Option<&[u8]>) -> Result<Caller, Refusal>
         ensures looks { Looks H.meaning self.old.shelf self.new.shelf (λ s.
             (result ≡ caller_of self.old.settings s (option_map (λ x. x.now) name.entry) (option_map (λ x. x.now) key.entry)) ⊎ (result ≡ Err Refusal.Unavailable)) }
@@ -72,10 +78,10 @@ impl<H: Shelf + Drop> Desk<H> {
         match name {
             Some(name) => match key {
                 Some(key) => {
-                    if is_clerk(&self.settings, name, key) {
-                        Ok(Caller::Clerk)
+                    if names_clerk(name) {
+                        clerk_by(&self.settings, key)
                     } else {
-                        Err(Refusal::BadKey)
+                        tenderer_named(&mut self.shelf, name, key)
                     }
                 }
                 None => Err(Refusal::BadKey),
@@ -92,23 +98,17 @@ impl<H: Shelf + Drop> Desk<H> {
         &mut self,
         moment: Moment,
         caller: &Caller,
-        command: Command,
+        command: Command<'_>,
     ) -> Result<Planned, Refusal>
-        ensures looks { Looks H.meaning self.old.shelf self.new.shelf (λ s. IsPlanned (record { before = s; moment = moment; caller = caller.now; command = command }) result) }
+        ensures looks { Looks H.meaning self.old.shelf self.new.shelf (λ s. IsPlanned (given s moment caller.now command.entry) result) }
         ensures settings { self.new.settings ≡ self.old.settings }
-        ensures forbidden { may caller.now (kind_of_command command) ≡ false → result ≡ Err Refusal.Forbidden }
+        ensures forbidden { may caller.now (commands.kind_of command.entry) ≡ false → result ≡ Err Refusal.Forbidden }
     {
         if !may(caller, command.kind()) {
             return Err(Refusal::Forbidden);
         }
-        match command {
-            Command::Import { batch, rows } => {
-                plan_import(self.alloc, &mut self.shelf, moment, batch, rows.as_slice())
-            }
-            Command::Publish { notice, content } => {
-                plan_publish(self.alloc, &mut self.shelf, moment, notice, content)
-            }
-        }
+        let asking = Asking { moment, caller };
+        plan_command(self.alloc, &mut self.shelf, &asking, command)
     }
 
     /// Does what was planned, all or nothing, and hands out the reply. Once it is done nothing is allocated.
@@ -118,10 +118,12 @@ impl<H: Shelf + Drop> Desk<H> {
         ensures reply { IfOk result (λ reply. reply.items ≡ planned.reply) }
         ensures refused { IfErr result (λ why. why ≡ Refusal.Unavailable) }
         ensures risen { IfErr result (λ _. HasRisen (H.meaning.fault_count self.old.shelf) (H.meaning.fault_count self.new.shelf)) }
-        ensures joins { H.meaning.honest self.new.shelf → (x : Given) → IsPlan x planned → H.meaning.holds self.old.shelf x.before
-            → (xs : List Given) → Reaches xs x.before → Joins H.meaning self.new.shelf x (read_text result) xs }
+        ensures joins { H.meaning.honest self.new.shelf → (x : Given) → IsPlan x planned → IsRegistered x.caller x.before.tenderers → H.meaning.holds self.old.shelf x.before
+            → (xs : List Given) → Reaches unpublished_means xs x.before → Joins H.meaning self.new.shelf x (read_text result) xs }
     {
-        accounts::kept();
+        laws::accounts();
+        fates::tenders();
+        fates::securities();
         let (puts, reply) = planned.into_parts();
         match self.shelf.apply(puts) {
             Ok(()) => Ok(reply),
@@ -129,21 +131,23 @@ impl<H: Shelf + Drop> Desk<H> {
         }
     }
 
-    /// Answers a command: what is planned is done.
+    /// Answers a command: what is planned is done. A tenderer who gives it is registered.
     pub fn ask(
         &mut self,
         moment: Moment,
         caller: &Caller,
-        command: Command,
+        command: Command<'_>,
     ) -> Result<Vec<u8>, Refusal>
-        ensures alters { Alters H.meaning self.old.shelf self.new.shelf result (λ s. next (record { before = s; moment = moment; caller = caller.now; command = command })) }
+        ensures alters { Alters H.meaning self.old.shelf self.new.shelf result (λ s. next unpublished_means (given s moment caller.now command.entry)) }
         ensures settings { self.new.settings ≡ self.old.settings }
         ensures answered { H.meaning.honest self.new.shelf → (s : Tables) → H.meaning.holds self.old.shelf s
-            → IsAnswered (record { before = s; moment = moment; caller = caller.now; command = command }) (read_text result) }
-        ensures joins { H.meaning.honest self.new.shelf → (s : Tables) → H.meaning.holds self.old.shelf s → (xs : List Given) → Reaches xs s
-            → Joins H.meaning self.new.shelf (record { before = s; moment = moment; caller = caller.now; command = command }) (read_text result) xs }
+            → IsAnswered (given s moment caller.now command.entry) (read_text result) }
+        ensures joins { H.meaning.honest self.new.shelf → (s : Tables) → IsRegistered caller.now s.tenderers → H.meaning.holds self.old.shelf s
+            → (xs : List Given) → Reaches unpublished_means xs s → Joins H.meaning self.new.shelf (given s moment caller.now command.entry) (read_text result) xs }
     {
-        accounts::kept();
+        laws::accounts();
+        fates::tenders();
+        fates::securities();
         let planned = self.plan(moment, caller, command)?;
         self.commit(planned)
     }
@@ -152,13 +156,11 @@ impl<H: Shelf + Drop> Desk<H> {
     pub fn look(&mut self, caller: &Caller, query: Query) -> Result<Vec<u8>, Refusal>
         ensures looks { Looks H.meaning self.old.shelf self.new.shelf (λ s. IsSeen caller.now query s (read_text result)) }
         ensures settings { self.new.settings ≡ self.old.settings }
-        ensures forbidden { may_look caller.now (kind_of_query query) ≡ false → result ≡ Err Refusal.Forbidden }
+        ensures forbidden { may_look caller.now (queries.kind_of query) ≡ false → result ≡ Err Refusal.Forbidden }
     {
         if !may_look(caller, query.kind()) {
             return Err(Refusal::Forbidden);
         }
-        match query {
-            Query::Line { line } => look_at_line(self.alloc, &mut self.shelf, caller, &line),
-        }
+        look_at(self.alloc, &mut self.shelf, caller, query)
     }
 }

@@ -1,90 +1,305 @@
-//! The bodies of replies.
-ghost use Rattle.std.specs.Prelude.{◌≡◌, IfOk, string_bytes};
-ghost use Rattle.serde_json.specs.View.{view};
-ghost use Rattle.serde_json.specs.Written.{compact_text};
-ghost use Rattle.office_values.specs.Moments.{moment_text};
-ghost use Rattle.office_desk.specs.Replies.{imported, published, line_seen};
+//! Replies to accepted commands, and their texts.
+ghost use Rattle.std.specs.Prelude.{◌≡◌, IfOk, Option, option_map};
+ghost use Rattle.office_machine.specs.Replies.{Received, Awarded};
+ghost use Rattle.office_desk.specs.Replies.{award_number, award_price, award_tender, reply_text, said, security_word, winning};
+ghost use Rattle.tender_papers.specs.Register.{state_word};
 
-use office_base::ledger::Pots;
+use crate::json::{Plain, object_text};
+use office_base::records::{EnvelopeState, SecurityState};
+use office_values::given::{AskedNumber, GivenNumber};
 use office_values::id::Id;
 use office_values::moment::Moment;
-use office_values::text::TextLine;
-use serde_json::{Value, json};
+use office_values::money::Amount;
+use office_values::refusal::Refusal;
 use std::alloc::{AllocError, Global};
 
-fn import_value(alloc: Global, batch: &str, moment: &str, rows: u64) -> Result<Value, AllocError>
-    ensures { IfOk result (λ v. view v ≡ imported batch.now moment.now rows) }
-{
-    json!(in alloc; {"batch": batch, "moment": moment, "rows": rows})
+/// Who wins a lot: the award that is made, its price, and the tender.
+#[derive(Clone, Copy)]
+pub(crate) struct Winner {
+    pub(crate) award: u64,
+    pub(crate) price: Amount,
+    pub(crate) tender: GivenNumber,
 }
 
-/// The reply to an accepted import, in JSON.
-pub(crate) fn import_reply(
+/// The reply to an accepted command, as plain values; it is made before it is known whether the command is accepted.
+#[derive(Clone, Copy)]
+pub(crate) enum Reply {
+    /// There is none: the command is refused so.
+    Refused {
+        why: Refusal,
+    },
+    Imported {
+        batch: Id,
+        rows: u64,
+        moment: Moment,
+    },
+    Enrolled {
+        tenderer: Id,
+        moment: Moment,
+    },
+    /// A release of the notice, under this number.
+    OfNotice {
+        notice: Id,
+        release: u64,
+        moment: Moment,
+    },
+    /// So many tenders of the notice were opened.
+    OpenedAll {
+        notice: Id,
+        count: u64,
+        release: u64,
+        moment: Moment,
+    },
+    /// A tender was received.
+    Received {
+        digest: [u8; 32],
+        receipt: u64,
+        security: Option<u64>,
+        state: EnvelopeState,
+        moment: Moment,
+    },
+    Withdrew {
+        receipt: AskedNumber,
+        moment: Moment,
+    },
+    Examined {
+        receipt: AskedNumber,
+        responsive: bool,
+        moment: Moment,
+    },
+    Awarded {
+        lot: Id,
+        best: Option<Winner>,
+        release: u64,
+        moment: Moment,
+    },
+    Failed {
+        award: AskedNumber,
+        release: u64,
+        moment: Moment,
+    },
+    Signed {
+        contract: AskedNumber,
+        release: u64,
+        moment: Moment,
+    },
+    /// What is outstanding of a contract now.
+    OfContract {
+        contract: AskedNumber,
+        left: u64,
+        release: u64,
+        moment: Moment,
+    },
+}
+
+/// The word for where a tender is.
+pub(crate) fn state_word(state: EnvelopeState) -> &'static str
+    ensures { result.now ≡ state_word state }
+{
+    match state {
+        EnvelopeState::Sealed => "sealed",
+        EnvelopeState::Withdrawn => "withdrawn",
+        EnvelopeState::Returned => "returned",
+        EnvelopeState::Opened => "opened",
+    }
+}
+
+/// The word for where a security is.
+pub(crate) fn security_word(state: SecurityState) -> &'static str
+    ensures { result.now ≡ security_word state }
+{
+    match state {
+        SecurityState::Held => "held",
+        SecurityState::Returned => "returned",
+        SecurityState::Forfeited => "forfeited",
+    }
+}
+
+// The reply to a tender that was received.
+fn received_text(
     alloc: Global,
-    batch: &Id,
+    digest: [u8; 32],
+    receipt: u64,
+    security: Option<u64>,
+    state: EnvelopeState,
     moment: Moment,
-    rows: u64,
 ) -> Result<Vec<u8>, AllocError>
-    ensures { IfOk result (λ v. v.items ≡ compact_text (imported batch.now (moment_text moment) rows)) }
+    ensures { IfOk result (λ text. text.items ≡ reply_text (Received digest receipt security state moment)) }
 {
-    let moment = moment.to_text();
-    let value = import_value(alloc, batch.as_str(), moment.as_str(), rows)?;
-    Ok(value.to_string(alloc)?.into_bytes())
+    let word = state_word(state);
+    object_text(
+        alloc,
+        &[
+            ("digest", Plain::Digest(digest)),
+            ("moment", Plain::Moment(moment)),
+            ("receipt", Plain::Number(receipt)),
+            ("security", Plain::Count(security)),
+            ("state", Plain::Text(word)),
+        ],
+    )
 }
 
-fn publish_value(
+// The three numbers of a winner; none where nobody wins.
+fn winner_numbers(best: Option<Winner>) -> (Option<u64>, Option<u64>, Option<u64>)
+    ensures award { result.0 ≡ option_map award_number (option_map winning best) }
+    ensures price { result.1 ≡ option_map award_price (option_map winning best) }
+    ensures tender { result.2 ≡ option_map award_tender (option_map winning best) }
+{
+    match best {
+        Some(winner) => (
+            Some(winner.award),
+            Some(winner.price.units()),
+            Some(winner.tender.get()),
+        ),
+        None => (None, None, None),
+    }
+}
+
+// The reply to an award.
+fn awarded_text(
     alloc: Global,
-    notice: &str,
-    moment: &str,
+    lot: Id,
+    best: Option<Winner>,
     release: u64,
-) -> Result<Value, AllocError>
-    ensures { IfOk result (λ v. view v ≡ published notice.now moment.now release) }
-{
-    json!(in alloc; {"moment": moment, "notice": notice, "release": release})
-}
-
-/// The reply to a command that published a release of a notice, in JSON.
-pub(crate) fn publish_reply(
-    alloc: Global,
-    notice: &Id,
     moment: Moment,
-    release: u64,
 ) -> Result<Vec<u8>, AllocError>
-    ensures { IfOk result (λ v. v.items ≡ compact_text (published notice.now (moment_text moment) release)) }
+    ensures { IfOk result (λ text. text.items ≡ reply_text (Awarded lot (option_map winning best) release moment)) }
 {
-    let moment = moment.to_text();
-    let value = publish_value(alloc, notice.as_str(), moment.as_str(), release)?;
-    Ok(value.to_string(alloc)?.into_bytes())
+    let (award, price, tender) = winner_numbers(best);
+    object_text(
+        alloc,
+        &[
+            ("award", Plain::Count(award)),
+            ("lot", Plain::Id(lot)),
+            ("moment", Plain::Moment(moment)),
+            ("price", Plain::Count(price)),
+            ("release", Plain::Number(release)),
+            ("tender", Plain::Count(tender)),
+        ],
+    )
 }
 
-fn line_value(alloc: Global, line: &str, title: &str, pots: &Pots) -> Result<Value, AllocError>
-    ensures { IfOk result (λ v. view v ≡ line_seen line.now title.now pots.now) }
+/// The text of the reply, in JSON.
+pub(crate) fn reply_text(alloc: Global, reply: &Reply) -> Result<Vec<u8>, AllocError>
+    ensures { IfOk result (λ text. text.items ≡ reply_text (said reply.now)) }
 {
-    let appropriation = pots.appropriation.units();
-    let contracted = pots.contracted.units();
-    let free = pots.free.units();
-    let paid = pots.paid.units();
-    let reserved = pots.reserved.units();
-    json!(in alloc; {
-        "appropriation": appropriation,
-        "contracted": contracted,
-        "free": free,
-        "line": line,
-        "paid": paid,
-        "reserved": reserved,
-        "title": title
-    })
-}
-
-/// What is seen of a line, in JSON.
-pub(crate) fn line_text(
-    alloc: Global,
-    line: &Id,
-    title: &TextLine,
-    pots: &Pots,
-) -> Result<Vec<u8>, AllocError>
-    ensures { IfOk result (λ v. v.items ≡ compact_text (line_seen line.now title.now pots.now)) }
-{
-    let value = line_value(alloc, line.as_str(), title.as_str(), pots)?;
-    Ok(value.to_string(alloc)?.into_bytes())
+    match *reply {
+        Reply::Refused { .. } => Ok(Vec::new(alloc)),
+        Reply::Imported {
+            batch,
+            rows,
+            moment,
+        } => object_text(
+            alloc,
+            &[
+                ("batch", Plain::Id(batch)),
+                ("moment", Plain::Moment(moment)),
+                ("rows", Plain::Number(rows)),
+            ],
+        ),
+        Reply::Enrolled { tenderer, moment } => object_text(
+            alloc,
+            &[
+                ("moment", Plain::Moment(moment)),
+                ("tenderer", Plain::Id(tenderer)),
+            ],
+        ),
+        Reply::OfNotice {
+            notice,
+            release,
+            moment,
+        } => object_text(
+            alloc,
+            &[
+                ("moment", Plain::Moment(moment)),
+                ("notice", Plain::Id(notice)),
+                ("release", Plain::Number(release)),
+            ],
+        ),
+        Reply::OpenedAll {
+            notice,
+            count,
+            release,
+            moment,
+        } => object_text(
+            alloc,
+            &[
+                ("moment", Plain::Moment(moment)),
+                ("notice", Plain::Id(notice)),
+                ("opened", Plain::Number(count)),
+                ("release", Plain::Number(release)),
+            ],
+        ),
+        Reply::Received {
+            digest,
+            receipt,
+            security,
+            state,
+            moment,
+        } => received_text(alloc, digest, receipt, security, state, moment),
+        Reply::Withdrew { receipt, moment } => object_text(
+            alloc,
+            &[
+                ("moment", Plain::Moment(moment)),
+                ("receipt", Plain::Number(receipt.get())),
+                ("state", Plain::Text("withdrawn")),
+            ],
+        ),
+        Reply::Examined {
+            receipt,
+            responsive,
+            moment,
+        } => object_text(
+            alloc,
+            &[
+                ("moment", Plain::Moment(moment)),
+                ("responsive", Plain::Truth(responsive)),
+                ("tender", Plain::Number(receipt.get())),
+            ],
+        ),
+        Reply::Awarded {
+            lot,
+            best,
+            release,
+            moment,
+        } => awarded_text(alloc, lot, best, release, moment),
+        Reply::Failed {
+            award,
+            release,
+            moment,
+        } => object_text(
+            alloc,
+            &[
+                ("award", Plain::Number(award.get())),
+                ("moment", Plain::Moment(moment)),
+                ("release", Plain::Number(release)),
+            ],
+        ),
+        Reply::Signed {
+            contract,
+            release,
+            moment,
+        } => object_text(
+            alloc,
+            &[
+                ("contract", Plain::Number(contract.get())),
+                ("moment", Plain::Moment(moment)),
+                ("release", Plain::Number(release)),
+            ],
+        ),
+        Reply::OfContract {
+            contract,
+            left,
+            release,
+            moment,
+        } => object_text(
+            alloc,
+            &[
+                ("contract", Plain::Number(contract.get())),
+                ("moment", Plain::Moment(moment)),
+                ("outstanding", Plain::Number(left)),
+                ("release", Plain::Number(release)),
+            ],
+        ),
+    }
 }

@@ -1,6 +1,7 @@
 pub mod Joining
-pub mod SegmentSteps
-pub mod RouteSteps
+pub mod ToldSteps
 pub mod AnswerSteps
 pub mod RequestSteps
 pub mod WorkedRequests
+pub mod AskedCommands
+pub mod KeptSteps

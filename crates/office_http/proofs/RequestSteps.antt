@@ -7,13 +7,14 @@ use Rattle.office_values.specs.declared.settings.Settings.{Settings}
 use Rattle.office_base.specs.Tables.{Tables}
 use Rattle.office_base.specs.Shelves.{Meaning}
 use Rattle.office_wire.specs.Request.{RequestView}
-use Rattle.office_http.specs.Routing.{routed}
-use Rattle.office_http.specs.Asking.{asked, credentials_of}
+use Rattle.office_requests.specs.Asking.{asked}
+use Rattle.office_requests.specs.Routing.{routed}
+use Rattle.office_requests.specs.declared.asked.Asked.{Asked}
+use Rattle.office_requests.specs.declared.route.Allow.{Allow}
+use Rattle.office_requests.specs.declared.route.Route.{Route}
+use Rattle.office_http.specs.Credentials.{credentials_of}
 use Rattle.office_http.specs.Meaning.{Meant, meant, meant_at, meant_by, meant_asked, who}
 use Rattle.office_http.specs.Answering.{reply_to, tables_after}
-use Rattle.office_http.specs.declared.asked.Asked.{Asked}
-use Rattle.office_http.specs.declared.reply.Allow.{Allow}
-use Rattle.office_http.specs.declared.route.Route.{Route}
 use Rattle.office_http.proofs.AnswerSteps.{Answered, TellsRefusal, is_refused, is_unavailable, tells_unavailable}
 
 module _ {S : Type 0} (M : Meaning S) (new : S) (s : Tables) (moment : ℕ) (settings : Settings) (request : RequestView) (text : List ℕ) where
@@ -37,10 +38,10 @@ module _ {S : Type 0} (M : Meaning S) (new : S) (s : Tables) (moment : ℕ) (set
       tells held
 
   -- what is meant, by the route and the caller
-  pub meant_is : (route : Route) (caller : Result Caller Refusal) → taken ≡ Ok route → asker ≡ caller → meant settings request s ≡ meant_by route request.body caller
+  pub meant_is : (route : Route) (caller : Result Caller Refusal) → taken ≡ Ok route → asker ≡ caller → meant settings request s ≡ meant_by route request caller
   meant_is route caller at by =
       ap (λ (r : Result Route (Refusal × Option Allow)). meant_at settings request s r) at
-      ∙ ap (λ (c : Result Caller Refusal). meant_by route request.body c) by
+      ∙ ap (λ (c : Result Caller Refusal). meant_by route request c) by
 
   -- the caller is refused
   pub caller_refused : (route : Route) (why : Refusal) → taken ≡ Ok route → (Err why ≡ asker) ⊎ (Err why ≡ unavailable_caller) → TellsRefusal why None text → M.holds new s
@@ -58,7 +59,7 @@ module _ {S : Type 0} (M : Meaning S) (new : S) (s : Tables) (moment : ℕ) (set
 
   -- what is asked is answered
   pub asked_answered : (route : Route) (caller : Caller) (read : Result Asked Refusal) → taken ≡ Ok route → (Ok caller ≡ asker) ⊎ (Ok caller ≡ unavailable_caller)
-      → (read ≡ asked caller route request.body) ⊎ (read ≡ Err Unavailable) → Answered M new s moment (meant_asked caller read) text → Answered M new s moment (meant settings request s) text
+      → (read ≡ asked caller route request) ⊎ (read ≡ Err Unavailable) → Answered M new s moment (meant_asked caller read) text → Answered M new s moment (meant settings request s) text
   asked_answered route caller read at (inr never) is answered = absurd (cc)
   asked_answered route caller read at (inl by) (inl is) answered =
       subst (λ (m : Meant). Answered M new s moment m text) (ap (λ (r : Result Asked Refusal). meant_asked caller r) is ∙ sym (meant_is route (Ok caller) at (sym by))) answered

@@ -1,17 +1,21 @@
 -- How an office answers what is meant: the reply, its bytes, and the office after it.
-use Rattle.std.specs.Prelude.{◌≡◌, ℕ, Bool, List, Option, Some, None, if◌then◌else◌}
-use Rattle.office_acts.specs.declared.command.Caller.{Caller}
-use Rattle.office_acts.specs.declared.command.Command.{Command}
+use Rattle.std.specs.Prelude.{◌≡◌, ℕ, Bool, List, None, if◌then◌else◌}
+use Rattle.office_acts.specs.declared.command.QueryKind.{QueryKind}
+use Rattle.office_acts.specs.declared.command.QueryKind.TheVariants as kinds
 use Rattle.office_values.specs.declared.refusal.Refusal.{Refusal}
 use Rattle.office_values.specs.declared.refusal.Refusal.TheVariants as refusals
 use Rattle.office_values.specs.declared.settings.Settings.{Settings}
 use Rattle.office_base.specs.Tables.{Tables}
 use Rattle.office_base.specs.Shelves.{Meaning}
-use Rattle.office_base.specs.Machine.{Given, refusal_of, next}
-use Rattle.office_base.specs.Looking.{Sight, look_guard, sight}
+use Rattle.office_machine.specs.Machine.{refusal_of}
+use Rattle.office_machine.specs.OfficeMeans.{unpublished_means}
+use Rattle.office_machine.specs.Replies as machine
+use Rattle.office_machine.specs.Requests.{reply_by, office_by}
+use Rattle.office_machine.specs.Sights.{told}
+use Rattle.office_desk.specs.Asking.{given}
 use Rattle.office_desk.specs.Plans.{DeskOf}
-use Rattle.office_desk.specs.Replies.{sight_text}
-use Rattle.office_desk.specs.Steps.{reply_of}
+use Rattle.office_desk.specs.Replies.{reply_text}
+use Rattle.office_desk.specs.Steps.{no_packages}
 use Rattle.office_wire.specs.Blocks.{Block}
 use Rattle.office_wire.specs.Request.{RequestView, IsRequest, IsRefused}
 use Rattle.office_wire.specs.Runs.{Answers}
@@ -20,40 +24,34 @@ use Rattle.office_wire.specs.declared.fault.ReadFault.TheVariants as fault
 use Rattle.office_http.specs.Meaning.{Meant, Refuses, Gives, Sees, meant}
 use Rattle.office_http.specs.Response.{response_of}
 use Rattle.office_http.specs.declared.reply.Reply.{Reply}
-use Rattle.office_http.specs.declared.reply.Reply.TheVariants.{Json, Refused}
+use Rattle.office_http.specs.declared.reply.Reply.TheVariants.{Json, Text, Refused}
 
--- a command that is given to an office
-abbrev pub given_to : Tables → ℕ → Caller → Command → Given
-given_to s moment caller command = record { before = s; moment = moment; caller = caller; command = command }
+-- what the machine replies, as it is told: the ledger, a register and minutes are plain texts, and all else is JSON
+abbrev pub told_as : machine.Reply → Reply
+told_as (machine.Refused why) = Refused why None
+told_as (machine.LedgerSeen rows) = Text (reply_text (machine.LedgerSeen rows))
+told_as (machine.Registry notice rows) = Text (reply_text (machine.Registry notice rows))
+told_as (machine.Minutes notice lots rows) = Text (reply_text (machine.Minutes notice lots rows))
+told_as reply = Json (reply_text reply)
 
--- the reply to a command, by its refusal, and the office after it
-abbrev pub command_reply : Given → Option Refusal → Reply
-command_reply x (Some why) = Refused why None
-command_reply x None = Json (reply_of x)
-
-abbrev pub command_tables : Given → Option Refusal → Tables
-command_tables x (Some why) = x.before
-command_tables x None = next x
-
--- the reply to a query, by its refusal and what is seen; where it isn't refused, something is seen
-abbrev pub sight_reply : Option Sight → Reply
-sight_reply None = Refused refusals.Unavailable None
-sight_reply (Some seen) = Json (sight_text seen)
-
-abbrev pub query_reply : Option Refusal → Option Sight → Reply
-query_reply (Some why) seen = Refused why None
-query_reply None seen = sight_reply seen
+-- what a query of this kind sees, as it is told
+abbrev pub seen_as : QueryKind → List ℕ → Reply
+seen_as kinds.Ledger text = Text text
+seen_as kinds.Minutes text = Text text
+seen_as kinds.Register text = Text text
+seen_as _ text = Json text
 
 -- the reply to what is meant, at this moment
 abbrev pub reply_to : Tables → ℕ → Meant → Reply
 reply_to s moment (Refuses why method) = Refused why method
-reply_to s moment (Gives caller command) = command_reply (given_to s moment caller command) (refusal_of (given_to s moment caller command))
-reply_to s moment (Sees caller query) = query_reply (look_guard s caller query) (sight s query)
+reply_to s moment (Gives caller command) =
+    told_as (reply_by (refusal_of (given s moment caller command)) unpublished_means (given s moment caller command))
+reply_to s moment (Sees caller query) = told_as (told no_packages s caller query)
 
 -- the office after it
 abbrev pub tables_after : Tables → ℕ → Meant → Tables
 tables_after s moment (Refuses why method) = s
-tables_after s moment (Gives caller command) = command_tables (given_to s moment caller command) (refusal_of (given_to s moment caller command))
+tables_after s moment (Gives caller command) = office_by (refusal_of (given s moment caller command)) unpublished_means (given s moment caller command)
 tables_after s moment (Sees caller query) = s
 
 -- the response where memory or the store is wanting

@@ -1,6 +1,5 @@
 pub mod Response
-pub mod Paths
-pub mod Routing
-pub mod Asking
+pub mod Credentials
 pub mod Meaning
 pub mod Answering
+pub mod Joined

@@ -1,19 +1,21 @@
--- What a request means to an office: the first refusal of its route, its caller, the caller's rights and its body, in this order, or what is asked.
+-- What a request means to an office: the first refusal of its route, its caller, the caller's rights, its query and its body, in this
+-- order, or what is asked.
 use Rattle.std.specs.Prelude.{ℕ, List, Option, None, Result, Ok, Err}
 use Rattle.office_acts.specs.declared.command.Caller.{Caller}
-use Rattle.office_acts.specs.declared.command.Command.{Command}
-use Rattle.office_acts.specs.declared.command.Query.{Query}
+use Rattle.office_acts.specs.declared.commands.Command.{Command}
+use Rattle.office_acts.specs.declared.queries.Query.{Query}
 use Rattle.office_values.specs.declared.refusal.Refusal.{Refusal}
 use Rattle.office_values.specs.declared.settings.Settings.{Settings}
 use Rattle.office_base.specs.Tables.{Tables}
 use Rattle.office_desk.specs.Callers.{caller_of}
 use Rattle.office_wire.specs.Request.{RequestView}
-use Rattle.office_http.specs.Routing.{routed}
-use Rattle.office_http.specs.Asking.{asked, credentials_of}
-use Rattle.office_http.specs.declared.asked.Asked.{Asked}
-use Rattle.office_http.specs.declared.asked.Asked.TheVariants.{Does, Looks}
-use Rattle.office_http.specs.declared.reply.Allow.{Allow}
-use Rattle.office_http.specs.declared.route.Route.{Route}
+use Rattle.office_requests.specs.Asking.{asked}
+use Rattle.office_requests.specs.Routing.{routed}
+use Rattle.office_requests.specs.declared.asked.Asked.{Asked}
+use Rattle.office_requests.specs.declared.asked.Asked.TheVariants.{Does, Looks}
+use Rattle.office_requests.specs.declared.route.Allow.{Allow}
+use Rattle.office_requests.specs.declared.route.Route.{Route}
+use Rattle.office_http.specs.Credentials.{credentials_of}
 
 -- a refusal, with the method of the path where the request has another; or what is asked, and by whom
 pub data Meant : Type 0 where
@@ -32,14 +34,14 @@ abbrev pub who : Settings → Tables → Result (Option (List ℕ) × Option (Li
 who settings s (Err why) = Err why
 who settings s (Ok values) = caller_of settings s values.0 values.1
 
--- by a route with this body
-abbrev pub meant_by : Route → List ℕ → Result Caller Refusal → Meant
-meant_by route body (Err why) = Refuses why None
-meant_by route body (Ok caller) = meant_asked caller (asked caller route body)
+-- by a route and this request
+abbrev pub meant_by : Route → RequestView → Result Caller Refusal → Meant
+meant_by route request (Err why) = Refuses why None
+meant_by route request (Ok caller) = meant_asked caller (asked caller route request)
 
 abbrev pub meant_at : Settings → RequestView → Tables → Result Route (Refusal × Option Allow) → Meant
 meant_at settings request s (Err why) = Refuses why.0 why.1
-meant_at settings request s (Ok route) = meant_by route request.body (who settings s (credentials_of request.head.fields))
+meant_at settings request s (Ok route) = meant_by route request (who settings s (credentials_of request.head.fields))
 
 -- what a request means to an office
 abbrev pub meant : Settings → RequestView → Tables → Meant

@@ -3,8 +3,8 @@ use Rattle.std.specs.Prelude.{◌≡◌, ℕ, ◌==◌, if◌then◌else◌, Lis
 use Rattle.http.specs.StatusCode.{reason_phrase}
 use Rattle.office_values.specs.Refusals.{number_of, status_of, name_of, what_of, About, Named, Record}
 use Rattle.office_values.specs.declared.refusal.Refusal.{Refusal}
-use Rattle.office_http.specs.declared.reply.Allow.{Allow}
-use Rattle.office_http.specs.declared.reply.Allow.TheVariants as allow
+use Rattle.office_requests.specs.declared.route.Allow.{Allow}
+use Rattle.office_requests.specs.declared.route.Allow.TheVariants as allow
 use Rattle.office_http.specs.declared.reply.Reply.{Reply}
 use Rattle.office_http.specs.declared.reply.Reply.TheVariants as reply
 

@@ -2,21 +2,26 @@
 ghost use Rattle.std.specs.Prelude.{◌≡◌, ◌⊎◌, None, Ok, Err};
 ghost use Rattle.office_values.specs.declared.refusal.Refusal.TheVariants.{Unavailable};
 ghost use Rattle.office_base.specs.Shelves.{Looks};
-ghost use Rattle.office_http.specs.Asking.{credentials_of};
+ghost use Rattle.office_http.specs.Credentials.{credentials_of};
 ghost use Rattle.office_http.specs.Meaning.{Gives, Sees, meant, meant_asked, who};
 ghost use Rattle.office_http.specs.Answering.{AnswersRequest, IsAnswered, RefusesBytes, fault_text, unavailable_text};
+ghost use Rattle.office_http.specs.Joined.{IsKeptAnswering, KeepsAnswering, KeepsRefusing};
 ghost use Rattle.office_http.specs.Response.{response_of};
 ghost use Rattle.office_http.specs.declared.reply.Reply.TheVariants.{Refused};
 
-use crate::asked::{Asked, command_of, credentials_of};
-use crate::reply::Allow;
+use crate::credentials::credentials_of;
+use crate::laws;
 use crate::response::{
-    accepted_response, bad_head, coding, refusal_response, too_long, unavailable,
+    accepted_response, bad_head, coding, refusal_response, seen_response, too_long, unavailable,
 };
-use crate::routes::Routes;
-use office_acts::command::{Caller, Command, Query};
+use office_acts::command::Caller;
+use office_acts::commands::Command;
+use office_acts::queries::Query;
 use office_base::shelf::{Lookups, Shelf};
 use office_desk::desk::Desk;
+use office_requests::asked::{Asked, command_of};
+use office_requests::route::Allow;
+use office_requests::routes::Routes;
 use office_values::moment::Moment;
 use office_values::refusal::Refusal;
 use office_wire::answer::Answer;
@@ -41,11 +46,11 @@ fn answer_command<H: Shelf + Drop>(
     desk: &mut Desk<H>,
     moment: Moment,
     caller: &Caller,
-    command: Command,
+    command: Command<'_>,
 ) -> Answer
     ensures before { H.meaning.honest desk.new.shelf → H.meaning.honest desk.old.shelf }
     ensures settings { desk.new.settings ≡ desk.old.settings }
-    ensures answered { IsAnswered H.meaning desk.old.shelf desk.new.shelf moment (λ s. Gives caller.now command) result }
+    ensures answered { IsAnswered H.meaning desk.old.shelf desk.new.shelf moment (λ s. Gives caller.now command.entry) result }
 {
     let planned = match desk.plan(moment, caller, command) {
         Ok(planned) => planned,
@@ -76,7 +81,7 @@ fn answer_query<H: Shelf + Drop>(
         Ok(text) => text,
         Err(refusal) => return refuse(alloc, refusal, None),
     };
-    match accepted_response(alloc, &text) {
+    match seen_response(alloc, query.kind(), &text) {
         Ok(response) => Answer::built(response),
         Err(_) => Answer::constant(unavailable()),
     }
@@ -98,11 +103,11 @@ fn answer_asked<H: Shelf + Drop>(
     desk: &mut Desk<H>,
     moment: Moment,
     caller: &Caller,
-    asked: Result<Asked, Refusal>,
+    asked: Result<Asked<'_>, Refusal>,
 ) -> Answer
     ensures before { H.meaning.honest desk.new.shelf → H.meaning.honest desk.old.shelf }
     ensures settings { desk.new.settings ≡ desk.old.settings }
-    ensures answered { IsAnswered H.meaning desk.old.shelf desk.new.shelf moment (λ s. meant_asked caller.now asked) result }
+    ensures answered { IsAnswered H.meaning desk.old.shelf desk.new.shelf moment (λ s. meant_asked caller.now asked.entry) result }
 {
     match asked {
         Ok(Asked::Does(command)) => answer_command(alloc, desk, moment, caller, command),
@@ -111,9 +116,8 @@ fn answer_asked<H: Shelf + Drop>(
     }
 }
 
-/// Answers a request that was read. The response is built whole before anything changes; where memory or the store is wanting, it
-/// is the constant response to `Unavailable`, and nothing changes.
-pub fn answer_request<H: Shelf + Drop>(
+// Answers a request that was read.
+fn answer_read<H: Shelf + Drop>(
     alloc: Global,
     routes: &Routes,
     desk: &mut Desk<H>,
@@ -134,6 +138,24 @@ pub fn answer_request<H: Shelf + Drop>(
     };
     let asked = command_of(alloc, &caller, &route, request);
     answer_asked(alloc, desk, moment, &caller, asked)
+}
+
+/// Answers a request that was read. The response is built whole before anything changes; where memory or the store is wanting, it
+/// is the constant response to `Unavailable`, and nothing changes.
+pub fn answer_request<H: Shelf + Drop>(
+    alloc: Global,
+    routes: &Routes,
+    desk: &mut Desk<H>,
+    moment: Moment,
+    request: &Request,
+) -> Answer
+    ensures before { H.meaning.honest desk.new.shelf → H.meaning.honest desk.old.shelf }
+    ensures settings { desk.new.settings ≡ desk.old.settings }
+    ensures answered { IsAnswered H.meaning desk.old.shelf desk.new.shelf moment (meant desk.old.settings request.now) result }
+    ensures kept { IsKeptAnswering H.meaning desk.old.shelf desk.new.shelf moment (meant desk.old.settings request.now) result }
+{
+    laws::kept();
+    answer_read(alloc, routes, desk, moment, request)
 }
 
 /// The response to what can't be read as a request. Takes no memory; a reader that fails is answered as want of memory.
@@ -161,7 +183,10 @@ pub fn answer<H: Shelf + Drop>(
     ensures settings { desk.new.settings ≡ desk.old.settings }
     ensures answered { AnswersRequest H.meaning desk.old.settings desk.old.shelf desk.new.shelf moment bytes.now result
         ⊎ RefusesBytes H.meaning desk.old.shelf desk.new.shelf bytes.now result }
+    ensures kept { KeepsAnswering H.meaning desk.old.settings desk.old.shelf desk.new.shelf moment bytes.now result
+        ⊎ KeepsRefusing H.meaning desk.old.shelf desk.new.shelf bytes.now result }
 {
+    laws::kept();
     let mut reader = CountedReader::new(bytes);
     match read_request(alloc, &mut reader) {
         Ok(request) => answer_request(alloc, routes, desk, moment, &request),

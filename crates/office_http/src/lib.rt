@@ -2,14 +2,17 @@
 #![tactic(auto)]
 
 pub mod answering;
-pub mod asked;
+pub mod credentials;
+pub mod laws;
 pub mod office;
-mod path;
 pub mod reply;
 #[cfg(test)]
 mod request_tests;
 pub mod response;
 #[cfg(test)]
 mod response_tests;
-pub mod route;
-pub mod routes;
+
+pub use office_requests::asked::{Asked, command_of};
+pub use office_requests::route::{Allow, Route};
+pub use office_requests::routes::Routes;
+pub use office_wire::request::read_request;

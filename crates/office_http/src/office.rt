@@ -1,14 +1,19 @@
 //! An office that is asked over HTTP.
 ghost use Rattle.std.specs.Prelude.{◌≡◌, ◌≤◌, ℕ, List, true, Some, IfOk, IsErrOf, OnOk};
 ghost use Rattle.office_base.specs.Tables.{Tables};
+ghost use Rattle.office_machine.specs.Machine.{Given, Reaches};
+ghost use Rattle.office_machine.specs.OfficeMeans.{unpublished_means};
+ghost use Rattle.office_desk.specs.Steps.{IsKept};
 ghost use Rattle.office_wire.specs.Counting.{HasStopped};
 ghost use Rattle.office_wire.specs.Runs.{Step, Ran, Served, office_left};
 ghost use Rattle.office_http.specs.Answering.{Held, IsHeld, held_by, office_answers};
+ghost use Rattle.office_http.specs.Joined.{KeepsServing, joined_steps};
 
 use crate::answering::{answer_request, fault_response};
-use crate::routes::Routes;
+use crate::laws;
 use office_base::shelf::{Lookups, Shelf};
 use office_desk::desk::Desk;
+use office_requests::routes::Routes;
 use office_values::moment::Moment;
 use office_wire::answer::Answer;
 use office_wire::counted::CountedReader;
@@ -87,12 +92,19 @@ pub fn run<H: Shelf + Drop, R: BufRead, W: Write>(
         → (steps : List Step)
         × Ran office_answers result input reader.new.remaining (held_by office.old s) steps writer.old.contents writer.new.contents
         × IsHeld H.meaning office.new (office_left office_answers (held_by office.old s) steps) }
+    ensures kept { H.meaning.honest office.new.shelf → (input : List ℕ) → reader.old.remaining ≡ Some input → (s : Tables) → H.meaning.holds office.old.shelf s
+        → (xs : List Given) → Reaches unpublished_means xs s
+        → (steps : List Step)
+        × Ran office_answers result input reader.new.remaining (held_by office.old s) steps writer.old.contents writer.new.contents
+        × IsHeld H.meaning office.new (office_left office_answers (held_by office.old s) steps)
+        × IsKept (joined_steps (held_by office.old s) steps xs) (office_left office_answers (held_by office.old s) steps).tables }
     ensures cause { IsErrOf result RunFault.Read → HasStopped reader.new }
     ensures writes { IsErrOf result RunFault.Write → writer.new.has_failed ≡ true }
     ensures all_read { OnOk result (reader.new.has_failed ≡ reader.old.has_failed) }
     ensures all_written { OnOk result (writer.new.has_failed ≡ writer.old.has_failed) }
     ensures spent { reader.new.left ≤ reader.old.left }
 {
+    laws::kept();
     runs::run(alloc, office, reader, writer)
 }
 
@@ -110,10 +122,17 @@ pub fn serve_one<H: Shelf + Drop, R: BufRead, W: Write>(
         → (h : Held)
         × Served office_answers result input reader.new.remaining moment (held_by office.old s) h writer.old.contents writer.new.contents
         × IsHeld H.meaning office.new h }
+    ensures kept { H.meaning.honest office.new.shelf → (input : List ℕ) → reader.old.remaining ≡ Some input → (s : Tables) → H.meaning.holds office.old.shelf s
+        → (xs : List Given) → Reaches unpublished_means xs s
+        → (h : Held)
+        × Served office_answers result input reader.new.remaining moment (held_by office.old s) h writer.old.contents writer.new.contents
+        × IsHeld H.meaning office.new h
+        × KeepsServing input reader.new.remaining moment (held_by office.old s) h xs }
     ensures cause { IsErrOf result RunFault.Read → HasStopped reader.new }
     ensures writes { IsErrOf result RunFault.Write → writer.new.has_failed ≡ true }
     ensures all_written { OnOk result (writer.new.has_failed ≡ writer.old.has_failed) }
     ensures spent { reader.new.left ≤ reader.old.left }
 {
+    laws::kept();
     runs::serve_one(alloc, office, moment, reader, writer)
 }

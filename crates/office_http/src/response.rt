@@ -4,11 +4,14 @@ ghost use Rattle.http.specs.StatusCode.{IsStatusCode};
 ghost use Rattle.office_values.specs.Refusals.{told, Record};
 ghost use Rattle.office_values.specs.declared.refusal.Refusal.TheVariants.{BadHead, TooLong, Coding, Unavailable};
 ghost use Rattle.office_http.specs.Response.{head_start, response_with, response_of, refusal_body, what_member, allow_field, challenge_field, NamesMethod, phrase_of};
+ghost use Rattle.office_http.specs.Answering.{seen_as};
 ghost use Rattle.office_http.specs.declared.reply.Reply.TheVariants.{Json, Refused};
 
-use crate::reply::{Allow, Reply};
+use crate::reply::Reply;
 use http::StatusCode;
 use itoa::Buffer;
+use office_acts::command::QueryKind;
+use office_requests::route::Allow;
 use office_values::refusal::{Refusal, What};
 use std::alloc::{AllocError, Global};
 
@@ -134,11 +137,27 @@ fn refusal_body(alloc: Global, refusal: Refusal) -> Result<Vec<u8>, AllocError>
     Ok(out)
 }
 
-// The response to what is accepted or seen, as a JSON text.
+// The response to what is accepted, as a JSON text.
 pub(crate) fn accepted_response(alloc: Global, text: &[u8]) -> Result<Vec<u8>, AllocError>
     ensures { IfOk result (λ out. out.items ≡ response_of (Json text.now)) }
 {
     response(alloc, 200, JSON, "", "", text)
+}
+
+// The response to a query of this kind, with what is seen.
+pub(crate) fn seen_response(
+    alloc: Global,
+    kind: QueryKind,
+    text: &[u8],
+) -> Result<Vec<u8>, AllocError>
+    ensures { IfOk result (λ out. out.items ≡ response_of (seen_as kind text.now)) }
+{
+    match kind {
+        QueryKind::Ledger | QueryKind::Minutes | QueryKind::Register => {
+            response(alloc, 200, PLAIN_TEXT, "", "", text)
+        }
+        _ => response(alloc, 200, JSON, "", "", text),
+    }
 }
 
 // The response to a refusal.

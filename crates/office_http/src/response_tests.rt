@@ -1,6 +1,7 @@
 //! Responses whose bytes are known.
-use crate::reply::{Allow, Reply};
+use crate::reply::Reply;
 use crate::response::{respond, unavailable};
+use office_requests::route::Allow;
 use office_values::refusal::{BadPart, Refusal, Thing};
 use office_values::text::Bytes;
 use std::test::Fail;

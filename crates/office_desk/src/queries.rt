@@ -1,0 +1,40 @@
+//! Queries, answered over any shelf.
+ghost use Rattle.std.specs.Prelude.{◌≡◌, true};
+ghost use Rattle.office_acts.specs.Queries.{kind_of};
+ghost use Rattle.office_acts.specs.Rights.{may_look};
+ghost use Rattle.office_base.specs.Shelves.{Looks};
+ghost use Rattle.office_desk.specs.Steps.{IsSeen, read_text};
+
+mod ledger;
+mod line;
+mod minutes;
+mod register;
+mod security;
+mod tender;
+
+use office_acts::command::Caller;
+use office_acts::queries::Query;
+use office_base::shelf::Lookups;
+use office_values::refusal::Refusal;
+use std::alloc::Global;
+
+/// Answers a query that the caller may ask. Packages of releases aren't there yet: they are answered `Unavailable`.
+pub(crate) fn look_at<H: Lookups>(
+    alloc: Global,
+    shelf: &mut H,
+    caller: &Caller,
+    query: Query,
+) -> Result<Vec<u8>, Refusal>
+    requires { may_look caller.now (kind_of query) ≡ true }
+    ensures { Looks H.meaning shelf.old shelf.new (λ s. IsSeen caller.now query s (read_text result)) }
+{
+    match query {
+        Query::Line { line } => line::look(alloc, shelf, caller, line),
+        Query::Ledger => ledger::look(alloc, shelf, caller),
+        Query::Minutes { notice } => minutes::look(alloc, shelf, caller, notice),
+        Query::Register { notice } => register::look(alloc, shelf, caller, notice),
+        Query::Tender { receipt } => tender::look(alloc, shelf, caller, receipt),
+        Query::Security { security } => security::look(alloc, shelf, caller, security),
+        Query::Releases { .. } | Query::Record { .. } => Err(Refusal::Unavailable),
+    }
+}

@@ -1,0 +1,26 @@
+//! The ledger.
+ghost use Rattle.std.specs.Prelude.{◌≡◌, true};
+ghost use Rattle.office_acts.specs.Rights.{may_look};
+ghost use Rattle.office_acts.specs.declared.command.QueryKind.TheVariants as kinds;
+ghost use Rattle.office_acts.specs.declared.queries.Query.TheVariants.{Ledger};
+ghost use Rattle.office_base.specs.Shelves.{Looks};
+ghost use Rattle.office_desk.specs.Steps.{IsSeen, read_text};
+
+use office_acts::command::Caller;
+use office_base::shelf::Lookups;
+use office_values::refusal::Refusal;
+use std::alloc::Global;
+use tender_papers::ledger::ledger_text;
+
+/// The ledger. A sum that is out of its range is a fault of the store.
+pub(crate) fn look<H: Lookups>(
+    alloc: Global,
+    shelf: &mut H,
+    caller: &Caller,
+) -> Result<Vec<u8>, Refusal>
+    requires { may_look caller.now kinds.Ledger ≡ true }
+    ensures { Looks H.meaning shelf.old shelf.new (λ s. IsSeen caller.now Ledger s (read_text result)) }
+{
+    let rows = shelf.ledger()?;
+    Ok(ledger_text(alloc, &rows)?.into_vec())
+}

@@ -1,0 +1,57 @@
+//! A look at a budget line.
+ghost use Rattle.std.specs.Prelude.{◌≡◌, true, IfOk};
+ghost use Rattle.office_acts.specs.Rights.{may_look};
+ghost use Rattle.office_acts.specs.declared.command.QueryKind.TheVariants as kinds;
+ghost use Rattle.office_acts.specs.declared.queries.Query.TheVariants.{Line};
+ghost use Rattle.office_base.specs.Shelves.{Looks};
+ghost use Rattle.office_machine.specs.Replies.{LineSeen};
+ghost use Rattle.office_desk.specs.Replies.{reply_text};
+ghost use Rattle.office_desk.specs.Steps.{IsSeen, read_text};
+
+use crate::json::{Plain, object_text};
+use office_acts::command::Caller;
+use office_base::laws;
+use office_base::ledger::Pots;
+use office_base::pots::pots_of_line;
+use office_base::records::LineRow;
+use office_base::shelf::Lookups;
+use office_values::id::Id;
+use office_values::refusal::{Refusal, Thing};
+use std::alloc::{AllocError, Global};
+
+// What is seen of a line, in JSON.
+fn line_text(alloc: Global, row: &LineRow, pots: &Pots) -> Result<Vec<u8>, AllocError>
+    ensures { IfOk result (λ text. text.items ≡ reply_text (LineSeen row.now.line row.now.title pots.now)) }
+{
+    let title = row.title.as_str();
+    object_text(
+        alloc,
+        &[
+            ("appropriation", Plain::Total(pots.appropriation)),
+            ("contracted", Plain::Total(pots.contracted)),
+            ("free", Plain::Total(pots.free)),
+            ("line", Plain::Id(row.line)),
+            ("paid", Plain::Total(pots.paid)),
+            ("reserved", Plain::Total(pots.reserved)),
+            ("title", Plain::Text(title)),
+        ],
+    )
+}
+
+/// A look at a budget line: where its money is. A sum that is out of its range is answered like a fault of the store.
+pub(crate) fn look<H: Lookups>(
+    alloc: Global,
+    shelf: &mut H,
+    caller: &Caller,
+    line: Id,
+) -> Result<Vec<u8>, Refusal>
+    requires { may_look caller.now kinds.Line ≡ true }
+    ensures { Looks H.meaning shelf.old shelf.new (λ s. IsSeen caller.now (Line line) s (read_text result)) }
+{
+    laws::looks_follow::<H>();
+    let Some(row) = shelf.get_line(&line)? else {
+        return Err(Refusal::NoSuch(Thing::Line));
+    };
+    let pots = pots_of_line(shelf, &row)?;
+    Ok(line_text(alloc, &row, &pots)?)
+}

@@ -1,0 +1,72 @@
+//! A look at a tender.
+ghost use Rattle.std.specs.Prelude.{◌≡◌, true, IfOk};
+ghost use Rattle.office_acts.specs.Rights.{may_look};
+ghost use Rattle.office_acts.specs.declared.command.QueryKind.TheVariants as kinds;
+ghost use Rattle.office_acts.specs.declared.queries.Query.TheVariants.{Tender};
+ghost use Rattle.office_base.specs.Shelves.{Looks};
+ghost use Rattle.office_machine.specs.Replies.{Tender as TenderSeen};
+ghost use Rattle.office_desk.specs.Replies.{reply_text};
+ghost use Rattle.office_desk.specs.Steps.{IsSeen, read_text};
+
+use crate::json::{Plain, object_text};
+use crate::reply::state_word;
+use office_acts::command::Caller;
+use office_base::records::EnvelopeRow;
+use office_base::shelf::Lookups;
+use office_values::given::{AskedNumber, GivenNumber};
+use office_values::refusal::{Refusal, Thing};
+use std::alloc::{AllocError, Global};
+use tender_core::tenders::is_by;
+
+// The number of the security, where there is one.
+fn number_of(security: Option<GivenNumber>) -> Option<u64>
+    ensures { result ≡ security }
+{
+    match security {
+        Some(number) => Some(number.get()),
+        None => None,
+    }
+}
+
+// What is seen of a tender, in JSON.
+fn tender_text(alloc: Global, row: &EnvelopeRow) -> Result<Vec<u8>, AllocError>
+    ensures { IfOk result (λ text. text.items
+        ≡ reply_text (TenderSeen row.now.digest row.now.length row.now.notice row.now.lot row.now.moment row.now.receipt row.now.security row.now.state)) }
+{
+    let length = row.length.get();
+    let receipt = row.receipt.get();
+    let security = number_of(row.security);
+    let word = state_word(row.state);
+    object_text(
+        alloc,
+        &[
+            ("digest", Plain::Digest(row.digest)),
+            ("length", Plain::Number(length)),
+            ("lot", Plain::Id(row.lot)),
+            ("moment", Plain::Moment(row.moment)),
+            ("notice", Plain::Id(row.notice)),
+            ("receipt", Plain::Number(receipt)),
+            ("security", Plain::Count(security)),
+            ("state", Plain::Text(word)),
+        ],
+    )
+}
+
+/// A look at a tender. It is shown to whoever presented it.
+pub(crate) fn look<H: Lookups>(
+    alloc: Global,
+    shelf: &mut H,
+    caller: &Caller,
+    receipt: AskedNumber,
+) -> Result<Vec<u8>, Refusal>
+    requires { may_look caller.now kinds.Tender ≡ true }
+    ensures { Looks H.meaning shelf.old shelf.new (λ s. IsSeen caller.now (Tender receipt) s (read_text result)) }
+{
+    let Some(row) = shelf.get_envelope(receipt)? else {
+        return Err(Refusal::NoSuch(Thing::Tender));
+    };
+    if !is_by(caller, &row.tenderer) {
+        return Err(Refusal::NotYourTender);
+    }
+    Ok(tender_text(alloc, &row)?)
+}

@@ -1,0 +1,303 @@
+-- What is asked by a request can be given: a new notice's lots have an identifier each, and a tenderer who asks is registered.
+use Rattle.std.proofs.Common.{◌≡◌, ℕ, Bool, true, false, List, Option, Some, None, Result, Ok, Err, refl, sym, subst}
+use Rattle.std.specs.Prelude.{IsSome, ◌^◌, not, ◌&&◌, nat_le, length, if◌then◌else◌}
+use Rattle.serde_json.specs.Data.{Data}
+use Rattle.office_values.specs.declared.refusal.Field.TheVariants as fields
+use Rattle.office_values.specs.declared.refusal.Refusal.{Refusal}
+use Rattle.office_values.specs.declared.refusal.Refusal.TheVariants.{BadKey, Forbidden}
+use Rattle.office_values.specs.declared.settings.Settings.{Settings}
+use Rattle.office_values.specs.Fields.{is_id}
+use Rattle.office_acts.specs.Identified.{repeats_id}
+use Rattle.office_acts.specs.Lots.{lot_id}
+use Rattle.office_acts.specs.declared.budget.BudgetRow.{BudgetRow}
+use Rattle.office_acts.specs.declared.command.Caller.{Caller}
+use Rattle.office_acts.specs.declared.command.Caller.TheVariants.{Clerk, Tenderer}
+use Rattle.office_acts.specs.declared.command.CommandKind.{CommandKind}
+use Rattle.office_acts.specs.declared.command.CommandKind.TheVariants as kinds
+use Rattle.office_acts.specs.declared.commands.Command.TheVariants as commands
+use Rattle.office_acts.specs.declared.lot.NewLot.{NewLot}
+use Rattle.office_acts.specs.declared.notice.Criteria.{Criteria}
+use Rattle.office_acts.specs.declared.notice.NewNotice.{NewNotice}
+use Rattle.office_base.specs.Tables.{Tables, find_tenderer, tenderer_at}
+use Rattle.office_base.specs.declared.records.TendererRow.{TendererRow}
+use Rattle.office_machine.specs.Machine.{IsCommand, IsRegistered}
+use Rattle.office_desk.specs.Callers.{caller_of, clerk_by, fits_key, names_clerk, tenderer_by, tenderer_of}
+use Rattle.office_wire.specs.Request.{RequestView}
+use Rattle.office_requests.specs.Asking.{asked, asked_by, command_at, lot_command, may_ask, named_command, numbered_command}
+use Rattle.office_requests.specs.Bodies.{import_of, registration_in, notice_amendment_in, cancellation_in, examination_in}
+use Rattle.office_requests.specs.Bodies.{contract_amendment_in, payment_in, ending_in, sealed_in}
+use Rattle.office_requests.specs.Fields.{◌>>=◌, needed, text_in, line_in, flag_in, number_in, perhaps_number_in}
+use Rattle.office_requests.specs.Forms.{id_of, digest_of, change_of}
+use Rattle.office_requests.specs.Moments.{moment_of}
+use Rattle.office_requests.specs.Parameters.{query_of, security_in}
+use Rattle.office_requests.specs.Publications.{criteria_in, distinct, lots_in, notice_in, publication_in}
+use Rattle.office_requests.specs.declared.asked.Asked.{Asked}
+use Rattle.office_requests.specs.declared.asked.Asked.TheVariants.{Does, Looks}
+use Rattle.office_requests.specs.declared.route.Endpoint.{Endpoint}
+use Rattle.office_requests.specs.declared.route.Endpoint.TheVariants.{Commands, Queries}
+use Rattle.office_requests.specs.declared.route.Place.{Place}
+use Rattle.office_requests.specs.declared.route.Place.TheVariants.{Nowhere, Named, Within, Numbered}
+use Rattle.office_requests.specs.declared.route.Route.{Route}
+use Rattle.office_http.specs.Meaning.{who}
+
+-- what is read, if it isn't refused, is so
+unfoldable pub IsRead : {A : Type 0} → (A → Type 0) → Result A Refusal → Type 0
+IsRead P (Ok value) = P value
+IsRead P (Err why) = Unit {0}
+
+value_read : {A : Type 0} (P : A → Type 0) (value : A) → P value → IsRead P (Ok value)
+unfolding IsRead
+value_read P value is = is
+
+why_read : {A : Type 0} (P : A → Type 0) (why : Refusal) → IsRead P (Err why)
+unfolding IsRead
+why_read P why = tt
+
+-- a step whose value doesn't matter, and one whose value is so
+bound : {A B : Type 0} (P : B → Type 0) (read : Result A Refusal) (next : A → Result B Refusal) → ((value : A) → IsRead P (next value))
+    → IsRead P (read >>= next)
+bound P (Ok value) next each = each value
+bound P (Err why) next each = why_read P why
+
+bound_by : {A B : Type 0} (Q : A → Type 0) (P : B → Type 0) (read : Result A Refusal) (next : A → Result B Refusal)
+    → IsRead Q read → ((value : A) → Q value → IsRead P (next value)) → IsRead P (read >>= next)
+unfolding IsRead
+bound_by Q P (Ok value) next is each = each value is
+bound_by Q P (Err why) next is each = tt
+
+-- several steps, none of which needs the values before it
+bound_two : {A B C : Type 0} (P : C → Type 0) (first : Result A Refusal) (second : Result B Refusal) (next : A → B → Result C Refusal)
+    → ((a : A) (b : B) → IsRead P (next a b)) → IsRead P (first >>= λ a. second >>= λ b. next a b)
+bound_two P first second next each = bound P first (λ a. second >>= λ b. next a b) (λ a. bound P second (next a) (each a))
+
+bound_three : {A B C D : Type 0} (P : D → Type 0) (first : Result A Refusal) (second : Result B Refusal) (third : Result C Refusal)
+    (next : A → B → C → Result D Refusal) → ((a : A) (b : B) (c : C) → IsRead P (next a b c))
+    → IsRead P (first >>= λ a. second >>= λ b. third >>= λ c. next a b c)
+bound_three P first second third next each =
+    bound P first (λ a. second >>= λ b. third >>= λ c. next a b c) (λ a. bound_two P second third (next a) (each a))
+
+bound_four : {A B C D E : Type 0} (P : E → Type 0) (first : Result A Refusal) (second : Result B Refusal) (third : Result C Refusal) (fourth : Result D Refusal)
+    (next : A → B → C → D → Result E Refusal) → ((a : A) (b : B) (c : C) (d : D) → IsRead P (next a b c d))
+    → IsRead P (first >>= λ a. second >>= λ b. third >>= λ c. fourth >>= λ d. next a b c d)
+bound_four P first second third fourth next each =
+    bound P first (λ a. second >>= λ b. third >>= λ c. fourth >>= λ d. next a b c d) (λ a. bound_three P second third fourth (next a) (each a))
+
+bound_five : {A B C D E F : Type 0} (P : F → Type 0) (first : Result A Refusal) (second : Result B Refusal) (third : Result C Refusal)
+    (fourth : Result D Refusal) (fifth : Result E Refusal) (next : A → B → C → D → E → Result F Refusal)
+    → ((a : A) (b : B) (c : C) (d : D) (e : E) → IsRead P (next a b c d e))
+    → IsRead P (first >>= λ a. second >>= λ b. third >>= λ c. fourth >>= λ d. fifth >>= λ e. next a b c d e)
+bound_five P first second third fourth fifth next each =
+    bound P first (λ a. second >>= λ b. third >>= λ c. fourth >>= λ d. fifth >>= λ e. next a b c d e)
+    (λ a. bound_four P second third fourth fifth (next a) (each a))
+
+where_so : {A : Type 0} (P : A → Type 0) (so : Bool) (read : Result A Refusal) (why : Refusal) → IsRead P read → IsRead P (if so then read else Err why)
+where_so P true read why is = is
+where_so P false read why is = why_read P why
+
+-- The lots of a new notice.
+
+abbrev AreDistinct : List NewLot → Type 0
+AreDistinct lots = repeats_id lot_id lots ≡ false
+
+distinct_if : (lots : List NewLot) (some repeats : Bool) → repeats_id lot_id lots ≡ repeats
+    → IsRead AreDistinct (needed fields.Lots (if some && not repeats then Some lots else None))
+unfolding needed
+distinct_if lots true true is = why_read AreDistinct _
+distinct_if lots true false is = value_read AreDistinct lots is
+distinct_if lots false repeats is = why_read AreDistinct _
+
+distinct_lots : (lots : List NewLot) → IsRead AreDistinct (distinct lot_id lots)
+distinct_lots lots = distinct_if lots (nat_le 1 (length lots)) (repeats_id lot_id lots) refl
+
+lots_read : (body : Data) → IsRead AreDistinct (lots_in body)
+unfolding lots_in
+lots_read body = bound AreDistinct _ _ (λ lots. distinct_lots lots)
+
+abbrev HasDistinct : NewNotice → Type 0
+HasDistinct content = AreDistinct content.lots
+
+abbrev with_lots : Data → List ℕ → ℕ → ℕ → ℕ → Criteria → Result NewNotice Refusal
+with_lots body title deadline validity standstill criteria =
+    lots_in body >>= λ lots. Ok (record { title = title; deadline = deadline; validity = validity; standstill = standstill; criteria = criteria; lots = lots })
+
+lots_distinct : (body : Data) (title : List ℕ) (deadline validity standstill : ℕ) (criteria : Criteria)
+    → IsRead HasDistinct (with_lots body title deadline validity standstill criteria)
+lots_distinct body title deadline validity standstill criteria =
+    bound_by AreDistinct HasDistinct (lots_in body)
+    (λ lots. Ok (record { title = title; deadline = deadline; validity = validity; standstill = standstill; criteria = criteria; lots = lots }))
+    (lots_read body) (λ lots distinct. value_read HasDistinct _ distinct)
+
+notice_read : (body : Data) → IsRead HasDistinct (notice_in body)
+unfolding notice_in
+notice_read body =
+    bound_five HasDistinct (line_in fields.Title body) (text_in moment_of fields.Deadline body) (number_in 1 365 fields.ValidityDays body)
+    (number_in 0 90 fields.StandstillDays body) (criteria_in body)
+    (λ title deadline validity standstill criteria. with_lots body title deadline validity standstill criteria)
+    (λ title deadline validity standstill criteria. lots_distinct body title deadline validity standstill criteria)
+
+publication_read : (notice : List ℕ) (body : Data) → IsRead IsCommand (publication_in notice body)
+publication_read notice body = bound_by HasDistinct IsCommand _ _ (notice_read body) (λ content distinct. value_read IsCommand _ distinct)
+
+-- The other commands.
+
+import_read : (batch : List ℕ) (rows : Result (List BudgetRow) ℕ) → IsRead IsCommand (import_of batch rows)
+import_read batch (Ok rows) = value_read IsCommand _ tt
+import_read batch (Err number) = why_read IsCommand _
+
+registration_read : (tenderer : List ℕ) (body : Data) → IsRead IsCommand (registration_in tenderer body)
+unfolding registration_in
+registration_read tenderer body =
+    bound_three IsCommand (line_in fields.Name body) (line_in fields.Address body) (text_in digest_of fields.Key body)
+    (λ name address key. Ok (commands.Register tenderer name address key))
+    (λ name address key. value_read IsCommand (commands.Register tenderer name address key) tt)
+
+notice_amendment_read : (notice : List ℕ) (body : Data) → IsRead IsCommand (notice_amendment_in notice body)
+unfolding notice_amendment_in
+notice_amendment_read notice body =
+    bound_two IsCommand (text_in moment_of fields.Deadline body) (line_in fields.Rationale body)
+    (λ deadline rationale. Ok (commands.AmendNotice notice deadline rationale))
+    (λ deadline rationale. value_read IsCommand (commands.AmendNotice notice deadline rationale) tt)
+
+cancellation_read : (notice : List ℕ) (body : Data) → IsRead IsCommand (cancellation_in notice body)
+unfolding cancellation_in
+cancellation_read notice body = bound IsCommand _ _ (λ rationale. value_read IsCommand _ tt)
+
+examination_read : (receipt : ℕ) (body : Data) → IsRead IsCommand (examination_in receipt body)
+unfolding examination_in
+examination_read receipt body =
+    bound_two IsCommand (flag_in fields.Responsive body) (perhaps_number_in 0 100 fields.Quality body)
+    (λ responsive quality. Ok (commands.Examine receipt responsive quality))
+    (λ responsive quality. value_read IsCommand (commands.Examine receipt responsive quality) tt)
+
+contract_amendment_read : (contract : ℕ) (body : Data) → IsRead IsCommand (contract_amendment_in contract body)
+unfolding contract_amendment_in
+contract_amendment_read contract body =
+    bound_four IsCommand (text_in id_of fields.Id body) (text_in change_of fields.Kind body) (number_in 1 (10 ^ 12) fields.Amount body)
+    (line_in fields.Rationale body)
+    (λ entry kind amount rationale. Ok (commands.AmendContract contract entry kind amount rationale))
+    (λ entry kind amount rationale. value_read IsCommand (commands.AmendContract contract entry kind amount rationale) tt)
+
+payment_read : (contract : ℕ) (body : Data) → IsRead IsCommand (payment_in contract body)
+unfolding payment_in
+payment_read contract body =
+    bound_two IsCommand (text_in id_of fields.Id body) (number_in 1 (10 ^ 12) fields.Amount body)
+    (λ entry amount. Ok (commands.Pay contract entry amount)) (λ entry amount. value_read IsCommand (commands.Pay contract entry amount) tt)
+
+ending_read : (contract : ℕ) (body : Data) → IsRead IsCommand (ending_in contract body)
+unfolding ending_in
+ending_read contract body = bound IsCommand _ _ (λ how. value_read IsCommand _ tt)
+
+named_read : (kind : CommandKind) (name body : List ℕ) → IsRead IsCommand (named_command kind name body)
+unfolding named_command
+named_read kinds.Import name body = import_read name _
+named_read kinds.Register name body = bound IsCommand _ _ (λ value. registration_read name value)
+named_read kinds.Publish name body = bound IsCommand _ _ (λ value. publication_read name value)
+named_read kinds.AmendNotice name body = bound IsCommand _ _ (λ value. notice_amendment_read name value)
+named_read kinds.Cancel name body = bound IsCommand _ _ (λ value. cancellation_read name value)
+named_read kinds.Open name body = value_read IsCommand _ tt
+named_read kinds.Present name body = why_read IsCommand _
+named_read kinds.Modify name body = why_read IsCommand _
+named_read kinds.Withdraw name body = why_read IsCommand _
+named_read kinds.Examine name body = why_read IsCommand _
+named_read kinds.Award name body = why_read IsCommand _
+named_read kinds.Fail name body = why_read IsCommand _
+named_read kinds.Sign name body = why_read IsCommand _
+named_read kinds.AmendContract name body = why_read IsCommand _
+named_read kinds.Pay name body = why_read IsCommand _
+named_read kinds.End name body = why_read IsCommand _
+
+lot_read : (kind : CommandKind) (notice lot query body : List ℕ) → IsRead IsCommand (lot_command kind notice lot query body)
+unfolding lot_command
+lot_read kinds.Import notice lot query body = why_read IsCommand _
+lot_read kinds.Register notice lot query body = why_read IsCommand _
+lot_read kinds.Publish notice lot query body = why_read IsCommand _
+lot_read kinds.AmendNotice notice lot query body = why_read IsCommand _
+lot_read kinds.Cancel notice lot query body = why_read IsCommand _
+lot_read kinds.Open notice lot query body = why_read IsCommand _
+lot_read kinds.Present notice lot query body =
+    bound_two IsCommand (security_in query) (sealed_in body)
+    (λ security sealed. Ok (commands.Present notice lot security sealed))
+    (λ security sealed. value_read IsCommand (commands.Present notice lot security sealed) tt)
+lot_read kinds.Modify notice lot query body = why_read IsCommand _
+lot_read kinds.Withdraw notice lot query body = why_read IsCommand _
+lot_read kinds.Examine notice lot query body = why_read IsCommand _
+lot_read kinds.Award notice lot query body = value_read IsCommand _ tt
+lot_read kinds.Fail notice lot query body = why_read IsCommand _
+lot_read kinds.Sign notice lot query body = why_read IsCommand _
+lot_read kinds.AmendContract notice lot query body = why_read IsCommand _
+lot_read kinds.Pay notice lot query body = why_read IsCommand _
+lot_read kinds.End notice lot query body = why_read IsCommand _
+
+numbered_read : (kind : CommandKind) (number : ℕ) (body : List ℕ) → IsRead IsCommand (numbered_command kind number body)
+unfolding numbered_command
+numbered_read kinds.Import number body = why_read IsCommand _
+numbered_read kinds.Register number body = why_read IsCommand _
+numbered_read kinds.Publish number body = why_read IsCommand _
+numbered_read kinds.AmendNotice number body = why_read IsCommand _
+numbered_read kinds.Cancel number body = why_read IsCommand _
+numbered_read kinds.Open number body = why_read IsCommand _
+numbered_read kinds.Present number body = why_read IsCommand _
+numbered_read kinds.Modify number body = bound IsCommand _ _ (λ sealed. value_read IsCommand _ tt)
+numbered_read kinds.Withdraw number body = value_read IsCommand _ tt
+numbered_read kinds.Examine number body = bound IsCommand _ _ (λ value. examination_read number value)
+numbered_read kinds.Award number body = why_read IsCommand _
+numbered_read kinds.Fail number body = value_read IsCommand _ tt
+numbered_read kinds.Sign number body = value_read IsCommand _ tt
+numbered_read kinds.AmendContract number body = bound IsCommand _ _ (λ value. contract_amendment_read number value)
+numbered_read kinds.Pay number body = bound IsCommand _ _ (λ value. payment_read number value)
+numbered_read kinds.End number body = bound IsCommand _ _ (λ value. ending_read number value)
+
+command_read : (kind : CommandKind) (place : Place) (query body : List ℕ) → IsRead IsCommand (command_at kind place query body)
+unfolding command_at
+command_read kind Nowhere query body = why_read IsCommand _
+command_read kind (Named name) query body = named_read kind name body
+command_read kind (Within notice lot) query body = lot_read kind notice lot query body
+command_read kind (Numbered number) query body = numbered_read kind number body
+
+-- what is asked is a look, or a command that can be given
+abbrev pub IsAsked : Asked → Type 0
+IsAsked (Does command) = IsCommand command
+IsAsked (Looks query) = Unit {0}
+
+by_read : (endpoint : Endpoint) (place : Place) (query body : List ℕ) → IsRead IsAsked (asked_by endpoint place query body)
+unfolding asked_by
+by_read (Commands kind) place query body = bound_by IsCommand IsAsked _ _ (command_read kind place query body) (λ command is. value_read IsAsked _ is)
+by_read (Queries kind) place query body = bound IsAsked _ _ (λ look. value_read IsAsked _ tt)
+
+pub asked_is : (caller : Caller) (route : Route) (request : RequestView) → IsRead IsAsked (asked caller route request)
+asked_is caller route request =
+    where_so IsAsked (may_ask caller route.endpoint) (asked_by route.endpoint route.place (query_of request.head.target) request.body) Forbidden
+    (by_read route.endpoint route.place (query_of request.head.target) request.body)
+
+-- Who asks.
+
+abbrev pub IsKnown : Tables → Caller → Type 0
+IsKnown s caller = IsRegistered caller s.tenderers
+
+row_known : (s : Tables) (name key : List ℕ) (row : Option TendererRow) → find_tenderer s.tenderers name ≡ row → IsRead (IsKnown s) (tenderer_by name key row)
+row_known s name key None is = why_read (IsKnown s) BadKey
+row_known s name key (Some row) is =
+    where_so (IsKnown s) (fits_key row.key key) (Ok (Tenderer name)) BadKey
+    (value_read (IsKnown s) (Tenderer name) (subst (λ (o : Option TendererRow). IsSome o) (sym is) refl))
+
+named_known : (s : Tables) (name key : List ℕ) → IsRead (IsKnown s) (tenderer_of s name key)
+named_known s name key = where_so (IsKnown s) (is_id name) (tenderer_by name key (tenderer_at name s)) BadKey
+    (row_known s name key (find_tenderer s.tenderers name) refl)
+
+clerk_known : (settings : Settings) (s : Tables) (key : List ℕ) → IsRead (IsKnown s) (clerk_by settings key)
+clerk_known settings s key = where_so (IsKnown s) (fits_key settings.clerk_key key) (Ok Clerk) BadKey (value_read (IsKnown s) Clerk tt)
+
+pair_known : (settings : Settings) (s : Tables) (name key : List ℕ) (clerk : Bool)
+    → IsRead (IsKnown s) (if clerk then clerk_by settings key else tenderer_of s name key)
+pair_known settings s name key true = clerk_known settings s key
+pair_known settings s name key false = named_known s name key
+
+caller_known : (settings : Settings) (s : Tables) (name key : Option (List ℕ)) → IsRead (IsKnown s) (caller_of settings s name key)
+caller_known settings s None None = value_read (IsKnown s) _ tt
+caller_known settings s None (Some key) = why_read (IsKnown s) BadKey
+caller_known settings s (Some name) None = why_read (IsKnown s) BadKey
+caller_known settings s (Some name) (Some key) = pair_known settings s name key (names_clerk name)
+
+pub who_known : (settings : Settings) (s : Tables) (values : Result (Option (List ℕ) × Option (List ℕ)) Refusal) → IsRead (IsKnown s) (who settings s values)
+who_known settings s (Err why) = why_read (IsKnown s) why
+who_known settings s (Ok values) = caller_known settings s values.0 values.1

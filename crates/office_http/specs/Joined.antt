@@ -1,0 +1,78 @@
+-- The commands that an office accepts over HTTP, and what is kept by them.
+use Rattle.std.specs.Prelude.{◌≡◌, ⊤, ℕ, Bool, List, [], ◌∷◌, Option, if◌then◌else◌}
+use Rattle.office_values.specs.declared.settings.Settings.{Settings}
+use Rattle.office_base.specs.Tables.{Tables}
+use Rattle.office_base.specs.Shelves.{Meaning}
+use Rattle.office_machine.specs.Machine.{Given, Reaches, refusal_of}
+use Rattle.office_machine.specs.OfficeMeans.{unpublished_means}
+use Rattle.office_machine.specs.Requests.{joined_by}
+use Rattle.office_desk.specs.Asking.{given}
+use Rattle.office_desk.specs.Steps.{IsKept}
+use Rattle.office_wire.specs.Request.{RequestView, IsRequest, IsRequestRead, IsRefused}
+use Rattle.office_wire.specs.Runs.{Step, office_left}
+use Rattle.office_wire.specs.declared.fault.ReadFault.{ReadFault}
+use Rattle.office_http.specs.Meaning.{Meant, Refuses, Gives, Sees, meant}
+use Rattle.office_http.specs.Answering.{Held, answer_bytes, fault_text, meant_in, office_answers, tables_left}
+
+-- the accepted commands, the last one first, after what is meant: a refusal and a look add nothing
+abbrev pub joined_meant : Tables → ℕ → Meant → List Given → List Given
+joined_meant s moment (Refuses why method) xs = xs
+joined_meant s moment (Gives caller command) xs = joined_by (refusal_of (given s moment caller command)) (given s moment caller command) xs
+joined_meant s moment (Sees caller query) xs = xs
+
+-- nor does what is answered Unavailable
+abbrev pub joined_with : Bool → Tables → ℕ → Meant → List Given → List Given
+joined_with busy s moment m xs = if busy then xs else joined_meant s moment m xs
+
+-- after the steps of a run from an office
+abbrev pub joined_steps : Held → List Step → List Given → List Given
+joined_steps h [] xs = xs
+joined_steps h (x ∷ steps) xs =
+    joined_steps (office_answers.after x.busy h x.block) steps (joined_with x.busy h.tables x.block.moment (meant_in h x.block) xs)
+
+-- wherever accepted commands lead, they and the command of a request, if it is accepted, are kept: they lead to the office after it, its
+-- accounts are what they moved, and each tender and each security has the fate that they gave it
+abbrev pub RequestsAreKept : Type 0
+RequestsAreKept =
+    (xs : List Given) (s : Tables) → Reaches unpublished_means xs s → (settings : Settings) (request : RequestView) (moment : ℕ) (busy : Bool)
+    → IsKept (joined_with busy s moment (meant settings request s) xs) (tables_left busy s moment (meant settings request s))
+
+-- so it is of all steps of a run
+abbrev pub StepsAreKept : Type 0
+StepsAreKept =
+    (xs : List Given) (h : Held) → Reaches unpublished_means xs h.tables → (steps : List Step)
+    → IsKept (joined_steps h steps xs) (office_left office_answers h steps).tables
+
+-- what is meant was answered with this text; the shelf holds the office after it, and all accepted commands are kept
+abbrev pub IsKeptAnswering : {S : Type 0} → Meaning S → S → S → ℕ → (Tables → Meant) → List ℕ → Type 0
+IsKeptAnswering M old new moment m text =
+    M.honest new → (s : Tables) → M.holds old s → (xs : List Given) → Reaches unpublished_means xs s
+    → (busy : Bool) × (text ≡ answer_bytes busy s moment (m s)) × M.holds new (tables_left busy s moment (m s))
+    × IsKept (joined_with busy s moment (m s) xs) (tables_left busy s moment (m s))
+
+-- so it is of the request at the front of the bytes
+pub record KeepsAnswering {S : Type 0} (M : Meaning S) (settings : Settings) (old new : S) (moment : ℕ) (input text : List ℕ) : Type 0 where
+  pub request : RequestView
+  pub rest : List ℕ
+  pub stands : IsRequest input request rest
+  pub kept : IsKeptAnswering M old new moment (meant settings request) text
+
+-- the bytes were refused, nothing changed, and the commands accepted before are kept
+pub record KeepsRefusing {S : Type 0} (M : Meaning S) (old new : S) (input text : List ℕ) : Type 0 where
+  pub why : ReadFault
+  pub refused : IsRefused input why
+  pub text_is : text ≡ fault_text why
+  pub kept : M.honest new → (s : Tables) → M.holds old s → (xs : List Given) → Reaches unpublished_means xs s → M.holds new s × IsKept xs s
+
+-- where one request is served there is no step, or one at the moment handed in, of the request that was read
+abbrev pub AreServed : List ℕ → Option (List ℕ) → ℕ → List Step → Type 0
+AreServed input now moment [] = ⊤
+AreServed input now moment (x ∷ []) = (x.block.moment ≡ moment) × IsRequestRead input now x.block.request
+AreServed input now moment (x ∷ y ∷ more) = ⊥
+
+-- one request was served from office h to office k, and all accepted commands are kept
+pub record KeepsServing (input : List ℕ) (now : Option (List ℕ)) (moment : ℕ) (h k : Held) (xs : List Given) : Type 0 where
+  pub steps : List Step
+  pub are : AreServed input now moment steps
+  pub left : k ≡ office_left office_answers h steps
+  pub kept : IsKept (joined_steps h steps xs) k.tables

@@ -1,0 +1,27 @@
+//! Laws of an office that is asked over HTTP.
+ghost use Rattle.office_machine.specs.Seals.{SealsAreKept, WholeRunsAreAlike};
+ghost use Rattle.office_http.specs.Joined.{RequestsAreKept, StepsAreKept};
+
+use office_machine::{fates, laws, seals as of_seals};
+
+/// Wherever accepted commands lead from the empty office, those that requests and whole runs accept join them: together they lead to the
+/// office after it, its accounts are what they moved, and each tender and each security has the fate that they gave it.
+pub fn kept()
+    ensures requests { RequestsAreKept }
+    ensures steps { StepsAreKept }
+{
+    laws::accounts();
+    fates::tenders();
+    fates::securities();
+}
+
+/// Two runs from one office, of requests that differ in the bytes alone that one tenderer seals for one lot, tell every other caller the
+/// same up to the opening of the lot's notice, and this tenderer the same but for the digest; where each receipt whose bytes differ is
+/// withdrawn or returned in the end, this holds for the whole of both runs.
+pub fn seals()
+    ensures seals { SealsAreKept }
+    ensures whole { WholeRunsAreAlike }
+{
+    of_seals::seals();
+    of_seals::whole();
+}
