@@ -1,154 +1,181 @@
-//! Imports and looks in bytes: what files are refused, and what is changed.
-use crate::requests::Request::{Import, Look};
-use crate::requests::Row;
-use crate::runs::is_told;
+//! Imports of budget files, and looks at a line.
+use crate::setup::MONEY;
+use crate::transcript::shows;
 use std::test::Fail;
 
-const OK: &str = "200 OK";
+// A line that isn't there is refused.
+static NO_LINE: &str = r#"
+at 2026-01-05T09:00:00Z public GET /lines/9
+= 404 {"name":"NoSuch","refusal":9,"what":"line"}
+"#;
 
-const CONFLICT: &str = "409 Conflict";
+// A file without rows is a batch too, and a batch is taken once.
+static NO_ROWS: &str = r#"
+at 2026-01-05T09:00:00Z clerk POST /budget/B2
+| line,kind,amount,title
+= 200 {"batch":"B2","moment":"2026-01-05T09:00:00Z","rows":0}
 
-const ONE_ROW: &str = r#"{"batch":"B1","moment":"2026-01-05T09:00:00Z","rows":1}"#;
+at 2026-01-05T09:00:00Z clerk POST /budget/B2
+| line,kind,amount,title
+= 409 {"name":"Exists","refusal":10}
+"#;
 
-const TOO_LITTLE: &str = r#"{"name":"InsufficientFunds","refusal":27}"#;
+// A batch that is given twice changes nothing the second time.
+static TWICE: &str = r#"
+at 2026-01-05T09:00:00Z clerk POST /budget/B1
+| line,kind,amount,title
+| 1000,add,1000,Roads
+| 2000,add,500,Parks
+= 200 {"batch":"B1","moment":"2026-01-05T09:00:00Z","rows":2}
 
-const LIMIT_REACHED: &str = r#"{"name":"LimitReached","refusal":31}"#;
+at 2026-01-05T09:00:00Z clerk POST /budget/B1
+| line,kind,amount,title
+| 1000,add,1000,Roads
+| 2000,add,500,Parks
+= 409 {"name":"Exists","refusal":10}
 
-// Line 1000 with 1000.
-const IMPORTS: Row = (Import("B1", "1000,add,1000,Roads\n", 1), OK, ONE_ROW);
+at 2026-01-05T09:00:00Z public GET /lines/1000
+= 200 {"appropriation":1000,"contracted":0,"free":1000,"line":"1000","paid":0,"reserved":0,"title":"Roads"}
 
-// All of it is free.
-const SHOWS: Row = (
-    Look,
-    OK,
-    r#"{"appropriation":1000,"contracted":0,"free":1000,"line":"1000","paid":0,"reserved":0,"title":"Roads"}"#,
-);
+at 2026-01-05T09:00:00Z public GET /lines/2000
+= 200 {"appropriation":500,"contracted":0,"free":500,"line":"2000","paid":0,"reserved":0,"title":"Parks"}
+"#;
 
 // A file has 500 rows at most.
-const MOST_ROWS: [Row; 1] = [(
-    Import("B1", "1000,add,1,Roads\n", 500),
-    OK,
-    r#"{"batch":"B1","moment":"2026-01-05T09:00:00Z","rows":500}"#,
-)];
+static MOST_ROWS: &str = r#"
+at 2026-01-05T09:00:00Z clerk POST /budget/B1
+| line,kind,amount,title
+501 | 1000,add,1,Roads
+= 409 {"name":"LimitReached","refusal":31}
 
-const TOO_MANY_ROWS: [Row; 1] = [(
-    Import("B1", "1000,add,1,Roads\n", 501),
-    CONFLICT,
-    LIMIT_REACHED,
-)];
+at 2026-01-05T09:00:00Z clerk POST /budget/B1
+| line,kind,amount,title
+500 | 1000,add,1,Roads
+= 200 {"batch":"B1","moment":"2026-01-05T09:00:00Z","rows":500}
 
-const NO_ROWS: [Row; 2] = [
-    (
-        Import("B2", "", 1),
-        OK,
-        r#"{"batch":"B2","moment":"2026-01-05T09:00:00Z","rows":0}"#,
-    ),
-    (
-        Import("B2", "", 1),
-        CONFLICT,
-        r#"{"name":"Exists","refusal":10}"#,
-    ),
-];
+at 2026-01-05T09:00:00Z public GET /lines/1000
+= 200 {"appropriation":500,"contracted":0,"free":500,"line":"1000","paid":0,"reserved":0,"title":"Roads"}
+"#;
 
-// The third row of a budget file is its fourth record; no line is changed.
-const BAD_ROW: [Row; 3] = [
-    IMPORTS,
-    (
-        Import(
-            "B2",
-            "1000,add,5,Roads\n1000,add,6,Roads\n1000,take,7,Roads\n",
-            1,
-        ),
-        "400 Bad Request",
-        r#"{"name":"BadBody","refusal":8,"what":"row 4"}"#,
-    ),
-    SHOWS,
-];
+// A bad row is told by the number of its record, the head being the first; no row is taken then. Behind MONEY.
+static BAD_ROWS: &str = r#"
+at 2026-01-05T09:00:00Z clerk POST /budget/B2
+| line,kind,amount,title
+| 1000,add,5,Roads
+| 1000,add,6,Roads
+| 1000,take,7,Roads
+= 400 {"name":"BadBody","refusal":8,"what":"row 4"}
+
+at 2026-01-05T09:00:00Z clerk POST /budget/B2
+| line,kind,amount,title
+| 1000,add,0,Roads
+= 400 {"name":"BadBody","refusal":8,"what":"row 2"}
+
+at 2026-01-05T09:00:00Z clerk POST /budget/B2
+= 400 {"name":"BadBody","refusal":8,"what":"row 1"}
+
+at 2026-01-05T09:00:00Z public GET /lines/1000
+= 200 {"appropriation":1000,"contracted":0,"free":1000,"line":"1000","paid":0,"reserved":0,"title":"Roads"}
+"#;
 
 // A line with the greatest appropriation takes no more.
-const BOUND: [Row; 3] = [
-    (
-        Import("B1", "1000,add,1000000000000000,Roads\n", 1),
-        OK,
-        ONE_ROW,
-    ),
-    (
-        Import("B2", "1000,add,1,Roads\n", 1),
-        CONFLICT,
-        LIMIT_REACHED,
-    ),
-    (
-        Look,
-        OK,
-        r#"{"appropriation":1000000000000000,"contracted":0,"free":1000000000000000,"line":"1000","paid":0,"reserved":0,"title":"Roads"}"#,
-    ),
-];
+static BOUND: &str = r#"
+at 2026-01-05T09:00:00Z clerk POST /budget/B1
+| line,kind,amount,title
+| 1000,add,1000000000000000,Roads
+= 200 {"batch":"B1","moment":"2026-01-05T09:00:00Z","rows":1}
 
-// A cut of one more than is free is refused, and so is a cut of a line that isn't there.
-const CUTS: [Row; 4] = [
-    IMPORTS,
-    (
-        Import("B2", "1000,cut,1001,Roads\n", 1),
-        CONFLICT,
-        TOO_LITTLE,
-    ),
-    (
-        Import("B3", "2000,cut,1,Parks\n", 1),
-        "404 Not Found",
-        r#"{"name":"NoSuch","refusal":9,"what":"line"}"#,
-    ),
-    SHOWS,
-];
+at 2026-01-05T09:00:00Z clerk POST /budget/B2
+| line,kind,amount,title
+| 1000,add,1,Roads
+= 409 {"name":"LimitReached","refusal":31}
 
-// What a row adds a later row can cut, and no more; a refused file changes nothing.
-const IN_ORDER: [Row; 5] = [
-    IMPORTS,
-    (
-        Import("B2", "1000,add,5,Roads\n1000,cut,1006,Roads\n", 1),
-        CONFLICT,
-        TOO_LITTLE,
-    ),
-    SHOWS,
-    (
-        Import("B3", "1000,add,5,Roads\n1000,cut,1005,Roads\n", 1),
-        OK,
-        r#"{"batch":"B3","moment":"2026-01-05T09:00:00Z","rows":2}"#,
-    ),
-    (
-        Look,
-        OK,
-        r#"{"appropriation":0,"contracted":0,"free":0,"line":"1000","paid":0,"reserved":0,"title":"Roads"}"#,
-    ),
-];
+at 2026-01-05T09:00:00Z public GET /lines/1000
+= 200 {"appropriation":1000000000000000,"contracted":0,"free":1000000000000000,"line":"1000","paid":0,"reserved":0,"title":"Roads"}
+"#;
 
-// A cut that is too large is told before a bound that is passed.
-const CUT_AND_BOUND: [Row; 1] = [(
-    Import(
-        "B1",
-        "1000,add,1000000000000000,Roads\n1000,add,1,Roads\n2000,add,1,Parks\n2000,cut,2,Parks\n",
-        1,
-    ),
-    CONFLICT,
-    TOO_LITTLE,
-)];
+// A cut takes no more than is free, and a line that isn't there can't be cut. Behind MONEY.
+static CUTS: &str = r#"
+at 2026-01-05T09:00:00Z clerk POST /budget/B2
+| line,kind,amount,title
+| 1000,cut,1001,Roads
+= 409 {"name":"InsufficientFunds","refusal":27}
 
-// What is shown by a run over an empty office, and its requests.
-const RUNS: [(&str, &[Row]); 8] = [
-    ("a file has 500 rows at most", &MOST_ROWS),
-    ("a file of 501 rows is refused", &TOO_MANY_ROWS),
-    ("a file without rows is taken, and once", &NO_ROWS),
-    ("a bad row is numbered", &BAD_ROW),
-    ("an appropriation has a bound", &BOUND),
-    ("a cut takes no more than is free", &CUTS),
-    ("rows are taken in order", &IN_ORDER),
-    ("a cut too large comes before a bound", &CUT_AND_BOUND),
-];
+at 2026-01-05T09:00:00Z clerk POST /budget/B2
+| line,kind,amount,title
+| 2000,cut,1,Parks
+= 404 {"name":"NoSuch","refusal":9,"what":"line"}
+
+at 2026-01-05T09:00:00Z public GET /lines/1000
+= 200 {"appropriation":1000,"contracted":0,"free":1000,"line":"1000","paid":0,"reserved":0,"title":"Roads"}
+"#;
+
+// Rows are taken in order: what one adds a later one can cut, and no more. Behind MONEY.
+static IN_ORDER: &str = r#"
+at 2026-01-05T09:00:00Z clerk POST /budget/B2
+| line,kind,amount,title
+| 1000,add,5,Roads
+| 1000,cut,1006,Roads
+= 409 {"name":"InsufficientFunds","refusal":27}
+
+at 2026-01-05T09:00:00Z public GET /lines/1000
+= 200 {"appropriation":1000,"contracted":0,"free":1000,"line":"1000","paid":0,"reserved":0,"title":"Roads"}
+
+at 2026-01-05T09:00:00Z clerk POST /budget/B2
+| line,kind,amount,title
+| 1000,add,5,Roads
+| 1000,cut,1005,Roads
+= 200 {"batch":"B2","moment":"2026-01-05T09:00:00Z","rows":2}
+
+at 2026-01-05T09:00:00Z public GET /lines/1000
+= 200 {"appropriation":0,"contracted":0,"free":0,"line":"1000","paid":0,"reserved":0,"title":"Roads"}
+"#;
+
+// A cut that is too large is told before a bound that is passed in front of it.
+static CUT_AND_BOUND: &str = r#"
+at 2026-01-05T09:00:00Z clerk POST /budget/B1
+| line,kind,amount,title
+| 1000,add,1000000000000000,Roads
+| 1000,add,1,Roads
+| 2000,add,1,Parks
+| 2000,cut,2,Parks
+= 409 {"name":"InsufficientFunds","refusal":27}
+"#;
+
+// Moments never run back. Behind MONEY.
+static BACK: &str = r#"
+at 2026-01-05T08:59:59Z clerk POST /budget/B2
+| line,kind,amount,title
+= 200 {"batch":"B2","moment":"2026-01-05T09:00:00Z","rows":0}
+"#;
+
+// A title is escaped in JSON.
+static ESCAPES: &str = r#"
+at 2026-01-05T09:00:00Z clerk POST /budget/B1
+| line,kind,amount,title
+| 1000,add,7,"""A"" \ B"
+= 200 {"batch":"B1","moment":"2026-01-05T09:00:00Z","rows":1}
+
+at 2026-01-05T09:00:00Z public GET /lines/1000
+= 200 {"appropriation":7,"contracted":0,"free":7,"line":"1000","paid":0,"reserved":0,"title":"\"A\" \\ B"}
+"#;
 
 #[test]
 fn imports_and_looks(rt: HostRuntime) -> Result<(), Fail> {
-    for (name, rows) in RUNS {
-        let count = rows.len() as u64;
-        assert!(rt; is_told(rt.alloc(), rows, (b"", b"", Ok(count)))?, "{name}");
-    }
-    Ok(())
+    let alloc = rt.alloc();
+    shows(alloc, "no line is there", &[NO_LINE])?;
+    shows(alloc, "a file without rows", &[NO_ROWS])?;
+    shows(alloc, "a batch is taken once", &[TWICE])?;
+    shows(alloc, "a file has 500 rows at most", &[MOST_ROWS])?;
+    shows(alloc, "a bad row is numbered", &[MONEY, BAD_ROWS])?;
+    shows(alloc, "an appropriation has a bound", &[BOUND])?;
+    shows(alloc, "a cut takes no more than is free", &[MONEY, CUTS])?;
+    shows(alloc, "rows are taken in order", &[MONEY, IN_ORDER])?;
+    shows(
+        alloc,
+        "a cut too large comes before a bound",
+        &[CUT_AND_BOUND],
+    )?;
+    shows(alloc, "moments never run back", &[MONEY, BACK])?;
+    shows(alloc, "titles are escaped", &[ESCAPES])
 }

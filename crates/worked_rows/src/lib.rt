@@ -1,21 +1,55 @@
-//! Worked rows: tests that cross crates, from a command to its reply and from bytes to bytes.
+//! Worked rows: what an office is asked, and what it answers, byte for byte, as transcripts that are read from top to bottom.
 #![tactic(auto)]
 
 #[cfg(test)]
-mod asked;
+mod amended_notices;
+#[cfg(test)]
+mod awards;
+#[cfg(test)]
+mod best_tender;
+#[cfg(test)]
+mod blocks;
 #[cfg(test)]
 mod broken_shelf;
 #[cfg(test)]
-mod desks;
+mod broken_stores;
+#[cfg(test)]
+mod cancellations;
+#[cfg(test)]
+mod contracts;
+#[cfg(test)]
+mod examinations;
 #[cfg(test)]
 mod imports;
 #[cfg(test)]
+mod late_tenders;
+#[cfg(test)]
+mod ledgers;
+#[cfg(test)]
+mod limits;
+#[cfg(test)]
+mod modified_tenders;
+#[cfg(test)]
 mod office;
+#[cfg(test)]
+mod plans;
+#[cfg(test)]
+mod presenting;
 #[cfg(test)]
 mod publications;
 #[cfg(test)]
+mod reading_of_tenders;
+#[cfg(test)]
 mod requests;
+#[cfg(test)]
+mod rights;
 #[cfg(test)]
 mod runs;
 #[cfg(test)]
-mod steps;
+mod setup;
+#[cfg(test)]
+mod streams;
+#[cfg(test)]
+mod transcript;
+#[cfg(test)]
+mod two_worlds;

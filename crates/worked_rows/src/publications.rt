@@ -1,183 +1,249 @@
-//! Notices published by a desk over an office in memory: the answers' bytes, the refusals' numbers, and where the money is then.
-use crate::asked::{Act, Asked, Lots, Who};
-use crate::steps::{
-    DEADLINE_PASSED, EXISTS, FORBIDDEN, LIMIT_REACHED, NO_LINE, Plan, Step, TOO_LITTLE, Want,
-    wrong_over,
-};
-use office_acts::budget::BudgetKind;
-use office_memory::memory::MemoryShelf;
+//! Notices published: their lots reserve money, or nothing changes.
+use crate::setup::MONEY;
+use crate::transcript::shows;
 use std::test::Fail;
 
-// Line 1000 with 1000.
-const MONEY: Step = Step::Ask(
-    Asked {
-        who: Who::Clerk,
-        moment: "2026-01-05T09:00:00Z",
-        act: Act::Import("B1", &[("1000", BudgetKind::Add, 1000, "Roads")]),
-    },
-    Ok(r#"{"batch":"B1","moment":"2026-01-05T09:00:00Z","rows":1}"#),
-);
+// Two lots that take all that is free. A notice is published once. Behind MONEY.
+static ALL_RESERVED: &str = r#"
+at 2026-02-01T09:00:00Z clerk POST /notices/N1
+> {"title":"Road repair","deadline":"2026-03-01T12:00:00Z","validity_days":90,"standstill_days":10,"criteria":"price","lots":[
+> {"id":"L1","title":"North","line":"1000","estimate":600,"security":50,"items":[{"id":"I1","title":"Paving","quantity":3}]},
+> {"id":"L2","title":"South","line":"1000","estimate":400,"security":50,"items":[{"id":"I1","title":"Paving","quantity":3}]}]}
+= 200 {"moment":"2026-02-01T09:00:00Z","notice":"N1","release":1}
 
-// All of it is free.
-const FREE: Want = Ok(
-    r#"{"appropriation":1000,"contracted":0,"free":1000,"line":"1000","paid":0,"reserved":0,"title":"Roads"}"#,
-);
+at 2026-02-01T09:00:00Z public GET /lines/1000
+= 200 {"appropriation":1000,"contracted":0,"free":0,"line":"1000","paid":0,"reserved":1000,"title":"Roads"}
 
-const ALL_FREE: Step = Step::Look("1000", FREE);
+at 2026-02-01T09:00:00Z clerk POST /notices/N1
+> {"title":"Road repair","deadline":"2026-03-01T12:00:00Z","validity_days":90,"standstill_days":10,"criteria":"price","lots":[
+> {"id":"L3","title":"West","line":"1000","estimate":1,"security":50,"items":[{"id":"I1","title":"Paving","quantity":3}]}]}
+= 409 {"name":"Exists","refusal":10}
+"#;
 
-// None of it is free.
-const ALL_RESERVED: Step = Step::Look(
-    "1000",
-    Ok(
-        r#"{"appropriation":1000,"contracted":0,"free":0,"line":"1000","paid":0,"reserved":1000,"title":"Roads"}"#,
-    ),
-);
+// One more than is free changes nothing, and no lot of the notice is kept. Behind MONEY, before `ALL_RESERVED`.
+static TOO_DEAR: &str = r#"
+at 2026-02-01T09:00:00Z clerk POST /notices/N1
+> {"title":"Road repair","deadline":"2026-03-01T12:00:00Z","validity_days":90,"standstill_days":10,"criteria":"price","lots":[
+> {"id":"L1","title":"North","line":"1000","estimate":600,"security":50,"items":[{"id":"I1","title":"Paving","quantity":3}]},
+> {"id":"L2","title":"South","line":"1000","estimate":401,"security":50,"items":[{"id":"I1","title":"Paving","quantity":3}]}]}
+= 409 {"name":"InsufficientFunds","refusal":27}
 
-// The deadline of all publications but one.
-const MARCH: &str = "2026-03-01T12:00:00Z";
+at 2026-02-01T09:00:00Z public GET /lines/1000
+= 200 {"appropriation":1000,"contracted":0,"free":1000,"line":"1000","paid":0,"reserved":0,"title":"Roads"}
+"#;
 
-const TWO_LOTS: Lots = Lots::These(&[("L1", "1000", 600), ("L2", "1000", 400)]);
+// A deadline is later than the publication. Behind MONEY.
+static DEADLINES: &str = r#"
+at 2026-02-01T09:00:00Z clerk POST /notices/N1
+> {"title":"Road repair","deadline":"2026-02-01T09:00:00Z","validity_days":90,"standstill_days":10,"criteria":"price","lots":[
+> {"id":"L1","title":"North","line":"1000","estimate":600,"security":50,"items":[{"id":"I1","title":"Paving","quantity":3}]}]}
+= 409 {"name":"DeadlinePassed","refusal":12}
 
-const NOTICE: Asked = Asked {
-    who: Who::Clerk,
-    moment: "2026-02-01T09:00:00Z",
-    act: Act::Publish("N1", MARCH, TWO_LOTS),
-};
+at 2026-02-01T09:00:00Z public GET /lines/1000
+= 200 {"appropriation":1000,"contracted":0,"free":1000,"line":"1000","paid":0,"reserved":0,"title":"Roads"}
 
-const REPLY: &str = r#"{"moment":"2026-02-01T09:00:00Z","notice":"N1","release":1}"#;
+at 2026-02-01T09:00:00Z clerk POST /notices/N1
+> {"title":"Road repair","deadline":"2026-02-01T09:00:01Z","validity_days":90,"standstill_days":10,"criteria":"price","lots":[
+> {"id":"L1","title":"North","line":"1000","estimate":600,"security":50,"items":[{"id":"I1","title":"Paving","quantity":3}]}]}
+= 200 {"moment":"2026-02-01T09:00:00Z","notice":"N1","release":1}
+"#;
 
-const PUBLISHED: Want = Ok(REPLY);
+// A line that isn't there is told before all else, in a notice that is there too. Behind MONEY and `ALL_RESERVED`.
+static NO_LINE: &str = r#"
+at 2026-02-01T09:00:00Z clerk POST /notices/N1
+> {"title":"Road repair","deadline":"2026-03-01T12:00:00Z","validity_days":90,"standstill_days":10,"criteria":"price","lots":[
+> {"id":"L1","title":"North","line":"3000","estimate":1,"security":50,"items":[{"id":"I1","title":"Paving","quantity":3}]}]}
+= 404 {"name":"NoSuch","refusal":9,"what":"line"}
+"#;
 
-const PUBLISHES: Step = Step::Ask(NOTICE, PUBLISHED);
+// A notice has 20 lots at most. Behind MONEY.
+static TOO_MANY_LOTS: &str = r#"
+at 2026-02-01T09:00:00Z clerk POST /notices/N1
+> {"title":"Road repair","deadline":"2026-03-01T12:00:00Z","validity_days":90,"standstill_days":10,"criteria":"price","lots":[
+> {"id":"L01","title":"North","line":"1000","estimate":1,"security":50,"items":[{"id":"I1","title":"Paving","quantity":3}]},
+> {"id":"L02","title":"North","line":"1000","estimate":1,"security":50,"items":[{"id":"I1","title":"Paving","quantity":3}]},
+> {"id":"L03","title":"North","line":"1000","estimate":1,"security":50,"items":[{"id":"I1","title":"Paving","quantity":3}]},
+> {"id":"L04","title":"North","line":"1000","estimate":1,"security":50,"items":[{"id":"I1","title":"Paving","quantity":3}]},
+> {"id":"L05","title":"North","line":"1000","estimate":1,"security":50,"items":[{"id":"I1","title":"Paving","quantity":3}]},
+> {"id":"L06","title":"North","line":"1000","estimate":1,"security":50,"items":[{"id":"I1","title":"Paving","quantity":3}]},
+> {"id":"L07","title":"North","line":"1000","estimate":1,"security":50,"items":[{"id":"I1","title":"Paving","quantity":3}]},
+> {"id":"L08","title":"North","line":"1000","estimate":1,"security":50,"items":[{"id":"I1","title":"Paving","quantity":3}]},
+> {"id":"L09","title":"North","line":"1000","estimate":1,"security":50,"items":[{"id":"I1","title":"Paving","quantity":3}]},
+> {"id":"L10","title":"North","line":"1000","estimate":1,"security":50,"items":[{"id":"I1","title":"Paving","quantity":3}]},
+> {"id":"L11","title":"North","line":"1000","estimate":1,"security":50,"items":[{"id":"I1","title":"Paving","quantity":3}]},
+> {"id":"L12","title":"North","line":"1000","estimate":1,"security":50,"items":[{"id":"I1","title":"Paving","quantity":3}]},
+> {"id":"L13","title":"North","line":"1000","estimate":1,"security":50,"items":[{"id":"I1","title":"Paving","quantity":3}]},
+> {"id":"L14","title":"North","line":"1000","estimate":1,"security":50,"items":[{"id":"I1","title":"Paving","quantity":3}]},
+> {"id":"L15","title":"North","line":"1000","estimate":1,"security":50,"items":[{"id":"I1","title":"Paving","quantity":3}]},
+> {"id":"L16","title":"North","line":"1000","estimate":1,"security":50,"items":[{"id":"I1","title":"Paving","quantity":3}]},
+> {"id":"L17","title":"North","line":"1000","estimate":1,"security":50,"items":[{"id":"I1","title":"Paving","quantity":3}]},
+> {"id":"L18","title":"North","line":"1000","estimate":1,"security":50,"items":[{"id":"I1","title":"Paving","quantity":3}]},
+> {"id":"L19","title":"North","line":"1000","estimate":1,"security":50,"items":[{"id":"I1","title":"Paving","quantity":3}]},
+> {"id":"L20","title":"North","line":"1000","estimate":1,"security":50,"items":[{"id":"I1","title":"Paving","quantity":3}]},
+> {"id":"L21","title":"North","line":"1000","estimate":1,"security":50,"items":[{"id":"I1","title":"Paving","quantity":3}]}
+> ]}
+= 409 {"name":"LimitReached","refusal":31}
+"#;
 
-const RESERVES: [Step; 4] = [MONEY, PUBLISHES, ALL_RESERVED, Step::Ask(NOTICE, EXISTS)];
+// A lot has 50 items at most. Behind MONEY.
+static ITEMS: &str = r#"
+at 2026-02-01T09:00:00Z clerk POST /notices/N1
+> {"title":"Road repair","deadline":"2026-03-01T12:00:00Z","validity_days":90,"standstill_days":10,"criteria":"price","lots":[
+> {"id":"L1","title":"North","line":"1000","estimate":1,"security":50,"items":[
+> {"id":"I1","title":"Paving","quantity":3},{"id":"I2","title":"Paving","quantity":3},{"id":"I3","title":"Paving","quantity":3},
+> {"id":"I4","title":"Paving","quantity":3},{"id":"I5","title":"Paving","quantity":3},{"id":"I6","title":"Paving","quantity":3},
+> {"id":"I7","title":"Paving","quantity":3},{"id":"I8","title":"Paving","quantity":3},{"id":"I9","title":"Paving","quantity":3},
+> {"id":"I10","title":"Paving","quantity":3},{"id":"I11","title":"Paving","quantity":3},{"id":"I12","title":"Paving","quantity":3},
+> {"id":"I13","title":"Paving","quantity":3},{"id":"I14","title":"Paving","quantity":3},{"id":"I15","title":"Paving","quantity":3},
+> {"id":"I16","title":"Paving","quantity":3},{"id":"I17","title":"Paving","quantity":3},{"id":"I18","title":"Paving","quantity":3},
+> {"id":"I19","title":"Paving","quantity":3},{"id":"I20","title":"Paving","quantity":3},{"id":"I21","title":"Paving","quantity":3},
+> {"id":"I22","title":"Paving","quantity":3},{"id":"I23","title":"Paving","quantity":3},{"id":"I24","title":"Paving","quantity":3},
+> {"id":"I25","title":"Paving","quantity":3},{"id":"I26","title":"Paving","quantity":3},{"id":"I27","title":"Paving","quantity":3},
+> {"id":"I28","title":"Paving","quantity":3},{"id":"I29","title":"Paving","quantity":3},{"id":"I30","title":"Paving","quantity":3},
+> {"id":"I31","title":"Paving","quantity":3},{"id":"I32","title":"Paving","quantity":3},{"id":"I33","title":"Paving","quantity":3},
+> {"id":"I34","title":"Paving","quantity":3},{"id":"I35","title":"Paving","quantity":3},{"id":"I36","title":"Paving","quantity":3},
+> {"id":"I37","title":"Paving","quantity":3},{"id":"I38","title":"Paving","quantity":3},{"id":"I39","title":"Paving","quantity":3},
+> {"id":"I40","title":"Paving","quantity":3},{"id":"I41","title":"Paving","quantity":3},{"id":"I42","title":"Paving","quantity":3},
+> {"id":"I43","title":"Paving","quantity":3},{"id":"I44","title":"Paving","quantity":3},{"id":"I45","title":"Paving","quantity":3},
+> {"id":"I46","title":"Paving","quantity":3},{"id":"I47","title":"Paving","quantity":3},{"id":"I48","title":"Paving","quantity":3},
+> {"id":"I49","title":"Paving","quantity":3},{"id":"I50","title":"Paving","quantity":3},{"id":"I51","title":"Paving","quantity":3}
+> ]}]}
+= 409 {"name":"LimitReached","refusal":31}
 
-// One more than is free.
-const TOO_DEAR: Asked = Asked {
-    act: Act::Publish(
-        "N1",
-        MARCH,
-        Lots::These(&[("L1", "1000", 600), ("L2", "1000", 401)]),
-    ),
-    ..NOTICE
-};
+at 2026-02-01T09:00:00Z clerk POST /notices/N1
+> {"title":"Road repair","deadline":"2026-03-01T12:00:00Z","validity_days":90,"standstill_days":10,"criteria":"price","lots":[
+> {"id":"L1","title":"North","line":"1000","estimate":1,"security":50,"items":[
+> {"id":"I1","title":"Paving","quantity":3},{"id":"I2","title":"Paving","quantity":3},{"id":"I3","title":"Paving","quantity":3},
+> {"id":"I4","title":"Paving","quantity":3},{"id":"I5","title":"Paving","quantity":3},{"id":"I6","title":"Paving","quantity":3},
+> {"id":"I7","title":"Paving","quantity":3},{"id":"I8","title":"Paving","quantity":3},{"id":"I9","title":"Paving","quantity":3},
+> {"id":"I10","title":"Paving","quantity":3},{"id":"I11","title":"Paving","quantity":3},{"id":"I12","title":"Paving","quantity":3},
+> {"id":"I13","title":"Paving","quantity":3},{"id":"I14","title":"Paving","quantity":3},{"id":"I15","title":"Paving","quantity":3},
+> {"id":"I16","title":"Paving","quantity":3},{"id":"I17","title":"Paving","quantity":3},{"id":"I18","title":"Paving","quantity":3},
+> {"id":"I19","title":"Paving","quantity":3},{"id":"I20","title":"Paving","quantity":3},{"id":"I21","title":"Paving","quantity":3},
+> {"id":"I22","title":"Paving","quantity":3},{"id":"I23","title":"Paving","quantity":3},{"id":"I24","title":"Paving","quantity":3},
+> {"id":"I25","title":"Paving","quantity":3},{"id":"I26","title":"Paving","quantity":3},{"id":"I27","title":"Paving","quantity":3},
+> {"id":"I28","title":"Paving","quantity":3},{"id":"I29","title":"Paving","quantity":3},{"id":"I30","title":"Paving","quantity":3},
+> {"id":"I31","title":"Paving","quantity":3},{"id":"I32","title":"Paving","quantity":3},{"id":"I33","title":"Paving","quantity":3},
+> {"id":"I34","title":"Paving","quantity":3},{"id":"I35","title":"Paving","quantity":3},{"id":"I36","title":"Paving","quantity":3},
+> {"id":"I37","title":"Paving","quantity":3},{"id":"I38","title":"Paving","quantity":3},{"id":"I39","title":"Paving","quantity":3},
+> {"id":"I40","title":"Paving","quantity":3},{"id":"I41","title":"Paving","quantity":3},{"id":"I42","title":"Paving","quantity":3},
+> {"id":"I43","title":"Paving","quantity":3},{"id":"I44","title":"Paving","quantity":3},{"id":"I45","title":"Paving","quantity":3},
+> {"id":"I46","title":"Paving","quantity":3},{"id":"I47","title":"Paving","quantity":3},{"id":"I48","title":"Paving","quantity":3},
+> {"id":"I49","title":"Paving","quantity":3},{"id":"I50","title":"Paving","quantity":3}
+> ]}]}
+= 200 {"moment":"2026-02-01T09:00:00Z","notice":"N1","release":1}
+"#;
 
-// No lot of the notice that was refused is kept: the same notice can be published, and reserves what its own lots want.
-const REFUSES: [Step; 5] = [
-    MONEY,
-    Step::Ask(TOO_DEAR, TOO_LITTLE),
-    ALL_FREE,
-    PUBLISHES,
-    ALL_RESERVED,
-];
+// Twenty lots of 1 take all of a line with 20.
+static MOST_LOTS: &str = r#"
+at 2026-01-05T09:00:00Z clerk POST /budget/B1
+| line,kind,amount,title
+| 1000,add,20,Roads
+= 200 {"batch":"B1","moment":"2026-01-05T09:00:00Z","rows":1}
 
-const LATE: Asked = Asked {
-    act: Act::Publish("N1", "2026-02-01T09:00:00Z", TWO_LOTS),
-    ..NOTICE
-};
+at 2026-02-01T09:00:00Z clerk POST /notices/N1
+> {"title":"Road repair","deadline":"2026-03-01T12:00:00Z","validity_days":90,"standstill_days":10,"criteria":"price","lots":[
+> {"id":"L01","title":"North","line":"1000","estimate":1,"security":50,"items":[{"id":"I1","title":"Paving","quantity":3}]},
+> {"id":"L02","title":"North","line":"1000","estimate":1,"security":50,"items":[{"id":"I1","title":"Paving","quantity":3}]},
+> {"id":"L03","title":"North","line":"1000","estimate":1,"security":50,"items":[{"id":"I1","title":"Paving","quantity":3}]},
+> {"id":"L04","title":"North","line":"1000","estimate":1,"security":50,"items":[{"id":"I1","title":"Paving","quantity":3}]},
+> {"id":"L05","title":"North","line":"1000","estimate":1,"security":50,"items":[{"id":"I1","title":"Paving","quantity":3}]},
+> {"id":"L06","title":"North","line":"1000","estimate":1,"security":50,"items":[{"id":"I1","title":"Paving","quantity":3}]},
+> {"id":"L07","title":"North","line":"1000","estimate":1,"security":50,"items":[{"id":"I1","title":"Paving","quantity":3}]},
+> {"id":"L08","title":"North","line":"1000","estimate":1,"security":50,"items":[{"id":"I1","title":"Paving","quantity":3}]},
+> {"id":"L09","title":"North","line":"1000","estimate":1,"security":50,"items":[{"id":"I1","title":"Paving","quantity":3}]},
+> {"id":"L10","title":"North","line":"1000","estimate":1,"security":50,"items":[{"id":"I1","title":"Paving","quantity":3}]},
+> {"id":"L11","title":"North","line":"1000","estimate":1,"security":50,"items":[{"id":"I1","title":"Paving","quantity":3}]},
+> {"id":"L12","title":"North","line":"1000","estimate":1,"security":50,"items":[{"id":"I1","title":"Paving","quantity":3}]},
+> {"id":"L13","title":"North","line":"1000","estimate":1,"security":50,"items":[{"id":"I1","title":"Paving","quantity":3}]},
+> {"id":"L14","title":"North","line":"1000","estimate":1,"security":50,"items":[{"id":"I1","title":"Paving","quantity":3}]},
+> {"id":"L15","title":"North","line":"1000","estimate":1,"security":50,"items":[{"id":"I1","title":"Paving","quantity":3}]},
+> {"id":"L16","title":"North","line":"1000","estimate":1,"security":50,"items":[{"id":"I1","title":"Paving","quantity":3}]},
+> {"id":"L17","title":"North","line":"1000","estimate":1,"security":50,"items":[{"id":"I1","title":"Paving","quantity":3}]},
+> {"id":"L18","title":"North","line":"1000","estimate":1,"security":50,"items":[{"id":"I1","title":"Paving","quantity":3}]},
+> {"id":"L19","title":"North","line":"1000","estimate":1,"security":50,"items":[{"id":"I1","title":"Paving","quantity":3}]},
+> {"id":"L20","title":"North","line":"1000","estimate":1,"security":50,"items":[{"id":"I1","title":"Paving","quantity":3}]}
+> ]}
+= 200 {"moment":"2026-02-01T09:00:00Z","notice":"N1","release":1}
 
-const BY_THE_PUBLIC: Asked = Asked {
-    who: Who::Public,
-    ..NOTICE
-};
+at 2026-02-01T09:00:00Z public GET /lines/1000
+= 200 {"appropriation":20,"contracted":0,"free":0,"line":"1000","paid":0,"reserved":20,"title":"Roads"}
+"#;
 
-const NEVER: [Step; 4] = [
-    MONEY,
-    Step::Ask(LATE, DEADLINE_PASSED),
-    Step::Ask(BY_THE_PUBLIC, FORBIDDEN),
-    ALL_FREE,
-];
+// The first field that is missing or wrong is told; a weight goes with points alone; what is wrong inside lots is told as `lots`, with
+// too many of them too. Behind MONEY.
+static BAD_BODIES: &str = r#"
+at 2026-02-01T09:00:00Z clerk POST /notices/N1
+> []
+= 400 {"name":"BadBody","refusal":8,"what":"body"}
 
-// A lot on a line that isn't held, in a notice that is there.
-const ON_NO_LINE: Asked = Asked {
-    act: Act::Publish("N1", MARCH, Lots::These(&[("L1", "3000", 1)])),
-    ..NOTICE
-};
+at 2026-02-01T09:00:00Z clerk POST /notices/N1
+> {}
+= 400 {"name":"BadBody","refusal":8,"what":"title"}
 
-const UNKNOWN: [Step; 3] = [MONEY, PUBLISHES, Step::Ask(ON_NO_LINE, NO_LINE)];
+at 2026-02-01T09:00:00Z clerk POST /notices/N1
+> {"title":"Road repair","deadline":"2026-03-01","lots":[]}
+= 400 {"name":"BadBody","refusal":8,"what":"deadline"}
 
-const TOO_MANY_LOTS: Asked = Asked {
-    act: Act::Publish("N1", MARCH, Lots::Equal(21, 1)),
-    ..NOTICE
-};
+at 2026-02-01T09:00:00Z clerk POST /notices/N1
+> {"title":"Road repair","deadline":"2026-03-01T12:00:00Z","validity_days":90,"standstill_days":10,"criteria":"price","price_weight":60,
+> "lots":[
+> {"id":"L1","title":"North","line":"1000","estimate":600,"security":50,"items":[{"id":"I1","title":"Paving","quantity":3}]}]}
+= 400 {"name":"BadBody","refusal":8,"what":"price_weight"}
 
-const TOO_MANY_ITEMS: Asked = Asked {
-    act: Act::Publish("N1", MARCH, Lots::Equal(1, 51)),
-    ..NOTICE
-};
+at 2026-02-01T09:00:00Z clerk POST /notices/N1
+> {"title":"Road repair","deadline":"2026-03-01T12:00:00Z","validity_days":90,"standstill_days":10,"criteria":"points","lots":[
+> {"id":"L1","title":"North","line":"1000","estimate":600,"security":50,"items":[{"id":"I1","title":"Paving","quantity":3}]}]}
+= 400 {"name":"BadBody","refusal":8,"what":"price_weight"}
 
-const MOST_ITEMS: Asked = Asked {
-    act: Act::Publish("N1", MARCH, Lots::Equal(1, 50)),
-    ..NOTICE
-};
+at 2026-02-01T09:00:00Z clerk POST /notices/N1
+> {"title":"Road repair","deadline":"2026-03-01T12:00:00Z","validity_days":90,"standstill_days":10,"criteria":"price","lots":[
+> {"id":"L1","title":"North","line":"1000","estimate":0,"security":50,"items":[{"id":"I1","title":"Paving","quantity":3}]}]}
+= 400 {"name":"BadBody","refusal":8,"what":"lots"}
 
-const LIMITS: [Step; 4] = [
-    MONEY,
-    Step::Ask(TOO_MANY_LOTS, LIMIT_REACHED),
-    Step::Ask(TOO_MANY_ITEMS, LIMIT_REACHED),
-    Step::Ask(MOST_ITEMS, PUBLISHED),
-];
+at 2026-02-01T09:00:00Z clerk POST /notices/N1
+> {"title":"Road repair","deadline":"2026-03-01T12:00:00Z","validity_days":90,"standstill_days":10,"criteria":"price","lots":[
+> {"id":"L01","title":"North","line":"1000","estimate":1,"security":50,"items":[{"id":"I1","title":"Paving","quantity":3}]},
+> {"id":"L02","title":"North","line":"1000","estimate":1,"security":50,"items":[{"id":"I1","title":"Paving","quantity":3}]},
+> {"id":"L03","title":"North","line":"1000","estimate":1,"security":50,"items":[{"id":"I1","title":"Paving","quantity":3}]},
+> {"id":"L04","title":"North","line":"1000","estimate":1,"security":50,"items":[{"id":"I1","title":"Paving","quantity":3}]},
+> {"id":"L05","title":"North","line":"1000","estimate":1,"security":50,"items":[{"id":"I1","title":"Paving","quantity":3}]},
+> {"id":"L06","title":"North","line":"1000","estimate":1,"security":50,"items":[{"id":"I1","title":"Paving","quantity":3}]},
+> {"id":"L07","title":"North","line":"1000","estimate":1,"security":50,"items":[{"id":"I1","title":"Paving","quantity":3}]},
+> {"id":"L08","title":"North","line":"1000","estimate":1,"security":50,"items":[{"id":"I1","title":"Paving","quantity":3}]},
+> {"id":"L09","title":"North","line":"1000","estimate":1,"security":50,"items":[{"id":"I1","title":"Paving","quantity":3}]},
+> {"id":"L10","title":"North","line":"1000","estimate":1,"security":50,"items":[{"id":"I1","title":"Paving","quantity":3}]},
+> {"id":"L11","title":"North","line":"1000","estimate":1,"security":50,"items":[{"id":"I1","title":"Paving","quantity":3}]},
+> {"id":"L12","title":"North","line":"1000","estimate":1,"security":50,"items":[{"id":"I1","title":"Paving","quantity":3}]},
+> {"id":"L13","title":"North","line":"1000","estimate":1,"security":50,"items":[{"id":"I1","title":"Paving","quantity":3}]},
+> {"id":"L14","title":"North","line":"1000","estimate":1,"security":50,"items":[{"id":"I1","title":"Paving","quantity":3}]},
+> {"id":"L15","title":"North","line":"1000","estimate":1,"security":50,"items":[{"id":"I1","title":"Paving","quantity":3}]},
+> {"id":"L16","title":"North","line":"1000","estimate":1,"security":50,"items":[{"id":"I1","title":"Paving","quantity":3}]},
+> {"id":"L17","title":"North","line":"1000","estimate":1,"security":50,"items":[{"id":"I1","title":"Paving","quantity":3}]},
+> {"id":"L18","title":"North","line":"1000","estimate":1,"security":50,"items":[{"id":"I1","title":"Paving","quantity":3}]},
+> {"id":"L19","title":"North","line":"1000","estimate":1,"security":50,"items":[{"id":"I1","title":"Paving","quantity":3}]},
+> {"id":"L20","title":"North","line":"1000","estimate":1,"security":50,"items":[{"id":"I1","title":"Paving","quantity":3}]},
+> {"id":"L20","title":"North","line":"1000","estimate":1,"security":50,"items":[{"id":"I1","title":"Paving","quantity":3}]}
+> ]}
+= 400 {"name":"BadBody","refusal":8,"what":"lots"}
 
-// Line 1000 with 20.
-const TWENTY: Step = Step::Ask(
-    Asked {
-        who: Who::Clerk,
-        moment: "2026-01-05T09:00:00Z",
-        act: Act::Import("B1", &[("1000", BudgetKind::Add, 20, "Roads")]),
-    },
-    Ok(r#"{"batch":"B1","moment":"2026-01-05T09:00:00Z","rows":1}"#),
-);
-
-const MOST_LOTS: Asked = Asked {
-    act: Act::Publish("N1", MARCH, Lots::Equal(20, 1)),
-    ..NOTICE
-};
-
-const TAKES_ALL: [Step; 3] = [
-    TWENTY,
-    Step::Ask(MOST_LOTS, PUBLISHED),
-    Step::Look(
-        "1000",
-        Ok(
-            r#"{"appropriation":20,"contracted":0,"free":0,"line":"1000","paid":0,"reserved":20,"title":"Roads"}"#,
-        ),
-    ),
-];
-
-// Six changes: a line for each lot, the lots, the notice and the clock.
-const PLANNED: [Step; 5] = [
-    MONEY,
-    ALL_FREE,
-    Step::Plan(Plan {
-        asked: NOTICE,
-        changes: 6,
-        reply: REPLY,
-        before: FREE,
-    }),
-    ALL_RESERVED,
-    Step::Ask(NOTICE, EXISTS),
-];
-
-// What is shown by steps over an empty office, and the steps.
-const ROWS: [(&str, &[Step]); 7] = [
-    ("lots reserve their estimates", &RESERVES),
-    ("lots that want too much change nothing", &REFUSES),
-    ("a deadline is later than now", &NEVER),
-    ("a line that isn't held comes first", &UNKNOWN),
-    ("lots and items have their limits", &LIMITS),
-    ("twenty lots take all", &TAKES_ALL),
-    ("a plan publishes nothing until it is done", &PLANNED),
-];
+at 2026-02-01T09:00:00Z public GET /lines/1000
+= 200 {"appropriation":1000,"contracted":0,"free":1000,"line":"1000","paid":0,"reserved":0,"title":"Roads"}
+"#;
 
 #[test]
-fn rows_over_an_empty_office(rt: HostRuntime) -> Result<(), Fail> {
+fn notices(rt: HostRuntime) -> Result<(), Fail> {
     let alloc = rt.alloc();
-    for (name, steps) in ROWS {
-        assert_eq!(rt;
-            wrong_over(alloc, MemoryShelf::new(alloc), steps)?,
-            None,
-            "{name}"
-        );
-    }
-    Ok(())
+    shows(
+        alloc,
+        "lots reserve their estimates",
+        &[MONEY, ALL_RESERVED],
+    )?;
+    shows(alloc, "too dear", &[MONEY, TOO_DEAR, ALL_RESERVED])?;
+    shows(alloc, "deadlines", &[MONEY, DEADLINES])?;
+    shows(alloc, "no line", &[MONEY, ALL_RESERVED, NO_LINE])?;
+    shows(alloc, "too many lots", &[MONEY, TOO_MANY_LOTS])?;
+    shows(alloc, "items", &[MONEY, ITEMS])?;
+    shows(alloc, "twenty lots take all", &[MOST_LOTS])?;
+    shows(alloc, "bad bodies", &[MONEY, BAD_BODIES])
 }

@@ -1,339 +1,322 @@
-//! Whole runs over an office in memory, and requests in bytes.
-use crate::requests::{Request, Row, append_blocks, append_response};
-use crate::steps::desk_over;
+//! Whole runs: blocks in turn, and each way in which a run ends.
+use crate::blocks::{Block, Fault, read};
+use crate::streams::Faulty;
+use crate::transcript::{desk_over, played};
 use office_base::shelf::Shelf;
-use office_desk::desk::Desk;
-use office_http::answering::answer;
 use office_http::office::{Office, run, serve_one};
-use office_http::routes::Routes;
 use office_memory::memory::MemoryShelf;
-use office_values::moment::Moment;
 use office_wire::counted::CountedReader;
 use office_wire::fault::RunFault;
 use office_wire::watched::WatchedWriter;
-use std::alloc::Global;
+use std::alloc::{AllocError, Global};
+use std::io::{BufRead, BufReader, Cursor, Read};
 use std::test::Fail;
 
-fn january() -> Result<Moment, Fail> {
-    Ok(Moment::read(b"2026-01-05T09:00:00Z").ok_or("no moment")?)
+// An import and a look.
+static IMPORT: &str = r#"
+at 2026-01-05T09:00:00Z clerk POST /budget/B1
+| line,kind,amount,title
+| 1000,add,1000,Roads
+| 2000,add,50,Parks
+= 200 {"batch":"B1","moment":"2026-01-05T09:00:00Z","rows":2}
+"#;
+
+static LOOK: &str = r#"
+at 2026-01-05T09:00:00Z public GET /lines/1000
+= 200 {"appropriation":1000,"contracted":0,"free":1000,"line":"1000","paid":0,"reserved":0,"title":"Roads"}
+"#;
+
+// The import, given again.
+static AGAIN: &str = r#"
+at 2026-01-05T09:00:00Z clerk POST /budget/B1
+| line,kind,amount,title
+| 1000,add,1000,Roads
+| 2000,add,50,Parks
+= 409 {"name":"Exists","refusal":10}
+"#;
+
+// A request that the input cuts off: its place is lost.
+static CUT: &str = r#"
+at 2026-01-05T09:00:00Z bytes
+| POST /budget/B2 HTTP/1.1\r
+| Content-Length: 9\r
+| \r
+> line
+= 400 {"name":"BadHead","refusal":1}
+"#;
+
+// A request whose body is too long to be read.
+static TOO_LONG: &str = r#"
+at 2026-01-05T09:00:00Z bytes
+| POST /budget/B1 HTTP/1.1\r
+| Content-Length: 65537\r
+| \r
+= 413 {"name":"TooLong","refusal":2}
+"#;
+
+// A request in a coding.
+static CODED: &str = r#"
+at 2026-01-05T09:00:00Z bytes
+| POST /budget/B1 HTTP/1.1\r
+| Transfer-Encoding: chunked\r
+| \r
+= 501 {"name":"Coding","refusal":3}
+"#;
+
+/// An input, and what is wanted for it.
+#[derive(Drop)]
+struct Script {
+    input: Vec<u8>,
+    wanted: Vec<u8>,
 }
 
-// What a run over the office of this shelf and this input writes, and how it ends.
-fn told<H: Shelf + Drop>(
+// Appends a transcript's blocks to the input, and their responses to what is wanted.
+fn append(alloc: Global, script: &mut Script, transcript: &str) -> Result<(), Fault> {
+    for block in transcript.trim().split("\n\n") {
+        let block = read(alloc, block)?;
+        script.input.extend_from_slice(b"at ")?;
+        script.input.extend_from_slice(&block.moment.text())?;
+        script.input.extend_from_slice(b"\n")?;
+        script.input.extend_from_slice(&block.request)?;
+        script.wanted.extend_from_slice(&block.response)?;
+    }
+    Ok(())
+}
+
+// The script of these transcripts.
+fn script_of(alloc: Global, transcripts: &[&str]) -> Result<Script, Fault> {
+    let mut script = Script {
+        input: Vec::new(alloc),
+        wanted: Vec::new(alloc),
+    };
+    for transcript in transcripts {
+        append(alloc, &mut script, transcript)?;
+    }
+    Ok(script)
+}
+
+// What a run over the office of this shelf writes, and how it ends.
+fn told<H: Shelf + Drop, R: BufRead + Drop>(
     alloc: Global,
     shelf: H,
-    input: &[u8],
-) -> Result<(Vec<u8>, Result<u64, RunFault>), Fail> {
+    reader: R,
+) -> Result<(Vec<u8>, Result<u64, RunFault>), AllocError> {
     let mut office = Office::new(alloc, desk_over(alloc, shelf)?)?;
-    let mut reader = CountedReader::new(input);
+    let mut reader = CountedReader::new(reader);
     let mut writer = WatchedWriter::new(Vec::new(alloc));
     let outcome = run(alloc, &mut office, &mut reader, &mut writer);
     Ok((writer.into_inner(), outcome))
 }
 
-/// What stands behind the blocks of a run, what is written of that, and how the run ends.
-pub(crate) type End = (&'static [u8], &'static [u8], Result<u64, RunFault>);
-
-// Whether a run of these blocks and this end over an empty office is answered as they say.
-fn is_told_once(alloc: Global, rows: &[Row], end: End) -> Result<bool, Fail> {
-    let mut input = Vec::new(alloc);
-    let mut want = Vec::new(alloc);
-    append_blocks(alloc, &mut input, &mut want, rows)?;
-    input.extend_from_slice(end.0)?;
-    want.extend_from_slice(end.1)?;
-    let (out, outcome) = told(alloc, MemoryShelf::new(alloc), &input)?;
-    Ok(out.as_slice() == want.as_slice() && outcome == end.2)
+// Whether a run of what is read over an empty office writes what is wanted, and ends so.
+fn is_told<R: BufRead + Drop>(
+    alloc: Global,
+    reader: R,
+    wanted: &[u8],
+    end: Result<u64, RunFault>,
+) -> bool {
+    match told(alloc, MemoryShelf::new(alloc), reader) {
+        Ok((text, outcome)) => text.as_slice() == wanted && outcome == end,
+        Err(_) => false,
+    }
 }
 
-/// The same, at the second try where the first isn't: one allocation of a test may be refused.
-pub(crate) fn is_told(alloc: Global, rows: &[Row], end: End) -> Result<bool, Fail> {
-    Ok(is_told_once(alloc, rows, end)? || is_told_once(alloc, rows, end)?)
+// Whether a run of these transcripts, with some bytes behind them, is answered as they say and ends so.
+fn ends_once(
+    alloc: Global,
+    transcripts: &[&str],
+    rest: &[u8],
+    end: Result<u64, RunFault>,
+) -> Result<bool, Fault> {
+    let mut script = script_of(alloc, transcripts)?;
+    script.input.extend_from_slice(rest)?;
+    Ok(is_told(alloc, script.input.as_slice(), &script.wanted, end))
 }
 
-const TWO_LINES: &str = r#"{"batch":"B1","moment":"2026-01-05T09:00:00Z","rows":2}"#;
-
-const ROADS: &str =
-    r#"{"appropriation":1000,"contracted":0,"free":1000,"line":"1000","paid":0,"reserved":0,"title":"Roads"}"#;
-
-// An import, and a look at a line.
-const ROWS: [Row; 2] = [
-    (
-        Request::Import("B1", "1000,add,1000,Roads\n2000,add,50,Parks\n", 1),
-        "200 OK",
-        TWO_LINES,
-    ),
-    (Request::Look, "200 OK", ROADS),
-];
-
-const BAD_HEAD: &[u8] =
-    b"HTTP/1.1 400 Bad Request\r\nContent-Type: application/json\r\nContent-Length: 30\r\nConnection: close\r\n\r\n{\"name\":\"BadHead\",\"refusal\":1}";
-
-const TOO_LONG: &[u8] =
-    b"HTTP/1.1 413 Payload Too Large\r\nContent-Type: application/json\r\nContent-Length: 30\r\nConnection: close\r\n\r\n{\"name\":\"TooLong\",\"refusal\":2}";
-
-// How runs end: behind a block, where no request stands, and where one is too long.
-const ENDS: [(&[Row], End); 4] = [
-    (&ROWS, (b"", b"", Ok(2))),
-    (
-        &ROWS,
-        (
-            b"at 2026-01-05T09:00:00Z\nPOST /budget/B2 HTTP/1.1\r\nContent-Length: 9\r\n\r\nline",
-            BAD_HEAD,
-            Err(RunFault::LostPlace),
-        ),
-    ),
-    (&[], (b"at 2026-01-05\n", b"", Err(RunFault::BadBlock))),
-    (
-        &[],
-        (
-            b"at 2026-01-05T09:00:00Z\nPOST /budget/B1 HTTP/1.1\r\nContent-Length: 65537\r\n\r\n",
-            TOO_LONG,
-            Err(RunFault::LostPlace),
-        ),
-    ),
-];
+// The same, at the second try where the first isn't: one allocation of a test may be refused.
+fn ends(alloc: Global, transcripts: &[&str], rest: &[u8], end: Result<u64, RunFault>) -> bool {
+    match ends_once(alloc, transcripts, rest, end) {
+        Ok(true) => true,
+        _ => matches!(ends_once(alloc, transcripts, rest, end), Ok(true)),
+    }
+}
 
 #[test]
 fn runs_are_answered_to_their_end(rt: HostRuntime) -> Result<(), Fail> {
-    for (rows, end) in ENDS {
-        assert!(rt; is_told(rt.alloc(), rows, end)?);
-    }
-    Ok(())
-}
-
-// A request, and its response's status, lines of its own and body.
-type Answered<'a> = (&'a [u8], &'a str, &'a str, &'a str);
-
-// Whether the request is answered so.
-fn is_answered<H: Shelf + Drop>(
-    alloc: Global,
-    routes: &Routes,
-    desk: &mut Desk<H>,
-    row: &Answered<'_>,
-) -> Result<bool, Fail> {
-    let mut want = Vec::new(alloc);
-    append_response(alloc, &mut want, row.1, row.2, row.3)?;
-    let answer = answer(alloc, routes, desk, january()?, row.0);
-    Ok(answer.bytes() == want.as_slice())
-}
-
-const IMPORT: &[u8] =
-    b"POST /budget/B1 HTTP/1.1\r\nOffice-Caller: clerk\r\nOffice-Key: abc\r\nContent-Length: 61\r\n\r\nline,kind,amount,title\n1000,add,1000,Roads\n2000,add,50,Parks\n";
-
-const LOOK: &[u8] = b"GET /lines/1000 HTTP/1.1\r\n\r\n";
-
-// Requests to one office, in turn.
-const ANSWERS: [Answered<'static>; 7] = [
-    (
-        b"GET /lines/9 HTTP/1.1\r\n\r\n",
-        "404 Not Found",
-        "",
-        r#"{"name":"NoSuch","refusal":9,"what":"line"}"#,
-    ),
-    (IMPORT, "200 OK", "", TWO_LINES),
-    (
-        b"GET /lines/1000 HTTP/1.1\r\n\r\nand more",
-        "200 OK",
-        "",
-        ROADS,
-    ),
-    (
-        IMPORT,
-        "409 Conflict",
-        "",
-        r#"{"name":"Exists","refusal":10}"#,
-    ),
-    (
-        b"GET /x HTTP/1.1\r\n\r\n",
-        "404 Not Found",
-        "",
-        r#"{"name":"NoRoute","refusal":4}"#,
-    ),
-    (
-        b"GET /budget/B1 HTTP/1.1\r\n\r\n",
-        "405 Method Not Allowed",
-        "Allow: POST\r\n",
-        r#"{"name":"WrongMethod","refusal":5}"#,
-    ),
-    (
-        b"POST /budget/B2 HTTP/1.1\r\n\r\n",
-        "403 Forbidden",
-        "",
-        r#"{"name":"Forbidden","refusal":7}"#,
-    ),
-];
-
-const BAD_KEY: &str = r#"{"name":"BadKey","refusal":6}"#;
-
-const SCHEME: &str = "WWW-Authenticate: Office-Key\r\n";
-
-// Requests that are refused whatever an office holds.
-const REFUSALS: [Answered<'static>; 6] = [
-    (
-        b"POST /budget/B1 HTTP/1.1\r\nContent-Length: 9\r\n\r\nline",
-        "400 Bad Request",
-        "",
-        r#"{"name":"BadHead","refusal":1}"#,
-    ),
-    (
-        b"POST /budget/B1 HTTP/1.1\r\nTransfer-Encoding: chunked\r\n\r\n",
-        "501 Not Implemented",
-        "",
-        r#"{"name":"Coding","refusal":3}"#,
-    ),
-    (
-        b"POST /budget/B1 HTTP/1.1\r\nContent-Length: 65537\r\n\r\n",
-        "413 Payload Too Large",
-        "",
-        r#"{"name":"TooLong","refusal":2}"#,
-    ),
-    (
-        b"GET /lines/9 HTTP/1.1\r\nOffice-Caller: clerk\r\nOffice-Key: abd\r\n\r\n",
-        "401 Unauthorized",
-        SCHEME,
-        BAD_KEY,
-    ),
-    (
-        b"GET /lines/9 HTTP/1.1\r\nOffice-Caller: clerk\r\n\r\n",
-        "401 Unauthorized",
-        SCHEME,
-        BAD_KEY,
-    ),
-    (
-        b"GET /lines/9 HTTP/1.1\r\nOffice-Key: abc\r\n\r\n",
-        "401 Unauthorized",
-        SCHEME,
-        BAD_KEY,
-    ),
-];
-
-// The first of the rows that isn't answered so, asked in turn.
-fn wrong_row<H: Shelf + Drop>(
-    alloc: Global,
-    routes: &Routes,
-    desk: &mut Desk<H>,
-    rows: &[Answered<'_>],
-) -> Result<Option<usize>, Fail> {
-    for (index, row) in rows.iter().enumerate() {
-        let right = is_answered(alloc, routes, desk, row)?;
-        if !right {
-            return Ok(Some(index));
-        }
-    }
-    Ok(None)
-}
-
-// The same over the office of this shelf.
-fn wrong_answer<H: Shelf + Drop>(
-    alloc: Global,
-    shelf: H,
-    rows: &[Answered<'_>],
-) -> Result<Option<usize>, Fail> {
-    let routes = Routes::new(alloc)?;
-    let mut desk = desk_over(alloc, shelf)?;
-    wrong_row(alloc, &routes, &mut desk, rows)
-}
-
-// The same over an empty office, at the second try where the first finds one: one allocation of a test may be refused.
-fn wrong_from_empty(alloc: Global, rows: &[Answered<'_>]) -> Result<Option<usize>, Fail> {
-    match wrong_answer(alloc, MemoryShelf::new(alloc), rows)? {
-        None => Ok(None),
-        Some(_) => wrong_answer(alloc, MemoryShelf::new(alloc), rows),
-    }
-}
-
-#[test]
-fn answers_bytes(rt: HostRuntime) -> Result<(), Fail> {
-    assert_eq!(rt; wrong_from_empty(rt.alloc(), &ANSWERS)?, None);
-    assert_eq!(rt; wrong_from_empty(rt.alloc(), &REFUSALS)?, None);
-    Ok(())
-}
-
-// Appends a file of 65,536 bytes: 500 rows of 131, and 13 carriage returns.
-fn append_longest_file(bytes: &mut Vec<u8>) -> Result<(), Fail> {
-    bytes.extend_from_slice(b"line,kind,amount,title\r\n")?;
-    for row in 0..500 {
-        bytes.extend_from_slice(b"1000,add,1,")?;
-        bytes.resize(bytes.len() + 119, b'R')?;
-        let end = if row < 12 { b"\r\n".as_slice() } else { b"\n" };
-        bytes.extend_from_slice(end)?;
-    }
-    Ok(())
-}
-
-// A request with the longest body, and so many empty lines in front; the rest of its head has 90 bytes.
-fn longest(alloc: Global, lines: usize) -> Result<Vec<u8>, Fail> {
-    let mut bytes = Vec::new(alloc);
-    bytes.resize(lines, b'\n')?;
-    bytes.extend_from_slice(
-        b"POST /budget/B1 HTTP/1.1\r\nOffice-Caller: clerk\r\nOffice-Key: abc\r\nContent-Length: 65536\r\n\r\n",
-    )?;
-    append_longest_file(&mut bytes)?;
-    Ok(bytes)
-}
-
-// How a request is answered that has so many empty lines in front, and its length.
-fn is_longest_answered(
-    alloc: Global,
-    lines: usize,
-    status: &str,
-    body: &str,
-) -> Result<(usize, bool), Fail> {
-    let bytes = longest(alloc, lines)?;
-    let wrong = wrong_from_empty(alloc, &[(&bytes, status, "", body)])?;
-    Ok((bytes.len(), wrong.is_none()))
-}
-
-// However many lines the head has, and whatever the length of the body, the whole request is read; a head of one byte more is refused.
-#[test]
-fn answers_the_longest_request(rt: HostRuntime) -> Result<(), Fail> {
-    let imported = r#"{"batch":"B1","moment":"2026-01-05T09:00:00Z","rows":500}"#;
-    let refused = r#"{"name":"TooLong","refusal":2}"#;
-    let longest = is_longest_answered(rt.alloc(), 8102, "200 OK", imported)?;
-    assert_eq!(rt; longest, (8192 + 65_536, true));
-    let longer = is_longest_answered(rt.alloc(), 8103, "413 Payload Too Large", refused)?;
-    assert_eq!(rt; longer, (8193 + 65_536, true));
-    Ok(())
-}
-
-// Whether one request is served so.
-fn is_served<H: Shelf + Drop>(
-    alloc: Global,
-    office: &mut Office<H>,
-    row: &Answered<'_>,
-) -> Result<bool, Fail> {
-    let mut want = Vec::new(alloc);
-    append_response(alloc, &mut want, row.1, row.2, row.3)?;
-    let mut reader = CountedReader::new(row.0);
-    let mut writer = WatchedWriter::new(Vec::new(alloc));
-    let served = serve_one(alloc, office, january()?, &mut reader, &mut writer);
-    Ok(served == Ok(()) && writer.into_inner().as_slice() == want.as_slice())
-}
-
-// Whether the office of this shelf serves the request so, and the shelf of its desk then.
-fn served_by<H: Shelf + Drop>(
-    alloc: Global,
-    shelf: H,
-    row: &Answered<'_>,
-) -> Result<(bool, H), Fail> {
-    let mut office = Office::new(alloc, desk_over(alloc, shelf)?)?;
-    let right = is_served(alloc, &mut office, row)?;
-    Ok((right, office.into_desk().into_shelf()))
-}
-
-// Whether an empty office serves the first of these rows, and a desk over its shelf then answers the other.
-fn is_served_first(alloc: Global, first: &Answered<'_>, then: &Answered<'_>) -> Result<bool, Fail> {
-    let (right, shelf) = served_by(alloc, MemoryShelf::new(alloc), first)?;
-    let wrong = wrong_answer(alloc, shelf, &[*then])?;
-    Ok(right && wrong.is_none())
-}
-
-#[test]
-fn serves_one_request(rt: HostRuntime) -> Result<(), Fail> {
     let alloc = rt.alloc();
-    for (first, then) in [(&ANSWERS[1], &ANSWERS[2]), (&REFUSALS[2], &ANSWERS[0])] {
-        let served = is_served_first(alloc, first, then)? || is_served_first(alloc, first, then)?;
-        assert!(rt; served);
+    assert!(rt; ends(alloc, &[], b"", Ok(0)));
+    assert!(rt; ends(alloc, &[IMPORT, LOOK], b"", Ok(2)));
+    assert!(rt; ends(alloc, &[IMPORT, LOOK, CUT], b"", Err(RunFault::LostPlace)));
+    assert!(rt;
+        ends(
+            alloc,
+            &[TOO_LONG],
+            b"at 2026-01-05T09:00:00Z\n",
+            Err(RunFault::LostPlace)
+        )
+    );
+    assert!(rt; ends(alloc, &[CODED], b"", Err(RunFault::LostPlace)));
+    assert!(rt; ends(alloc, &[], b"at 2026-01-05\n", Err(RunFault::BadBlock)));
+    assert!(rt;
+        ends(
+            alloc,
+            &[IMPORT],
+            b"at 2026-01-05T09:00:60Z\n",
+            Err(RunFault::BadBlock)
+        )
+    );
+    assert!(rt; ends(alloc, &[IMPORT, LOOK, AGAIN], b"", Ok(3)));
+    Ok(())
+}
+
+// Whether the import and the look, cut off behind so many bytes, are answered as these transcripts are, and the run ends so.
+fn is_cut(
+    alloc: Global,
+    count: usize,
+    transcripts: &[&str],
+    end: Result<u64, RunFault>,
+) -> Result<bool, Fault> {
+    let whole = script_of(alloc, &[IMPORT, LOOK])?;
+    let wanted = script_of(alloc, transcripts)?.wanted;
+    let (front, _) = whole.input.split_at_checked(count).ok_or(Fault::Unread)?;
+    Ok(is_told(alloc, front, &wanted, end))
+}
+
+// Whether it ends as it should. The import's block has 172 bytes, both have 224; an `at` line has 24.
+fn is_cut_right(alloc: Global, count: usize) -> Result<bool, Fault> {
+    match count {
+        0 => is_cut(alloc, count, &[], Ok(0)),
+        1..=23 => is_cut(alloc, count, &[], Err(RunFault::BadBlock)),
+        24..=171 => is_cut(alloc, count, &[CUT], Err(RunFault::LostPlace)),
+        172 => is_cut(alloc, count, &[IMPORT], Ok(1)),
+        173..=195 => is_cut(alloc, count, &[IMPORT], Err(RunFault::BadBlock)),
+        196..=223 => is_cut(alloc, count, &[IMPORT, CUT], Err(RunFault::LostPlace)),
+        _ => is_cut(alloc, count, &[IMPORT, LOOK], Ok(2)),
+    }
+}
+
+#[test]
+fn an_input_ends_anywhere(rt: HostRuntime) -> Result<(), Fail> {
+    let alloc = rt.alloc();
+    for count in 0..225 {
+        let right = matches!(is_cut_right(alloc, count), Ok(true))
+            || matches!(is_cut_right(alloc, count), Ok(true));
+        assert!(rt; right, "at {count}");
+    }
+    Ok(())
+}
+
+// Whether the import and the look are answered where they come in two pieces, the first of so many bytes.
+fn is_read_in_pieces(alloc: Global, count: usize) -> Result<bool, Fault> {
+    let script = script_of(alloc, &[IMPORT, LOOK])?;
+    let (front, back) = script.input.split_at_checked(count).ok_or(Fault::Unread)?;
+    Ok(is_told(alloc, front.chain(back), &script.wanted, Ok(2)))
+}
+
+// The same where they come byte by byte.
+fn is_read_byte_by_byte(alloc: Global) -> Result<bool, Fault> {
+    let script = script_of(alloc, &[IMPORT, LOOK])?;
+    match BufReader::with_capacity(alloc, 1, script.input.as_slice()) {
+        Ok(reader) => Ok(is_told(alloc, reader, &script.wanted, Ok(2))),
+        Err(_) => Err(Fault::NoMemory),
+    }
+}
+
+#[test]
+fn an_input_comes_in_pieces(rt: HostRuntime) -> Result<(), Fail> {
+    let alloc = rt.alloc();
+    for count in 0..225 {
+        let right = matches!(is_read_in_pieces(alloc, count), Ok(true))
+            || matches!(is_read_in_pieces(alloc, count), Ok(true));
+        assert!(rt; right, "at {count}");
+    }
+    let right = matches!(is_read_byte_by_byte(alloc), Ok(true))
+        || matches!(is_read_byte_by_byte(alloc), Ok(true));
+    assert!(rt; right);
+    Ok(())
+}
+
+// Whether a reader that fails within the second block ends the run there: the first block is answered.
+fn is_failing_reader_told(alloc: Global) -> Result<bool, Fault> {
+    let whole = script_of(alloc, &[IMPORT, LOOK])?;
+    let wanted = script_of(alloc, &[IMPORT])?.wanted;
+    let (front, _) = whole.input.split_at_checked(196).ok_or(Fault::Unread)?;
+    let end = Err(RunFault::Read);
+    Ok(is_told(alloc, Faulty::over(front), &wanted, end))
+}
+
+#[test]
+fn a_reader_fails(rt: HostRuntime) -> Result<(), Fail> {
+    let alloc = rt.alloc();
+    let right = matches!(is_failing_reader_told(alloc), Ok(true))
+        || matches!(is_failing_reader_told(alloc), Ok(true));
+    assert!(rt; right);
+    Ok(())
+}
+
+// How a run over the office of this shelf ends whose writer takes 20 bytes alone, and the shelf then.
+fn narrow_run<H: Shelf + Drop>(
+    alloc: Global,
+    shelf: H,
+    input: &[u8],
+) -> Result<(Result<u64, RunFault>, H), AllocError> {
+    let mut office = Office::new(alloc, desk_over(alloc, shelf)?)?;
+    let mut reader = CountedReader::new(input);
+    let mut writer = WatchedWriter::new(Cursor::new([0u8; 20]));
+    let outcome = run(alloc, &mut office, &mut reader, &mut writer);
+    Ok((outcome, office.into_desk().into_shelf()))
+}
+
+// Whether a run whose writer fails tells so, and has imported.
+fn is_failing_writer_told(alloc: Global) -> Result<bool, Fault> {
+    let script = script_of(alloc, &[IMPORT, LOOK])?;
+    let (end, shelf) = narrow_run(alloc, MemoryShelf::new(alloc), &script.input)?;
+    let rest = played(alloc, shelf, 0, &[AGAIN, LOOK]);
+    Ok(end == Err(RunFault::Write) && rest.is_ok())
+}
+
+#[test]
+fn a_writer_fails(rt: HostRuntime) -> Result<(), Fail> {
+    let alloc = rt.alloc();
+    let right = matches!(is_failing_writer_told(alloc), Ok(true))
+        || matches!(is_failing_writer_told(alloc), Ok(true));
+    assert!(rt; right);
+    Ok(())
+}
+
+// What is served of a request by the office of this shelf, and the shelf then.
+fn served<H: Shelf + Drop>(
+    alloc: Global,
+    shelf: H,
+    block: &Block,
+) -> Result<(Result<(), RunFault>, Vec<u8>, H), AllocError> {
+    let mut office = Office::new(alloc, desk_over(alloc, shelf)?)?;
+    let mut reader = CountedReader::new(block.request.as_slice());
+    let mut writer = WatchedWriter::new(Vec::new(alloc));
+    let served = serve_one(alloc, &mut office, block.moment, &mut reader, &mut writer);
+    Ok((served, writer.into_inner(), office.into_desk().into_shelf()))
+}
+
+// Whether an empty office serves this one request as its block says, and a desk over its shelf then answers these transcripts.
+fn is_served(alloc: Global, block: &str, then: &[&str]) -> Result<bool, Fault> {
+    let block = read(alloc, block.trim())?;
+    let (served, text, shelf) = served(alloc, MemoryShelf::new(alloc), &block)?;
+    let rest = played(alloc, shelf, 0, then);
+    Ok(served == Ok(()) && text.as_slice() == block.response.as_slice() && rest.is_ok())
+}
+
+#[test]
+fn one_request_is_served(rt: HostRuntime) -> Result<(), Fail> {
+    let alloc = rt.alloc();
+    for (first, then) in [
+        (IMPORT, LOOK),
+        (IMPORT, AGAIN),
+        (TOO_LONG, IMPORT),
+        (CUT, IMPORT),
+    ] {
+        let right = matches!(is_served(alloc, first, &[then]), Ok(true))
+            || matches!(is_served(alloc, first, &[then]), Ok(true));
+        assert!(rt; right, "{first}");
     }
     Ok(())
 }
