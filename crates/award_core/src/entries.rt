@@ -15,15 +15,15 @@ use office_values::id::Id;
 /// The most entries of a contract.
 const ENTRY_LIMIT: usize = 200;
 
-// Whether the entry is of the contract with this number.
-fn is_of(entry: &EntryRow, contract: GivenNumber) -> bool
+/// Whether the entry is of the contract with this number.
+pub fn is_of(entry: &EntryRow, contract: GivenNumber) -> bool
     ensures { result ≡ same_number entry.now.contract contract }
 {
     entry.contract.cmp(&contract).is_eq()
 }
 
-// What the entries of the contract raise it by.
-fn raised(entries: &[EntryRow], contract: GivenNumber) -> u128
+/// What the entries of the contract raise it by.
+pub fn raised(entries: &[EntryRow], contract: GivenNumber) -> u128
     ensures sum { result ≡ entry_sum is_raise entries.now contract }
     ensures small { result < 2 ^ 110 }
 {

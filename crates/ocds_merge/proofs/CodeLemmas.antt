@@ -69,7 +69,7 @@ dropped xs i x low is = ap items_view (drop_more xs i x low) ∙ ap (λ (y : Val
 abbrev pub turned : Data → List Data → List Data
 turned d ts = set_item (id_of d) (unwrap_or (step (find_item (id_of d) ts) d) null) ts
 
-new_view : (new : Option Value) (b : Value) (o : Option Data) → b ≡ unwrap_or new Null → option_map view new ≡ o → view b ≡ unwrap_or o null
+pub new_view : (new : Option Value) (b : Value) (o : Option Data) → b ≡ unwrap_or new Null → option_map view new ≡ o → view b ≡ unwrap_or o null
 new_view new b o is e = ap view is ∙ view_or new ∙ ap (λ (r : Option Data). unwrap_or r null) e
 
 pub found_turn : (xs : List Value) (p : ℕ) (a b old : Value) (new : Option Value) (id : List ℕ) (d : Data)

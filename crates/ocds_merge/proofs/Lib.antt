@@ -4,7 +4,10 @@ pub mod ItemLaw
 pub mod MergeLaw
 pub mod CodeLemmas
 pub mod StorableLaw
-pub mod DateLemmas
 pub mod Settled
 pub mod OrderLaw
+pub mod SortLaw
 pub mod KindLaw
+pub mod HeadLaw
+pub mod IdLaw
+pub mod PlaceLaw

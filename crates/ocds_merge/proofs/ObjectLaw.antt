@@ -112,7 +112,7 @@ abbrev step_at : Option Data → Option Data → Option Data
 step_at None t = t
 step_at (Some d) t = step t d
 
-above : (k : List ℕ) (ms : Members) → AllByRecursion (λ y. bytes_cmp k y ≡ Less) (names_of ms) → get_member k ms ≡ None
+pub above : (k : List ℕ) (ms : Members) → AllByRecursion (λ y. bytes_cmp k y ≡ Less) (names_of ms) → get_member k ms ≡ None
 above k no_members h = refl
 above k (member l e ms) h = rw h.0 (above k ms h.1)
 

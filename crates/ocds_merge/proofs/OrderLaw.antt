@@ -23,7 +23,7 @@ head_stays : (d : Data) (ds : List Data) → IsInDateOrder (d ∷ ds) → insert
 head_stays d [] h = refl
 head_stays d (e ∷ es) h = not_less _ _ _ h.0
 
-tail_ordered : (d : Data) (ds : List Data) → IsInDateOrder (d ∷ ds) → IsInDateOrder ds
+pub tail_ordered : (d : Data) (ds : List Data) → IsInDateOrder (d ∷ ds) → IsInDateOrder ds
 tail_ordered d [] h = tt
 tail_ordered d (e ∷ es) h = h.1
 

@@ -1,2 +1,3 @@
 -- Words of private clauses: no public clause speaks of them.
 pub mod Step
+pub mod Places

@@ -1,9 +1,9 @@
 ghost use Rattle.std.specs.Prelude.{◌≡◌, map, IfOk};
 ghost use Rattle.serde_json.specs.View.{view};
 ghost use Rattle.ocds_merge.specs.Merge.{merge_or_null};
-ghost use Rattle.ocds_merge.specs.Compile.{body_of, compiled_release};
+ghost use Rattle.ocds_merge.specs.Compile.{compiled_release};
 
-use crate::head::{with_compiled_head, without_head};
+use crate::head::with_compiled_head;
 use crate::merging::NoMemory;
 use crate::release_order::{in_date_order, last_date};
 use crate::step::merge_value;
@@ -20,19 +20,19 @@ pub fn compile(alloc: Global, ocid: &str, releases: &[Value]) -> Result<Value, N
         ≡ compiled_release ocid.now (map view releases.now)) }
 {
     let order = in_date_order(alloc, releases)?;
-    let merge = merge_bodies(alloc, &order)?;
+    // With the heads of the releases: the head that goes on stands over theirs.
+    let merge = merge_in_order(alloc, &order)?;
     with_compiled_head(alloc, ocid, last_date(&order), merge)
 }
 
-// The merge of these releases without their heads.
-fn merge_bodies(alloc: Global, order: &[&Value]) -> Result<Value, NoMemory>
+// The merge of releases that stand in order.
+fn merge_in_order(alloc: Global, order: &[&Value]) -> Result<Value, NoMemory>
     ensures { IfOk result (λ merge. view merge
-        ≡ merge_or_null (map (λ r. body_of (view r.now)) order.now)) }
+        ≡ merge_or_null (map (λ r. view r.now) order.now)) }
 {
     let mut merge = None;
     for release in order {
-        let body = without_head((*release).clone()?);
-        merge = merge_value(alloc, &body, merge)?;
+        merge = merge_value(alloc, release, merge)?;
     }
     Ok(merge.unwrap_or(Value::Null))
 }

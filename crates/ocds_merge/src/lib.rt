@@ -11,6 +11,7 @@ mod identified;
 mod laws;
 mod members;
 mod merging;
+mod places;
 mod release_order;
 mod step;
 mod stored;

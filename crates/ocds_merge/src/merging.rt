@@ -45,10 +45,19 @@ pub fn merge_into(alloc: Global, target: &mut Value, value: &Value) -> Result<()
     ensures proper { OnOk result (IsProper (view value.now)) }
 {
     // All memory is taken on a copy, so that a refusal leaves the target alone.
-    let before = present(target.clone()?);
-    let after = merge_value(alloc, value, before)?;
-    *target = after.unwrap_or(Value::Null);
+    let copy = target.clone()?;
+    *target = carried_on(alloc, copy, value)?;
     Ok(())
+}
+
+/// The merge of some values and one more, from the former's merge, which it uses up.
+pub(crate) fn carried_on(alloc: Global, merge: Value, value: &Value) -> Result<Value, NoMemory>
+    ensures merges { IfOk result (λ after. (vs : List Data) → view merge ≡ merge_or_null vs
+        → view after ≡ merge_or_null (vs ++ view value.now ∷ [])) }
+    ensures proper { OnOk result (IsProper (view value.now)) }
+{
+    let after = merge_value(alloc, value, present(merge))?;
+    Ok(after.unwrap_or(Value::Null))
 }
 
 // `Null` stands for absent.

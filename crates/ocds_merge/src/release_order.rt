@@ -1,13 +1,13 @@
-ghost use Rattle.std.specs.Prelude.{◌≡◌, ◌<◌, ◌≤◌, ◌-◌, map, take, length, get_or, false, IfOk};
-ghost use Rattle.std.specs.Ordering.{nat_cmp, is_lt};
+ghost use Rattle.std.specs.Prelude.{◌≡◌, ◌-◌, map, length, get_or, IfOk};
+ghost use Rattle.std.specs.Ordering.{nat_cmp};
 ghost use Rattle.std.specs.Cmp.Lexicographic.{slice_cmp};
 ghost use Rattle.serde_json.specs.Data.{null};
 ghost use Rattle.serde_json.specs.View.{view};
 ghost use Rattle.ocds_merge.specs.Compile.{date_of as date_in, date_order};
-ghost use Rattle.ocds_merge.specs.Inside.Step.{AreEarlier};
 
 use serde_json::Value;
 use std::alloc::{AllocError, Global};
+use std::cmp::Ordering;
 
 fn date_of(value: &Value) -> &str
     ensures { result.now ≡ date_in (view value.now) }
@@ -32,27 +32,25 @@ pub(crate) fn last_date<'a>(order: &[&'a Value]) -> &'a str
     }
 }
 
-// The first place whose date isn't earlier.
-fn place_for(order: &[&Value], date: &str) -> usize
-    ensures within { result ≤ length order.now }
-    ensures before { AreEarlier date.now (take result (map (λ r. view r.now) order.now)) }
-    ensures after { result < length order.now
-        → is_lt (slice_cmp nat_cmp (date_in (get_or (map (λ r. view r.now) order.now) result null)) date.now)
-        ≡ false }
+fn compare_dates(one: &Value, other: &Value) -> Ordering
+    ensures { result ≡ slice_cmp nat_cmp (date_in (view one.now)) (date_in (view other.now)) }
 {
-    for (place, release) in order.iter().enumerate() {
-        let earlier = date_of(release) < date;
-        if !earlier {
-            return place;
-        }
+    date_of(one).cmp(date_of(other))
+}
+
+fn borrowed<'a>(alloc: Global, releases: &'a [Value]) -> Result<Vec<&'a Value>, AllocError>
+    ensures { IfOk result (λ all. map (λ r. view r.now) all.items ≡ map view releases.now) }
+{
+    let mut all = Vec::new(alloc);
+    for release in releases {
+        all.push(release)?;
     }
-    order.len()
+    Ok(all)
 }
 
 /// The releases in order of their dates, equal dates in list order.
 ///
-/// They go in from the last to the first, so that releases which are in order already take one
-/// comparison each.
+/// Of releases that are in order already it compares each with the next alone.
 pub(crate) fn in_date_order<'a>(
     alloc: Global,
     releases: &'a [Value],
@@ -60,13 +58,7 @@ pub(crate) fn in_date_order<'a>(
     ensures { IfOk result (λ order. map (λ r. view r.now) order.items
         ≡ date_order (map view releases.now)) }
 {
-    let mut order = Vec::new(alloc);
-    let mut left = releases.len();
-    while left > 0 {
-        left -= 1;
-        let release = &releases[left];
-        let place = place_for(&order, date_of(release));
-        order.insert(place, release)?;
-    }
+    let mut order = borrowed(alloc, releases)?;
+    order.sort_by(|one, other| compare_dates(one, other))?;
     Ok(order)
 }

@@ -1,11 +1,13 @@
-ghost use Rattle.std.specs.Prelude.{◌≡◌, map, option_map, IfOk, OnOk};
+ghost use Rattle.std.specs.Prelude.{◌≡◌, true, map, option_map, IfOk, OnOk};
 ghost use Rattle.serde_json.specs.Data.{object};
 ghost use Rattle.serde_json.specs.View.{view, items_view, members_view};
+ghost use Rattle.ocds_merge.specs.Identified.{all_have_id};
 ghost use Rattle.ocds_merge.specs.Inside.Step.{step as step_of, step_items, step_members, object_of as members_in, id_list_of as items_in};
 ghost use Rattle.ocds_merge.specs.Laws.{IsProper, AreItemsProper};
 
-use crate::identified::{id_of, is_id_list, place_of};
+use crate::identified::{id_of, is_id_list};
 use crate::members::{put_present, take_member};
+use crate::places::Places;
 use serde_json::{Map, Value};
 use std::alloc::{AllocError, Global};
 use std::mem;
@@ -78,12 +80,15 @@ fn merge_items(
     items: &Vec<Value>,
     mut target: Vec<Value>,
 ) -> Result<Vec<Value>, AllocError>
+    requires { all_have_id (items_view items.now.items) ≡ true }
     ensures step { IfOk result (λ v. map view v.items
         ≡ step_items (map view target.items) (items_view items.now.items)) }
     ensures proper { OnOk result (AreItemsProper (items_view items.now.items)) }
 {
+    let mut places = Places::new(alloc, &target, items.len())?;
     for item in items {
-        match place_of(&target, id_of(item)) {
+        let id = id_of(item);
+        match places.find(&target, id) {
             Some(place) => {
                 let old = mem::replace(&mut target[place], Value::Null);
                 let new = merge_value(alloc, item, Some(old))?;
@@ -91,6 +96,7 @@ fn merge_items(
             }
             None => {
                 let new = merge_value(alloc, item, None)?;
+                places.add(alloc, id, target.len())?;
                 target.push(new.unwrap_or(Value::Null))?;
             }
         }

@@ -6,7 +6,7 @@ ghost use Rattle.ocds_merge.specs.Merge.{merge_or_null};
 ghost use Rattle.ocds_merge.specs.Stored.{KeepsMerge, IsStorable};
 ghost use Rattle.ocds_merge.specs.declared.stored.StoredFault.TheVariants.{NoMemory as no_memory};
 
-use crate::merging::{NoMemory, merge_into};
+use crate::merging::{NoMemory, carried_on};
 use serde_json::Value;
 use std::alloc::Global;
 
@@ -67,7 +67,7 @@ pub fn merge_into_text(alloc: Global, stored: &str, value: &Value) -> Result<Str
     ensures unreadable { read stored.now ≡ None → IsErr result }
     ensures empty { stored.now ≡ [] → result ≡ Err StoredFault.Unreadable }
 {
-    let mut merge = merge_from_text(alloc, stored)?;
-    merge_into(alloc, &mut merge, value)?;
-    Ok(merge_to_text(alloc, &merge)?)
+    let before = merge_from_text(alloc, stored)?;
+    let after = carried_on(alloc, before, value)?;
+    Ok(merge_to_text(alloc, &after)?)
 }

@@ -86,6 +86,31 @@ fn merges_columns(rt: HostRuntime) -> Result<(), Fail> {
     Ok(())
 }
 
+// A list so long that its items are found in an index of their ids: each stays in its place, and
+// new ones follow, one that comes twice once.
+#[test]
+fn merges_long_lists(rt: HostRuntime) -> Result<(), Fail> {
+    let alloc = rt.alloc();
+    let mut first = String::from_str(alloc, "[")?;
+    let mut second = String::from_str(alloc, "[")?;
+    let mut want = String::from_str(alloc, "[")?;
+    for number in 10..40u64 {
+        let other = 49 - number;
+        first.push_str(&format!(in alloc; r#"{{"id":"I{number}","v":1}},"#)?)?;
+        second.push_str(&format!(in alloc; r#"{{"id":"I{other}","w":{other}}},"#)?)?;
+        want.push_str(&format!(in alloc; r#"{{"id":"I{number}","v":1,"w":{number}}},"#)?)?;
+    }
+    first.push_str(r#"{"id":"K"}]"#)?;
+    second.push_str(r#"{"id":"J","v":3},{"id":"J","w":4}]"#)?;
+    want.push_str(r#"{"id":"K"},{"id":"J","v":3,"w":4}]"#)?;
+    let values = parsed(alloc, &[first.as_str(), second.as_str()])?;
+    assert_eq!(rt;
+        merge_all(alloc, &values)?.to_string(alloc)?.as_str(),
+        want.as_str()
+    );
+    Ok(())
+}
+
 #[test]
 fn compiles_releases(rt: HostRuntime) -> Result<(), Fail> {
     let alloc = rt.alloc();

@@ -122,6 +122,7 @@ impl<H: Shelf + Drop> Desk<H> {
             → (xs : List Given) → Reaches unpublished_means xs x.before → Joins H.meaning self.new.shelf x (read_text result) xs }
     {
         laws::accounts();
+        laws::runs();
         fates::tenders();
         fates::securities();
         let (puts, reply) = planned.into_parts();
@@ -146,6 +147,7 @@ impl<H: Shelf + Drop> Desk<H> {
             → (xs : List Given) → Reaches unpublished_means xs s → Joins H.meaning self.new.shelf (given s moment caller.now command.entry) (read_text result) xs }
     {
         laws::accounts();
+        laws::runs();
         fates::tenders();
         fates::securities();
         let planned = self.plan(moment, caller, command)?;

@@ -9,7 +9,7 @@ use Rattle.office_machine.specs.Accounts.{AccountsAreKept}
 use Rattle.office_machine.specs.Fates.{TendersAreKept, SecuritiesAreKept}
 use Rattle.office_machine.specs.Machine.{CanBeGiven, Given, IsCommand, IsRegistered, Reaches, refusal_of}
 use Rattle.office_machine.specs.OfficeMeans.{unpublished_means}
-use Rattle.office_machine.specs.Requests.{joined_by, office_by}
+use Rattle.office_machine.specs.Requests.{StepsReach, joined_by, office_by}
 use Rattle.office_desk.specs.Asking.{given}
 use Rattle.office_desk.specs.Steps.{IsKept}
 use Rattle.office_wire.specs.Request.{RequestView}
@@ -33,6 +33,7 @@ pub record Laws : Type 0 where
   pub accounts : AccountsAreKept
   pub tenders : TendersAreKept
   pub securities : SecuritiesAreKept
+  pub steps : StepsReach
 
 pub kept_by : Laws → (xs : List Given) (s : Tables) → Reaches unpublished_means xs s → IsKept xs s
 kept_by laws xs s reaches = record {
@@ -70,44 +71,45 @@ route_can settings request s (Ok route) =
 meant_can : (settings : Settings) (request : RequestView) (s : Tables) → CanBeMeant s (meant settings request s)
 meant_can settings request s = route_can settings request s (routed request.head.method request.head.target)
 
--- One request.
+module _ (laws : Laws) where
+  -- One request.
 
-given_reaches : (xs : List Given) (x : Given) (refusal : Option Refusal) → refusal_of x ≡ refusal → CanBeGiven x → Reaches unpublished_means xs x.before
-    → Reaches unpublished_means (joined_by refusal x xs) (office_by refusal unpublished_means x)
-given_reaches xs x None allowed can reached = record { reached = reached; given = can; allowed = allowed; is = refl }
-given_reaches xs x (Some why) is can reached = reached
+  given_reaches : (xs : List Given) (x : Given) (refusal : Option Refusal) → refusal_of x ≡ refusal → CanBeGiven x → Reaches unpublished_means xs x.before
+      → Reaches unpublished_means (joined_by refusal x xs) (office_by refusal unpublished_means x)
+  given_reaches xs x None allowed can reached = laws.steps unpublished_means xs x reached can allowed
+  given_reaches xs x (Some why) is can reached = reached
 
-meant_reaches : (xs : List Given) (s : Tables) (moment : ℕ) (m : Meant) → CanBeMeant s m → Reaches unpublished_means xs s
-    → Reaches unpublished_means (joined_meant s moment m xs) (tables_after s moment m)
-meant_reaches xs s moment (Refuses why method) can reached = reached
-meant_reaches xs s moment (Gives caller command) can reached =
-    given_reaches xs (given s moment caller command) (refusal_of (given s moment caller command)) refl can reached
-meant_reaches xs s moment (Sees caller query) can reached = reached
+  meant_reaches : (xs : List Given) (s : Tables) (moment : ℕ) (m : Meant) → CanBeMeant s m → Reaches unpublished_means xs s
+      → Reaches unpublished_means (joined_meant s moment m xs) (tables_after s moment m)
+  meant_reaches xs s moment (Refuses why method) can reached = reached
+  meant_reaches xs s moment (Gives caller command) can reached =
+      given_reaches xs (given s moment caller command) (refusal_of (given s moment caller command)) refl can reached
+  meant_reaches xs s moment (Sees caller query) can reached = reached
 
-answer_reaches : (busy : Bool) (xs : List Given) (s : Tables) (moment : ℕ) (m : Meant) → CanBeMeant s m → Reaches unpublished_means xs s
-    → Reaches unpublished_means (joined_with busy s moment m xs) (tables_left busy s moment m)
-answer_reaches true xs s moment m can reached = reached
-answer_reaches false xs s moment m can reached = meant_reaches xs s moment m can reached
+  answer_reaches : (busy : Bool) (xs : List Given) (s : Tables) (moment : ℕ) (m : Meant) → CanBeMeant s m → Reaches unpublished_means xs s
+      → Reaches unpublished_means (joined_with busy s moment m xs) (tables_left busy s moment m)
+  answer_reaches true xs s moment m can reached = reached
+  answer_reaches false xs s moment m can reached = meant_reaches xs s moment m can reached
 
-request_reaches : (xs : List Given) (s : Tables) → Reaches unpublished_means xs s → (settings : Settings) (request : RequestView) (moment : ℕ) (busy : Bool)
-    → Reaches unpublished_means (joined_with busy s moment (meant settings request s) xs) (tables_left busy s moment (meant settings request s))
-request_reaches xs s reached settings request moment busy =
-    answer_reaches busy xs s moment (meant settings request s) (meant_can settings request s) reached
+  request_reaches : (xs : List Given) (s : Tables) → Reaches unpublished_means xs s → (settings : Settings) (request : RequestView) (moment : ℕ) (busy : Bool)
+      → Reaches unpublished_means (joined_with busy s moment (meant settings request s) xs) (tables_left busy s moment (meant settings request s))
+  request_reaches xs s reached settings request moment busy =
+      answer_reaches busy xs s moment (meant settings request s) (meant_can settings request s) reached
 
-pub requests_kept : Laws → RequestsAreKept
-requests_kept laws xs s reached settings request moment busy = kept_by laws _ _ (request_reaches xs s reached settings request moment busy)
+  pub requests_kept : RequestsAreKept
+  requests_kept xs s reached settings request moment busy = kept_by laws _ _ (request_reaches xs s reached settings request moment busy)
 
--- All steps of a run.
+  -- All steps of a run.
 
-steps_reach : (xs : List Given) (h : Held) → Reaches unpublished_means xs h.tables → (steps : List Step)
-    → Reaches unpublished_means (joined_steps h steps xs) (office_left office_answers h steps).tables
-steps_reach xs h reached [] = reached
-steps_reach xs h reached (x ∷ steps) =
-    steps_reach (joined_with x.busy h.tables x.block.moment (meant_in h x.block) xs) (office_answers.after x.busy h x.block)
-    (request_reaches xs h.tables reached h.settings x.block.request x.block.moment x.busy) steps
+  steps_reach : (xs : List Given) (h : Held) → Reaches unpublished_means xs h.tables → (steps : List Step)
+      → Reaches unpublished_means (joined_steps h steps xs) (office_left office_answers h steps).tables
+  steps_reach xs h reached [] = reached
+  steps_reach xs h reached (x ∷ steps) =
+      steps_reach (joined_with x.busy h.tables x.block.moment (meant_in h x.block) xs) (office_answers.after x.busy h x.block)
+      (request_reaches xs h.tables reached h.settings x.block.request x.block.moment x.busy) steps
 
-pub steps_kept : Laws → StepsAreKept
-steps_kept laws xs h reached steps = kept_by laws _ _ (steps_reach xs h reached steps)
+  pub steps_kept : StepsAreKept
+  steps_kept xs h reached steps = kept_by laws _ _ (steps_reach xs h reached steps)
 
 -- One request that is served.
 

@@ -7,12 +7,13 @@ use Rattle.office_machine.specs.Machine.{Given, Reaches, refusal_of}
 use Rattle.office_machine.specs.OfficeMeans.{unpublished_means}
 use Rattle.office_machine.specs.Requests.{joined_by}
 use Rattle.office_desk.specs.Asking.{given}
+use Rattle.office_desk.specs.Plans.{DeskOf}
 use Rattle.office_desk.specs.Steps.{IsKept}
 use Rattle.office_wire.specs.Request.{RequestView, IsRequest, IsRequestRead, IsRefused}
-use Rattle.office_wire.specs.Runs.{Step, office_left}
+use Rattle.office_wire.specs.Runs.{Step, IsOneAtMost, office_left}
 use Rattle.office_wire.specs.declared.fault.ReadFault.{ReadFault}
 use Rattle.office_http.specs.Meaning.{Meant, Refuses, Gives, Sees, meant}
-use Rattle.office_http.specs.Answering.{Held, answer_bytes, fault_text, meant_in, office_answers, tables_left}
+use Rattle.office_http.specs.Answering.{Held, IsHeld, answer_bytes, fault_text, meant_in, office_answers, tables_left}
 
 -- the accepted commands, the last one first, after what is meant: a refusal and a look add nothing
 abbrev pub joined_meant : Tables → ℕ → Meant → List Given → List Given
@@ -76,3 +77,9 @@ pub record KeepsServing (input : List ℕ) (now : Option (List ℕ)) (moment : �
   pub are : AreServed input now moment steps
   pub left : k ≡ office_left office_answers h steps
   pub kept : IsKept (joined_steps h steps xs) k.tables
+
+-- whatever a reader told of its bytes, nothing or one request was answered, at this moment: so the office is left
+abbrev pub IsServedOnce : {S : Type 0} → Meaning S → ℕ → DeskOf S → DeskOf S → Type 0
+IsServedOnce M moment old new =
+    M.honest new.shelf → (h : Held) → IsHeld M old h
+    → (steps : List Step) × IsOneAtMost moment steps × IsHeld M new (office_left office_answers h steps)

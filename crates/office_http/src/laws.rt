@@ -11,6 +11,7 @@ pub fn kept()
     ensures steps { StepsAreKept }
 {
     laws::accounts();
+    laws::runs();
     fates::tenders();
     fates::securities();
 }

@@ -7,7 +7,7 @@ ghost use Rattle.office_desk.specs.Steps.{IsKept};
 ghost use Rattle.office_wire.specs.Counting.{HasStopped};
 ghost use Rattle.office_wire.specs.Runs.{Step, Ran, Served, office_left};
 ghost use Rattle.office_http.specs.Answering.{Held, IsHeld, held_by, office_answers};
-ghost use Rattle.office_http.specs.Joined.{KeepsServing, joined_steps};
+ghost use Rattle.office_http.specs.Joined.{IsServedOnce, KeepsServing, joined_steps};
 
 use crate::answering::{answer_request, fault_response};
 use crate::laws;
@@ -109,7 +109,8 @@ pub fn run<H: Shelf + Drop, R: BufRead, W: Write>(
 }
 
 /// Reads one request, and sends and flushes the response to it, at the moment handed in. The only faults are `Read`, where a read failed
-/// or no more may be made, and `Write`, where a write or the flush failed.
+/// or no more may be made, and `Write`, where a write or the flush failed. Whatever the reader tells of its bytes, nothing or one request
+/// was answered.
 pub fn serve_one<H: Shelf + Drop, R: BufRead, W: Write>(
     alloc: Global,
     office: &mut Office<H>,
@@ -128,6 +129,7 @@ pub fn serve_one<H: Shelf + Drop, R: BufRead, W: Write>(
         × Served office_answers result input reader.new.remaining moment (held_by office.old s) h writer.old.contents writer.new.contents
         × IsHeld H.meaning office.new h
         × KeepsServing input reader.new.remaining moment (held_by office.old s) h xs }
+    ensures stepped { IsServedOnce H.meaning moment office.old office.new }
     ensures cause { IsErrOf result RunFault.Read → HasStopped reader.new }
     ensures writes { IsErrOf result RunFault.Write → writer.new.has_failed ≡ true }
     ensures all_written { OnOk result (writer.new.has_failed ≡ writer.old.has_failed) }

@@ -6,7 +6,8 @@ use Rattle.office_acts.specs.declared.command.Caller.{Caller}
 use Rattle.office_acts.specs.declared.commands.Command.{Command}
 use Rattle.office_acts.specs.declared.commands.Command.TheVariants.{Import, Register, Publish, AmendNotice, Cancel, Open, Present, Modify, Withdraw, Examine, Award, Fail, Sign, AmendContract, Pay, End}
 use Rattle.office_base.specs.Tables.{Tables, IsSorted, no_tables, after_puts}
-use Rattle.office_machine.specs.Machine.{Means, Given, IsCommand, Reaches, command_tests, effect}
+use Rattle.office_machine.specs.Machine.{Means, Given, IsCommand, Reaches, command_tests, effect, next, with_trees}
+use Rattle.office_base.specs.declared.records.CompiledRow.{CompiledRow}
 use Rattle.office_machine.specs.Accounts.{AreBalanced}
 use Rattle.office_machine.proofs.Aside.{kept_published}
 use Rattle.office_machine.proofs.Balance.{balanced}
@@ -60,12 +61,24 @@ start = record {
   no_contract = λ number none. record { came_in = refl; went_out = refl; raised = refl; lessened = refl; paid_out = refl };
 }
 
+-- the same with other merges of releases beside it
+kept_beside : (trees : List CompiledRow) (xs : List Given) (s : Tables) → IsKept xs s → IsKept xs (with_trees trees s)
+kept_beside trees xs s k = record {
+  pots = λ q. let p = k.pots q in record { appropriation_is = p.appropriation_is; free_is = p.free_is; reserved_is = p.reserved_is; gains_are = p.gains_are; losses_are = p.losses_are; paid_is = p.paid_is; none_spent = p.none_spent };
+  lots = λ key lot found. let l = k.lots key lot found in record { of_notice = l.of_notice; on_line = l.on_line; held = l.held };
+  awards = λ number award found. let a = k.awards number award found in record { drawn = a.drawn; of_lot = a.of_lot };
+  one_active = k.one_active;
+  contracts = λ number c found. let r = k.contracts number c found in record { of_lot = r.of_lot; of_award = r.of_award; running = r.running; within = r.within; came_in = r.came_in; went_out = r.went_out };
+  no_contract = λ number none. let n = k.no_contract number none in record { came_in = n.came_in; went_out = n.went_out; raised = n.raised; lessened = n.lessened; paid_out = n.paid_out };
+}
+
 pub all_kept : (means : Means) (xs : List Given) (s : Tables) → Reaches means xs s → IsKept xs s
 all_kept means [] s reached = subst (IsKept []) (sym reached) start
 all_kept means (x ∷ xs) s reached =
     subst (IsKept (x ∷ xs)) (sym reached.is)
+    (kept_beside reached.trees (x ∷ xs) (next means x)
     (kept_published means x xs
-    (keeps x.command means xs x.before x.moment x.caller (all_kept means xs x.before reached.reached) (sorted means xs x.before reached.reached) reached.given.0 (allowed_by x reached.allowed)))
+    (keeps x.command means xs x.before x.moment x.caller (all_kept means xs x.before reached.reached) (sorted means xs x.before reached.reached) reached.given.0 (allowed_by x reached.allowed))))
 
 pub lines_balanced : (means : Means) (xs : List Given) (s : Tables) → Reaches means xs s → AreBalanced xs s
 lines_balanced means xs s reached line = balanced xs s (all_kept means xs s reached) (sorted means xs s reached) line

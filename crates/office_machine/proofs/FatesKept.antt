@@ -1,6 +1,6 @@
 -- Each accepted command keeps the fates, and so does every list of them.
 use Rattle.std.specs.Prelude.{◌≡◌, ℕ, ◌+◌, ◌≤◌, ◌<◌, ◌⊎◌, true, false, List, [], ◌∷◌, Option, Some, None, is_some}
-use Rattle.std.proofs.Common.{refl, sym, ◌∙◌, subst, inl, inr, arith}
+use Rattle.std.proofs.Common.{refl, sym, ◌∙◌, ap, subst, inl, inr, arith}
 use Rattle.office_base.specs.Rows.{row_at}
 use Rattle.office_acts.specs.declared.commands.Command.{Command}
 use Rattle.office_acts.specs.declared.commands.Command.TheVariants.{Import, Register, Publish, AmendNotice, Cancel, Open, Present, Modify, Withdraw, Examine, Award, Fail, Sign, AmendContract, Pay, End}
@@ -10,7 +10,8 @@ use Rattle.office_base.specs.declared.records.SecurityRow.{SecurityRow}
 use Rattle.office_base.specs.declared.records.EnvelopeState.{EnvelopeState}
 use Rattle.office_base.specs.declared.records.SecurityState.{SecurityState}
 use Rattle.office_base.specs.Tables.{Tables, no_tables, envelope_key, envelope_at, seal_at, security_at, after_puts}
-use Rattle.office_machine.specs.Machine.{Given, Means, Reaches, effect, publication_puts, publication}
+use Rattle.office_machine.specs.Machine.{Given, Means, Reaches, effect, publication_puts, publication, with_trees}
+use Rattle.office_base.specs.declared.records.CompiledRow.{CompiledRow}
 use Rattle.office_machine.specs.Fates.{Reception, came, fate_of_tender, fate_of_security, TenderIs, NamedIs, HasFate, TendersAreKept, SecuritiesAreKept}
 use Rattle.office_machine.proofs.Passed.{passed}
 use Rattle.office_machine.proofs.Matched.{EnvelopeStands, NoneStands, SecurityStands, named_in}
@@ -74,12 +75,18 @@ start means = record {
   zero_or_more : (r : ℕ) → (0 < r) ⊎ (r ≡ 0)
   zero_or_more r = grind arith
 
+-- the same with other merges of releases beside it
+kept_beside : (means : Means) (trees : List CompiledRow) (xs : List Given) (t : Tables) → IsKept means xs t → IsKept means xs (with_trees trees t)
+kept_beside means trees xs t k = record { sound = k.sound; tenders = k.tenders; named = k.named; lines = k.lines; order = k.order }
+
 pub all_kept : (means : Means) (xs : List Given) (t : Tables) → Reaches means xs t → IsKept means xs t
 all_kept means [] t reached = subst (IsKept means []) (sym reached) (start means)
 all_kept means (x ∷ xs) t steps =
-    subst (IsKept means (x ∷ xs)) (sym (steps.is ∙ after-append (effect means x) (publication_puts (publication means x)) x.before))
+    subst (IsKept means (x ∷ xs))
+    (sym (steps.is ∙ ap (with_trees steps.trees) (after-append (effect means x) (publication_puts (publication means x)) x.before)))
+    (kept_beside means steps.trees (x ∷ xs) (after_puts (publication_puts (publication means x)) (after_puts (effect means x) x.before))
     (publication_keeps means (x ∷ xs) (after_puts (effect means x) x.before) (publication means x)
-    (keeps means x.command xs x.before x.moment x.caller (all_kept means xs x.before steps.reached) steps.given.0 (passed _ _ _ steps.allowed).1))
+    (keeps means x.command xs x.before x.moment x.caller (all_kept means xs x.before steps.reached) steps.given.0 (passed _ _ _ steps.allowed).1)))
 
 tender_there : (digest : List ℕ → List ℕ) (r : ℕ) (o : Option Reception) (fate : Option EnvelopeState) (e : EnvelopeRow) (seal : Option SealRow)
     → EnvelopeStands digest r o fate e seal

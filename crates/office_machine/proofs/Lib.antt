@@ -29,7 +29,11 @@ pub mod AllFit
 pub mod LotChanged
 pub mod ParentsPut
 pub mod ParentsThere
+pub mod SpokenOf
 pub mod ReleasesCounted
+pub mod ClockSet
+pub mod ReleasesMade
+pub mod ReleasesInTime
 pub mod ReleasesNumbered
 pub mod WorldsPut
 pub mod WorldsEffects

@@ -2,7 +2,7 @@
 use Rattle.std.specs.Prelude.{◌≡◌, ℕ, List, [], ◌∷◌, ◌++◌, Option, Some, None, option_and_then}
 use Rattle.std.proofs.Common.{refl, ap, ◌∙◌}
 use Rattle.office_base.specs.declared.puts.Put.{Put}
-use Rattle.office_machine.specs.Machine.{Given, effect, publication_puts, release_of_notice}
+use Rattle.office_machine.specs.Machine.{effect, publication_puts, release_of_notice}
 use Rattle.office_machine.specs.Publications.{published_for}
 use Rattle.office_machine.specs.OfficeMeans.{unpublished_means, NothingIsPublished}
 

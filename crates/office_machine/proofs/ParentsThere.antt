@@ -46,7 +46,8 @@ use Rattle.award_core.specs.Rules.Pay.{pay_puts}
 use Rattle.award_core.specs.Rules.End.{end_puts}
 use Rattle.office_base.specs.declared.records.ReleaseRow.{ReleaseRow}
 use Rattle.office_base.specs.Parents.{envelope_of_award, security_of_envelope, lot_of_award, notice_of_award, notice_of_envelope, notice_of_contract, line_of_lot, lot_of_contract}
-use Rattle.office_machine.specs.Machine.{Means, Given, Reaches, IsRegistered, may_give, publication_puts, command_tests, effect, next, puts_of, sealed_tender, publication}
+use Rattle.office_machine.specs.Machine.{Means, Given, Reaches, IsRegistered, may_give, publication_puts, command_tests, effect, next, puts_of, sealed_tender, publication, with_trees}
+use Rattle.office_base.specs.declared.records.CompiledRow.{CompiledRow}
 use Rattle.office_machine.specs.Parents.{LotHas, EnvelopeHas, SecurityHas, AwardHas, HaveParents, ParentsAreThere}
 use Rattle.office_machine.proofs.Aside.{after-append}
 use Rattle.award_core.proofs.BestFound.{best_is_found}
@@ -360,8 +361,20 @@ none_have = record {
   entries = λ k r found. absurd (let none : None ≡ Some r = found in cc);
 }
 
+-- the same with other merges of releases beside it
+have_beside : (trees : List CompiledRow) (t : Tables) → HaveParents t t → HaveParents (with_trees trees t) (with_trees trees t)
+have_beside trees t have = record {
+  lots = λ k l found. let h = have.lots k l found in record { notice = h.notice; line = h.line };
+  envelopes = λ k e found. let h = have.envelopes k e found in record { notice = h.notice; lot = h.lot; tenderer = h.tenderer; security = h.security };
+  securities = λ k s found. let h = have.securities k s found in record { notice = h.notice; lot = h.lot; tenderer = h.tenderer };
+  awards = λ k a found. let h = have.awards k a found in record { notice = h.notice; lot = h.lot; envelope = h.envelope };
+  contracts = λ k c found. let h = have.contracts k c found in record { notice = h.notice; lot = h.lot; tenderer = h.tenderer };
+  entries = λ k e found. record { contract = (have.entries k e found).contract };
+}
+
 pub parents_there : ParentsAreThere
 parents_there means [] t reached = subst (λ t. HaveParents t t) (sym reached) none_have
 parents_there means (x ∷ xs) t reached =
     subst (λ t. HaveParents t t) (sym reached.is)
-    (parents_kept means x.before x.moment x.caller (sorted means xs x.before reached.reached) (parents_there means xs x.before reached.reached) reached.given.1 x.command (may_by x reached.allowed) (allowed_by x reached.allowed))
+    (have_beside reached.trees (next means x)
+    (parents_kept means x.before x.moment x.caller (sorted means xs x.before reached.reached) (parents_there means xs x.before reached.reached) reached.given.1 x.command (may_by x reached.allowed) (allowed_by x reached.allowed)))

@@ -35,7 +35,7 @@ use Rattle.award_core.specs.Rules.AmendContract.{amend_contract_puts}
 use Rattle.award_core.specs.Rules.Pay.{pay_puts}
 use Rattle.award_core.specs.Rules.End.{end_puts}
 use Rattle.office_base.specs.declared.records.ReleaseRow.{ReleaseRow}
-use Rattle.office_base.specs.Parents.{notice_of_award, lot_of_award, envelope_of_award, security_of_envelope, securities_of_award, notice_of_contract, lot_of_contract, line_of_lot}
+use Rattle.office_base.specs.Parents.{envelope_of_award, security_of_envelope, securities_of_award, notice_of_contract, line_of_lot}
 use Rattle.office_machine.specs.Machine.{Means, Given, publication_puts, time_of, command_tests, effect, next, sealed_tenders, publication}
 use Rattle.office_machine.specs.Parents.{HaveParents}
 use Rattle.office_machine.specs.Releases.{is_for, AreCounted, ReleasesAreCounted}
@@ -45,6 +45,7 @@ use Rattle.office_base.proofs.ExactKeys.{equal_ids, same_id_is}
 use Rattle.office_machine.proofs.Keyed.{found_put, found_key, elsewhere}
 use Rattle.office_machine.proofs.Keyed as keyed
 use Rattle.office_machine.proofs.ParentsThere.{parents_there}
+use Rattle.office_machine.proofs.SpokenOf.{of_award, of_contract}
 use Rattle.office_machine.proofs.Passed.{none_holds, not_false, neither, witness, allowed_by}
 
 -- the put is of no notice
@@ -162,51 +163,6 @@ module _ (means : Means) (s : Tables) (moment : ℕ) (caller : Caller) (have : H
   returned_other : (rows : List SecurityRow) → AreOther (securities_returned rows)
   returned_other rows = other-map security_returned (filter is_held_security rows) (λ _. tt)
 
-  -- an award and what it speaks of
-  record OfAward (award : ℕ) : Type 0 where
-    w : AwardRow
-    l : LotRow
-    n : NoticeRow
-    is : award_at award s ≡ Some w
-    lot : lot_of_award (award_at award s) s ≡ Some l
-    notice : notice_of_award (award_at award s) s ≡ Some n
-    notice_is : notice_at w.notice s ≡ Some n
-
-  of_award : (award : ℕ) → is_some (award_at award s) ≡ true → OfAward award
-  of_award award there =
-      let w = witness (award_at award s) there in
-      let h = have.awards award w.0 w.1 in
-      let l = witness (lot_at (w.0.notice, w.0.lot) s) h.lot in
-      let n = witness (notice_at w.0.notice s) h.notice in
-      record { w = w.0; l = l.0; n = n.0; is = w.1; lot = ap (λ o. lot_of_award o s) w.1 ∙ l.1; notice = ap (λ o. notice_of_award o s) w.1 ∙ n.1; notice_is = n.1 }
-
-  -- a contract and what it speaks of
-  record OfContract (contract : ℕ) : Type 0 where
-    c : ContractRow
-    n : NoticeRow
-    w : LineRow
-    is : contract_at contract s ≡ Some c
-    notice : notice_of_contract (contract_at contract s) s ≡ Some n
-    line : line_of_lot (lot_of_contract (contract_at contract s) s) s ≡ Some w
-    notice_is : notice_at c.notice s ≡ Some n
-
-  of_contract : (contract : ℕ) → is_some (contract_at contract s) ≡ true → OfContract contract
-  of_contract contract there =
-      let c = witness (contract_at contract s) there in
-      let h = have.contracts contract c.0 c.1 in
-      let l = witness (lot_at (c.0.notice, c.0.lot) s) h.lot in
-      let n = witness (notice_at c.0.notice s) h.notice in
-      let w = witness (line_at l.0.line s) (have.lots (c.0.notice, c.0.lot) l.0 l.1).line in
-      record {
-        c = c.0;
-        n = n.0;
-        w = w.0;
-        is = c.1;
-        notice = ap (λ o. notice_of_contract o s) c.1 ∙ n.1;
-        line = ap (λ o. line_of_lot o s) (ap (λ o. lot_of_contract o s) c.1 ∙ l.1) ∙ w.1;
-        notice_is = n.1;
-      }
-
   -- for a key that is looked up
   abbrev For : (rows' : List NoticeRow) → Option (List ℕ) → Type 0
   For rows' key = Counts s.notices rows' key
@@ -301,7 +257,7 @@ module _ (means : Means) (s : Tables) (moment : ℕ) (caller : Caller) (have : H
       decided n l w (Some e) = refl
   counts (Fail award) = λ allowed.
       let passes = none_holds (command_tests (given (Fail award))) allowed in
-      let of = of_award award (not_false _ passes.0) in
+      let of = of_award s have award (not_false _ passes.0) in
       subst (λ key. Counts s.notices (after (Fail award)).notices key) (sym (ap (option_map (λ (a : AwardRow). a.notice)) of.is))
       (one_more s (after (Fail award)).notices of.n (released of.n) of.w.notice of.notice_is (ap has_all_releases (of.notice_is ∙ sym of.notice) ∙ passes.1.1.1.1.0)
       ((λ i. (after_puts (fail_puts s.clock (time_of (given (Fail award))) (of.is i) (of.notice i) (of.lot i) (envelope_of_award (award_at award s) s) (security_of_envelope (envelope_of_award (award_at award s) s) s)) s).notices)
@@ -311,7 +267,7 @@ module _ (means : Means) (s : Tables) (moment : ℕ) (caller : Caller) (have : H
       refl refl)
   counts (Sign award) = λ allowed.
       let passes = none_holds (command_tests (given (Sign award))) allowed in
-      let of = of_award award (not_false _ passes.0) in
+      let of = of_award s have award (not_false _ passes.0) in
       subst (λ key. Counts s.notices (after (Sign award)).notices key) (sym (ap (option_map (λ (a : AwardRow). a.notice)) of.is))
       (one_more s (after (Sign award)).notices of.n (released of.n) of.w.notice of.notice_is (ap has_all_releases (of.notice_is ∙ sym of.notice) ∙ passes.1.1.1.1.0)
       ((λ i. (after_puts (sign_puts s.clock (time_of (given (Sign award))) (of.is i) (of.notice i) (of.lot i) (envelope_of_award (award_at award s) s) (securities_of_award (award_at award s) s)) s).notices)
@@ -319,21 +275,21 @@ module _ (means : Means) (s : Tables) (moment : ℕ) (caller : Caller) (have : H
       refl refl)
   counts (AmendContract contract entry kind amount rationale) = λ allowed.
       let passes = none_holds (command_tests (given (AmendContract contract entry kind amount rationale))) allowed in
-      let of = of_contract contract (not_false _ passes.0) in
+      let of = of_contract s have contract (not_false _ passes.0) in
       subst (λ key. Counts s.notices (after (AmendContract contract entry kind amount rationale)).notices key) (sym (ap (option_map (λ (c : ContractRow). c.notice)) of.is))
       (one_more s (after (AmendContract contract entry kind amount rationale)).notices of.n (released of.n) of.c.notice of.notice_is (ap has_all_releases (of.notice_is ∙ sym of.notice) ∙ (neither _ (has_all_releases (notice_of_contract (contract_at contract s) s)) passes.1.1.1.1.1.0).1)
       (λ i. (after_puts (amend_contract_puts s.clock (time_of (given (AmendContract contract entry kind amount rationale))) (of.is i) (of.notice i) (of.line i) entry kind amount rationale) s).notices)
       refl refl)
   counts (Pay contract entry amount) = λ allowed.
       let passes = none_holds (command_tests (given (Pay contract entry amount))) allowed in
-      let of = of_contract contract (not_false _ passes.0) in
+      let of = of_contract s have contract (not_false _ passes.0) in
       subst (λ key. Counts s.notices (after (Pay contract entry amount)).notices key) (sym (ap (option_map (λ (c : ContractRow). c.notice)) of.is))
       (one_more s (after (Pay contract entry amount)).notices of.n (released of.n) of.c.notice of.notice_is (ap has_all_releases (of.notice_is ∙ sym of.notice) ∙ (neither _ (has_all_releases (notice_of_contract (contract_at contract s) s)) passes.1.1.1.1.0).1)
       (λ i. (after_puts (pay_puts s.clock (time_of (given (Pay contract entry amount))) (of.is i) (of.notice i) entry amount) s).notices)
       refl refl)
   counts (End contract how) = λ allowed.
       let passes = none_holds (command_tests (given (End contract how))) allowed in
-      let of = of_contract contract (not_false _ passes.0) in
+      let of = of_contract s have contract (not_false _ passes.0) in
       subst (λ key. Counts s.notices (after (End contract how)).notices key) (sym (ap (option_map (λ (c : ContractRow). c.notice)) of.is))
       (one_more s (after (End contract how)).notices of.n (released of.n) of.c.notice of.notice_is (ap has_all_releases (of.notice_is ∙ sym of.notice) ∙ passes.1.1.0)
       (λ i. (after_puts (end_puts s.clock (time_of (given (End contract how))) how (of.is i) (entries_of_contract contract s) (of.notice i) (of.line i)) s).notices)

@@ -107,7 +107,7 @@ returned_else : (rows : List SecurityRow) → AreElse (securities_returned rows)
 returned_else rows = else-map security_returned (filter is_held_security rows) (λ _. tt)
 
 -- with a release more
-abbrev with_release : Option ReleaseRow → List ReleaseRow → List ReleaseRow
+abbrev pub with_release : Option ReleaseRow → List ReleaseRow → List ReleaseRow
 with_release None rows = rows
 with_release (Some r) rows = put_release rows r
 
@@ -270,13 +270,13 @@ module _ (rows : List ReleaseRow) (r : ReleaseRow) (counts counts' : List ℕ �
 abbrev released_rows : Means → Given → List ReleaseRow → Option (List ℕ) → List ReleaseRow
 released_rows means x rows o = with_release (option_and_then (Rattle.office_machine.specs.Machine.release_of_notice means x) o) rows
 
-numbered_by : (means : Means) (x : Given) → AreNumbered x.before → (text : Option (List ℕ)) → means.release x ≡ text → IsSome text → (key : Option (List ℕ)) → published_for x.before x.command ≡ key
+numbered_by : (means : Means) (x : Given) → AreNumbered x.before → (text : Option (List ℕ)) → means.release x ≡ text → (key : Option (List ℕ)) → published_for x.before x.command ≡ key → (IsSome key → IsSome text)
     → Counts x.before.notices (next means x).notices key → AreNumbered (next means x)
-numbered_by means x old None made some key e counts = cc
-numbered_by means x old (Some text) made some None e counts = λ n k.
+numbered_by means x old text made None e makes counts = λ n k.
     ap (λ rows. is_some (find_release rows (n, k))) (releases_after means x.before x.moment x.caller x.command ∙ ap (released_rows means x x.before.releases) e)
     ∙ (old n k ∙ ap (among k) (let one = counts.count n in omega (arith, one)))
-numbered_by means x old (Some text) made some (Some m) e counts = λ n k.
+numbered_by means x old None made (Some m) e makes counts = absurd (let none : false ≡ true = makes refl in cc)
+numbered_by means x old (Some text) made (Some m) e makes counts = λ n k.
     ap (λ rows. is_some (find_release rows (n, k))) (releases_after means x.before x.moment x.caller x.command ∙ ap (released_rows means x x.before.releases) e
     ∙ ap (λ o. with_release (option_map (Rattle.office_machine.specs.Machine.release_row x m) o) x.before.releases) made)
     ∙ step x.before.releases (Rattle.office_machine.specs.Machine.release_row x m text) (λ n. releases_in (find_notice x.before.notices n)) (λ n. releases_in (find_notice (next means x).notices n)) old refl (λ n. counts.count n) n k
@@ -289,5 +289,5 @@ releases_numbered means makes [] t reached = subst AreNumbered (sym reached) (λ
     none k = grind (arith, nat_tests)
 releases_numbered means makes (x ∷ xs) t reached =
     subst AreNumbered (sym reached.is)
-    (numbered_by means x (releases_numbered means makes xs x.before reached.reached) (means.release x) refl (makes x) (published_for x.before x.command) refl
+    (numbered_by means x (releases_numbered means makes xs x.before reached.reached) (means.release x) refl (published_for x.before x.command) refl (makes x)
     (published means x.before x.moment x.caller (parents_there means xs x.before reached.reached) x.command (allowed_by x reached.allowed)))

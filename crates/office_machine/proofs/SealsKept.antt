@@ -20,6 +20,7 @@ use Rattle.office_machine.specs.Replies.{Refused}
 use Rattle.office_machine.specs.Sights.{Packages}
 use Rattle.office_machine.specs.Seals.{PublishesBlindly, SeesBlindly, SameDemand, SameRequest, SameButSeals, ToldAlike, opens_it, demand_opens, is_opening, AlikeUntilOpening, SealsAreKept}
 use Rattle.office_base.proofs.ExactKeys.{equal_ids}
+use Rattle.office_machine.proofs.Reached.{steps_reach}
 use Rattle.office_machine.proofs.FatesKept.{all_kept}
 use Rattle.office_machine.proofs.NextReceipt.{no_envelope_yet, nothing_yet}
 use Rattle.office_machine.proofs.Keyed.{each_found}
@@ -128,8 +129,8 @@ module _ (means : Means) (packages : Packages) (publishes : PublishesBlindly mea
           let after : OpensAlike command s other → AlikeOffices th (next means (given command)) (next means (given' command')) = λ opens. next_alike th means (given command) (given' command') (step.alike allowed opens) (same_publication command command' same opens) in
           record {
             told = command_told th W s es' ss' all means (next means (given command)) (next means (given' command')) (time_of (given command)) caller command command' same after;
-            first = record { reached = reached; given = own; allowed = allowed; is = refl };
-            second = record { reached = reached'; given = (given_too th s caller command command' same own.0, own.1); allowed = allowed'; is = refl };
+            first = steps_reach means xs (given command) reached own allowed;
+            second = steps_reach means ys (given' command') reached' (given_too th s caller command command' same own.0, own.1) allowed';
             alike = λ opens. after (opens refl);
           }
       one command command' own same None (Some why) allowed allowed' e = absurd (let clash : Some why ≡ None = e in cc)

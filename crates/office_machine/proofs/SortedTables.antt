@@ -31,4 +31,6 @@ sorted-puts (p ∷ ps) t h = sorted-puts ps (after_put p t) (sorted-put p t h)
 
 pub sorted : (means : Means) (xs : List Given) (t : Tables) → Reaches means xs t → IsSorted t
 sorted means [] t reached = subst IsSorted (sym reached) (record { lines = tt; batches = tt; tenderers = tt; notices = tt; lots = tt; envelopes = tt; seals = tt; securities = tt; awards = tt; contracts = tt; entries = tt; releases = tt; compiled = tt })
-sorted means (x ∷ xs) t reached = subst IsSorted (sym reached.is) (sorted-puts (puts_of means x) x.before (sorted means xs x.before reached.reached))
+sorted means (x ∷ xs) t reached =
+    let h = sorted-puts (puts_of means x) x.before (sorted means xs x.before reached.reached) in
+    subst IsSorted (sym reached.is) (record { lines = h.lines; batches = h.batches; tenderers = h.tenderers; notices = h.notices; lots = h.lots; envelopes = h.envelopes; seals = h.seals; securities = h.securities; awards = h.awards; contracts = h.contracts; entries = h.entries; releases = h.releases; compiled = reached.in_order })

@@ -1,6 +1,7 @@
 pub mod Filtered
 pub mod Publications
 pub mod Machine
+pub mod Clock
 pub mod OfficeMeans
 pub mod Decided
 pub mod Moves

@@ -17,7 +17,10 @@ use Rattle.office_base.specs.declared.records.LotRow.{LotRow}
 use Rattle.office_base.specs.declared.records.EnvelopeRow.{EnvelopeRow}
 use Rattle.office_base.specs.declared.records.SealRow.{SealRow}
 use Rattle.office_base.specs.declared.records.ReleaseRow.{ReleaseRow}
-use Rattle.office_base.specs.Tables.{Tables, no_tables, find_tenderer, batch_at, tenderer_at, notice_at, lot_at, envelope_at, seal_at, award_at, contract_at, lots_of_notice, envelopes_of_notice, envelopes_of_lot, securities_of_notice, securities_of_lot, awards_of_notice, entries_of_contract, after_puts}
+use Rattle.office_base.specs.declared.records.CompiledRow.{CompiledRow}
+use Rattle.office_base.specs.Rows.{IsInOrder}
+use Rattle.office_values.specs.Ids.{id_cmp}
+use Rattle.office_base.specs.Tables.{Tables, no_tables, compiled_key, find_tenderer, batch_at, tenderer_at, notice_at, lot_at, envelope_at, seal_at, award_at, contract_at, lots_of_notice, envelopes_of_notice, envelopes_of_lot, securities_of_notice, securities_of_lot, awards_of_notice, entries_of_contract, after_puts}
 use Rattle.office_base.specs.declared.puts.Put.TheVariants as puts
 use Rattle.office_base.specs.declared.puts.Put.{Put}
 use Rattle.office_base.specs.Parents.{notice_of_envelope, lot_of_envelope, security_of_envelope, line_of_lot, notice_of_award, lot_of_award, envelope_of_award, securities_of_award, notice_of_contract, lot_of_contract}
@@ -183,12 +186,19 @@ IsRegistered caller tenderers = Unit {0}
 abbrev pub CanBeGiven : Given → Type 0
 CanBeGiven x = IsCommand x.command × IsRegistered x.caller x.before.tenderers
 
--- one accepted command: the office before it was reached, it can be given, it is allowed, and this is the office after it
+-- the office with these merges of releases beside it: they stand in the same tables, and are no part of the office
+abbrev pub with_trees : List CompiledRow → Tables → Tables
+with_trees trees s = record s { compiled = trees }
+
+-- one accepted command: the office before it was reached, it can be given, it is allowed, and this is the office after it, whatever merges of
+-- releases stand beside it
 pub record Steps (means : Means) (Reached : Tables → Type 0) (x : Given) (s : Tables) : Type 0 where
   pub reached : Reached x.before
   pub given : CanBeGiven x
   pub allowed : refusal_of x ≡ None
-  pub is : s ≡ next means x
+  pub trees : List CompiledRow
+  pub in_order : IsInOrder id_cmp compiled_key trees
+  pub is : s ≡ with_trees trees (next means x)
 
 -- accepted commands, the last one first, lead from the empty office to this one
 abbrev pub Reaches : Means → List Given → Tables → Type 0

@@ -1,11 +1,12 @@
 -- The releases of a notice are counted.
-use Rattle.std.specs.Prelude.{◌≡◌, ℕ, ◌+◌, ◌≤◌, Bool, cond, ◌&&◌, List, [], ◌∷◌, Option, is_some, IsSome, nat_le}
+use Rattle.std.specs.Prelude.{◌≡◌, ℕ, ◌+◌, ◌≤◌, Bool, cond, ◌&&◌, List, [], ◌∷◌, ◌++◌, filter, Option, option_to_list, is_some, IsSome, nat_le}
 use Rattle.office_values.specs.Ids.{same_id}
 use Rattle.office_base.specs.Limits.{release_limit}
 use Rattle.office_base.specs.Rows.{holds_of}
-use Rattle.office_base.specs.Tables.{Tables, notice_at, release_at}
+use Rattle.office_base.specs.Tables.{Tables, notice_at, release_at, releases_of_notice}
+use Rattle.office_base.specs.declared.records.ReleaseRow.{ReleaseRow}
 use Rattle.office_machine.specs.Publications.{published_for, releases_in}
-use Rattle.office_machine.specs.Machine.{Means, Given, Reaches}
+use Rattle.office_machine.specs.Machine.{Means, Given, Reaches, publication}
 
 abbrev pub is_for : List ℕ → Option (List ℕ) → Bool
 is_for notice o = holds_of (λ n. same_id n notice) o
@@ -29,7 +30,30 @@ AreNumbered t = (notice : List ℕ) (number : ℕ) → is_some (release_at (noti
 
 -- a release is made of each command that publishes
 abbrev pub MakesReleases : Means → Type 0
-MakesReleases means = (x : Given) → IsSome (means.release x)
+MakesReleases means = (x : Given) → IsSome (published_for x.before x.command) → IsSome (means.release x)
 
 abbrev pub ReleasesAreNumbered : Type 0
 ReleasesAreNumbered = (means : Means) → MakesReleases means → (xs : List Given) (t : Tables) → Reaches means xs t → AreNumbered t
+
+-- the release of a notice that a command publishes, where it publishes one of it
+abbrev pub published_of : Means → Given → List ℕ → List ReleaseRow
+published_of means x notice = filter (λ (r : ReleaseRow). same_id r.notice notice) (option_to_list (publication means x))
+
+-- those that accepted commands published of it, one after another
+abbrev pub published_by : Means → List Given → List ℕ → List ReleaseRow
+published_by means [] notice = []
+published_by means (x ∷ xs) notice = published_by means xs notice ++ published_of means x notice
+
+-- the releases of a notice are those, in their sequence
+abbrev pub ReleasesArePublished : Type 0
+ReleasesArePublished = (means : Means) (xs : List Given) (t : Tables) → Reaches means xs t → (notice : List ℕ) → releases_of_notice notice t ≡ published_by means xs notice
+
+-- no release was published before the one in front of it
+abbrev pub MomentsNeverFall : List ReleaseRow → Type 0
+MomentsNeverFall [] = Unit {0}
+MomentsNeverFall (r ∷ []) = Unit {0}
+MomentsNeverFall (r ∷ later ∷ rows) = (r.moment ≤ later.moment) × MomentsNeverFall (later ∷ rows)
+
+-- the releases of a notice, in the sequence of their numbers, stand in the order of their moments (OCDS 1.1, "Merging", takes them by date)
+abbrev pub ReleasesAreInTime : Type 0
+ReleasesAreInTime = (means : Means) (xs : List Given) (t : Tables) → Reaches means xs t → (notice : List ℕ) → MomentsNeverFall (releases_of_notice notice t)

@@ -1,5 +1,5 @@
 -- Requests, each perhaps answered Unavailable, and runs of them.
-use Rattle.std.specs.Prelude.{ℕ, Bool, cond, List, [], ◌∷◌, Option, Some, None}
+use Rattle.std.specs.Prelude.{◌≡◌, ℕ, Bool, cond, List, [], ◌∷◌, Option, Some, None}
 use Rattle.office_acts.specs.declared.command.Caller.{Caller}
 use Rattle.office_acts.specs.declared.commands.Command.{Command}
 use Rattle.office_acts.specs.declared.queries.Query.{Query}
@@ -85,6 +85,10 @@ IsDemand s a (Looks query) = Unit {0}
 abbrev pub AreRequests : Means → Tables → List Request → Type 0
 AreRequests means s [] = Unit {0}
 AreRequests means s (a ∷ rest) = IsDemand s a a.demand × AreRequests means (office_after means s a) rest
+
+-- an accepted command leads to the office after it
+abbrev pub StepsReach : Type 0
+StepsReach = (means : Means) (xs : List Given) (x : Given) → Reaches means xs x.before → CanBeGiven x → refusal_of x ≡ None → Reaches means (x ∷ xs) (next means x)
 
 -- what a run from a reached office accepts reaches its last office
 abbrev pub RunsReach : Type 0

@@ -1,12 +1,13 @@
 ghost use Rattle.office_machine.specs.Accounts.{AccountsAreKept, TablesAreInOrder};
+ghost use Rattle.office_machine.specs.Clock.{ClockIsSet, ClockNeverRunsBack};
 ghost use Rattle.office_machine.specs.Decided.{RulesAreTheMachines};
 ghost use Rattle.office_machine.specs.Fits.{SumsFit};
 ghost use Rattle.office_machine.specs.OfficeMeans.{NothingIsPublished};
 ghost use Rattle.office_machine.specs.Order.{LeastIsAnswered, NumbersNeverFall};
 ghost use Rattle.office_machine.specs.Outstanding.{LeftIsBooked, LeftIsKnown};
 ghost use Rattle.office_machine.specs.Parents.{ParentsAreThere};
-ghost use Rattle.office_machine.specs.Releases.{ReleasesAreCounted, ReleasesAreNumbered};
-ghost use Rattle.office_machine.specs.Requests.{RunsReach};
+ghost use Rattle.office_machine.specs.Releases.{ReleasesAreCounted, ReleasesAreInTime, ReleasesAreNumbered, ReleasesArePublished};
+ghost use Rattle.office_machine.specs.Requests.{RunsReach, StepsReach};
 ghost use Rattle.office_machine.specs.Worlds.{StepsStayAlike};
 
 /// Wherever accepted commands lead from the empty office, each pot of each line, summed from joined rows, is what they moved
@@ -18,6 +19,12 @@ pub fn accounts()
 /// Wherever accepted commands lead, the rows of each table stand in the order of their keys, each key once.
 pub fn order()
     ensures { TablesAreInOrder }
+{}
+
+/// The clock stands at the moment of the last accepted command, whichever it is, and no accepted command puts it back.
+pub fn clock()
+    ensures set { ClockIsSet }
+    ensures forward { ClockNeverRunsBack }
 {}
 
 /// A command's tests and puts in an office are those of its rule over the rows that the rule speaks of, and so what is decided over these
@@ -33,9 +40,11 @@ pub fn refusals()
     ensures least { LeastIsAnswered }
 {}
 
-/// What a run of requests accepts after commands that reached its first office leads to its last office.
+/// An accepted command leads from the office that accepted commands reached to the office after it, and so what a run of requests accepts
+/// leads to its last office.
 pub fn runs()
-    ensures { RunsReach }
+    ensures steps { StepsReach }
+    ensures runs { RunsReach }
 {}
 
 /// No sum over the rows that accepted commands lead to is out of its range: not of a line, a lot or a contract.
@@ -55,11 +64,14 @@ pub fn parents()
     ensures { ParentsAreThere }
 {}
 
-/// The row of a notice counts the commands that published a release of it, at most as many as there are numbers for; and a release of
-/// each number from 1 to that count is there, and no other.
+/// The row of a notice counts the commands that published a release of it, at most as many as there are numbers for; a release of each
+/// number from 1 to that count is there, and no other; and the releases of a notice are those that these commands published, in their
+/// sequence, along which their moments never fall.
 pub fn releases()
     ensures counted { ReleasesAreCounted }
     ensures numbered { ReleasesAreNumbered }
+    ensures published { ReleasesArePublished }
+    ensures in_time { ReleasesAreInTime }
 {}
 
 /// Two commands that differ in the bytes that one tenderer seals for a lot alone are answered alike, and leave two offices alike

@@ -78,6 +78,12 @@ pub record AnswersOne {S : Type 0} (A : Answers S) (input : List ℕ) (now : Opt
   pub text_is : text ≡ A.reply busy s (record { moment = moment; request = request })
   pub left : t ≡ A.after busy s (record { moment = moment; request = request })
 
+-- no step, or one at this moment: what a call that serves one request may do to an office, whatever its reader tells of its bytes
+abbrev pub IsOneAtMost : ℕ → List Step → Type 0
+IsOneAtMost moment [] = ⊤
+IsOneAtMost moment (x ∷ []) = x.block.moment ≡ moment
+IsOneAtMost moment (x ∷ y ∷ more) = ⊥
+
 -- what came was refused with this text, and the office stays
 pub record RefusesOne {S : Type 0} (A : Answers S) (input : List ℕ) (s t : S) (text : List ℕ) : Type 0 where
   pub why : ReadFault

@@ -2,7 +2,7 @@
 ghost use Rattle.std.specs.Prelude.{◌≡◌, ◌≤◌, ℕ, List, true, Some, IsErrOf, OnOk};
 ghost use Rattle.office_wire.specs.Counting.{HasStopped};
 ghost use Rattle.office_wire.specs.Responders.{Meaning, Responds};
-ghost use Rattle.office_wire.specs.Runs.{Step, Ran, Served, office_left};
+ghost use Rattle.office_wire.specs.Runs.{Step, IsOneAtMost, Ran, Served, office_left};
 
 use crate::answer::Answer;
 use crate::blocks::read_block_line;
@@ -101,6 +101,8 @@ fn answer_one<D: Responder, R: BufRead, W: Write>(
     ensures before { D.meaning.honest desk.new → D.meaning.honest desk.old }
     ensures served { D.meaning.honest desk.new → (input : List ℕ) → reader.old.remaining ≡ Some input → (s : D.meaning.Office) → D.meaning.holds desk.old s
         → (t : D.meaning.Office) × Served D.meaning.answers result input reader.new.remaining moment s t writer.old.contents writer.new.contents × D.meaning.holds desk.new t }
+    ensures stepped { D.meaning.honest desk.new → (s : D.meaning.Office) → D.meaning.holds desk.old s
+        → (steps : List Step) × IsOneAtMost moment steps × D.meaning.holds desk.new (office_left D.meaning.answers s steps) }
     ensures cause { IsErrOf result RunFault.Read → HasStopped reader.new }
     ensures writes { IsErrOf result RunFault.Write → writer.new.has_failed ≡ true }
     ensures all_written { OnOk result (writer.new.has_failed ≡ writer.old.has_failed) }
@@ -133,6 +135,8 @@ pub fn serve_one<D: Responder, R: BufRead, W: Write>(
     ensures before { D.meaning.honest desk.new → D.meaning.honest desk.old }
     ensures served { D.meaning.honest desk.new → (input : List ℕ) → reader.old.remaining ≡ Some input → (s : D.meaning.Office) → D.meaning.holds desk.old s
         → (t : D.meaning.Office) × Served D.meaning.answers result input reader.new.remaining moment s t writer.old.contents writer.new.contents × D.meaning.holds desk.new t }
+    ensures stepped { D.meaning.honest desk.new → (s : D.meaning.Office) → D.meaning.holds desk.old s
+        → (steps : List Step) × IsOneAtMost moment steps × D.meaning.holds desk.new (office_left D.meaning.answers s steps) }
     ensures cause { IsErrOf result RunFault.Read → HasStopped reader.new }
     ensures writes { IsErrOf result RunFault.Write → writer.new.has_failed ≡ true }
     ensures all_written { OnOk result (writer.new.has_failed ≡ writer.old.has_failed) }

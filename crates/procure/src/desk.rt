@@ -1,32 +1,13 @@
 //! `procure desk CONFIG`: an empty office in memory, over the standard streams.
+use crate::config::{no_memory, settings_at};
 use office_desk::desk::Desk;
 use office_http::office::{Office, run};
 use office_memory::memory::MemoryShelf;
-use office_values::refusal::Refusal;
-use office_values::settings::Settings;
 use office_wire::counted::CountedReader;
 use office_wire::fault::RunFault;
 use office_wire::watched::WatchedWriter;
 use procure_config::fault::ProgramFault;
-use procure_config::settings::read_settings;
-use std::fs;
-use std::io::{BufReader, BufWriter, ErrorKind};
-
-/// Want of memory outside a request.
-pub fn no_memory() -> ProgramFault {
-    ProgramFault::Refused(Refusal::Unavailable)
-}
-
-// The settings in a file. A file that can't be read has no settings.
-fn settings_at(rt: &HostRuntime, path: &str) -> Result<Settings, ProgramFault> {
-    match fs::read(rt, path) {
-        Ok(text) => Ok(read_settings(rt.alloc(), &text)?),
-        Err(error) => match error.kind() {
-            ErrorKind::OutOfMemory => Err(no_memory()),
-            _ => Err(ProgramFault::Settings(None)),
-        },
-    }
-}
+use std::io::{BufReader, BufWriter};
 
 // A buffer round a stream is refused for want of memory alone.
 fn answer_input(rt: &HostRuntime, office: &mut Office<MemoryShelf>) -> Result<(), ProgramFault> {

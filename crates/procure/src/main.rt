@@ -1,13 +1,20 @@
 //! `procure`: a public procurement office at the command line.
 #![tactic(auto)]
 
+mod config;
 mod desk;
+mod kept;
+mod store;
 
+use config::{no_memory, settings_at};
+use office_acts::queries::Query;
 use procure_config::fault::{ProgramFault, exit_code};
 use procure_config::job::{Job, job_of};
+use procure_config::notice::notice_named;
 use std::io::ErrorKind;
 use std::process::ExitCode;
 use std::{env, io};
+use store::{print_file, serve_file};
 
 // The words of the command line. Words that are no UTF-8 name no job.
 fn words_of(rt: &HostRuntime) -> Result<Vec<String>, ProgramFault> {
@@ -16,22 +23,54 @@ fn words_of(rt: &HostRuntime) -> Result<Vec<String>, ProgramFault> {
             let mut words = Vec::new(rt.alloc());
             for word in args {
                 if words.push(word).is_err() {
-                    return Err(desk::no_memory());
+                    return Err(no_memory());
                 }
             }
             Ok(words)
         }
         Err(error) => match error.kind() {
-            ErrorKind::OutOfMemory => Err(desk::no_memory()),
+            ErrorKind::OutOfMemory => Err(no_memory()),
             _ => Ok(Vec::new(rt.alloc())),
         },
     }
 }
 
+// Faults are looked for in this order: the words, the settings, a notice that is no identifier, the office's file, and then the work.
 fn work(rt: &HostRuntime) -> Result<(), ProgramFault> {
     let words = words_of(rt)?;
     match job_of(rt.alloc(), words.as_slice())? {
         Job::Desk { config } => desk::run_desk(rt, config),
+        Job::Serve {
+            config,
+            store,
+            port,
+            count,
+        } => {
+            let settings = settings_at(rt, config)?;
+            serve_file(rt, settings, store, port, count)
+        }
+        Job::Ledger { config, store } => {
+            let settings = settings_at(rt, config)?;
+            print_file(rt, settings, store, Query::Ledger)
+        }
+        Job::Minutes {
+            config,
+            store,
+            notice,
+        } => {
+            let settings = settings_at(rt, config)?;
+            let notice = notice_named(notice)?;
+            print_file(rt, settings, store, Query::Minutes { notice })
+        }
+        Job::Record {
+            config,
+            store,
+            notice,
+        } => {
+            let settings = settings_at(rt, config)?;
+            let notice = notice_named(notice)?;
+            print_file(rt, settings, store, Query::Record { notice })
+        }
     }
 }
 

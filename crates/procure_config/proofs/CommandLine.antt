@@ -1,5 +1,5 @@
 -- From clap's words on a command line to the program's own.
-use Rattle.std.proofs.Common.{◌≡◌, true, List, [], ◌∷◌, Option, Some, None, option_map, refl, sym, ap, subst, inl, inr, ◌∙◌}
+use Rattle.std.proofs.Common.{◌≡◌, true, false, List, [], ◌∷◌, Option, Some, None, option_map, refl, sym, ap, ap₂, subst, inl, inr, ◌∙◌}
 use Rattle.std.specs.Prelude.{Box}
 use Rattle.std.specs.Box.{box_value}
 use Rattle.std.specs.Prelude.{Result, Ok, Err, IfErr, IsSome}
@@ -11,12 +11,27 @@ use Rattle.clap.specs.declared.error.kind.ErrorKind.TheVariants.{MissingSubcomma
 use Rattle.procure_config.specs.declared.fault.ProgramFault.{ProgramFault}
 use Rattle.procure_config.specs.declared.fault.ProgramFault.TheVariants.{Arguments, Settings, Store, Input, Output, Refused}
 use Rattle.procure_config.specs.Faults.{IsOfParse, no_memory}
-use Rattle.clap.specs.Words.{App, HasKind, IsAmong, Kinds, kind_of, Row, Text, is_simple, is_simple_and_free, fault_of, HasMatchesOf, subcommand_of, subcommand_name_of, subcommand_rows, subcommand_rows_of, takes}
+use Rattle.clap.specs.Words.{AddsArg, AddsSubcommand, App, HasKind, IsAmong, Kinds, kind_of, Row, Rule, Text, app_of, rule_of, is_simple, is_simple_and_free, fault_of, HasMatchesOf, subcommand_of, subcommand_name_of, subcommand_rows, subcommand_rows_of, takes, with_rule, with_subcommand}
+use Rattle.clap.specs.declared.builder.arg.Arg.{Arg}
+use Rattle.clap.specs.declared.builder.command.Command.{Command}
+use Rattle.clap.specs.declared.builder.command.Command.TheViews.{out-Command as fields_of}
 use Rattle.clap.specs.declared.parser.matches.ArgMatches.{ArgMatches}
 use Rattle.clap.specs.declared.parser.matches.SubCommand.{SubCommand}
 use Rattle.clap.specs.declared.parser.matches.ArgMatches.TheViews.{out-ArgMatches, out-SubCommand}
 use Rattle.clap.proofs.OnLiterals.{clap_on_literals}
-use Rattle.procure_config.specs.Jobs.{IsFaultOf, desk_config, faults_of, procure}
+use Rattle.procure_config.specs.Jobs.{IsFaultOf, Asked, asked, faults_of, procure}
+
+-- a command with an argument more, and with a subcommand more
+pub argument_added : (old new : Command) (a : Arg) (app : App) (rule : Rule) → AddsArg old a new → app_of old ≡ app → rule_of a ≡ rule → a.global ≡ false
+    → app_of new ≡ with_rule app rule
+argument_added old new a app rule added old_is rule_is local = added.shape local ∙ ap₂ with_rule old_is rule_is
+
+pub stays_local : (old new : Command) (a : Arg) → AddsArg old a new → (fields_of old).has_globals ≡ false → a.global ≡ false → (fields_of new).has_globals ≡ false
+stays_local old new a added old_is local = added.globals ∙ rw (old_is, local) refl
+
+pub subcommand_added : (old new sub : Command) (app inner : App) → AddsSubcommand old sub new → app_of old ≡ app → app_of sub ≡ inner → (fields_of sub).has_globals ≡ false
+    → app_of new ≡ with_subcommand app inner.top
+subcommand_added old new sub app inner added old_is sub_is local = added.shape local ∙ ap₂ with_subcommand old_is (ap (λ (a : App). a.top) sub_is)
 
 pub procure_is_simple : is_simple procure ≡ true
 unfolding clap_on_literals procure
@@ -70,9 +85,9 @@ parse_fault error kinds more (Err (Refused refusal)) has is = is.1
 pub has_kind : (command : App) (words : List Text) (error : Error) → command ≡ procure → (is_simple_and_free command ≡ true → HasKind (fault_of command words) error) → HasKind (fault_of procure words) error
 has_kind command words error e h = subst (λ a. HasKind (fault_of a words) error) e (h (ap is_simple_and_free e ∙ procure_is_free))
 
--- words that clap takes and that name no desk
-pub no_desk : (words : List Text) (fault : ProgramFault) → fault_of procure words ≡ [] → None ≡ desk_config words → IsFaultOf (MissingSubcommand ∷ []) fault → IsFaultOf (faults_of words) fault
-no_desk words fault right none is = rw (right, sym none) is
+-- words that clap takes and that name no job
+pub no_job : (words : List Text) (fault : ProgramFault) → fault_of procure words ≡ [] → None ≡ asked words → IsFaultOf (MissingSubcommand ∷ []) fault → IsFaultOf (faults_of words) fault
+no_job words fault right none is = rw (right, sym none) is
 
 pub stated : (command : App) (words : List Text) (m : ArgMatches) → command ≡ procure → HasMatchesOf command words m → subcommand_rows_of m ≡ subcommand_of procure words
 stated command words m e h = (h (ap is_simple e ∙ procure_is_simple)).1 ∙ ap (λ a. subcommand_of a words) e
@@ -83,6 +98,6 @@ is_right command words e h = ap (λ a. fault_of a words) (sym e) ∙ h (ap is_si
 pub is_taken : (command : App) (words : List Text) → command ≡ procure → takes procure words ≡ true → takes command words ≡ true
 is_taken command words e h = ap (λ a. takes a words) e ∙ h
 
-pub nothing_there : {P : Type 0} (o : Option Text) → None ≡ o → IsSome o → P
+pub nothing_there : {P : Type 0} (o : Option Asked) → None ≡ o → IsSome o → P
 nothing_there None e there = cc
-nothing_there (Some text) e there = cc
+nothing_there (Some what) e there = cc

@@ -2,3 +2,4 @@ pub mod Forms
 pub mod Lines
 pub mod Documents
 pub mod CommandLine
+pub mod Numbers

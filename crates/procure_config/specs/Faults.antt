@@ -4,7 +4,7 @@ use Rattle.clap.specs.Words.{kind_of}
 use Rattle.clap.specs.declared.error.Error.{Error}
 use Rattle.clap.specs.declared.error.kind.ErrorKind.TheVariants.{OutOfMemory}
 use Rattle.office_values.specs.Refusals.{name_of}
-use Rattle.office_values.specs.declared.refusal.Refusal.TheVariants.{Unavailable}
+use Rattle.office_values.specs.declared.refusal.Refusal.TheVariants.{NoRoute, Unavailable}
 use Rattle.procure_config.specs.Configuration.{name_text}
 use Rattle.procure_config.specs.declared.settings.SettingsFault.{SettingsFault}
 use Rattle.procure_config.specs.declared.settings.SettingsFault.TheVariants.{NoMemory, NotToml, Member}
@@ -29,6 +29,10 @@ exit_of _ = 1
 -- want of memory
 abbrev pub no_memory : ProgramFault
 no_memory = Refused Unavailable
+
+-- a notice is named that can be none
+abbrev pub no_route : ProgramFault
+no_route = Refused NoRoute
 
 -- the fault of a program whose settings are at fault
 abbrev pub of_settings : SettingsFault → ProgramFault

@@ -1,39 +1,145 @@
 -- What the program's words ask for.
-use Rattle.std.specs.Prelude.{codes, ◌≡◌, true, List, [], ◌∷◌, Option, Some, None, if◌then◌else◌, is_some, nat_eq}
+use Rattle.std.specs.Prelude.{codes, ◌≡◌, true, ℕ, List, [], ◌∷◌, Option, Some, None, option_and_then, if◌then◌else◌, is_some, nat_eq}
 use Rattle.std.specs.Cmp.Lexicographic.{pointwise}
+use Rattle.std.specs.Str.Parse.{digits_value, without_leading_plus}
 use Rattle.clap.specs.Kinds.{or_else}
-use Rattle.clap.specs.Words.{App, IsAmong, Kinds, Row, Shape, Text, fault_of, first_of, kind_of, new_app, new_rule, subcommand_of, with_rule, with_subcommand}
+use Rattle.clap.specs.ValueTests.{is_unsigned_in}
+use Rattle.clap.specs.Words.{App, IsAmong, Kinds, Row, Rule, Text, fault_of, first_of, kind_of, new_app, new_rule, one_of, subcommand_of, with_rule, with_subcommand}
+use Rattle.clap.specs.declared.builder.value_parser.ValueParser.TheVariants.{Unsigned}
 use Rattle.clap.specs.declared.error.kind.ErrorKind.TheVariants.{MissingSubcommand}
 use Rattle.office_values.specs.declared.refusal.Refusal.TheVariants.{Unavailable}
 use Rattle.procure_config.specs.declared.job.Job.{Job}
-use Rattle.procure_config.specs.declared.job.Job.TheVariants.{Desk}
+use Rattle.procure_config.specs.declared.job.Job.TheVariants as job
 use Rattle.procure_config.specs.declared.fault.ProgramFault.{ProgramFault}
 use Rattle.procure_config.specs.declared.fault.ProgramFault.TheVariants.{Arguments, Refused}
 
--- `desk CONFIG`
-abbrev pub desk_shape : Shape
-desk_shape = (with_rule (new_app (codes "desk")) (record (new_rule (codes "CONFIG")) { required = true })).top
+-- the greatest port (RFC 9293, section 3.1), and the most connections of one run
+abbrev pub port_bound : ℕ
+port_bound = 65535
 
--- the program's command line: a subcommand is needed
+abbrev pub count_bound : ℕ
+count_bound = 1000000
+
+-- an argument that must be given
+abbrev pub needed_rule : Text → Rule
+needed_rule name = record (new_rule name) { required = true }
+
+-- one that is a number from 1 to the most
+abbrev pub number_rule : Text → ℕ → Rule
+number_rule name most = record (needed_rule name) { parser = Some (Unsigned 1 most) }
+
+-- a subcommand over the settings of an office: `NAME CONFIG`
+abbrev pub over_settings : Text → App
+over_settings name = with_rule (new_app name) (needed_rule (codes "CONFIG"))
+
+-- over an office in a file: `NAME CONFIG DB`
+abbrev pub over_store : Text → App
+over_store name = with_rule (over_settings name) (needed_rule (codes "DB"))
+
+-- over one of its notices: `NAME CONFIG DB NOTICE`
+abbrev pub over_notice : Text → App
+over_notice name = with_rule (over_store name) (needed_rule (codes "NOTICE"))
+
+-- `serve CONFIG DB PORT COUNT`
+abbrev pub serve : App
+serve = with_rule (with_rule (over_store (codes "serve")) (number_rule (codes "PORT") port_bound)) (number_rule (codes "COUNT") count_bound)
+
+-- the program's subcommands
+abbrev pub subcommands : App
+subcommands =
+    with_subcommand (with_subcommand (with_subcommand (with_subcommand (with_subcommand (new_app (codes "procure"))
+    (over_settings (codes "desk")).top) serve.top) (over_store (codes "ledger")).top) (over_notice (codes "minutes")).top) (over_notice (codes "record")).top
+
+-- its command line: one of them is needed
 unfoldable pub procure : App
-procure = let app = with_subcommand (new_app (codes "procure")) desk_shape in record app { top = record app.top { subcommand_required = true } }
+procure = let app = subcommands in record app { top = record app.top { subcommand_required = true } }
 
--- the settings' path of a subcommand that was met, where it is `desk`
-abbrev pub desk_in : Option (Text × List Row) → Option Text
-desk_in None = None
-desk_in (Some met) = if pointwise nat_eq met.0 (codes "desk") then first_of (codes "CONFIG") met.1 else None
+-- what words ask for
+pub data Asked : Type 0 where
+  Desk : (config : Text) → Asked
+  Serve : (config store : Text) → (port count : ℕ) → Asked
+  Ledger : (config store : Text) → Asked
+  Minutes : (config store notice : Text) → Asked
+  Record : (config store notice : Text) → Asked
 
--- the settings' path that clap states for the words, where they ask for `desk`
-abbrev pub desk_config : List Text → Option Text
-desk_config words = desk_in (subcommand_of procure words)
+-- so a job says it
+abbrev pub asked_by : Job → Asked
+asked_by (job.Desk config) = Desk config.now
+asked_by (job.Serve config store port count) = Serve config.now store.now port count
+asked_by (job.Ledger config store) = Ledger config.now store.now
+asked_by (job.Minutes config store notice) = Minutes config.now store.now notice.now
+asked_by (job.Record config store notice) = Record config.now store.now notice.now
+
+-- the number that a value writes in decimal digits, where it is from 1 to the most
+abbrev pub number_in : ℕ → Option Text → Option ℕ
+number_in most None = None
+number_in most (Some text) = if is_unsigned_in 1 most text then Some (digits_value 10 (without_leading_plus text)) else None
+
+-- a value, and what is made of it
+infixl 10 ◌>>=◌
+abbrev pub ◌>>=◌ : {A B : Type 0} → Option A → (A → Option B) → Option B
+value >>= next = option_and_then next value
+
+-- what the values of each subcommand ask for; nothing where one is missing or no number in its bounds
+abbrev pub desk_in : List Row → Option Asked
+desk_in rows = do
+  config ← first_of (codes "CONFIG") rows
+  Some (Desk config)
+
+abbrev pub serve_in : List Row → Option Asked
+serve_in rows = do
+  config ← first_of (codes "CONFIG") rows
+  store ← first_of (codes "DB") rows
+  port ← number_in port_bound (one_of (codes "PORT") rows)
+  count ← number_in count_bound (one_of (codes "COUNT") rows)
+  Some (Serve config store port count)
+
+abbrev pub ledger_in : List Row → Option Asked
+ledger_in rows = do
+  config ← first_of (codes "CONFIG") rows
+  store ← first_of (codes "DB") rows
+  Some (Ledger config store)
+
+abbrev pub minutes_in : List Row → Option Asked
+minutes_in rows = do
+  config ← first_of (codes "CONFIG") rows
+  store ← first_of (codes "DB") rows
+  notice ← first_of (codes "NOTICE") rows
+  Some (Minutes config store notice)
+
+abbrev pub record_in : List Row → Option Asked
+record_in rows = do
+  config ← first_of (codes "CONFIG") rows
+  store ← first_of (codes "DB") rows
+  notice ← first_of (codes "NOTICE") rows
+  Some (Record config store notice)
+
+-- by the subcommand's name
+abbrev pub asked_as : Text → List Row → Option Asked
+asked_as name rows =
+    if pointwise nat_eq name (codes "desk") then desk_in rows
+    else if pointwise nat_eq name (codes "serve") then serve_in rows
+    else if pointwise nat_eq name (codes "ledger") then ledger_in rows
+    else if pointwise nat_eq name (codes "minutes") then minutes_in rows
+    else if pointwise nat_eq name (codes "record") then record_in rows
+    else None
+
+-- what a subcommand that was met asks for
+abbrev pub asked_in : Option (Text × List Row) → Option Asked
+asked_in None = None
+asked_in (Some met) = asked_as met.0 met.1
+
+-- what the subcommand and the values that clap states for the words ask for
+abbrev pub asked : List Text → Option Asked
+asked words = asked_in (subcommand_of procure words)
 
 -- the words ask for this job
 abbrev pub AsksFor : List Text → Job → Type 0
-AsksFor words (Desk config) = desk_config words ≡ Some config.now
+AsksFor words j = asked words ≡ Some (asked_by j)
 
 -- the kinds of fault that words may have: those that clap states, and where it states none, that no job is named
 abbrev pub faults_of : List Text → Kinds
-faults_of words = or_else (fault_of procure words) (if is_some (desk_config words) then [] else MissingSubcommand ∷ [])
+faults_of words = or_else (fault_of procure words) (if is_some (asked words) then [] else MissingSubcommand ∷ [])
 
 -- words are at fault, in one of these kinds, or memory is wanting
 abbrev pub IsFaultOf : Kinds → ProgramFault → Type 0

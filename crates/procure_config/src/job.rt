@@ -1,15 +1,16 @@
 //! What the program is asked to do, read from its words.
-ghost use Rattle.std.specs.Prelude.{◌≡◌, true, false, codes, [], ◌∷◌, map, Some, IfOk, IfErr, IsSome, option_map};
-ghost use Rattle.clap.specs.Words.{app_of, fault_of, subcommand_rows_of, takes};
+ghost use Rattle.std.specs.Prelude.{◌≡◌, ◌≤◌, true, false, codes, [], ◌∷◌, map, None, Some, IfOk, IfErr, IfSome, IsSome, option_map};
+ghost use Rattle.clap.specs.Words.{fault_of, first_of, found_of, one_of, rows_of, subcommand_rows_of, takes};
 ghost use Rattle.procure_config.specs.Faults.{no_memory};
 ghost use Rattle.procure_config.specs.Jobs as spec;
-ghost use Rattle.procure_config.specs.Jobs.{AsksFor, IsFaultOf, desk_config, desk_in, faults_of};
+ghost use Rattle.procure_config.specs.Jobs.{AsksFor, IsFaultOf, asked, asked_by, faults_of, number_in};
 
+use crate::command_line::{COUNT_BOUND, procure};
 use crate::fault::ProgramFault;
 use clap::error::ErrorKind;
-use clap::{Arg, ArgMatches, Command};
+use clap::{ArgMatches, Command};
 use office_values::refusal::Refusal;
-use std::alloc::{AllocError, Global};
+use std::alloc::Global;
 use std::convert::AsStr;
 
 /// What the program is asked to do.
@@ -20,32 +21,152 @@ pub enum Job<'a> {
         /// The path of the settings.
         config: &'a str,
     },
+    /// An office in a file, over connections on 127.0.0.1.
+    Serve {
+        /// The path of the settings.
+        config: &'a str,
+        /// The path of the office's file.
+        store: &'a str,
+        /// The port, 1 at least.
+        port: u16,
+        /// How many connections are served: 1 to 1,000,000.
+        count: u32,
+    },
+    /// The ledger of an office in a file, printed.
+    Ledger {
+        /// The path of the settings.
+        config: &'a str,
+        /// The path of the office's file.
+        store: &'a str,
+    },
+    /// The minutes of an opening, printed.
+    Minutes {
+        /// The path of the settings.
+        config: &'a str,
+        /// The path of the office's file.
+        store: &'a str,
+        /// The notice, as it was written: it may be no identifier.
+        notice: &'a str,
+    },
+    /// The record of a notice, printed.
+    Record {
+        /// The path of the settings.
+        config: &'a str,
+        /// The path of the office's file.
+        store: &'a str,
+        /// The notice, as it was written: it may be no identifier.
+        notice: &'a str,
+    },
 }
 
-// The program's command line.
-fn procure<'a>(alloc: Global) -> Result<Command<'a>, AllocError>
-    ensures { IfOk result (λ command. app_of command ≡ spec.procure) }
+// The value of an argument.
+fn text_of<'a>(met: &ArgMatches<'a>, name: &str) -> Option<&'a str>
+    ensures { option_map (λ text. text.now) result ≡ first_of name.now (rows_of (found_of met.now)) }
 {
-    let config = Arg::new(alloc, "CONFIG")
-        .required(true)
-        .help("The office's settings, a TOML file");
-    let desk = Command::new(alloc, "desk")
-        .about("Answers the requests of the standard input, from an empty office in memory")
-        .arg(config)?;
-    let procure = Command::new(alloc, "procure")
-        .about("A public procurement office")
-        .subcommand(desk)?;
-    Ok(procure.subcommand_required(true))
+    met.get_str(name)
 }
 
-// The settings' path, where `desk` was met.
-fn met_desk<'a>(matches: &ArgMatches<'a>) -> Option<&'a str>
-    ensures { option_map (λ config. config.now) result ≡ desk_in (subcommand_rows_of matches.now) }
+// The port, where it is one.
+fn port_of(met: &ArgMatches<'_>) -> Option<u16>
+    ensures { result ≡ number_in spec.port_bound (one_of (codes "PORT") (rows_of (found_of met.now))) }
 {
-    match matches.subcommand() {
-        Some((name, inner)) if name == "desk" => inner.get_str("CONFIG"),
+    match met.get_one::<u16>("PORT") {
+        Some(port) if 1 <= port => Some(port),
         _ => None,
     }
+}
+
+// The count of connections, where it is one.
+fn count_of(met: &ArgMatches<'_>) -> Option<u32>
+    ensures { result ≡ number_in spec.count_bound (one_of (codes "COUNT") (rows_of (found_of met.now))) }
+{
+    match met.get_one::<u32>("COUNT") {
+        Some(count) if 1 <= count && count <= COUNT_BOUND => Some(count),
+        _ => None,
+    }
+}
+
+fn desk_in<'a>(met: &ArgMatches<'a>) -> Option<Job<'a>>
+    ensures { option_map asked_by result ≡ spec.desk_in (rows_of (found_of met.now)) }
+{
+    let config = text_of(met, "CONFIG")?;
+    Some(Job::Desk { config })
+}
+
+fn serve_in<'a>(met: &ArgMatches<'a>) -> Option<Job<'a>>
+    ensures { option_map asked_by result ≡ spec.serve_in (rows_of (found_of met.now)) }
+{
+    let config = text_of(met, "CONFIG")?;
+    let store = text_of(met, "DB")?;
+    let port = port_of(met)?;
+    let count = count_of(met)?;
+    Some(Job::Serve {
+        config,
+        store,
+        port,
+        count,
+    })
+}
+
+fn ledger_in<'a>(met: &ArgMatches<'a>) -> Option<Job<'a>>
+    ensures { option_map asked_by result ≡ spec.ledger_in (rows_of (found_of met.now)) }
+{
+    let config = text_of(met, "CONFIG")?;
+    let store = text_of(met, "DB")?;
+    Some(Job::Ledger { config, store })
+}
+
+fn minutes_in<'a>(met: &ArgMatches<'a>) -> Option<Job<'a>>
+    ensures { option_map asked_by result ≡ spec.minutes_in (rows_of (found_of met.now)) }
+{
+    let config = text_of(met, "CONFIG")?;
+    let store = text_of(met, "DB")?;
+    let notice = text_of(met, "NOTICE")?;
+    Some(Job::Minutes {
+        config,
+        store,
+        notice,
+    })
+}
+
+fn record_in<'a>(met: &ArgMatches<'a>) -> Option<Job<'a>>
+    ensures { option_map asked_by result ≡ spec.record_in (rows_of (found_of met.now)) }
+{
+    let config = text_of(met, "CONFIG")?;
+    let store = text_of(met, "DB")?;
+    let notice = text_of(met, "NOTICE")?;
+    Some(Job::Record {
+        config,
+        store,
+        notice,
+    })
+}
+
+// What a subcommand with these values asks for.
+fn asked_as<'a>(name: &str, met: &ArgMatches<'a>) -> Option<Job<'a>>
+    ensures { option_map asked_by result ≡ spec.asked_as name.now (rows_of (found_of met.now)) }
+{
+    if name == "desk" {
+        desk_in(met)
+    } else if name == "serve" {
+        serve_in(met)
+    } else if name == "ledger" {
+        ledger_in(met)
+    } else if name == "minutes" {
+        minutes_in(met)
+    } else if name == "record" {
+        record_in(met)
+    } else {
+        None
+    }
+}
+
+// What the subcommand that was met asks for.
+fn asked_in<'a>(matches: &ArgMatches<'a>) -> Option<Job<'a>>
+    ensures { option_map asked_by result ≡ spec.asked_in (subcommand_rows_of matches.now) }
+{
+    let (name, met) = matches.subcommand()?;
+    asked_as(name, met)
 }
 
 // The fault of words that the command line takes and that name no job.
@@ -65,65 +186,13 @@ pub fn job_of<'a, S: AsStr>(alloc: Global, words: &'a [S]) -> Result<Job<'a>, Pr
     ensures asked { IfOk result (AsksFor (map S.text words.entry.now)) }
     ensures right { IfOk result (λ _. fault_of spec.procure (map S.text words.entry.now) ≡ []) }
     ensures fault { IfErr result (IsFaultOf (faults_of (map S.text words.entry.now))) }
-    ensures taken { takes spec.procure (map S.text words.entry.now) ≡ true → IsSome (desk_config (map S.text words.entry.now))
+    ensures taken { takes spec.procure (map S.text words.entry.now) ≡ true → IsSome (asked (map S.text words.entry.now))
         → IfErr result (λ fault. fault ≡ no_memory) }
 {
     let mut command = procure(alloc)?;
     let matches = command.try_get_matches_from_mut(words)?;
-    match met_desk(&matches) {
-        Some(config) => Ok(Job::Desk { config }),
+    match asked_in(&matches) {
+        Some(job) => Ok(job),
         None => Err(no_job(&mut command)),
-    }
-}
-
-/// Examples: words that ask for a desk, words that name no job, and the kinds of fault of words.
-pub fn worked_words()
-    ensures desk { desk_config (codes "procure" ∷ codes "desk" ∷ codes "office.toml" ∷ []) ≡ Some (codes "office.toml") }
-    ensures taken { takes spec.procure (codes "procure" ∷ codes "desk" ∷ codes "office.toml" ∷ []) ≡ true }
-    ensures none { takes spec.procure (codes "procure" ∷ []) ≡ false }
-    ensures more { takes spec.procure (codes "procure" ∷ codes "desk" ∷ codes "a" ∷ codes "b" ∷ []) ≡ false }
-    ensures right { faults_of (codes "procure" ∷ codes "desk" ∷ codes "office.toml" ∷ []) ≡ [] }
-    ensures no_word { faults_of [] ≡ ErrorKind.MissingSubcommand ∷ [] }
-    ensures no_path { faults_of (codes "procure" ∷ codes "desk" ∷ []) ≡ ErrorKind.MissingRequiredArgument ∷ [] }
-    ensures unknown { faults_of (codes "procure" ∷ codes "shop" ∷ []) ≡ ErrorKind.UnknownArgument ∷ ErrorKind.InvalidSubcommand ∷ [] }
-{}
-
-#[cfg(test)]
-mod tests {
-    use super::*;
-    use crate::fault::exit_code;
-    use std::test::Fail;
-
-    #[test]
-    fn asks_for_a_desk(rt: HostRuntime) {
-        match job_of(rt.alloc(), &["procure", "desk", "office.toml"]) {
-            Ok(Job::Desk { config }) => assert_eq!(rt; config, "office.toml"),
-            Err(_) => panic!(rt; "no job"),
-        }
-    }
-
-    // Status 2 is that of `Arguments`, so none of these is told as want of memory.
-    #[test]
-    fn asks_for_no_job(rt: HostRuntime) -> Result<(), Fail> {
-        let cases: [(&[&str], &str); 9] = [
-            (&[], "Usage: procure <COMMAND>"),
-            (&["procure"], "Usage: procure <COMMAND>"),
-            (&["procure", "--help"], "A public procurement office"),
-            (&["procure", "help"], "A public procurement office"),
-            (&["procure", "desk"], "<CONFIG>"),
-            (&["procure", "desk", "--help"], "a TOML file"),
-            (&["procure", "shop", "a"], "unrecognized subcommand 'shop'"),
-            (&["procure", "desk", "a", "b"], "unexpected argument 'b'"),
-            (&["procure", "-x", "desk", "a"], "unexpected argument '-x'"),
-        ];
-        for (words, part) in cases {
-            let Err(fault) = job_of(rt.alloc(), words) else {
-                panic!(rt; "a job with {part}");
-            };
-            assert_eq!(rt; exit_code(&fault), 2);
-            let text = format!(in rt.alloc(); "{fault}")?;
-            assert!(rt; text.as_str().contains(part), "{part} isn't in: {text}");
-        }
-        Ok(())
     }
 }

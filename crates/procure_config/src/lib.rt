@@ -1,6 +1,11 @@
 //! What the program is told: its settings, its command line, and how its faults are told.
 #![tactic(auto)]
 
+mod command_line;
 pub mod fault;
 pub mod job;
+#[cfg(test)]
+mod job_tests;
+pub mod notice;
 pub mod settings;
+pub mod worked_words;

@@ -1,13 +1,11 @@
 -- What the code does with one more value. No public clause rests on this file: private ones do, and the proofs tie them to the merge of a column.
-use Rattle.std.specs.Prelude.{◌≡◌, ℕ, List, [], ◌∷◌, true, false, if◌then◌else◌, Option, Some, None, unwrap_or, bytes_eq}
-use Rattle.std.specs.Ordering.{nat_cmp, is_lt}
-use Rattle.std.specs.Cmp.Lexicographic.{slice_cmp}
+use Rattle.std.specs.Prelude.{◌≡◌, ℕ, List, [], ◌∷◌, false, if◌then◌else◌, Option, Some, None, unwrap_or, bytes_eq}
 use Rattle.serde_json.specs.Data.{Data, null, boolean, number, string, array, object, Items, no_items, item, Members, no_members, member}
 use Rattle.serde_json.specs.Find.{get_member}
 use Rattle.serde_json.specs.View.{items_of}
 use Rattle.ocds_merge.specs.Identified.{id_of, is_id_list}
 use Rattle.ocds_merge.specs.Merge.{put_present}
-use Rattle.ocds_merge.specs.Compile.{without, date_of}
+use Rattle.ocds_merge.specs.Compile.{without}
 
 abbrev pub items_list : Items → List Data
 items_list no_items = []
@@ -64,11 +62,6 @@ abbrev mutual
 abbrev pub Lacks : List ℕ → List Data → Type 0
 Lacks i [] = Unit {0}
 Lacks i (d ∷ ds) = (bytes_eq (id_of d) i ≡ false) × Lacks i ds
-
--- each of these is earlier than t
-abbrev pub AreEarlier : List ℕ → List Data → Type 0
-AreEarlier t [] = Unit {0}
-AreEarlier t (d ∷ ds) = (is_lt (slice_cmp nat_cmp (date_of d) t) ≡ true) × AreEarlier t ds
 
 -- `null` stands for absent
 abbrev pub not_null : Data → Option Data

@@ -10,7 +10,7 @@ use Rattle.office_base.specs.declared.records.NoticeRow.{NoticeRow}
 use Rattle.office_base.specs.declared.records.ReleaseRow.{ReleaseRow}
 use Rattle.office_machine.specs.Replies.{OpenedAll, Received, Refused}
 use Rattle.office_machine.specs.Requests.{Request}
-use Rattle.office_machine.specs.Worked.Office.{awarded, awards, by_clerk, cancels, deadline, decided, examined, fails, february, n1, next_day, office, opens, presents, setup, signs, standstill_end, t1, tendered, told_in}
+use Rattle.office_machine.specs.Worked.Office.{awarded, awards, by_clerk, cancels, deadline, decided, examined, fails, february, n1, next_day, office, opens, presents, published, setup, signs, standstill_end, t1, tendered, told_in}
 
 -- the office after these requests, where the notice has so many releases
 abbrev pub with_releases : List Request → ℕ → Tables
@@ -41,6 +41,14 @@ numbers asked = map (λ (r : ReleaseRow). r.seq) (office asked).releases
 abbrev pub counts : List Request → List ℕ
 counts asked = map (λ (n : NoticeRow). n.releases) (office asked).notices
 
+-- the moments of the releases that are kept
+abbrev pub moments : List Request → List ℕ
+moments asked = map (λ (r : ReleaseRow). r.moment) (office asked).releases
+
+-- an end that is handed in with a moment before that of the signing
+abbrev pub earlier_end : Request
+earlier_end = by_clerk february (End 1 Regular)
+
 pub record ReleasesWorked : Type 0 where
   -- publishing, opening, awarding and signing publish a release each; presenting and examining none
   pub four_releases : numbers signed ≡ 1 ∷ 2 ∷ 3 ∷ 4 ∷ []
@@ -52,6 +60,11 @@ pub record ReleasesWorked : Type 0 where
   pub payment_is_counted : counts (signed ++ pay ∷ []) ≡ 5 ∷ []
   -- after a failing, and a cancellation
   pub failing_is_counted : counts (awarded ++ fails standstill_end 1 ∷ cancels standstill_end ∷ []) ≡ 5 ∷ []
+  -- each has the moment of its command
+  pub at_moments : moments signed ≡ published ∷ deadline ∷ decided ∷ standstill_end ∷ []
+  -- a command that is handed in with an earlier moment has that of the last accepted one: moments never fall, nor does the clock
+  pub never_fall : moments (signed ++ earlier_end ∷ []) ≡ published ∷ deadline ∷ decided ∷ standstill_end ∷ standstill_end ∷ []
+  pub clock_stands : (office (signed ++ earlier_end ∷ [])).clock.moment ≡ standstill_end
   -- a notice has at most 9,999 releases: then its deadline doesn't move, and it is neither cancelled nor opened
   pub no_more_of_notice : told_in (full tendered) (by_clerk february (AmendNotice n1 next_day (codes "More time")) ∷ cancels february ∷ opens deadline ∷ [])
       ≡ replicate 3 (Refused LimitReached)

@@ -1,11 +1,11 @@
-use Rattle.std.proofs.Common.{◌≡◌, ◌∙◌, ◌-◌, ap, sym, subst, IfOk, map, length, get_or, unwrap_or, List, ℕ, Bor}
+use Rattle.std.proofs.Common.{◌≡◌, ◌∙◌, ◌-◌, ap, sym, subst, IfOk, map, length, get_or, List, ℕ, Bor}
 use Rattle.std.proofs.lemmas.List.{length-map}
 use Rattle.serde_json.specs.Data.{Data, null}
 use Rattle.serde_json.specs.View.{view}
 use Rattle.serde_json.specs.declared.value.Value.{Value}
-use Rattle.ocds_merge.specs.Merge.{merge_of}
-use Rattle.ocds_merge.specs.Compile.{date_of, date_order, body_of, with_head, last_date, compiled_release}
-use Rattle.ocds_merge.proofs.DateLemmas.{map_twice}
+use Rattle.ocds_merge.specs.Merge.{merge_or_null}
+use Rattle.ocds_merge.specs.Compile.{date_of, date_order, with_head, last_date, compiled_release}
+use Rattle.ocds_merge.proofs.HeadLaw.{head_stands_over}
 use Rattle.ocds_merge.proofs.compiling.compile.Goals as goal
 
 pub returns : goal.returns
@@ -19,10 +19,11 @@ returns c =
     ∙ ap (λ (xs : List (Bor Value)). date_of (get_or (map f xs) (length xs - 1) null)) c.deref-2.ensures.value
     ∙ ap (λ (n : ℕ). date_of (get_or (map f order) (n - 1) null)) (sym (length-map order f))
     ∙ ap last_date sorted in
-    let whole : view c.in_ok-merge.merge ≡ unwrap_or (merge_of (map body_of ds)) null =
+    let whole : view c.in_ok-merge.merge ≡ merge_or_null ds =
     c.in_ok-merge.ensures
-    ∙ ap (λ (xs : List (Bor Value)). unwrap_or (merge_of (map (λ r. body_of (f r)) xs)) null) c.deref.ensures.value
-    ∙ ap (λ (xs : List Data). unwrap_or (merge_of xs) null) (map_twice f body_of order ∙ ap (map body_of) sorted) in
+    ∙ ap (λ (xs : List (Bor Value)). merge_or_null (map f xs)) c.deref.ensures.value
+    ∙ ap merge_or_null sorted in
     let whole_release : with_head c.args.ocid.now c.last_date.result.now (view c.in_ok-merge.merge) ≡ compiled_release c.args.ocid.now (map view c.args.releases.now) =
-    ap (λ (t : List ℕ). with_head c.args.ocid.now t (view c.in_ok-merge.merge)) date ∙ ap (with_head c.args.ocid.now (last_date ds)) whole in
+    ap (λ (t : List ℕ). with_head c.args.ocid.now t (view c.in_ok-merge.merge)) date ∙ ap (with_head c.args.ocid.now (last_date ds)) whole
+    ∙ sym (head_stands_over c.args.ocid.now (last_date ds) ds) in
     subst (λ (d : Data). IfOk c.with_compiled_head.result (λ release. view release ≡ d)) whole_release c.with_compiled_head.ensures

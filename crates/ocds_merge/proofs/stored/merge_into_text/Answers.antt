@@ -4,4 +4,4 @@ use Rattle.ocds_merge.proofs.stored.merge_into_text.Goals as goal
 
 pub returns-clause-keeps : goal.returns-clause-keeps
 returns-clause-keeps c vs kept storable =
-    c.in_ok-merge_to_text.ensures.keeps _ (c.in_ok-merge_into.ensures.merges vs (ap (λ (o : Option Data). unwrap_or o null) (sym c.in_ok-merge.ensures.reads ∙ kept.reads))) storable
+    c.in_ok-merge_to_text.ensures.keeps _ (c.in_ok-after.ensures.merges vs (ap (λ (o : Option Data). unwrap_or o null) (sym c.in_ok-before.ensures.reads ∙ kept.reads))) storable

@@ -15,3 +15,6 @@ returns-clause-kept g c honest input remains s held xs reached =
       served_kept c.kept.ensures.steps input c.serve_one.new.reader.remaining c.args.moment (held_by c.args.office.now s) served.0 xs reached c.serve_one.result
           served.1.told served.1.served,
     )
+
+pub returns-clause-stepped : goal.returns-clause-stepped
+returns-clause-stepped g c honest h held = c.serve_one.ensures.stepped honest h held

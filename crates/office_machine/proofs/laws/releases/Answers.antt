@@ -1,4 +1,6 @@
 use Rattle.office_machine.proofs.ReleasesCounted.{releases_counted}
+use Rattle.office_machine.proofs.ReleasesInTime.{releases_in_time}
+use Rattle.office_machine.proofs.ReleasesMade.{releases_published}
 use Rattle.office_machine.proofs.ReleasesNumbered.{releases_numbered}
 use Rattle.office_machine.proofs.laws.releases.Goals as goal
 
@@ -7,3 +9,9 @@ returns-clause-counted c = releases_counted
 
 pub returns-clause-numbered : goal.returns-clause-numbered
 returns-clause-numbered c = releases_numbered
+
+pub returns-clause-published : goal.returns-clause-published
+returns-clause-published c = releases_published
+
+pub returns-clause-in_time : goal.returns-clause-in_time
+returns-clause-in_time c = releases_in_time

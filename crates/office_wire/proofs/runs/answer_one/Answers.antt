@@ -1,4 +1,4 @@
-use Rattle.std.proofs.Common.{[], Err, ap, subst, refl, inl, inr}
+use Rattle.std.proofs.Common.{[], ◌∷◌, Err, ap, subst, refl, inl, inr}
 use Rattle.std.proofs.lemmas.Result.{err_from_is_err_and}
 use Rattle.std.specs.Io.KnownBytes.{Appends}
 use Rattle.office_wire.proofs.SendLemmas.{appends_none}
@@ -57,3 +57,22 @@ returns-in_ok-send-in_default-clause-served g c h input e s holds = (
   },
   holds,
 )
+
+pub returns-in_err-send-in-Ok-clause-stepped : goal.returns-in_err-send-in-Ok-clause-stepped
+returns-in_err-send-in-Ok-clause-stepped g c h s holds =
+    let (busy, text, held) = c.answer-answer.ensures.step h s holds in
+    (record { busy = busy; block = record { moment = c.args.moment; request = c.in-Ok.request } } ∷ [], refl, held)
+
+pub returns-in_ok-send-in-Ok-clause-stepped : goal.returns-in_ok-send-in-Ok-clause-stepped
+returns-in_ok-send-in-Ok-clause-stepped g c h s holds =
+    let (busy, text, held) = c.answer-answer.ensures.step h s holds in
+    (record { busy = busy; block = record { moment = c.args.moment; request = c.in-Ok.request } } ∷ [], refl, held)
+
+pub returns-in-Read-clause-stepped : goal.returns-in-Read-clause-stepped
+returns-in-Read-clause-stepped g c h s holds = ([], tt, holds)
+
+pub returns-in_err-send-in_default-clause-stepped : goal.returns-in_err-send-in_default-clause-stepped
+returns-in_err-send-in_default-clause-stepped g c h s holds = ([], tt, holds)
+
+pub returns-in_ok-send-in_default-clause-stepped : goal.returns-in_ok-send-in_default-clause-stepped
+returns-in_ok-send-in_default-clause-stepped g c h s holds = ([], tt, holds)

@@ -1,8 +1,0 @@
-use Rattle.std.proofs.Common.{◌≡◌, map, take, option_map}
-use Rattle.serde_json.specs.View.{view}
-use Rattle.ocds_merge.specs.Merge.{merge_of}
-use Rattle.ocds_merge.specs.Compile.{body_of}
-use Rattle.ocds_merge.proofs.compiling.merge_bodies.Given as goal
-
-abbrev pub invariant-loop-release : goal.invariant-loop-release
-invariant-loop-release l = option_map view l.merge ≡ merge_of (map (λ r. body_of (view r.now)) (take l.release-index l.order))

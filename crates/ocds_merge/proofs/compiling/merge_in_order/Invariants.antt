@@ -1,0 +1,7 @@
+use Rattle.std.proofs.Common.{◌≡◌, map, take, option_map}
+use Rattle.serde_json.specs.View.{view}
+use Rattle.ocds_merge.specs.Merge.{merge_of}
+use Rattle.ocds_merge.proofs.compiling.merge_in_order.Given as goal
+
+abbrev pub invariant-loop-release : goal.invariant-loop-release
+invariant-loop-release l = option_map view l.merge ≡ merge_of (map (λ r. view r.now) (take l.release-index l.order))

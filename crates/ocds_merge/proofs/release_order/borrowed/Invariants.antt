@@ -1,0 +1,6 @@
+use Rattle.std.proofs.Common.{◌≡◌, map, take}
+use Rattle.serde_json.specs.View.{view}
+use Rattle.ocds_merge.proofs.release_order.borrowed.Given as goal
+
+abbrev pub invariant-loop-release : goal.invariant-loop-release
+invariant-loop-release l = map (λ r. view r.now) l.all.items ≡ map view (take l.release-index l.releases)

@@ -1,0 +1,33 @@
+-- Each release can be kept: it has no float, nests at most seven levels, and is dated by the moment of its event.
+use Rattle.std.proofs.Common.{◌≡◌, ℕ, List, [], codes, false, ap, arith}
+use Rattle.std.specs.Prelude.{unwrap_or, option_and_then}
+use Rattle.serde_json.specs.Data.{Data}
+use Rattle.serde_json.specs.Find.{as_str}
+use Rattle.office_values.specs.Moments.{moment_text}
+use Rattle.office_values.specs.declared.settings.Settings.{Settings}
+use Rattle.ocds_merge.specs.Compile.{date_of}
+use Rattle.ocds_merge.specs.Stored.{IsStorable}
+use Rattle.ocds_release.specs.Objects.{Entry}
+use Rattle.ocds_release.specs.Releases.{head_of, head_members, release}
+use Rattle.ocds_release.proofs.Flat.{IsFlat, AreEntriesFlat, AreMembersFlat, text_flat, reference_flat, members_flat, entries_flat, inside_flat}
+use Rattle.ocds_release.proofs.Dated.{has_name, stays}
+
+pub record IsKeepable (t : ℕ) (d : Data) : Type 0 where
+  pub flat : IsFlat 7 d
+  pub dated : date_of d ≡ moment_text t
+
+head_flat : (settings : Settings) (seq t : ℕ) (notice : List ℕ) → AreMembersFlat 6 (head_members settings seq t notice)
+head_flat settings seq t notice =
+    members_flat 6 (head_of settings seq t notice)
+    (reference_flat 5 _ _, (text_flat 6 _, (text_flat 6 _, (text_flat 6 _, (text_flat 6 _, (text_flat 6 _, tt))))))
+
+-- a release whose event says nothing under `date`, and nothing that nests more than six levels
+pub release_keepable : (settings : Settings) (seq t : ℕ) (notice : List ℕ) (event : List Entry) → AreEntriesFlat 6 event → has_name (codes "date") event ≡ false
+    → IsKeepable t (release settings seq t notice event)
+release_keepable settings seq t notice event flat others = record {
+  flat = inside_flat 6 _ (entries_flat 6 event (head_members settings seq t notice) flat (head_flat settings seq t notice));
+  dated = ap (λ o. unwrap_or (option_and_then as_str o) []) (stays (codes "date") event (head_members settings seq t notice) others);
+}
+
+pub storable : (t : ℕ) (d : Data) → IsKeepable t d → IsStorable d
+storable t d h = record { no_float = h.flat.no_float; shallow = omega (arith, h.flat.shallow) }

@@ -1,0 +1,8 @@
+pub mod EmptyLists
+pub mod LotOrder
+pub mod PackageTexts
+pub mod Flat
+pub mod Dated
+pub mod Keepable
+pub mod ListedEvents
+pub mod AllKeepable

@@ -1,0 +1,145 @@
+-- The texts of packages, member by member.
+use Rattle.std.proofs.Common.{◌≡◌, ◌<◌, ◌+◌, ◌-◌, ℕ, zero, suc, List, [], ◌∷◌, ◌++◌, map, length, get_or, Bool, true, false, if◌then◌else◌, ◌==◌, refl, sym, ap, ◌∙◌, arith, rules, codes, true≢false}
+use Rattle.std.proofs.lemmas.List.{append_assoc}
+use Rattle.json.specs.Print.{quoted}
+use Rattle.serde_json.specs.Data.{Data, null, array, Items, item, no_items, object, Members, member, no_members, put}
+use Rattle.serde_json.specs.View.{items_of}
+use Rattle.serde_json.specs.Written.{compact_text, comma_if, items_text, members_text, has_float, items_have_float}
+use Rattle.office_values.specs.Moments.{moment_text}
+use Rattle.office_base.specs.declared.records.ReleaseRow.{ReleaseRow}
+use Rattle.ocds_merge.specs.Compile.{date_of, last_date}
+use Rattle.ocds_release.specs.Objects.{text, texts, array_of, with_entries, is_empty_list}
+use Rattle.ocds_release.specs.KeptReleases.{AreKept}
+use Rattle.ocds_release.specs.Inside.Parts.{data_of}
+use Rattle.ocds_release.specs.Inside.Splicing.{moment_of, spliced, member_text, with_extensions}
+use Rattle.ocds_release.specs.declared.part.Part.{Part}
+use Rattle.ocds_release.specs.declared.part.Part.TheVariants as parts
+
+-- ---- no part is a float
+
+pub lines_no_float : (ls : List (List ℕ)) → items_have_float (items_of (map text ls)) ≡ false
+lines_no_float [] = refl
+lines_no_float (l ∷ ls) = lines_no_float ls
+
+pub part_no_float : (p : Part) → has_float (data_of p) ≡ false
+part_no_float (parts.Text t) = refl
+part_no_float (parts.Id id) = refl
+part_no_float (parts.Number n) = refl
+part_no_float (parts.Decimal n) = refl
+part_no_float (parts.FourDigits n) = refl
+part_no_float (parts.Moment second) = refl
+part_no_float (parts.Language language) = refl
+part_no_float (parts.Money amount currency) = refl
+part_no_float (parts.Buyer id name) = refl
+part_no_float (parts.BuyerId id) = refl
+part_no_float (parts.Tenderer id name) = refl
+part_no_float (parts.TendererId id) = refl
+part_no_float (parts.Ocid prefix notice) = refl
+part_no_float (parts.ReleaseId prefix notice seq) = refl
+part_no_float (parts.ItemId lot id) = refl
+part_no_float (parts.Moved before after) = refl
+part_no_float (parts.Raised amount) = refl
+part_no_float (parts.Cut amount) = refl
+part_no_float (parts.Address base notice route) = refl
+part_no_float (parts.Only t) = refl
+part_no_float (parts.OnlyId id) = refl
+part_no_float (parts.Both t u) = refl
+
+-- ---- a member that is pushed
+
+joins : (later : Bool) (k : List ℕ) (d : Data) (ms : Members) → member_text later k (compact_text d) ++ members_text true ms ≡ members_text later (member k d ms)
+joins later k d ms =
+    append_assoc (comma_if later) (quoted k ++ 58 ∷ compact_text d) (members_text true ms)
+    ∙ ap (λ (r : List ℕ). comma_if later ++ r) (append_assoc (quoted k) (58 ∷ compact_text d) (members_text true ms))
+
+pub pushed : (new old : List ℕ) (later : Bool) (k : List ℕ) (d : Data) (ms : Members) → new ≡ old ++ member_text later k (compact_text d)
+    → new ++ members_text true ms ≡ old ++ members_text later (member k d ms)
+pushed new old later k d ms e =
+    ap (λ (r : List ℕ). r ++ members_text true ms) e
+    ∙ append_assoc old (member_text later k (compact_text d)) (members_text true ms)
+    ∙ ap (λ (r : List ℕ). old ++ r) (joins later k d ms)
+
+pub empty_none : (n : ℕ) → (n == 0) ≡ true → n ≡ 0
+empty_none zero h = refl
+empty_none (suc n) h = let no : (suc n == 0) ≡ false = grind (arith, rules) in absurd (true≢false (sym h ∙ no))
+
+pub empty_some : (n : ℕ) → (n == 0) ≡ false → 0 < n
+empty_some zero h = absurd (true≢false h)
+empty_some (suc n) h = omega arith
+
+pub extensions_none : (ls : List (List ℕ)) (ms : Members) → length ls ≡ 0 → with_extensions ls ms ≡ ms
+extensions_none [] ms e = refl
+extensions_none (l ∷ ls) ms e = absurd (omega arith)
+
+pub extensions_some : (ls : List (List ℕ)) (ms : Members) → 0 < length ls → with_extensions ls ms ≡ member (codes "extensions") (texts ls) ms
+extensions_some [] ms e = absurd (omega arith)
+extensions_some (l ∷ ls) ms e = refl
+
+-- ---- rows that keep releases
+
+pub kept_list : (later : Bool) (rs : List ReleaseRow) (ds : List Data) → AreKept rs ds → spliced later rs ++ 93 ∷ [] ≡ items_text later (items_of ds)
+kept_list later [] [] h = refl
+kept_list later [] (d ∷ ds) h = absurd h
+kept_list later (r ∷ rs) [] h = absurd h
+kept_list later (r ∷ rs) (d ∷ ds) h =
+    append_assoc (comma_if later) (r.text ++ spliced true rs) (93 ∷ [])
+    ∙ ap (λ (x : List ℕ). comma_if later ++ x) (append_assoc r.text (spliced true rs) (93 ∷ [])
+    ∙ ap (λ (x : List ℕ). r.text ++ x) (kept_list true rs ds h.1)
+    ∙ ap (λ (x : List ℕ). x ++ items_text true (items_of ds)) h.0.text)
+
+kept_length : (rs : List ReleaseRow) (ds : List Data) → AreKept rs ds → length rs ≡ length ds
+kept_length [] [] h = refl
+kept_length [] (d ∷ ds) h = absurd h
+kept_length (r ∷ rs) [] h = absurd h
+kept_length (r ∷ rs) (d ∷ ds) h = ap (λ (n : ℕ). suc n) (kept_length rs ds h.1)
+
+kept_date : (rs : List ReleaseRow) (ds : List Data) (n : ℕ) → AreKept rs ds → n < length rs
+    → date_of (get_or ds n null) ≡ moment_text (get_or (map moment_of rs) n 0)
+kept_date [] ds n h low = absurd (omega arith)
+kept_date (r ∷ rs) [] n h low = absurd h
+kept_date (r ∷ rs) (d ∷ ds) zero h low = h.0.date
+kept_date (r ∷ rs) (d ∷ ds) (suc n) h low = kept_date rs ds n h.1 (omega arith)
+
+pub kept_last : (rs : List ReleaseRow) (d : Data) (ds : List Data) → AreKept rs (d ∷ ds)
+    → last_date (d ∷ ds) ≡ moment_text (get_or (map moment_of rs) (length rs - 1) 0)
+kept_last [] d ds h = absurd h
+kept_last (r ∷ rs) d ds h =
+    let e : length (r ∷ rs) ≡ length (d ∷ ds) = kept_length (r ∷ rs) (d ∷ ds) h in
+    ap (λ (n : ℕ). date_of (get_or (d ∷ ds) (n - 1) null)) (sym e) ∙ kept_date (r ∷ rs) (d ∷ ds) (length (r ∷ rs) - 1) h (omega arith)
+
+-- ---- members in the order of their names
+
+pub releases_in_order : (ls : List (List ℕ)) (p u v : List ℕ) (ms : Members) (d : Data) (ds : Items)
+    → with_entries (
+    (codes "extensions", texts ls)
+    ∷ (codes "publishedDate", text p)
+    ∷ (codes "uri", text u)
+    ∷ (codes "version", text v)
+    ∷ (codes "publisher", object ms)
+    ∷ (codes "releases", array (item d ds))
+    ∷ []) no_members
+    ≡ with_extensions ls (member (codes "publishedDate") (text p) (member (codes "publisher") (object ms)
+    (member (codes "releases") (array (item d ds)) (member (codes "uri") (text u) (member (codes "version") (text v) no_members)))))
+releases_in_order [] p u v ms d ds = refl
+releases_in_order (l ∷ ls) p u v ms d ds = refl
+
+pub records_in_order : (ls : List (List ℕ)) (p u v : List ℕ) (ms : Members) (d : Data) (ds : Items)
+    → with_entries (
+    (codes "extensions", texts ls)
+    ∷ (codes "publishedDate", text p)
+    ∷ (codes "uri", text u)
+    ∷ (codes "version", text v)
+    ∷ (codes "publisher", object ms)
+    ∷ (codes "records", array (item d ds))
+    ∷ []) no_members
+    ≡ with_extensions ls (member (codes "publishedDate") (text p) (member (codes "publisher") (object ms)
+    (member (codes "records") (array (item d ds)) (member (codes "uri") (text u) (member (codes "version") (text v) no_members)))))
+records_in_order [] p u v ms d ds = refl
+records_in_order (l ∷ ls) p u v ms d ds = refl
+
+pub record_in_order : (o : List ℕ) (c d : Data) (ds : Items) → is_empty_list c ≡ false
+    → with_entries ((codes "ocid", text o) ∷ (codes "compiledRelease", c) ∷ (codes "releases", array (item d ds)) ∷ []) no_members
+    ≡ member (codes "compiledRelease") c (member (codes "ocid") (text o) (member (codes "releases") (array (item d ds)) no_members))
+record_in_order o c d ds e =
+    ap (λ (b : Bool). put (codes "releases") (array (item d ds))
+    (if b then member (codes "ocid") (text o) no_members else put (codes "compiledRelease") c (member (codes "ocid") (text o) no_members))) e

@@ -1,0 +1,7 @@
+use Rattle.std.proofs.Common.{◌≡◌, map, take}
+use Rattle.serde_json.specs.View.{view}
+use Rattle.ocds_release.specs.Awards.{ended_award}
+use Rattle.ocds_release.proofs.events.cancel.awards_of.Given as goal
+
+abbrev pub invariant-loop-award : goal.invariant-loop-award
+invariant-loop-award l = map view l.list.items ≡ map ended_award (take l.award-index l.awards)

@@ -1,0 +1,7 @@
+use Rattle.std.proofs.Common.{◌≡◌, ◌++◌, map, take}
+use Rattle.serde_json.specs.View.{view}
+use Rattle.ocds_release.specs.Events.Publish.{published_item}
+use Rattle.ocds_release.proofs.events.publish.push_items.Given as goal
+
+abbrev pub invariant-loop-item : goal.invariant-loop-item
+invariant-loop-item l = map view l.list.items ≡ map view l.fn.list.items ++ map (published_item l.lot.id) (take l.item-index l.lot.items)

@@ -1,0 +1,17 @@
+use Rattle.std.proofs.Common.{refl}
+use Rattle.std.specs.Fmt.{digits}
+use Rattle.serde_json.proofs.OnLiterals.{serde_json_on_literals}
+use Rattle.office_values.specs.Moments.{moment_text, year_after, month_after}
+use Rattle.ocds_release.proofs.examples.worked_packages.Goals as goal
+
+pub returns-clause-first : goal.returns-clause-first
+unfolding serde_json_on_literals digits moment_text year_after month_after
+returns-clause-first c = refl
+
+pub returns-clause-releases : goal.returns-clause-releases
+unfolding serde_json_on_literals digits moment_text year_after month_after
+returns-clause-releases c = refl
+
+pub returns-clause-record : goal.returns-clause-record
+unfolding serde_json_on_literals digits moment_text year_after month_after
+returns-clause-record c = refl

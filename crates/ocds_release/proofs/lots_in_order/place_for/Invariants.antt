@@ -1,0 +1,6 @@
+use Rattle.std.proofs.Common.{map, take}
+use Rattle.ocds_release.specs.Inside.Earlier.{AreEarlier}
+use Rattle.ocds_release.proofs.lots_in_order.place_for.Given as goal
+
+abbrev pub invariant-loop-place : goal.invariant-loop-place
+invariant-loop-place l = AreEarlier l.id (take l.place (map (λ r. r.now.id) l.order))

@@ -1,0 +1,6 @@
+use Rattle.std.proofs.Common.{◌≡◌, map, take}
+use Rattle.ocds_release.specs.TenderStatuses.{state_cancelled}
+use Rattle.ocds_release.proofs.tender_status.states_cancelled.Given as goal
+
+abbrev pub invariant-loop-row : goal.invariant-loop-row
+invariant-loop-row l = l.states.items ≡ map state_cancelled (take l.row-index l.lots)

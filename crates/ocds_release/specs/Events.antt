@@ -1,0 +1,11 @@
+pub mod Publish
+pub mod Amend
+pub mod Open
+pub mod Award
+pub mod NoAward
+pub mod Fail
+pub mod Cancel
+pub mod Sign
+pub mod AmendContract
+pub mod Pay
+pub mod End

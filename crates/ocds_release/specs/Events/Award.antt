@@ -1,0 +1,35 @@
+-- An award.
+use Rattle.std.specs.Prelude.{ℕ, List, [], ◌∷◌, codes}
+use Rattle.serde_json.specs.Data.{Data}
+use Rattle.office_values.specs.Moments.{moment_text}
+use Rattle.office_values.specs.declared.settings.Settings.{Settings}
+use Rattle.ocds_release.specs.Objects.{text, texts, decimal_id, array_of, object_of, money, tenderer_reference}
+use Rattle.ocds_release.specs.Texts.{tenderer_id}
+use Rattle.ocds_release.specs.Releases.{release, tags}
+use Rattle.ocds_release.specs.declared.event.Awarded.{Awarded}
+
+-- the winner, who is a supplier now (OCDS 1.1, Organization, codelist partyRole)
+abbrev pub winner : Awarded → Data
+winner e = object_of (
+    (codes "id", text (tenderer_id e.winner.id))
+    ∷ (codes "roles", texts (codes "tenderer" ∷ codes "supplier" ∷ []))
+    ∷ [])
+
+-- the award of its lot to the winner, at its price (OCDS 1.1, Award)
+abbrev pub award_data : List ℕ → ℕ → Awarded → Data
+award_data currency t e = object_of (
+    (codes "id", decimal_id e.award)
+    ∷ (codes "status", text (codes "active"))
+    ∷ (codes "date", text (moment_text t))
+    ∷ (codes "value", money e.price currency)
+    ∷ (codes "relatedLots", texts (e.lot ∷ []))
+    ∷ (codes "suppliers", array_of (tenderer_reference e.winner.id e.winner.name ∷ []))
+    ∷ [])
+
+-- tag `award`, the winner as a party, and the award
+abbrev pub award_release : Settings → ℕ → ℕ → Awarded → Data
+award_release settings seq t e = release settings seq t e.notice (
+    tags (codes "award" ∷ [])
+    ∷ (codes "parties", array_of (winner e ∷ []))
+    ∷ (codes "awards", array_of (award_data settings.currency t e ∷ []))
+    ∷ [])

@@ -1,0 +1,22 @@
+-- The end of a contract.
+use Rattle.std.specs.Prelude.{ℕ, [], ◌∷◌, codes}
+use Rattle.serde_json.specs.Data.{Data}
+use Rattle.office_values.specs.declared.settings.Settings.{Settings}
+use Rattle.ocds_release.specs.Objects.{text, decimal_id, array_of, object_of}
+use Rattle.ocds_release.specs.Releases.{release, tags}
+use Rattle.ocds_release.specs.declared.event.ContractEnded.{ContractEnded}
+
+-- the contract, which is over (OCDS 1.1, codelist contractStatus)
+abbrev pub ended_contract : ℕ → Data
+ended_contract contract = object_of (
+    (codes "id", decimal_id contract)
+    ∷ (codes "awardID", decimal_id contract)
+    ∷ (codes "status", text (codes "terminated"))
+    ∷ [])
+
+-- tag `contractTermination`, and the contract
+abbrev pub end_release : Settings → ℕ → ℕ → ContractEnded → Data
+end_release settings seq t e = release settings seq t e.notice (
+    tags (codes "contractTermination" ∷ [])
+    ∷ (codes "contracts", array_of (ended_contract e.contract ∷ []))
+    ∷ [])

@@ -1,0 +1,38 @@
+-- The opening of tenders.
+use Rattle.std.specs.Prelude.{ℕ, List, [], ◌∷◌, codes, map, length}
+use Rattle.serde_json.specs.Data.{Data, number, unsigned}
+use Rattle.office_values.specs.declared.settings.Settings.{Settings}
+use Rattle.ocds_release.specs.Objects.{text, texts, array_of, object_of, tenderer_reference}
+use Rattle.ocds_release.specs.Texts.{tenderer_id}
+use Rattle.ocds_release.specs.Tenderers.{Tenderer}
+use Rattle.ocds_release.specs.Releases.{release, tags}
+use Rattle.ocds_release.specs.declared.event.Opened.{Opened}
+
+-- a tenderer as a party, with the address (OCDS 1.1, Organization, Address)
+abbrev pub opened_party : Tenderer → Data
+opened_party p = object_of (
+    (codes "id", text (tenderer_id p.id))
+    ∷ (codes "name", text p.name)
+    ∷ (codes "roles", texts (codes "tenderer" ∷ []))
+    ∷ (codes "address", object_of ((codes "streetAddress", text p.address) ∷ []))
+    ∷ [])
+
+-- a tenderer by identifier and name
+abbrev pub tenderer_reference_of : Tenderer → Data
+tenderer_reference_of p = tenderer_reference p.id p.name
+
+-- the tender with its tenderers, and how many they are (OCDS 1.1, Tender)
+abbrev pub opened_tender : Opened → Data
+opened_tender e = object_of (
+    (codes "id", text e.notice)
+    ∷ (codes "numberOfTenderers", number (unsigned (length e.tenderers)))
+    ∷ (codes "tenderers", array_of (map tenderer_reference_of e.tenderers))
+    ∷ [])
+
+-- tag `tenderUpdate`, the tenderers as parties, and the tender
+abbrev pub open_release : Settings → ℕ → ℕ → Opened → Data
+open_release settings seq t e = release settings seq t e.notice (
+    tags (codes "tenderUpdate" ∷ [])
+    ∷ (codes "parties", array_of (map opened_party e.tenderers))
+    ∷ (codes "tender", opened_tender e)
+    ∷ [])

@@ -1,0 +1,95 @@
+-- A publication.
+use Rattle.std.specs.Prelude.{ℕ, List, [], ◌∷◌, ◌++◌, codes, map}
+use Rattle.serde_json.specs.Data.{Data, Members, object, no_members, number, unsigned}
+use Rattle.office_values.specs.Moments.{moment_text}
+use Rattle.office_values.specs.declared.settings.Settings.{Settings}
+use Rattle.office_acts.specs.declared.item.Item.{Item}
+use Rattle.office_acts.specs.declared.lot.NewLot.{NewLot}
+use Rattle.office_acts.specs.declared.notice.Criteria.{Criteria}
+use Rattle.office_acts.specs.declared.notice.Criteria.TheVariants.{Price, Points}
+use Rattle.office_base.specs.Sums.{sum_over}
+use Rattle.ocds_release.specs.LotsInOrder.{lots_in_order}
+use Rattle.ocds_release.specs.Objects.{text, texts, array_of, object_of, with_entries, money}
+use Rattle.ocds_release.specs.Texts.{buyer_id, item_id}
+use Rattle.ocds_release.specs.Releases.{release, tags, buyer_of}
+use Rattle.ocds_release.specs.declared.event.Published.{Published}
+
+-- what decides between tenders (OCDS 1.1, codelist awardCriteria)
+abbrev pub criteria_code : Criteria → List ℕ
+criteria_code Price = codes "priceOnly"
+criteria_code (Points weight) = codes "ratedCriteria"
+
+-- a lot, with its own estimate (OCDS 1.1, lots extension, Lot)
+abbrev pub published_lot : List ℕ → NewLot → Data
+published_lot currency lot = object_of (
+    (codes "id", text lot.id)
+    ∷ (codes "status", text (codes "active"))
+    ∷ (codes "title", text lot.title)
+    ∷ (codes "value", money lot.estimate currency)
+    ∷ [])
+
+-- an item of a lot (OCDS 1.1, Item)
+abbrev pub published_item : List ℕ → Item → Data
+published_item lot item = object_of (
+    (codes "description", text item.title)
+    ∷ (codes "id", text (item_id lot item.id))
+    ∷ (codes "quantity", number (unsigned item.quantity))
+    ∷ (codes "relatedLot", text lot)
+    ∷ [])
+
+-- the items of lots, each lot's as they were given
+abbrev pub items_of_lot : NewLot → List Data
+items_of_lot lot = map (published_item lot.id) lot.items
+
+abbrev pub items_of_lots : List NewLot → List Data
+items_of_lots [] = []
+items_of_lots (lot ∷ lots) = items_of_lot lot ++ items_of_lots lots
+
+abbrev pub estimate_of : NewLot → ℕ
+estimate_of lot = lot.estimate
+
+-- the buyer as a party (OCDS 1.1, Organization, codelist partyRole)
+abbrev pub buyer_party : Settings → Data
+buyer_party settings = object_of (
+    (codes "id", text (buyer_id settings.buyer.id))
+    ∷ (codes "name", text settings.buyer.name)
+    ∷ (codes "roles", texts (codes "buyer" ∷ codes "procuringEntity" ∷ []))
+    ∷ [])
+
+-- the budget of the procurement (OCDS 1.1, Planning, Budget)
+abbrev pub planning : List ℕ → ℕ → Data
+planning currency amount = object_of ((codes "budget", object_of ((codes "amount", money amount currency) ∷ [])) ∷ [])
+
+-- when tenders are received (OCDS 1.1, Period)
+abbrev pub period : ℕ → ℕ → Data
+period from to = object_of ((codes "endDate", text (moment_text to)) ∷ (codes "startDate", text (moment_text from)) ∷ [])
+
+-- what the tender is, beside its value, its lots and its period (OCDS 1.1, Tender)
+abbrev pub tender_terms : Settings → Published → Members
+tender_terms settings e = with_entries (
+    (codes "awardCriteria", text (criteria_code e.criteria))
+    ∷ (codes "id", text e.notice)
+    ∷ (codes "procurementMethod", text (codes "open"))
+    ∷ (codes "procuringEntity", buyer_of settings)
+    ∷ (codes "status", text (codes "active"))
+    ∷ (codes "submissionMethod", texts (codes "electronicSubmission" ∷ []))
+    ∷ (codes "title", text e.title)
+    ∷ []) no_members
+
+-- the tender: the sum of the estimates as its value, its lots in the order of their identifiers, their items, from now to the deadline
+abbrev pub published_tender : Settings → ℕ → Published → Data
+published_tender settings t e = object (with_entries (
+    (codes "value", money (sum_over estimate_of e.lots) settings.currency)
+    ∷ (codes "items", array_of (items_of_lots (lots_in_order e.lots)))
+    ∷ (codes "lots", array_of (map (published_lot settings.currency) (lots_in_order e.lots)))
+    ∷ (codes "tenderPeriod", period t e.deadline)
+    ∷ []) (tender_terms settings e))
+
+-- tags `planning` and `tender`, the buyer as a party, the sum of the estimates as the budget, and the tender
+abbrev pub publish_release : Settings → ℕ → ℕ → Published → Data
+publish_release settings seq t e = release settings seq t e.notice (
+    tags (codes "planning" ∷ codes "tender" ∷ [])
+    ∷ (codes "parties", array_of (buyer_party settings ∷ []))
+    ∷ (codes "planning", planning settings.currency (sum_over estimate_of e.lots))
+    ∷ (codes "tender", published_tender settings t e)
+    ∷ [])

@@ -1,0 +1,5 @@
+pub mod Words
+pub mod Parts
+pub mod Built
+pub mod Earlier
+pub mod Splicing

@@ -1,0 +1,15 @@
+pub mod TenderStatuses
+pub mod Tenderers
+pub mod LotsInOrder
+pub mod Texts
+pub mod Objects
+pub mod Releases
+pub mod Amendments
+pub mod Tenders
+pub mod Awards
+pub mod Events
+pub mod EventReleases
+pub mod Packages
+pub mod KeptReleases
+pub mod Examples
+pub mod Inside

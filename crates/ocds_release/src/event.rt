@@ -1,0 +1,134 @@
+//! What happened to a notice, as far as a release speaks of it. Contracts see an event as plain values, without references.
+use crate::borrowed::{BorrowedLine, Listed, PublishedLots, Tenderers};
+use crate::tender_status::TenderStatus;
+use office_acts::amounts::EntryAmount;
+use office_acts::contract::ChangeKind;
+use office_acts::notice::Criteria;
+use office_values::given::GivenNumber;
+use office_values::id::Id;
+use office_values::moment::Moment;
+use office_values::money::{Amount, Total};
+
+/// Who is meant, by identifier and name.
+#[derive(Drop)]
+pub struct Party<'a> {
+    pub id: Id,
+    pub name: BorrowedLine<'a>,
+}
+
+/// A notice was published, with lots that are in any order.
+#[derive(Drop)]
+pub struct Published<'a> {
+    pub notice: Id,
+    pub title: BorrowedLine<'a>,
+    pub deadline: Moment,
+    pub criteria: Criteria,
+    pub lots: PublishedLots<'a>,
+}
+
+/// The deadline of a notice was moved.
+#[derive(Drop)]
+pub struct NoticeAmended<'a> {
+    pub notice: Id,
+    pub before: Moment,
+    pub after: Moment,
+    pub rationale: BorrowedLine<'a>,
+}
+
+/// The tenders of a notice were opened: those of these tenderers, each once, by their identifiers.
+#[derive(Drop)]
+pub struct Opened<'a> {
+    pub notice: Id,
+    pub tenderers: Tenderers<'a>,
+}
+
+/// A lot was awarded.
+#[derive(Drop)]
+pub struct Awarded<'a> {
+    pub notice: Id,
+    pub award: GivenNumber,
+    pub lot: Id,
+    pub winner: Party<'a>,
+    pub price: Amount,
+}
+
+/// A lot was found to have no admissible tender; the status is that of the tender after it.
+#[derive(Drop)]
+pub struct NotAwarded {
+    pub notice: Id,
+    pub lot: Id,
+    pub status: TenderStatus,
+}
+
+/// A winner failed to sign.
+#[derive(Drop)]
+pub struct AwardFailed {
+    pub notice: Id,
+    pub award: GivenNumber,
+}
+
+/// What was open of a notice was cancelled: these lots by their identifiers, and these awards, which were active, by their numbers.
+/// The status is that of the tender after it.
+#[derive(Drop)]
+pub struct NoticeCancelled<'a> {
+    pub notice: Id,
+    pub lots: Listed<'a, Id>,
+    pub awards: Listed<'a, GivenNumber>,
+    pub rationale: BorrowedLine<'a>,
+    pub status: TenderStatus,
+}
+
+/// A contract was signed, whose number is that of its award; the status is that of the tender after it.
+#[derive(Drop)]
+pub struct Signed {
+    pub notice: Id,
+    pub contract: GivenNumber,
+    pub lot: Id,
+    pub price: Amount,
+    pub status: TenderStatus,
+}
+
+/// A contract was raised or cut: by how much, and what it is worth after it.
+#[derive(Drop)]
+pub struct ContractAmended<'a> {
+    pub notice: Id,
+    pub contract: GivenNumber,
+    pub entry: Id,
+    pub kind: ChangeKind,
+    pub amount: EntryAmount,
+    pub value: Total,
+    pub rationale: BorrowedLine<'a>,
+}
+
+/// Something was paid under a contract.
+#[derive(Drop)]
+pub struct Paid<'a> {
+    pub notice: Id,
+    pub contract: GivenNumber,
+    pub entry: Id,
+    pub amount: EntryAmount,
+    pub payee: Party<'a>,
+}
+
+/// A contract ended.
+#[derive(Drop)]
+pub struct ContractEnded {
+    pub notice: Id,
+    pub contract: GivenNumber,
+}
+
+/// What happened to a notice: each event has a release of its own.
+#[derive(Drop)]
+pub enum Event<'a> {
+    Publish(Published<'a>),
+    Amend(NoticeAmended<'a>),
+    Open(Opened<'a>),
+    Award(Awarded<'a>),
+    NoAward(NotAwarded),
+    Fail(AwardFailed),
+    Cancel(NoticeCancelled<'a>),
+    Sign(Signed),
+    AmendContract(ContractAmended<'a>),
+    Pay(Paid<'a>),
+    End(ContractEnded),
+}

@@ -1,0 +1,78 @@
+//! An amendment of a contract.
+ghost use Rattle.std.specs.Prelude.{◌≡◌, IfOk};
+ghost use Rattle.serde_json.specs.View.{view};
+ghost use Rattle.ocds_release.specs.Objects.{text};
+ghost use Rattle.ocds_release.specs.Events.AmendContract.{amend_contract_release, amended_contract, change_text};
+
+use crate::amendment::amendment_of;
+use crate::event::ContractAmended;
+use crate::object::{Object, list_of_one};
+use crate::part::{Part, value_of};
+use crate::release::{Head, release_with};
+use office_acts::contract::ChangeKind;
+use office_base::counts::Sequence;
+use office_values::moment::Moment;
+use office_values::settings::{Currency, Settings};
+use serde_json::Value;
+use std::alloc::{AllocError, Global};
+
+fn description_of<'a>(alloc: Global, event: &'a ContractAmended<'a>) -> Result<Value, AllocError>
+    ensures { IfOk result (λ v. view v ≡ text (change_text event.now.kind event.now.amount)) }
+{
+    match event.kind {
+        ChangeKind::Raise => value_of(alloc, &Part::Raised(event.amount.get())),
+        ChangeKind::Cut => value_of(alloc, &Part::Cut(event.amount.get())),
+    }
+}
+
+// The contract at its new value, and the amendment.
+fn contract_of<'a>(
+    alloc: Global,
+    currency: Currency,
+    t: Moment,
+    event: &'a ContractAmended<'a>,
+) -> Result<Value, AllocError>
+    ensures { IfOk result (λ v. view v ≡ amended_contract currency t event.now) }
+{
+    let id = value_of(alloc, &Part::Id(event.entry))?;
+    let description = description_of(alloc, event)?;
+    let amendment = amendment_of(alloc, id, t, event.rationale.as_str(), description)?;
+    let number = event.contract.get();
+    let mut contract = Object::new(alloc);
+    contract.put(
+        alloc,
+        &[
+            ("id", Part::Decimal(number)),
+            ("awardID", Part::Decimal(number)),
+            ("value", Part::Money(event.value.units(), currency)),
+        ],
+    )?;
+    contract.put_value(alloc, "amendments", list_of_one(alloc, amendment)?)?;
+    Ok(contract.into_value())
+}
+
+/// The release of an amendment of a contract.
+pub(crate) fn amend_contract<'a>(
+    alloc: Global,
+    settings: &'a Settings,
+    seq: Sequence,
+    t: Moment,
+    event: &'a ContractAmended<'a>,
+) -> Result<Value, AllocError>
+    ensures { IfOk result (λ v. view v ≡ amend_contract_release settings.now seq t event.now) }
+{
+    let contract = contract_of(alloc, settings.currency, t, event)?;
+    let head = Head {
+        notice: event.notice,
+        seq,
+        t,
+    };
+    let mut release = release_with(
+        alloc,
+        settings,
+        head,
+        &[("tag", Part::Only("contractAmendment"))],
+    )?;
+    release.put_value(alloc, "contracts", list_of_one(alloc, contract)?)?;
+    Ok(release.into_value())
+}

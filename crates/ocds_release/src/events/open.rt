@@ -1,0 +1,104 @@
+//! The opening of tenders.
+ghost use Rattle.std.specs.Prelude.{◌≡◌, IfOk, map};
+ghost use Rattle.serde_json.specs.View.{view};
+ghost use Rattle.ocds_release.specs.Tenderers.{tenderer_of};
+ghost use Rattle.ocds_release.specs.Events.Open.{open_release, opened_party, tenderer_reference_of, opened_tender};
+
+use crate::event::Opened;
+use crate::object::{Object, object_with};
+use crate::part::{Part, value_of};
+use crate::release::{Head, release_with};
+use office_base::counts::Sequence;
+use office_base::records::TendererRow;
+use office_values::id::Id;
+use office_values::moment::Moment;
+use office_values::settings::Settings;
+use serde_json::Value;
+use std::alloc::{AllocError, Global};
+
+// The tenderer as a party.
+fn party_of(alloc: Global, row: &TendererRow) -> Result<Value, AllocError>
+    ensures { IfOk result (λ v. view v ≡ opened_party (tenderer_of row.now)) }
+{
+    let address = object_with(
+        alloc,
+        &[("streetAddress", Part::Text(row.address.as_str()))],
+    )?;
+    let mut party = Object::new(alloc);
+    party.put(
+        alloc,
+        &[
+            ("id", Part::TendererId(row.tenderer)),
+            ("name", Part::Text(row.name.as_str())),
+            ("roles", Part::Only("tenderer")),
+        ],
+    )?;
+    party.put_value(alloc, "address", address)?;
+    Ok(party.into_value())
+}
+
+fn parties_of(alloc: Global, rows: &[TendererRow]) -> Result<Vec<Value>, AllocError>
+    ensures { IfOk result (λ list. map view list.items ≡ map opened_party (map tenderer_of rows.now)) }
+{
+    let mut list = Vec::new(alloc);
+    for row in rows {
+        list.push(party_of(alloc, row)?)?;
+    }
+    Ok(list)
+}
+
+fn references_of(alloc: Global, rows: &[TendererRow]) -> Result<Vec<Value>, AllocError>
+    ensures { IfOk result (λ list. map view list.items ≡ map tenderer_reference_of (map tenderer_of rows.now)) }
+{
+    let mut list = Vec::new(alloc);
+    for row in rows {
+        let reference = Part::Tenderer(row.tenderer, row.name.as_str());
+        list.push(value_of(alloc, &reference)?)?;
+    }
+    Ok(list)
+}
+
+// The tender with the tenderers whose tenders were opened.
+fn tender_of(alloc: Global, event: &Opened) -> Result<Value, AllocError>
+    ensures { IfOk result (λ v. view v ≡ opened_tender event.now) }
+{
+    let tenderers = Value::Array(references_of(alloc, event.tenderers.as_slice())?);
+    let mut tender = Object::new(alloc);
+    tender.put(
+        alloc,
+        &[
+            ("id", Part::Id(event.notice)),
+            ("numberOfTenderers", Part::Number(event.tenderers.count())),
+        ],
+    )?;
+    tender.put_value(alloc, "tenderers", tenderers)?;
+    Ok(tender.into_value())
+}
+
+/// The release of an opening of tenders.
+pub(crate) fn open<'a>(
+    alloc: Global,
+    settings: &'a Settings,
+    seq: Sequence,
+    t: Moment,
+    event: &'a Opened<'a>,
+) -> Result<Value, AllocError>
+    ensures { IfOk result (λ v. view v ≡ open_release settings.now seq t event.now) }
+{
+    let parties = Value::Array(parties_of(alloc, event.tenderers.as_slice())?);
+    let tender = tender_of(alloc, event)?;
+    let head = Head {
+        notice: event.notice,
+        seq,
+        t,
+    };
+    let mut release = release_with(
+        alloc,
+        settings,
+        head,
+        &[("tag", Part::Only("tenderUpdate"))],
+    )?;
+    release.put_value(alloc, "parties", parties)?;
+    release.put_value(alloc, "tender", tender)?;
+    Ok(release.into_value())
+}

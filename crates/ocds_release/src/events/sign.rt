@@ -1,0 +1,60 @@
+//! The signing of a contract.
+ghost use Rattle.std.specs.Prelude.{◌≡◌, IfOk};
+ghost use Rattle.serde_json.specs.View.{view};
+ghost use Rattle.ocds_release.specs.Events.Sign.{sign_release, signed_contract};
+
+use crate::event::Signed;
+use crate::object::{list_of_one, object_with};
+use crate::part::Part;
+use crate::release::{Head, release_with};
+use crate::tender::tender_with_lot;
+use office_base::counts::Sequence;
+use office_values::moment::Moment;
+use office_values::settings::{Currency, Settings};
+use serde_json::Value;
+use std::alloc::{AllocError, Global};
+
+// The contract as it was signed.
+fn contract_of(
+    alloc: Global,
+    currency: Currency,
+    t: Moment,
+    event: &Signed,
+) -> Result<Value, AllocError>
+    ensures { IfOk result (λ v. view v ≡ signed_contract currency t event.now) }
+{
+    let number = event.contract.get();
+    object_with(
+        alloc,
+        &[
+            ("id", Part::Decimal(number)),
+            ("awardID", Part::Decimal(number)),
+            ("status", Part::Text("active")),
+            ("dateSigned", Part::Moment(t)),
+            ("value", Part::Money(event.price.units(), currency)),
+        ],
+    )
+}
+
+/// The release of the signing of a contract.
+pub(crate) fn sign(
+    alloc: Global,
+    settings: &Settings,
+    seq: Sequence,
+    t: Moment,
+    event: &Signed,
+) -> Result<Value, AllocError>
+    ensures { IfOk result (λ v. view v ≡ sign_release settings.now seq t event.now) }
+{
+    let contract = contract_of(alloc, settings.currency, t, event)?;
+    let tender = tender_with_lot(alloc, event.notice, event.status, event.lot, "complete")?;
+    let head = Head {
+        notice: event.notice,
+        seq,
+        t,
+    };
+    let mut release = release_with(alloc, settings, head, &[("tag", Part::Only("contract"))])?;
+    release.put_value(alloc, "contracts", list_of_one(alloc, contract)?)?;
+    release.put_value(alloc, "tender", tender)?;
+    Ok(release.into_value())
+}

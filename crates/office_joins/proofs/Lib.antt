@@ -1,0 +1,17 @@
+pub mod Levels
+pub mod Nested
+pub mod Ascending
+pub mod Cells
+pub mod Matched
+pub mod Shown
+pub mod Qualified
+pub mod Whole
+pub mod Scoped
+pub mod Sources
+pub mod Joining
+pub mod Laws
+pub mod LotsMatched
+pub mod LotsShown
+pub mod LotsJoining
+pub mod BackAgain
+pub mod Stored

@@ -1,0 +1,10 @@
+pub mod Select
+pub mod SelectLots
+pub mod Cells
+pub mod Known
+pub mod Means
+pub mod Shows
+pub mod Standing
+pub mod Reading
+pub mod ReadBack
+pub mod Plain

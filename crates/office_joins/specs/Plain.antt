@@ -1,0 +1,10 @@
+-- The select of joined rows only reads.
+use Rattle.sqlite_schema.specs.declared.schema.Schema.{Schema}
+use Rattle.sqlite.specs.Listing.{understood}
+use Rattle.sqlite.specs.Given.{IsPlain}
+use Rattle.office_joins.specs.Select.{Trees4, list_joined}
+use Rattle.office_joins.specs.Known.{HoldsFour}
+
+-- wherever the four tables stand, it is no write that shows its rows, and it reads no clock
+abbrev pub JoinIsPlain : Type 0
+JoinIsPlain = (schema : Schema) (at : Trees4) → HoldsFour schema at → IsPlain (understood schema list_joined)

@@ -1,0 +1,8 @@
+pub mod Taken
+pub mod Entries
+pub mod Contracts
+pub mod Lots
+pub mod Lines
+pub mod Rooms
+pub mod Following
+pub mod Listed

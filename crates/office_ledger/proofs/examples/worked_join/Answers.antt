@@ -1,0 +1,5 @@
+use Rattle.std.proofs.Common.{refl}
+use Rattle.office_ledger.proofs.examples.worked_join.Goals as goal
+
+pub returns : goal.returns
+returns c = refl

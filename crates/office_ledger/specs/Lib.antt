@@ -1,0 +1,5 @@
+pub mod Joins
+pub mod WorkedJoin
+pub mod Taking
+pub mod Listing
+pub mod Inside

@@ -1,0 +1,156 @@
+//! The sums of a line's contracts, added up from the joined rows of its lots as they come.
+ghost use Rattle.std.specs.Prelude.{◌≡◌, ◌≤◌, ◌+◌, ◌-◌, ◌^◌, ◌<◌, ◌++◌, ℕ, List, [], ◌∷◌, length, OnOk, OnErr, IfOk, IfErr, None};
+ghost use Rattle.office_base.specs.Faults.{IsFaultOf};
+ghost use Rattle.office_base.specs.Joined.{sums_of_line};
+ghost use Rattle.office_base.specs.Tables.{Tables, IsSorted};
+ghost use Rattle.office_base.specs.declared.shelf.ShelfFault.TheVariants.{NoMemory};
+ghost use Rattle.office_ledger.specs.Joins.{joined_lots};
+ghost use Rattle.office_ledger.specs.Listing.{HasListed};
+ghost use Rattle.office_ledger.specs.Inside.Listing.{all_listed, is_coming, enter_listed, list_lot};
+ghost use Rattle.office_ledger.specs.declared.joined.JoinedLot.{JoinedLot};
+
+use crate::joined::{JoinedContract, JoinedLot};
+use crate::line_sums::sums_with;
+use office_base::ledger::ContractSums;
+use office_base::shelf::ShelfFault;
+use office_values::given::GivenNumber;
+use office_values::id::Id;
+use std::alloc::Global;
+use std::marker::Model;
+
+/// The contract whose rows are coming, and what it comes to so far.
+#[derive(Clone, Copy)]
+pub struct ComingContract {
+    notice: Id,
+    lot: Id,
+    contract: GivenNumber,
+    sums: ContractSums,
+}
+
+/// What contracts come to, as the joined rows of their lots come.
+#[derive(Drop)]
+pub struct ContractList {
+    done: Vec<ContractSums>,
+    coming: Option<ComingContract>,
+    left: u64,
+}
+
+impl Model for ContractList {
+    ghost use Rattle.office_ledger.specs.Listing.{Listing};
+    ghost use Rattle.office_ledger.specs.Inside.Listing.{EntriesFit};
+
+    ghost Value = { Listing };
+
+    ghost view = { λ s. record { listed = record { done = s.done.items; coming = s.coming }; left = s.left } };
+
+    ghost invariant = { λ s. EntriesFit s.left s.coming };
+}
+
+impl ContractList {
+    /// A list that has taken no row.
+    pub fn new(alloc: Global) -> ContractList
+        ensures { HasListed [] result }
+    {
+        ContractList {
+            done: Vec::new(alloc),
+            coming: None,
+            left: u64::MAX,
+        }
+    }
+
+    fn is_coming(&self, lot: &JoinedLot, contract: GivenNumber) -> bool
+        ensures { result ≡ is_coming lot.now contract self.now.listed.coming }
+    {
+        match &self.coming {
+            Some(coming) => {
+                coming.notice == lot.notice && coming.lot == lot.lot && coming.contract == contract
+            }
+            None => false,
+        }
+    }
+
+    // Counts the contract whose rows were coming among those that are done.
+    fn end_contract(&mut self) -> Result<(), ShelfFault>
+        ensures ended { OnOk result (self.new ≡ record { listed = record { done = all_listed self.old.listed; coming = None }; left = self.old.left }) }
+        ensures kept { OnErr result (self.new ≡ self.old) }
+        ensures fault { IfErr result (λ e. e ≡ NoMemory) }
+    {
+        let Some(coming) = self.coming else {
+            return Ok(());
+        };
+        match self.done.push(coming.sums) {
+            Ok(()) => {
+                self.coming = None;
+                Ok(())
+            }
+            Err(_) => Err(ShelfFault::NoMemory),
+        }
+    }
+
+    // The first row of a contract ends the one before.
+    fn enter(&mut self, lot: &JoinedLot, contract: &JoinedContract) -> Result<(), ShelfFault>
+        ensures entered { OnOk result (self.new ≡ record { listed = enter_listed lot.now contract.now self.old.listed; left = self.old.left }) }
+        ensures kept { OnErr result (self.new ≡ self.old) }
+        ensures fault { IfErr result (λ e. e ≡ NoMemory) }
+    {
+        if self.is_coming(lot, contract.contract) {
+            return Ok(());
+        }
+        self.end_contract()?;
+        self.coming = Some(ComingContract {
+            notice: lot.notice,
+            lot: lot.lot,
+            contract: contract.contract,
+            sums: ContractSums {
+                gained: contract.signed.units() as u128,
+                lost: contract.released.units() as u128,
+                paid: 0,
+            },
+        });
+        Ok(())
+    }
+
+    fn add(&mut self, lot: &JoinedLot) -> Result<(), ShelfFault>
+        ensures added { OnOk result (self.new ≡ record { listed = list_lot lot.now self.old.listed; left = self.old.left - 1 }) }
+        ensures counted { OnOk result (0 < self.old.left) }
+        ensures kept { OnErr result (self.new ≡ self.old) }
+        ensures fault { IfErr result (IsFaultOf (self.old.left ≡ 0)) }
+    {
+        let Some(left) = self.left.checked_sub(1) else {
+            return Err(ShelfFault::Store);
+        };
+        if let Some(contract) = &lot.contract {
+            self.enter(lot, contract)?;
+            // Counted first, so that there is room for the entry.
+            self.left = left;
+            if let (Some(entry), Some(coming)) = (&contract.entry, self.coming) {
+                self.coming = Some(ComingContract {
+                    sums: sums_with(entry, coming.sums),
+                    ..coming
+                });
+            }
+        }
+        self.left = left;
+        Ok(())
+    }
+
+    /// Takes a row more: a contract counts at the first of its rows. A fault leaves the list as it was.
+    pub fn take(&mut self, lot: JoinedLot) -> Result<(), ShelfFault>
+        ensures taken { (rows : List JoinedLot) → HasListed rows self.old → OnOk result (HasListed (rows ++ lot ∷ []) self.new) }
+        ensures kept { OnErr result (self.new ≡ self.old) }
+        ensures fault { (rows : List JoinedLot) → HasListed rows self.old → IfErr result (IsFaultOf (2 ^ 64 ≤ length (rows ++ lot ∷ []))) }
+    {
+        self.add(&lot)
+    }
+
+    /// The sums of the contracts of a line, where all joined rows of its lots were taken.
+    pub fn finish(mut self) -> Result<Vec<ContractSums>, ShelfFault>
+        ensures sums { (t : Tables) (line : List ℕ) → IsSorted t → HasListed (joined_lots line t) self → IfOk result (λ sums. sums.items ≡ sums_of_line line t) }
+        ensures fault { IfErr result (λ e. e ≡ NoMemory) }
+    {
+        match self.end_contract() {
+            Ok(()) => Ok(self.done),
+            Err(fault) => Err(fault),
+        }
+    }
+}

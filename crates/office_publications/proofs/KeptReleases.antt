@@ -1,0 +1,115 @@
+-- What is kept of releases stays kept.
+use Rattle.std.specs.Prelude.{◌≡◌, ℕ, Bool, true, false, cond, List, [], ◌∷◌, ◌++◌, map, filter, Option, Some, None, option_to_list, All}
+use Rattle.std.proofs.Common.{refl, sym, ◌∙◌, ap, subst}
+use Rattle.std.proofs.lemmas.List.{append-nil}
+use Rattle.std.proofs.lemmas.List.Elements.{All-append, All-nil, All-cons}
+use Rattle.ocds_merge.specs.Stored.{KeepsMerge}
+use Rattle.office_values.specs.Ids.{same_id}
+use Rattle.office_values.specs.declared.settings.Settings.{Settings}
+use Rattle.office_base.specs.Rows.{row_at}
+use Rattle.office_base.specs.Tables.{Tables, ChangesKeepOrder, after_puts, find_compiled, put_compiled, releases_of_notice}
+use Rattle.office_base.specs.declared.records.CompiledRow.{CompiledRow}
+use Rattle.office_base.specs.declared.records.ReleaseRow.{ReleaseRow}
+use Rattle.office_machine.specs.Accounts.{TablesAreInOrder}
+use Rattle.office_machine.specs.Machine.{Given, Means, effect, publication, publication_puts, puts_of}
+use Rattle.office_machine.specs.Releases.{ReleasesArePublished, published_of}
+use Rattle.office_machine.proofs.Aside.{after-append}
+use Rattle.office_publications.specs.Keeping.{KeepsReleases, PublicationReadsBack, kept_puts, kept_next, merge_puts, merged_row}
+use Rattle.office_publications.specs.Keeping.{KeptStepsReach, ReleasesStayKept, NothingIsKeptAtFirst}
+use Rattle.office_publications.specs.Merges.{AreMerged, CanBeMerged, body_in}
+use Rattle.office_publications.specs.Publishing.{publishing}
+use Rattle.office_publications.proofs.EffectsPutNoMerge.{no_merge}
+use Rattle.office_publications.proofs.KeptPuts.{merges_stand_beside}
+use Rattle.office_publications.proofs.MergesKept.{merges_stay}
+use Rattle.office_publications.proofs.NoMerges as no_merges
+
+pub reaches : ChangesKeepOrder → TablesAreInOrder → KeptStepsReach
+reaches keep sorted settings xs x reached given allowed = record {
+  reached = reached;
+  given = given;
+  allowed = allowed;
+  trees = (kept_next settings x).compiled;
+  in_order = (keep (kept_puts settings x) x.before (sorted (publishing settings) xs x.before reached)).compiled;
+  is = merges_stand_beside settings x;
+}
+
+-- the merges, where this is published
+abbrev with_merge : Tables → Option ReleaseRow → List CompiledRow → List CompiledRow
+with_merge s None rows = rows
+with_merge s (Some r) rows = put_compiled rows (merged_row s r)
+
+put_beside : (s : Tables) (p : Option ReleaseRow) (u : Tables)
+    → (after_puts (merge_puts s p) (after_puts (publication_puts p) u)).compiled ≡ with_merge s p u.compiled
+put_beside s None u = refl
+put_beside s (Some r) u = refl
+
+module _ (settings : Settings) (x : Given) where
+  abbrev means : Means
+  means = publishing settings
+
+  abbrev kept : Tables
+  kept = kept_next settings x
+
+  merges_are : kept.compiled ≡ with_merge x.before (publication means x) x.before.compiled
+  merges_are =
+      ap (λ (u : Tables). u.compiled) (after-append (puts_of means x) (merge_puts x.before (publication means x)) x.before)
+      ∙ ap (λ (u : Tables). (after_puts (merge_puts x.before (publication means x)) u).compiled)
+      (after-append (effect means x) (publication_puts (publication means x)) x.before)
+      ∙ put_beside x.before (publication means x) (after_puts (effect means x) x.before)
+      ∙ ap (with_merge x.before (publication means x))
+      (no_merges.merges_stay (effect means x) x.before (no_merge means x))
+
+  module _ (keeps : KeepsReleases x.before)
+      (releases : (n : List ℕ) → releases_of_notice n kept ≡ releases_of_notice n x.before ++ published_of means x n) where
+    quiet : publication means x ≡ None → KeepsReleases kept
+    quiet none = record { releases = λ n. subst (All CanBeMerged) (sym (same n)) (keeps.releases n); merged = merged }
+      where
+        same : (n : List ℕ) → releases_of_notice n kept ≡ releases_of_notice n x.before
+        same n =
+            releases n ∙ ap (λ p. releases_of_notice n x.before ++ filter (λ (r : ReleaseRow). same_id r.notice n) (option_to_list p)) none
+            ∙ append-nil (releases_of_notice n x.before)
+
+        trees : kept.compiled ≡ x.before.compiled
+        trees = merges_are ∙ ap (λ p. with_merge x.before p x.before.compiled) none
+
+        merged : AreMerged kept
+        merged n c found =
+            subst (λ rows. KeepsMerge c.text (map body_in rows)) (sym (same n)) (keeps.merged n c (ap (λ rows. find_compiled rows n) (sym trees) ∙ found))
+
+    more : (r : ReleaseRow) → CanBeMerged r → (b : Bool) → All CanBeMerged (cond b (r ∷ []) [])
+    more r can true = All-cons CanBeMerged r [] can (All-nil CanBeMerged)
+    more r can false = All-nil CanBeMerged
+
+    published : (r : ReleaseRow) → publication means x ≡ Some r → PublicationReadsBack settings x → KeepsReleases kept
+    published r one back = record {
+      releases = λ n.
+          subst (All CanBeMerged) (sym (now n))
+          (All-append CanBeMerged (releases_of_notice n x.before) (filter (λ (r : ReleaseRow). same_id r.notice n) (r ∷ [])) (keeps.releases n)
+          (more r (back r one).release (same_id r.notice n)));
+      merged =
+          merges_stay x.before kept r (merged_row x.before r)
+          (record {
+            releases = now;
+            compiled = merges_are ∙ ap (λ p. with_merge x.before p x.before.compiled) one;
+            merge = record { of_notice = refl; keeps = (back r one).merge };
+          })
+          keeps.merged;
+    }
+      where
+        now : (n : List ℕ) → releases_of_notice n kept ≡ releases_of_notice n x.before ++ filter (λ (r : ReleaseRow). same_id r.notice n) (r ∷ [])
+        now n = releases n ∙ ap (λ p. releases_of_notice n x.before ++ filter (λ (r : ReleaseRow). same_id r.notice n) (option_to_list p)) one
+
+    kept_by : (p : Option ReleaseRow) → publication means x ≡ p → PublicationReadsBack settings x → KeepsReleases kept
+    kept_by None e back = quiet e
+    kept_by (Some r) e back = published r e back
+
+pub stays : KeptStepsReach → ReleasesArePublished → ReleasesStayKept
+stays reach published settings xs x reached given allowed back keeps =
+    let releases : (n : List ℕ) → releases_of_notice n (kept_next settings x) ≡ releases_of_notice n x.before ++ published_of (publishing settings) x n = λ n.
+    published (publishing settings) (x ∷ xs) (kept_next settings x) (reach settings xs x reached given allowed) n
+    ∙ ap (λ rows. rows ++ published_of (publishing settings) x n) (sym (published (publishing settings) xs x.before reached n)) in
+    kept_by settings x keeps releases (publication (publishing settings) x) refl back
+
+pub starts : NothingIsKeptAtFirst
+unfolding row_at
+starts = record { releases = λ n. All-nil CanBeMerged; merged = λ n c found. let none = found in absurd cc }

@@ -1,0 +1,45 @@
+-- What happens to the awards of a lot, as the release of it tells.
+use Rattle.std.specs.Prelude.{ℕ, ◌+◌, List, [], map, Option, Some, None}
+use Rattle.award_core.specs.Rules.Award.{price_of}
+use Rattle.office_base.specs.Tables.{Tables, tenderer_at, lots_of_notice}
+use Rattle.office_base.specs.declared.records.AwardRow.{AwardRow}
+use Rattle.office_base.specs.declared.records.EnvelopeRow.{EnvelopeRow}
+use Rattle.office_base.specs.declared.records.LotState.{LotState}
+use Rattle.office_base.specs.declared.records.LotState.TheVariants.{Contracted, Unsuccessful}
+use Rattle.office_base.specs.declared.records.TendererRow.{TendererRow}
+use Rattle.ocds_release.specs.TenderStatuses.{status_of, state_with}
+use Rattle.ocds_release.specs.declared.tender_status.TenderStatus.{TenderStatus}
+use Rattle.ocds_release.specs.declared.event.Party.{Party}
+use Rattle.ocds_release.specs.declared.event.Event.{Event}
+use Rattle.ocds_release.specs.declared.event.Event.TheVariants as events
+
+-- the name of a tenderer; none where there is no such tenderer, as of no tender that commands lead to
+abbrev pub name_in : Option TendererRow → List ℕ
+name_in None = []
+name_in (Some r) = r.name
+
+abbrev pub party_of : Tables → List ℕ → Party
+party_of s tenderer = record { id = tenderer; name = name_in (tenderer_at tenderer s) }
+
+-- the status of a notice's tender once one of its lots has come to a state
+abbrev pub status_with : Tables → List ℕ → List ℕ → LotState → TenderStatus
+status_with s notice lot state = status_of (map (state_with lot state) (lots_of_notice notice s))
+
+-- a lot is awarded to the best tender, or found to have none
+abbrev pub awarded : Tables → List ℕ → List ℕ → Option EnvelopeRow → Event
+awarded s notice lot None = events.NoAward (record { notice = notice; lot = lot; status = status_with s notice lot Unsuccessful })
+awarded s notice lot (Some e) = events.Award (record {
+  notice = notice;
+  award = s.clock.awards + 1;
+  lot = lot;
+  winner = party_of s e.tenderer;
+  price = price_of e;
+})
+
+-- the winner fails to sign
+abbrev pub failed : AwardRow → Event
+failed a = events.Fail (record { notice = a.notice; award = a.award })
+
+-- the award is signed: its number is the contract's
+abbrev pub signed : Tables → AwardRow → Event
+signed s a = events.Sign (record { notice = a.notice; contract = a.award; lot = a.lot; price = a.price; status = status_with s a.notice a.lot Contracted })

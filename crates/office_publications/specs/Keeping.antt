@@ -1,0 +1,92 @@
+-- What an accepted command puts: what the machine puts, and the merge that its release joins.
+use Rattle.std.specs.Prelude.{◌≡◌, ℕ, List, ◌∷◌, [], ◌++◌, Option, Some, None}
+use Rattle.serde_json.specs.Written.{compact_text}
+use Rattle.ocds_merge.specs.Merge.{merge_or_null}
+use Rattle.ocds_merge.specs.Stored.{KeepsMerge}
+use Rattle.ocds_release.specs.declared.event.Event.{Event}
+use Rattle.office_values.specs.declared.settings.Settings.{Settings}
+use Rattle.office_base.specs.declared.puts.Put.{Put}
+use Rattle.office_base.specs.declared.puts.Put.TheVariants as puts
+use Rattle.office_base.specs.declared.records.CompiledRow.{CompiledRow}
+use Rattle.office_base.specs.declared.records.ReleaseRow.{ReleaseRow}
+use Rattle.office_base.specs.Tables.{Tables, no_tables, after_puts}
+use Rattle.office_machine.specs.Machine.{Given, CanBeGiven, Reaches, effect, next, publication, puts_of, refusal_of, release_row, with_trees}
+use Rattle.office_machine.specs.OfficeMeans.{unpublished_means}
+use Rattle.office_machine.specs.Publications.{published_for}
+use Rattle.office_publications.specs.Events.{event_of}
+use Rattle.office_publications.specs.Merges.{CanBeMerged, AreMerged, AreReleases, bodies, body_in}
+use Rattle.office_publications.specs.Publishing.{publishing, text_by}
+
+-- the row that keeps the merge of a notice's releases and one more
+abbrev pub merged_row : Tables → ReleaseRow → CompiledRow
+merged_row s r = record { notice = r.notice; text = compact_text (merge_or_null (bodies r.notice s ++ (body_in r ∷ []))) }
+
+abbrev pub merge_puts : Tables → Option ReleaseRow → List Put
+merge_puts s None = []
+merge_puts s (Some r) = puts.Compiled (merged_row s r) ∷ []
+
+-- what an accepted command puts, with the merge that its release joins
+abbrev pub kept_puts : Settings → Given → List Put
+kept_puts settings x = puts_of (publishing settings) x ++ merge_puts x.before (publication (publishing settings) x)
+
+-- the office after it, with the merges beside it
+abbrev pub kept_next : Settings → Given → Tables
+kept_next settings x = after_puts (kept_puts settings x) x.before
+
+-- all releases can be merged, and each merge that is kept is that of its notice's releases
+pub record KeepsReleases (t : Tables) : Type 0 where
+  pub releases : AreReleases t
+  pub merged : AreMerged t
+
+-- a release can be read and merged, and so can the merge that it joins. It is said of what was made: the definitions have numbers of any size, and
+-- a number of more than 64 bits in a text is read as a float.
+pub record ReadsBack (s : Tables) (r : ReleaseRow) : Type 0 where
+  pub release : CanBeMerged r
+  pub merge : KeepsMerge (merged_row s r).text (bodies r.notice s ++ (body_in r ∷ []))
+
+-- so can what a command publishes, where it publishes
+abbrev pub PublicationReadsBack : Settings → Given → Type 0
+PublicationReadsBack settings x = (r : ReleaseRow) → publication (publishing settings) x ≡ Some r → ReadsBack x.before r
+
+-- ---- laws
+
+-- a command that is no event publishes nothing
+abbrev pub NoEventPublishesNothing : Type 0
+NoEventPublishesNothing = (settings : Settings) (x : Given) → event_of x.before x.command ≡ None → publication (publishing settings) x ≡ None
+
+-- one that is an event of a notice publishes its release, under the notice's next number, at the command's moment
+abbrev pub EventsAreReleased : Type 0
+EventsAreReleased = (settings : Settings) (x : Given) (e : Event) (notice : List ℕ) → event_of x.before x.command ≡ Some e
+    → published_for x.before x.command ≡ Some notice → publication (publishing settings) x ≡ Some (release_row x notice (text_by settings x e))
+
+-- a command that is no event puts its effect alone
+abbrev pub NoEventPutsItsEffect : Type 0
+NoEventPutsItsEffect = (settings : Settings) (x : Given) → event_of x.before x.command ≡ None → kept_puts settings x ≡ effect (publishing settings) x
+
+-- an effect is the same, whether or not releases are made
+abbrev pub EffectsAreTheSame : Type 0
+EffectsAreTheSame = (settings : Settings) (x : Given) → effect (publishing settings) x ≡ effect unpublished_means x
+
+-- a command that is an event of a notice puts its effect, its release, and the merge that this joins
+abbrev pub EventsPutReleases : Type 0
+EventsPutReleases = (settings : Settings) (x : Given) (e : Event) (notice : List ℕ) → event_of x.before x.command ≡ Some e
+    → published_for x.before x.command ≡ Some notice → kept_puts settings x ≡ effect (publishing settings) x
+    ++ (puts.Release (release_row x notice (text_by settings x e)) ∷ puts.Compiled (merged_row x.before (release_row x notice (text_by settings x e))) ∷ [])
+
+-- the office after it is the machine's, with the merges beside it
+abbrev pub MergesStandBeside : Type 0
+MergesStandBeside = (settings : Settings) (x : Given) → kept_next settings x ≡ with_trees (kept_next settings x).compiled (next (publishing settings) x)
+
+-- so accepted commands lead there
+abbrev pub KeptStepsReach : Type 0
+KeptStepsReach = (settings : Settings) (xs : List Given) (x : Given) → Reaches (publishing settings) xs x.before → CanBeGiven x → refusal_of x ≡ None
+    → Reaches (publishing settings) (x ∷ xs) (kept_next settings x)
+
+-- what is kept of releases stays kept
+abbrev pub ReleasesStayKept : Type 0
+ReleasesStayKept = (settings : Settings) (xs : List Given) (x : Given) → Reaches (publishing settings) xs x.before → CanBeGiven x → refusal_of x ≡ None
+    → PublicationReadsBack settings x → KeepsReleases x.before → KeepsReleases (kept_next settings x)
+
+-- in the empty office nothing is published
+abbrev pub NothingIsKeptAtFirst : Type 0
+NothingIsKeptAtFirst = KeepsReleases no_tables

@@ -1,0 +1,46 @@
+//! Laws of what an office publishes: each function does nothing, and its contract is the law.
+ghost use Rattle.office_publications.specs.Keeping.{NoEventPublishesNothing, EventsAreReleased};
+ghost use Rattle.office_publications.specs.Keeping.{NoEventPutsItsEffect, EffectsAreTheSame, EventsPutReleases};
+ghost use Rattle.office_publications.specs.Keeping.{MergesStandBeside, KeptStepsReach, ReleasesStayKept, NothingIsKeptAtFirst};
+ghost use Rattle.office_publications.specs.Merges.{BodiesAreStorable, MergesStay, ReleasesStay};
+ghost use Rattle.office_publications.specs.Publishing.{ReleasesAreMade};
+
+use office_base::laws::changes_keep_order;
+
+/// Where each merge that is kept is that of its notice's releases, and a release is put with the merge that it joins, each is so again.
+pub fn merges()
+    ensures { MergesStay }
+{}
+
+/// Where all releases can be merged, and one more that can be is put with the merge that it joins, all can be again. What they say without
+/// their heads can be stored.
+pub fn releases_can_be_merged()
+    ensures stay { ReleasesStay }
+    ensures storable { BodiesAreStorable }
+{}
+
+/// The machine that publishes makes a release of each command that publishes.
+pub fn releases()
+    ensures { ReleasesAreMade }
+{}
+
+/// A command that is an event of a notice publishes its release, and puts its effect, that release, and the merge that this joins; another
+/// publishes nothing and puts its effect alone. The effect is the same whether or not releases are made.
+///
+/// The office afterwards is the machine's, with the merges beside it, and so accepted commands lead there. Where releases and merges can be
+/// read, they can be read afterwards, if what the command published can be, as all that `publication::keep_release` makes.
+pub fn keeping()
+    ensures silent { NoEventPublishesNothing }
+    ensures released { EventsAreReleased }
+    ensures unpublished { NoEventPutsItsEffect }
+    ensures effects { EffectsAreTheSame }
+    ensures published { EventsPutReleases }
+    ensures beside { MergesStandBeside }
+    ensures reaches { KeptStepsReach }
+    ensures stays { ReleasesStayKept }
+    ensures starts { NothingIsKeptAtFirst }
+{
+    changes_keep_order();
+    office_machine::laws::order();
+    office_machine::laws::releases();
+}

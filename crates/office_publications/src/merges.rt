@@ -1,0 +1,109 @@
+//! The merge of a notice's releases, kept and carried on.
+ghost use Rattle.std.specs.Prelude.{◌≡◌, ◌∷◌, [], ◌++◌, List, map, All, IfOk, IfErr};
+ghost use Rattle.serde_json.specs.Data.{Data};
+ghost use Rattle.serde_json.specs.View.{view};
+ghost use Rattle.ocds_merge.specs.Stored.{KeepsMerge, IsStorable};
+ghost use Rattle.ocds_merge.specs.Merge.{merge_or_null};
+ghost use Rattle.office_base.specs.Shelves.{LooksUp};
+ghost use Rattle.office_base.specs.Tables.{Tables};
+ghost use Rattle.office_values.specs.declared.refusal.Refusal.TheVariants.{Unavailable};
+ghost use Rattle.office_publications.specs.Merges.{bodies, body_in, AreMerged, IsKeptOf, IsMerge};
+
+use ocds_merge::{merge_from_text, merge_into, merge_into_text, merge_to_text, without_head};
+use office_base::json_text::JsonText;
+use office_base::records::{CompiledRow, ReleaseRow};
+use office_base::rows::Rows;
+use office_base::shelf::{Lookups, ShelfFault};
+use office_values::id::Id;
+use office_values::refusal::Refusal;
+use serde_json::Value;
+use std::alloc::Global;
+
+/// What an office keeps of a notice's releases: their merge, or, where none is kept, they themselves, in their sequence.
+#[derive(Drop)]
+pub enum Kept {
+    Merge(CompiledRow),
+    Releases(Rows<ReleaseRow>),
+}
+
+/// Looks up what is kept of a notice's releases: all of them are read only where their merge isn't kept.
+pub fn load_kept<H: Lookups>(shelf: &mut H, notice: &Id) -> Result<Kept, ShelfFault>
+    ensures { LooksUp H.meaning shelf.old shelf.new result (λ t kept. IsKeptOf notice.now t kept) }
+{
+    match shelf.get_compiled(notice)? {
+        Some(merge) => Ok(Kept::Merge(merge)),
+        None => Ok(Kept::Releases(Rows::from_vec(shelf.list_releases_of_notice(notice)?))),
+    }
+}
+
+// A stored release without its head.
+fn body_of(alloc: Global, row: &ReleaseRow) -> Result<Value, Refusal>
+    ensures body { IfOk result (λ body. view body ≡ body_in row.now) }
+    ensures none { IfErr result (λ why. why ≡ Unavailable) }
+{
+    match merge_from_text(alloc, row.text.as_str()) {
+        Ok(release) => Ok(without_head(release)),
+        Err(_) => Err(Refusal::Unavailable),
+    }
+}
+
+// The merge of stored releases without their heads.
+fn merge_of(alloc: Global, rows: &[ReleaseRow]) -> Result<Value, Refusal>
+    ensures merge { IfOk result (λ merge. view merge ≡ merge_or_null (map body_in rows.now)) }
+    ensures none { IfErr result (λ why. why ≡ Unavailable) }
+{
+    let mut merge = Value::Null;
+    'rows: for row in rows {
+        let body = body_of(alloc, row)?;
+        if merge_into(alloc, &mut merge, &body).is_err() {
+            return Err(Refusal::Unavailable);
+        }
+    }
+    Ok(merge)
+}
+
+// The text of the merge of stored releases and one body more.
+fn merged_anew(alloc: Global, rows: &[ReleaseRow], body: &Value) -> Result<JsonText, Refusal>
+    ensures keeps { IfOk result (λ text. All IsStorable (map body_in rows.now ++ (view body.now ∷ []))
+        → KeepsMerge text (map body_in rows.now ++ (view body.now ∷ []))) }
+    ensures none { IfErr result (λ why. why ≡ Unavailable) }
+{
+    let mut merge = merge_of(alloc, rows)?;
+    if merge_into(alloc, &mut merge, body).is_err() {
+        return Err(Refusal::Unavailable);
+    }
+    match merge_to_text(alloc, &merge) {
+        Ok(text) => Ok(JsonText::from_string(text)),
+        Err(_) => Err(Refusal::Unavailable),
+    }
+}
+
+// The text of a merge that is kept, and one body more.
+fn carried_on(alloc: Global, kept: &CompiledRow, body: &Value) -> Result<JsonText, Refusal>
+    ensures keeps { IfOk result (λ text. (vs : List Data) → KeepsMerge kept.now.text vs → All IsStorable (vs ++ (view body.now ∷ []))
+        → KeepsMerge text (vs ++ (view body.now ∷ []))) }
+    ensures none { IfErr result (λ why. why ≡ Unavailable) }
+{
+    match merge_into_text(alloc, kept.text.as_str(), body) {
+        Ok(text) => Ok(JsonText::from_string(text)),
+        Err(_) => Err(Refusal::Unavailable),
+    }
+}
+
+/// The row that keeps the merge of a notice's releases and one more, which is given without its head.
+pub fn merge_with(
+    alloc: Global,
+    kept: &Kept,
+    notice: Id,
+    body: &Value,
+) -> Result<CompiledRow, Refusal>
+    ensures merges { IfOk result (λ row. (t : Tables) → IsKeptOf notice t kept.now → AreMerged t → All IsStorable (bodies notice t ++ (view body.now ∷ []))
+        → IsMerge notice (bodies notice t ++ (view body.now ∷ [])) row) }
+    ensures none { IfErr result (λ why. why ≡ Unavailable) }
+{
+    let text = match kept {
+        Kept::Merge(row) => carried_on(alloc, row, body)?,
+        Kept::Releases(rows) => merged_anew(alloc, rows.as_slice(), body)?,
+    };
+    Ok(CompiledRow { notice, text })
+}

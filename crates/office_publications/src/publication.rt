@@ -1,0 +1,82 @@
+//! What an event of a notice publishes: its release, as it is kept, and the merge that it joins.
+ghost use Rattle.std.specs.Prelude.{◌≡◌, IfOk, IfErr};
+ghost use Rattle.serde_json.specs.View.{view};
+ghost use Rattle.serde_json.specs.Written.{compact_text};
+ghost use Rattle.ocds_merge.specs.Stored.{IsStorable};
+ghost use Rattle.ocds_release.specs.EventReleases.{release_of_event};
+ghost use Rattle.office_base.specs.Tables.{Tables};
+ghost use Rattle.office_values.specs.declared.refusal.Refusal.TheVariants.{Unavailable};
+ghost use Rattle.office_publications.specs.Keeping.{KeepsReleases, ReadsBack, merged_row};
+ghost use Rattle.office_publications.specs.Merges.{IsKeptOf};
+
+use crate::merges::{Kept, merge_with};
+use ocds_merge::{merge_stays_storable, without_head};
+use ocds_release::event::Event;
+use ocds_release::release_of::release_of;
+use office_base::counts::Sequence;
+use office_base::json_text::JsonText;
+use office_base::records::{CompiledRow, ReleaseRow};
+use office_values::id::Id;
+use office_values::moment::Moment;
+use office_values::refusal::Refusal;
+use office_values::settings::Settings;
+use serde_json::Value;
+use std::alloc::{AllocError, Global};
+
+/// A release and the merge that it joins, as they are kept.
+#[derive(Drop)]
+pub struct Publication {
+    pub release: ReleaseRow,
+    pub merge: CompiledRow,
+}
+
+/// The release of an event of a notice under a number, at a moment. `Unavailable` comes only for want of memory.
+pub fn release_by<'a>(
+    alloc: Global,
+    settings: &'a Settings,
+    seq: Sequence,
+    t: Moment,
+    event: &'a Event<'a>,
+) -> Result<Value, Refusal>
+    ensures release { IfOk result (λ release. view release ≡ release_of_event settings.now seq t event.now) }
+    ensures none { IfErr result (λ why. why ≡ Unavailable) }
+{
+    match release_of(alloc, settings, seq, t, event) {
+        Ok(release) => Ok(release),
+        Err(_) => Err(Refusal::Unavailable),
+    }
+}
+
+/// A release of a notice as it is kept, as compact text under a number, with its moment, and the merge that it joins. Time and memory grow
+/// with the release and the merge, and not with the number of releases, where their merge is kept. A release can be stored where it has no
+/// floats and isn't nested more than 127 levels deep.
+pub fn keep_release(
+    alloc: Global,
+    notice: Id,
+    seq: Sequence,
+    t: Moment,
+    release: Value,
+    kept: &Kept,
+) -> Result<Publication, Refusal>
+    ensures release { IfOk result (λ p. IsStorable (view release)
+        → p.release ≡ record { notice = notice; seq = seq; moment = t; text = compact_text (view release) }) }
+    ensures merge { IfOk result (λ p. IsStorable (view release) → (s : Tables) → IsKeptOf notice s kept.now → KeepsReleases s
+        → p.merge ≡ merged_row s p.release) }
+    ensures read { IfOk result (λ p. IsStorable (view release) → (s : Tables) → IsKeptOf notice s kept.now → KeepsReleases s
+        → ReadsBack s p.release) }
+    ensures none { IfErr result (λ why. why ≡ Unavailable) }
+{
+    merge_stays_storable();
+    let text = JsonText::from_string(release.to_string(alloc)?);
+    let body = without_head(release);
+    let merge = merge_with(alloc, kept, notice, &body)?;
+    Ok(Publication {
+        release: ReleaseRow {
+            notice,
+            seq,
+            moment: t,
+            text,
+        },
+        merge,
+    })
+}

@@ -1,0 +1,44 @@
+//! What a contract is worth once it is raised or cut.
+ghost use Rattle.std.specs.Prelude.{◌≡◌, ◌<◌, ◌^◌, IfSome};
+ghost use Rattle.office_base.specs.Joined.{entry_sum};
+ghost use Rattle.office_publications.specs.Worth.{is_cut, worth_after};
+
+use award_core::entries::{is_of, raised};
+use office_acts::amounts::EntryAmount;
+use office_acts::contract::ChangeKind;
+use office_base::records::{ContractRow, EntryKind, EntryRow};
+use office_values::given::GivenNumber;
+use office_values::money::Total;
+
+// What the entries of the contract cut it by.
+fn cut(entries: &[EntryRow], contract: GivenNumber) -> u128
+    ensures sum { result ≡ entry_sum is_cut entries.now contract }
+    ensures small { result < 2 ^ 110 }
+{
+    let mut sum = 0;
+    for entry in entries {
+        if entry.kind == EntryKind::Cut && is_of(entry, contract) {
+            sum += entry.amount.get() as u128;
+        }
+    }
+    sum
+}
+
+/// What the contract is worth once it is raised or cut by this amount: what was signed and raised, less what was cut. None where that is
+/// above 10^15, as of no contract that commands lead to.
+pub fn worth_after(
+    entries: &[EntryRow],
+    contract: &ContractRow,
+    kind: ChangeKind,
+    amount: EntryAmount,
+) -> Option<Total>
+    ensures { IfSome result (λ worth. worth ≡ worth_after entries.now contract.now kind amount) }
+{
+    let (more, less) = match kind {
+        ChangeKind::Raise => (amount.get() as u128, 0),
+        ChangeKind::Cut => (0, amount.get() as u128),
+    };
+    let came = contract.signed.units() as u128 + raised(entries, contract.contract) + more;
+    let gone = cut(entries, contract.contract) + less;
+    Total::of_sum(came.saturating_sub(gone))
+}

@@ -1,0 +1,11 @@
+pub mod Values
+pub mod Words
+pub mod Readings
+pub mod ItemTexts
+pub mod Budget
+pub mod Notices
+pub mod Tenders
+pub mod Awards
+pub mod Releases
+pub mod Ranges
+pub mod Laws

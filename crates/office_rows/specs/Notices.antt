@@ -1,0 +1,66 @@
+-- Tenderers, notices and lots as rows of SQL: the key, then the other fields.
+use Rattle.std.specs.Prelude.{pos, [], ◌∷◌}
+use Rattle.sqlite_value.specs.declared.value.Value.TheVariants.{Int, Text, Blob}
+use Rattle.sqlite_value.specs.Order.{Row, column, bytes}
+use Rattle.office_base.specs.declared.records.TendererRow.{TendererRow}
+use Rattle.office_base.specs.declared.records.NoticeRow.{NoticeRow}
+use Rattle.office_base.specs.declared.records.LotRow.{LotRow}
+use Rattle.office_rows.specs.Values.{number_in, or_null, perhaps_in, tail}
+use Rattle.office_rows.specs.Words.{notice_state_text, notice_state_in, lot_state_text, lot_state_in}
+use Rattle.office_rows.specs.ItemTexts.{items_text, items_in}
+
+-- a tenderer: its row, what a row is read as, and what a row is read as that stands behind a rowid
+abbrev pub tenderer_row : TendererRow → Row
+tenderer_row x = Text x.tenderer ∷ Text x.name ∷ Text x.address ∷ Blob x.key ∷ []
+
+abbrev pub tenderer_read : Row → TendererRow
+tenderer_read r = record { tenderer = bytes (column r 0); name = bytes (column r 1); address = bytes (column r 2); key = bytes (column r 3) }
+
+abbrev pub tenderer_in : Row → TendererRow
+tenderer_in r = tenderer_read (tail r)
+
+-- a notice: its row, what a row is read as, and what a row is read as that stands behind a rowid
+abbrev pub notice_row : NoticeRow → Row
+notice_row x =
+    Text x.notice ∷ Text x.title ∷ Int (pos x.published) ∷ Int (pos x.deadline) ∷ Int (pos x.validity) ∷ Int (pos x.standstill) ∷ Int (pos x.weight)
+    ∷ Text (notice_state_text x.state) ∷ or_null x.opened ∷ Int (pos x.amendments) ∷ Int (pos x.releases) ∷ []
+
+abbrev pub notice_read : Row → NoticeRow
+notice_read r = record {
+  notice = bytes (column r 0);
+  title = bytes (column r 1);
+  published = number_in (column r 2);
+  deadline = number_in (column r 3);
+  validity = number_in (column r 4);
+  standstill = number_in (column r 5);
+  weight = number_in (column r 6);
+  state = notice_state_in (bytes (column r 7));
+  opened = perhaps_in (column r 8);
+  amendments = number_in (column r 9);
+  releases = number_in (column r 10);
+}
+
+abbrev pub notice_in : Row → NoticeRow
+notice_in r = notice_read (tail r)
+
+-- a lot: its row, what a row is read as, and what a row is read as that stands behind a rowid
+abbrev pub lot_row : LotRow → Row
+lot_row x =
+    Text x.notice ∷ Text x.lot ∷ Text x.title ∷ Text x.line ∷ Int (pos x.estimate) ∷ Int (pos x.security) ∷ Text (items_text x.items)
+    ∷ Text (lot_state_text x.state) ∷ Int (pos x.reserved) ∷ []
+
+abbrev pub lot_read : Row → LotRow
+lot_read r = record {
+  notice = bytes (column r 0);
+  lot = bytes (column r 1);
+  title = bytes (column r 2);
+  line = bytes (column r 3);
+  estimate = number_in (column r 4);
+  security = number_in (column r 5);
+  items = items_in (bytes (column r 6));
+  state = lot_state_in (bytes (column r 7));
+  reserved = number_in (column r 8);
+}
+
+abbrev pub lot_in : Row → LotRow
+lot_in r = lot_read (tail r)

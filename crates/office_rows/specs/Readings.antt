@@ -1,0 +1,45 @@
+-- What was read in a tender, as four columns: a word, and where it says that there is a price, the price as stated, as corrected, and the
+-- count of corrections.
+use Rattle.std.specs.Prelude.{ℕ, if◌then◌else◌, List, codes, Option, Some, None, option_map}
+use Rattle.sqlite_value.specs.declared.value.Value.{Value}
+use Rattle.office_base.specs.declared.reading.Reading.{Reading}
+use Rattle.office_base.specs.declared.reading.Reading.TheVariants.{Unreadable, Nonconforming, Priced}
+use Rattle.office_rows.specs.Values.{same_text, number_in, perhaps_text_in}
+
+-- the word of a reading
+abbrev pub reading_word : Reading → List ℕ
+reading_word Unreadable = codes "unreadable"
+reading_word Nonconforming = codes "nonconforming"
+reading_word (Priced stated corrected corrections) = codes "priced"
+
+-- the price as the tender states it, where there is one
+abbrev pub stated_of : Option Reading → Option ℕ
+stated_of None = None
+stated_of (Some Unreadable) = None
+stated_of (Some Nonconforming) = None
+stated_of (Some (Priced stated corrected corrections)) = Some stated
+
+-- the price as corrected
+abbrev pub corrected_of : Option Reading → Option ℕ
+corrected_of None = None
+corrected_of (Some Unreadable) = None
+corrected_of (Some Nonconforming) = None
+corrected_of (Some (Priced stated corrected corrections)) = Some corrected
+
+-- how many figures were corrected
+abbrev pub corrections_of : Option Reading → Option ℕ
+corrections_of None = None
+corrections_of (Some Unreadable) = None
+corrections_of (Some Nonconforming) = None
+corrections_of (Some (Priced stated corrected corrections)) = Some corrections
+
+-- the reading that a word and the three columns behind it give
+abbrev pub reading_of : Value → Value → Value → List ℕ → Reading
+reading_of stated corrected corrections word =
+    if same_text word (codes "unreadable") then Unreadable
+    else if same_text word (codes "nonconforming") then Nonconforming
+    else Priced (number_in stated) (number_in corrected) (number_in corrections)
+
+-- what four columns say was read; nothing where the word is NULL
+abbrev pub reading_in : Value → Value → Value → Value → Option Reading
+reading_in word stated corrected corrections = option_map (reading_of stated corrected corrections) (perhaps_text_in word)

@@ -1,0 +1,66 @@
+-- Values of SQL as those of records.
+use Rattle.std.specs.Prelude.{ℕ, ℤ, pos, negsuc, Bool, cond, ◌==◌, List, [], ◌∷◌, Option, Some, None, option_map, nat_eq}
+use Rattle.std.specs.Cmp.Lexicographic.{pointwise}
+use Rattle.sqlite_value.specs.declared.value.Value.{Value}
+use Rattle.sqlite_value.specs.declared.value.Value.TheVariants.{Null, Int, Real, Text, Blob}
+use Rattle.sqlite_value.specs.Order.{Row}
+
+-- a whole number that isn't negative; 0 for the others
+abbrev pub nat_of : ℤ → ℕ
+nat_of (pos n) = n
+nat_of (negsuc n) = 0
+
+-- the number that a value is; 0 where it is none
+abbrev pub number_in : Value → ℕ
+number_in Null = 0
+number_in (Int z) = nat_of z
+number_in (Real x) = 0
+number_in (Text t) = 0
+number_in (Blob b) = 0
+
+-- a number, or NULL
+abbrev pub or_null : Option ℕ → Value
+or_null None = Null
+or_null (Some n) = Int (pos n)
+
+-- the number that a value is, where it is one
+abbrev pub perhaps_in : Value → Option ℕ
+perhaps_in Null = None
+perhaps_in (Int z) = Some (nat_of z)
+perhaps_in (Real x) = None
+perhaps_in (Text t) = None
+perhaps_in (Blob b) = None
+
+-- a text, or NULL
+abbrev pub text_or_null : Option (List ℕ) → Value
+text_or_null None = Null
+text_or_null (Some t) = Text t
+
+-- the text that a value is, where it is one
+abbrev pub perhaps_text_in : Value → Option (List ℕ)
+perhaps_text_in Null = None
+perhaps_text_in (Int z) = None
+perhaps_text_in (Real x) = None
+perhaps_text_in (Text t) = Some t
+perhaps_text_in (Blob b) = None
+
+-- yes is 1, no is 0
+abbrev pub as_number : Bool → ℕ
+as_number b = cond b 1 0
+
+-- whether a value is yes
+abbrev pub yes_in : Value → Bool
+yes_in v = number_in v == 1
+
+-- yes, no or NULL
+abbrev pub perhaps_yes_in : Value → Option Bool
+perhaps_yes_in v = option_map (λ n. n == 1) (perhaps_in v)
+
+-- whether two texts are the same
+abbrev pub same_text : List ℕ → List ℕ → Bool
+same_text = pointwise nat_eq
+
+-- a stored row less its rowid
+abbrev pub tail : Row → Row
+tail [] = []
+tail (v ∷ row) = row

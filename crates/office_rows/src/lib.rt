@@ -1,0 +1,12 @@
+//! The records of an office as rows of SQL, and back.
+#![tactic(auto)]
+
+mod columns;
+pub mod items;
+pub mod laws;
+mod readings;
+pub mod stored;
+#[cfg(test)]
+mod tests;
+pub mod values;
+mod words;

@@ -1,0 +1,279 @@
+//! Rows of an answer as records.
+ghost use Rattle.std.specs.Prelude.{◌≡◌, IfOk, map, take, slice_get, option_map};
+ghost use Rattle.sqlite_value.specs.Order.{Row as Values, column, bytes};
+ghost use Rattle.office_rows.specs.Values.{number_in};
+ghost use Rattle.office_rows.specs.Budget.{line_read, batch_read};
+ghost use Rattle.office_rows.specs.Notices.{tenderer_read, notice_read, lot_read};
+ghost use Rattle.office_rows.specs.Tenders.{envelope_read, seal_read, security_read};
+ghost use Rattle.office_rows.specs.Awards.{award_read, contract_read, entry_read};
+ghost use Rattle.office_rows.specs.Releases.{release_read, compiled_read, clock_read};
+
+use crate::columns::{
+    amount_at, bounded_at, digest_at, id_at, json_at, line_at, moment_at, perhaps_bounded_at,
+    perhaps_line_at, perhaps_moment_at, perhaps_yes_at, sealed_at, total_at, yes_at,
+};
+use crate::items::items_at;
+use crate::readings::reading_at;
+use crate::words::{
+    award_state_at, entry_kind_at, envelope_state_at, lot_state_at, notice_state_at,
+    perhaps_how_at, security_state_at,
+};
+use office_base::records::{
+    AwardRow, BatchRow, ClockRow, CompiledRow, ContractRow, EntryRow, EnvelopeRow, LineRow, LotRow,
+    NoticeRow, ReleaseRow, SealRow, SecurityRow, TendererRow,
+};
+use office_base::shelf::ShelfFault;
+use office_values::money::Amount;
+use sqlite::Row;
+use std::alloc::Global;
+
+/// What a row of an answer stands for.
+pub trait Stored: Sized {
+    ghost read: { Values → Self };
+
+    /// The record of a row; a fault of the store where the row is none.
+    fn from_row(alloc: Global, row: &Row) -> Result<Self, ShelfFault>
+        ensures { IfOk result (λ x. x ≡ read row.now) };
+}
+
+impl Stored for LineRow {
+    ghost read = { line_read };
+
+    fn from_row(alloc: Global, row: &Row) -> Result<LineRow, ShelfFault> {
+        Ok(LineRow {
+            line: id_at(row, 0)?,
+            title: line_at(alloc, row, 1)?,
+            appropriation: total_at(row, 2)?,
+            free: total_at(row, 3)?,
+        })
+    }
+}
+
+impl Stored for BatchRow {
+    ghost read = { batch_read };
+
+    fn from_row(_alloc: Global, row: &Row) -> Result<BatchRow, ShelfFault> {
+        Ok(BatchRow {
+            batch: id_at(row, 0)?,
+            moment: moment_at(row, 1)?,
+            rows: bounded_at(row, 2)?,
+        })
+    }
+}
+
+impl Stored for TendererRow {
+    ghost read = { tenderer_read };
+
+    fn from_row(alloc: Global, row: &Row) -> Result<TendererRow, ShelfFault> {
+        Ok(TendererRow {
+            tenderer: id_at(row, 0)?,
+            name: line_at(alloc, row, 1)?,
+            address: line_at(alloc, row, 2)?,
+            key: digest_at(row, 3)?,
+        })
+    }
+}
+
+impl Stored for NoticeRow {
+    ghost read = { notice_read };
+
+    fn from_row(alloc: Global, row: &Row) -> Result<NoticeRow, ShelfFault> {
+        Ok(NoticeRow {
+            notice: id_at(row, 0)?,
+            title: line_at(alloc, row, 1)?,
+            published: moment_at(row, 2)?,
+            deadline: moment_at(row, 3)?,
+            validity: bounded_at(row, 4)?,
+            standstill: bounded_at(row, 5)?,
+            weight: bounded_at(row, 6)?,
+            state: notice_state_at(row, 7)?,
+            opened: perhaps_moment_at(row, 8)?,
+            amendments: bounded_at(row, 9)?,
+            releases: bounded_at(row, 10)?,
+        })
+    }
+}
+
+impl Stored for LotRow {
+    ghost read = { lot_read };
+
+    fn from_row(alloc: Global, row: &Row) -> Result<LotRow, ShelfFault> {
+        Ok(LotRow {
+            notice: id_at(row, 0)?,
+            lot: id_at(row, 1)?,
+            title: line_at(alloc, row, 2)?,
+            line: id_at(row, 3)?,
+            estimate: bounded_at(row, 4)?,
+            security: amount_at(row, 5)?,
+            items: items_at(alloc, row, 6)?,
+            state: lot_state_at(row, 7)?,
+            reserved: amount_at(row, 8)?,
+        })
+    }
+}
+
+impl Stored for EnvelopeRow {
+    ghost read = { envelope_read };
+
+    fn from_row(_alloc: Global, row: &Row) -> Result<EnvelopeRow, ShelfFault> {
+        Ok(EnvelopeRow {
+            receipt: bounded_at(row, 0)?,
+            notice: id_at(row, 1)?,
+            lot: id_at(row, 2)?,
+            tenderer: id_at(row, 3)?,
+            moment: moment_at(row, 4)?,
+            length: bounded_at(row, 5)?,
+            digest: digest_at(row, 6)?,
+            security: perhaps_bounded_at(row, 7)?,
+            state: envelope_state_at(row, 8)?,
+            reading: reading_at(row)?,
+            responsive: perhaps_yes_at(row, 13)?,
+            quality: perhaps_bounded_at(row, 14)?,
+            failed: yes_at(row, 15)?,
+        })
+    }
+}
+
+impl Stored for SealRow {
+    ghost read = { seal_read };
+
+    fn from_row(alloc: Global, row: &Row) -> Result<SealRow, ShelfFault> {
+        Ok(SealRow {
+            receipt: bounded_at(row, 0)?,
+            bytes: sealed_at(alloc, row, 1)?,
+        })
+    }
+}
+
+impl Stored for SecurityRow {
+    ghost read = { security_read };
+
+    fn from_row(_alloc: Global, row: &Row) -> Result<SecurityRow, ShelfFault> {
+        Ok(SecurityRow {
+            security: bounded_at(row, 0)?,
+            tenderer: id_at(row, 1)?,
+            notice: id_at(row, 2)?,
+            lot: id_at(row, 3)?,
+            reference: id_at(row, 4)?,
+            amount: bounded_at(row, 5)?,
+            state: security_state_at(row, 6)?,
+        })
+    }
+}
+
+impl Stored for AwardRow {
+    ghost read = { award_read };
+
+    fn from_row(_alloc: Global, row: &Row) -> Result<AwardRow, ShelfFault> {
+        Ok(AwardRow {
+            award: bounded_at(row, 0)?,
+            notice: id_at(row, 1)?,
+            lot: id_at(row, 2)?,
+            receipt: bounded_at(row, 3)?,
+            price: amount_at(row, 4)?,
+            moment: moment_at(row, 5)?,
+            state: award_state_at(row, 6)?,
+        })
+    }
+}
+
+impl Stored for ContractRow {
+    ghost read = { contract_read };
+
+    fn from_row(_alloc: Global, row: &Row) -> Result<ContractRow, ShelfFault> {
+        Ok(ContractRow {
+            contract: bounded_at(row, 0)?,
+            notice: id_at(row, 1)?,
+            lot: id_at(row, 2)?,
+            tenderer: id_at(row, 3)?,
+            signed: total_at(row, 4)?,
+            moment: moment_at(row, 5)?,
+            ended: perhaps_moment_at(row, 6)?,
+            how: perhaps_how_at(row, 7)?,
+            released: total_at(row, 8)?,
+        })
+    }
+}
+
+impl Stored for EntryRow {
+    ghost read = { entry_read };
+
+    fn from_row(alloc: Global, row: &Row) -> Result<EntryRow, ShelfFault> {
+        Ok(EntryRow {
+            contract: bounded_at(row, 0)?,
+            entry: id_at(row, 1)?,
+            kind: entry_kind_at(row, 2)?,
+            amount: bounded_at(row, 3)?,
+            moment: moment_at(row, 4)?,
+            rationale: perhaps_line_at(alloc, row, 5)?,
+        })
+    }
+}
+
+impl Stored for ReleaseRow {
+    ghost read = { release_read };
+
+    fn from_row(alloc: Global, row: &Row) -> Result<ReleaseRow, ShelfFault> {
+        Ok(ReleaseRow {
+            notice: id_at(row, 0)?,
+            seq: bounded_at(row, 1)?,
+            moment: moment_at(row, 2)?,
+            text: json_at(alloc, row, 3)?,
+        })
+    }
+}
+
+impl Stored for CompiledRow {
+    ghost read = { compiled_read };
+
+    fn from_row(alloc: Global, row: &Row) -> Result<CompiledRow, ShelfFault> {
+        Ok(CompiledRow {
+            notice: id_at(row, 0)?,
+            text: json_at(alloc, row, 1)?,
+        })
+    }
+}
+
+impl Stored for ClockRow {
+    ghost read = { clock_read };
+
+    fn from_row(_alloc: Global, row: &Row) -> Result<ClockRow, ShelfFault> {
+        Ok(ClockRow {
+            moment: moment_at(row, 1)?,
+            receipts: bounded_at(row, 2)?,
+            awards: bounded_at(row, 3)?,
+        })
+    }
+}
+
+impl Stored for Amount {
+    ghost read = { λ row. number_in (column row 0) };
+
+    fn from_row(_alloc: Global, row: &Row) -> Result<Amount, ShelfFault> {
+        amount_at(row, 0)
+    }
+}
+
+/// The record of the first row; None where there are no rows.
+pub fn first<R: Stored>(alloc: Global, rows: &[Row]) -> Result<Option<R>, ShelfFault>
+    ensures { IfOk result (λ found. found ≡ option_map R.read (slice_get rows.now 0)) }
+{
+    match rows.first() {
+        Some(row) => Ok(Some(R::from_row(alloc, row)?)),
+        None => Ok(None),
+    }
+}
+
+/// The records of all rows, in their order.
+pub fn all<R: Stored + Drop>(alloc: Global, rows: &[Row]) -> Result<Vec<R>, ShelfFault>
+    ensures { IfOk result (λ found. found.items ≡ map R.read rows.now) }
+{
+    let mut found = Vec::new(alloc);
+    'rows: for row in rows {
+        let record = R::from_row(alloc, row)?;
+        if found.push(record).is_err() {
+            return Err(ShelfFault::NoMemory);
+        }
+    }
+    Ok(found)
+}

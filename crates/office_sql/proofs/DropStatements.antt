@@ -1,0 +1,54 @@
+-- What the drop of a seal does to an office.
+use Rattle.std.proofs.Common.{List, ℕ, [], ◌∷◌, Ok, Some, inr, refl, codes, true, pos, ◌∙◌}
+use Rattle.std.specs.Ordering.{nat_cmp}
+use Rattle.sqlite_value.specs.declared.value.Value.TheVariants.{Int}
+use Rattle.sqlite_value.specs.Order.{Row}
+use Rattle.sqlite_schema.specs.Names.{same_name}
+use Rattle.sqlite_schema.specs.declared.schema.Schema.{Schema}
+use Rattle.sqlite_schema.specs.declared.schema.Kind.TheVariants.{Integer}
+use Rattle.sqlite_schema.specs.declared.command.Command.TheVariants.{Delete}
+use Rattle.sqlite_resolve.specs.Compile.{first}
+use Rattle.sqlite_resolve.specs.Lowering.{alone, chosen, first_found, nothing, max_budget}
+use Rattle.sqlite_tied.specs.Compute.{everything}
+use Rattle.sqlite.specs.State.{State, ExecutesInside}
+use Rattle.office_base.specs.Tables.{Tables, after_put, seal_key}
+use Rattle.office_base.specs.declared.puts.Put.TheVariants.{DropSeal}
+use Rattle.office_rows.specs.Tenders.{seal_row, seal_in}
+use Rattle.office_sql.specs.Schema.{OfficeTable, column_of, seals}
+use Rattle.office_sql.specs.Schema.OfficeTable.{Seals}
+use Rattle.office_sql.specs.Known.{IsIn, at_tree}
+use Rattle.office_sql.specs.Standing.{StandFor, Stands}
+use Rattle.office_sql.specs.Steps.{Puts}
+use Rattle.office_sql.proofs.Meanings.{Means, parsed_in}
+use Rattle.office_sql.proofs.Simple.{equals_e, one_test}
+use Rattle.office_sql.proofs.Selecting.{select, found_by_tree}
+use Rattle.office_sql.proofs.Cells.{and_true, number_tested, same_number_is}
+use Rattle.office_sql.proofs.Deletes.{IsDelete, delete_means}
+use Rattle.office_sql.proofs.Drops.{drops_row}
+use Rattle.office_sql.proofs.Writes.{with_rows}
+use Rattle.office_sql.proofs.Held.{holds_put, goes_with}
+use Rattle.office_sql.proofs.Stored.{bare, seal_terms, seal_stored}
+
+abbrev pub drop_seal : List ℕ
+drop_seal = codes "DELETE FROM seals WHERE receipt = ?1"
+
+drop_seal_read : IsDelete drop_seal (codes "seals") (Some (equals_e (codes "receipt") 1)) (parsed_in (first drop_seal))
+unfolding everything parsed_in
+drop_seal_read = record { is = refl; statement = refl; formats = refl }
+
+drop_seal_means : (schema : Schema) (n : ℕ) (it : IsIn schema seals n) → Means schema drop_seal (Delete it.place (record { lets = []; body = select n (1 ∷ []) (0 ∷ []) [] }))
+unfolding same_name alone chosen first_found
+drop_seal_means schema n it =
+    delete_means schema seals n it refl drop_seal (Some (equals_e (codes "receipt") 1)) _ drop_seal_read (1 ∷ []) _ _
+    (one_test schema it.place (at_tree seals n) it.found seals.name [] (0, column_of (codes "receipt") Integer true) 1 max_budget nothing (refl, refl, refl, tt) refl refl (inr refl, refl, refl, refl))
+    (rw (it.stored, found_by_tree schema seals n it))
+
+after_drop : (rows : OfficeTable → List Row) (changed : List Row) (t : Tables) (n : ℕ) → Stands rows t → StandFor Seals changed (after_put (DropSeal n) t) → Stands (with_rows rows Seals changed) (after_put (DropSeal n) t)
+after_drop rows changed t n was stand Seals = stand
+after_drop rows changed t n was stand k = was k
+
+pub drops_seal : (old new : State) (n count : ℕ) → ExecutesInside 0 drop_seal (Int (pos n) ∷ []) old new (Ok count) → Puts old new (DropSeal n ∷ [])
+drops_seal old new n count h = goes_with old new (DropSeal n) h.1 (λ t was.
+    let done = drops_row Seals bare nat_cmp seal_key seal_row seal_in seal_terms 3 seal_stored old new was.places was.tables (1 ∷ []) drop_seal (Int (pos n) ∷ []) count t.seals n
+    (drop_seal_means old.now.schema (was.places Seals) (was.tables Seals)) (λ v x. and_true _ ∙ number_tested x.receipt n ∙ same_number_is x.receipt n) (was.stands Seals) h.0 in
+    holds_put Seals nat_cmp seal_key seal_row seal_in old.now new.now t (after_put (DropSeal n) t) was _ done (after_drop (λ j. old.now.trees (was.places j)) (new.now.trees (was.places Seals)) t n was.stands))

@@ -1,0 +1,29 @@
+-- A database that held an office holds it after a change of one table.
+use Rattle.std.proofs.Common.{true, List, [], ◌∷◌, refl, sym, subst, IsTrue}
+use Rattle.std.specs.declared.cmp.Ordering.{Ordering}
+use Rattle.sqlite_value.specs.Order.{Row}
+use Rattle.sqlite.specs.Effect.{Database}
+use Rattle.sqlite.specs.State.{State, Shows}
+use Rattle.office_base.specs.Tables.{Tables, after_put}
+use Rattle.office_base.specs.declared.puts.Put.{Put}
+use Rattle.office_sql.specs.Schema.{OfficeTable}
+use Rattle.office_sql.specs.Known.{HasTables}
+use Rattle.office_sql.specs.Standing.{Stand, Stands, Holds}
+use Rattle.office_sql.specs.Steps.{Goes, Puts}
+use Rattle.office_sql.proofs.Writes.{IsPut, with_rows}
+
+pub holds_put : (k : OfficeTable) {K X : Type 0} (R : K → K → Ordering) (key : X → K) (encode : X → Row) (decode : Row → X) (old new : Database) (t after : Tables) (was : Holds old t) (xs : List X)
+    → IsPut k R key encode decode old new was.places xs → (Stand R key encode decode (new.trees (was.places k)) xs → Stands (with_rows (λ j. old.trees (was.places j)) k (new.trees (was.places k))) after)
+    → Holds new after
+holds_put k R key encode decode old new t after was xs it all = record {
+  sound = it.sound;
+  places = was.places;
+  tables = subst (λ s. HasTables s was.places) (sym it.schema) was.tables;
+  stands = subst (λ rows. Stands rows after) (sym it.rows) (all it.stand);
+}
+
+pub goes_on : (old new : State) → Shows old new new.now old.committed true → Goes old new
+goes_on old new h = record { mode = subst IsTrue (sym h.mode) refl; was_open = h.was_open; is_open = h.is_open; committed = h.committed_is }
+
+pub goes_with : (old new : State) (put : Put) → Shows old new new.now old.committed true → ((t : Tables) → Holds old.now t → Holds new.now (after_put put t)) → Puts old new (put ∷ [])
+goes_with old new put shows tables = record { goes = goes_on old new shows; tables = tables }

@@ -1,0 +1,395 @@
+-- What the columns and the key of each table ask of a put.
+use Rattle.std.proofs.Common.{◌≡◌, ℕ, pos, true, List, [], ◌∷◌, refl, ap, ap₂}
+use Rattle.std.specs.Ordering.{nat_cmp}
+use Rattle.std.specs.Cmp.{nat_cmp_total}
+use Rattle.std.specs.Cmp.Lexicographic.{nat_list_cmp_total}
+use Rattle.std.specs.FinMap.{nat_cmp-IsAntisymmetric as numbers_exact}
+use Rattle.sqlite_value.specs.declared.value.Value.{Value}
+use Rattle.sqlite_value.specs.declared.value.Value.TheVariants.{Null}
+use Rattle.sqlite_value.specs.Keys.{plain, first_key}
+use Rattle.sqlite_sql.specs.Term.{Term, lit, col}
+use Rattle.sqlite_schema.specs.Rules.{agree}
+use Rattle.std.specs.Prelude.{option_map}
+use Rattle.office_values.specs.Ids.{id_cmp}
+use Rattle.office_base.specs.Tables.{line_key, batch_key, tenderer_key, notice_key, lot_key, envelope_key, seal_key, security_key, award_key, contract_key, entry_key, release_key, compiled_key, entry_cmp, lot_cmp, release_cmp}
+use Rattle.office_base.specs.declared.records.LineRow.{LineRow}
+use Rattle.office_base.specs.declared.records.BatchRow.{BatchRow}
+use Rattle.office_base.specs.declared.records.TendererRow.{TendererRow}
+use Rattle.office_base.specs.declared.records.NoticeRow.{NoticeRow}
+use Rattle.office_base.specs.declared.records.LotRow.{LotRow}
+use Rattle.office_base.specs.declared.records.EnvelopeRow.{EnvelopeRow}
+use Rattle.office_base.specs.declared.records.SealRow.{SealRow}
+use Rattle.office_base.specs.declared.records.SecurityRow.{SecurityRow}
+use Rattle.office_base.specs.declared.records.AwardRow.{AwardRow}
+use Rattle.office_base.specs.declared.records.ContractRow.{ContractRow}
+use Rattle.office_base.specs.declared.records.EntryRow.{EntryRow}
+use Rattle.office_base.specs.declared.records.ReleaseRow.{ReleaseRow}
+use Rattle.office_base.specs.declared.records.CompiledRow.{CompiledRow}
+use Rattle.office_base.specs.declared.records.ClockRow.{ClockRow}
+use Rattle.office_rows.specs.Values.{as_number}
+use Rattle.office_rows.specs.Words.{how_text}
+use Rattle.office_rows.specs.Readings.{reading_word, stated_of, corrected_of, corrections_of}
+use Rattle.office_base.proofs.ExactKeys.{ids_exact, lots_exact}
+use Rattle.office_base.proofs.Orders.{lots_total, entries_total, releases_total}
+use Rattle.office_rows.specs.Budget.{line_row, batch_row}
+use Rattle.office_rows.specs.Notices.{tenderer_row, notice_row, lot_row}
+use Rattle.office_rows.specs.Tenders.{envelope_row, seal_row, security_row}
+use Rattle.office_rows.specs.Awards.{award_row, contract_row, entry_row}
+use Rattle.office_rows.specs.Releases.{release_row, compiled_row, clock_row}
+use Rattle.office_sql.specs.Clock.{clock_key, clock_cmp}
+use Rattle.office_sql.specs.Schema.{OfficeTable, table_of, lines, batches, tenderers, notices, lots, envelopes, seals, securities, awards, contracts, entries, releases, compiled, office}
+use Rattle.office_sql.specs.Schema.OfficeTable.{Lines, Batches, Tenderers, Notices, Lots, Envelopes, Seals, Securities, Awards, Contracts, Entries, Releases, Compiled, Office}
+use Rattle.office_sql.proofs.Cells.{cast_null, cast_int, cast_perhaps, cast_words, texts_equal, equal_texts, numbers_equal, equal_numbers, both_true, one_true, first_true, only_true}
+use Rattle.office_sql.proofs.Writes.{IsStored, IsBare}
+use Rattle.office_sql.proofs.Keys.{entries_exact, releases_exact, clock_total, clock_exact}
+
+pub bare : (k : OfficeTable) → IsBare (table_of k)
+bare Lines = record { childless = refl; plainly = refl; uncounted = refl }
+bare Batches = record { childless = refl; plainly = refl; uncounted = refl }
+bare Tenderers = record { childless = refl; plainly = refl; uncounted = refl }
+bare Notices = record { childless = refl; plainly = refl; uncounted = refl }
+bare Lots = record { childless = refl; plainly = refl; uncounted = refl }
+bare Envelopes = record { childless = refl; plainly = refl; uncounted = refl }
+bare Seals = record { childless = refl; plainly = refl; uncounted = refl }
+bare Securities = record { childless = refl; plainly = refl; uncounted = refl }
+bare Awards = record { childless = refl; plainly = refl; uncounted = refl }
+bare Contracts = record { childless = refl; plainly = refl; uncounted = refl }
+bare Entries = record { childless = refl; plainly = refl; uncounted = refl }
+bare Releases = record { childless = refl; plainly = refl; uncounted = refl }
+bare Compiled = record { childless = refl; plainly = refl; uncounted = refl }
+bare Office = record { childless = refl; plainly = refl; uncounted = refl }
+
+-- ---- lines
+
+line_meets : (u v : Value) (x y : LineRow) → line_key x ≡ line_key y → agree plain lines.primary (u ∷ line_row x) lines.primary (v ∷ line_row y) ≡ true
+unfolding first_key
+line_meets u v x y e = one_true _ (texts_equal x.line y.line e)
+
+line_met : (u v : Value) (x y : LineRow) → agree plain lines.primary (u ∷ line_row x) lines.primary (v ∷ line_row y) ≡ true → line_key x ≡ line_key y
+unfolding first_key
+line_met u v x y h = equal_texts x.line y.line (only_true _ h)
+
+abbrev pub line_terms : List Term
+line_terms = lit Null ∷ col 0 0 ∷ col 0 1 ∷ col 0 2 ∷ col 0 3 ∷ []
+
+pub line_stored : IsStored Lines id_cmp line_key line_row line_terms 5
+line_stored = record {
+  total = nat_list_cmp_total;
+  exact = ids_exact;
+  given = λ n x. refl;
+  tries = λ n x. rw (cast_null, cast_int (pos x.appropriation), cast_int (pos x.free));
+  stores = λ n m x. rw (cast_int m, cast_int (pos x.appropriation), cast_int (pos x.free));
+  meets = line_meets;
+  met = line_met;
+}
+
+-- ---- batches
+
+batch_meets : (u v : Value) (x y : BatchRow) → batch_key x ≡ batch_key y → agree plain batches.primary (u ∷ batch_row x) batches.primary (v ∷ batch_row y) ≡ true
+unfolding first_key
+batch_meets u v x y e = one_true _ (texts_equal x.batch y.batch e)
+
+batch_met : (u v : Value) (x y : BatchRow) → agree plain batches.primary (u ∷ batch_row x) batches.primary (v ∷ batch_row y) ≡ true → batch_key x ≡ batch_key y
+unfolding first_key
+batch_met u v x y h = equal_texts x.batch y.batch (only_true _ h)
+
+abbrev pub batch_terms : List Term
+batch_terms = lit Null ∷ col 0 0 ∷ col 0 1 ∷ col 0 2 ∷ []
+
+pub batch_stored : IsStored Batches id_cmp batch_key batch_row batch_terms 4
+batch_stored = record {
+  total = nat_list_cmp_total;
+  exact = ids_exact;
+  given = λ n x. refl;
+  tries = λ n x. rw (cast_null, cast_int (pos x.moment), cast_int (pos x.rows));
+  stores = λ n m x. rw (cast_int m, cast_int (pos x.moment), cast_int (pos x.rows));
+  meets = batch_meets;
+  met = batch_met;
+}
+
+-- ---- tenderers
+
+tenderer_meets : (u v : Value) (x y : TendererRow) → tenderer_key x ≡ tenderer_key y → agree plain tenderers.primary (u ∷ tenderer_row x) tenderers.primary (v ∷ tenderer_row y) ≡ true
+unfolding first_key
+tenderer_meets u v x y e = one_true _ (texts_equal x.tenderer y.tenderer e)
+
+tenderer_met : (u v : Value) (x y : TendererRow) → agree plain tenderers.primary (u ∷ tenderer_row x) tenderers.primary (v ∷ tenderer_row y) ≡ true → tenderer_key x ≡ tenderer_key y
+unfolding first_key
+tenderer_met u v x y h = equal_texts x.tenderer y.tenderer (only_true _ h)
+
+abbrev pub tenderer_terms : List Term
+tenderer_terms = lit Null ∷ col 0 0 ∷ col 0 1 ∷ col 0 2 ∷ col 0 3 ∷ []
+
+pub tenderer_stored : IsStored Tenderers id_cmp tenderer_key tenderer_row tenderer_terms 5
+tenderer_stored = record {
+  total = nat_list_cmp_total;
+  exact = ids_exact;
+  given = λ n x. refl;
+  tries = λ n x. rw (cast_null);
+  stores = λ n m x. rw (cast_int m);
+  meets = tenderer_meets;
+  met = tenderer_met;
+}
+
+-- ---- notices
+
+notice_meets : (u v : Value) (x y : NoticeRow) → notice_key x ≡ notice_key y → agree plain notices.primary (u ∷ notice_row x) notices.primary (v ∷ notice_row y) ≡ true
+unfolding first_key
+notice_meets u v x y e = one_true _ (texts_equal x.notice y.notice e)
+
+notice_met : (u v : Value) (x y : NoticeRow) → agree plain notices.primary (u ∷ notice_row x) notices.primary (v ∷ notice_row y) ≡ true → notice_key x ≡ notice_key y
+unfolding first_key
+notice_met u v x y h = equal_texts x.notice y.notice (only_true _ h)
+
+abbrev pub notice_terms : List Term
+notice_terms = lit Null ∷ col 0 0 ∷ col 0 1 ∷ col 0 2 ∷ col 0 3 ∷ col 0 4 ∷ col 0 5 ∷ col 0 6 ∷ col 0 7 ∷ col 0 8 ∷ col 0 9 ∷ col 0 10 ∷ []
+
+pub notice_stored : IsStored Notices id_cmp notice_key notice_row notice_terms 12
+notice_stored = record {
+  total = nat_list_cmp_total;
+  exact = ids_exact;
+  given = λ n x. refl;
+  tries = λ n x. rw (cast_null, cast_int (pos x.published), cast_int (pos x.deadline), cast_int (pos x.validity), cast_int (pos x.standstill), cast_int (pos x.weight), cast_perhaps x.opened, cast_int (pos x.amendments), cast_int (pos x.releases));
+  stores = λ n m x. rw (cast_int m, cast_int (pos x.published), cast_int (pos x.deadline), cast_int (pos x.validity), cast_int (pos x.standstill), cast_int (pos x.weight), cast_perhaps x.opened, cast_int (pos x.amendments), cast_int (pos x.releases));
+  meets = notice_meets;
+  met = notice_met;
+}
+
+-- ---- lots
+
+lot_meets : (u v : Value) (x y : LotRow) → lot_key x ≡ lot_key y → agree plain lots.primary (u ∷ lot_row x) lots.primary (v ∷ lot_row y) ≡ true
+unfolding first_key
+lot_meets u v x y e = both_true _ _ (texts_equal x.notice y.notice (ap (λ (q : List ℕ × List ℕ). q.0) e)) (texts_equal x.lot y.lot (ap (λ (q : List ℕ × List ℕ). q.1) e))
+
+lot_met : (u v : Value) (x y : LotRow) → agree plain lots.primary (u ∷ lot_row x) lots.primary (v ∷ lot_row y) ≡ true → lot_key x ≡ lot_key y
+unfolding first_key
+lot_met u v x y h = let both = first_true _ _ h in ap₂ (λ a b. (a, b)) (equal_texts x.notice y.notice both.0) (equal_texts x.lot y.lot both.1)
+
+abbrev pub lot_terms : List Term
+lot_terms = lit Null ∷ col 0 0 ∷ col 0 1 ∷ col 0 2 ∷ col 0 3 ∷ col 0 4 ∷ col 0 5 ∷ col 0 6 ∷ col 0 7 ∷ col 0 8 ∷ []
+
+pub lot_stored : IsStored Lots lot_cmp lot_key lot_row lot_terms 10
+lot_stored = record {
+  total = lots_total;
+  exact = lots_exact;
+  given = λ n x. refl;
+  tries = λ n x. rw (cast_null, cast_int (pos x.estimate), cast_int (pos x.security), cast_int (pos x.reserved));
+  stores = λ n m x. rw (cast_int m, cast_int (pos x.estimate), cast_int (pos x.security), cast_int (pos x.reserved));
+  meets = lot_meets;
+  met = lot_met;
+}
+
+-- ---- envelopes
+
+envelope_meets : (u v : Value) (x y : EnvelopeRow) → envelope_key x ≡ envelope_key y → agree plain envelopes.primary (u ∷ envelope_row x) envelopes.primary (v ∷ envelope_row y) ≡ true
+unfolding first_key
+envelope_meets u v x y e = one_true _ (numbers_equal x.receipt y.receipt e)
+
+envelope_met : (u v : Value) (x y : EnvelopeRow) → agree plain envelopes.primary (u ∷ envelope_row x) envelopes.primary (v ∷ envelope_row y) ≡ true → envelope_key x ≡ envelope_key y
+unfolding first_key
+envelope_met u v x y h = equal_numbers x.receipt y.receipt (only_true _ h)
+
+abbrev pub envelope_terms : List Term
+envelope_terms = lit Null ∷ col 0 0 ∷ col 0 1 ∷ col 0 2 ∷ col 0 3 ∷ col 0 4 ∷ col 0 5 ∷ col 0 6 ∷ col 0 7 ∷ col 0 8 ∷ col 0 9 ∷ col 0 10 ∷ col 0 11 ∷ col 0 12 ∷ col 0 13 ∷ col 0 14 ∷ col 0 15 ∷ []
+
+pub envelope_stored : IsStored Envelopes nat_cmp envelope_key envelope_row envelope_terms 17
+envelope_stored = record {
+  total = nat_cmp_total;
+  exact = numbers_exact;
+  given = λ n x. refl;
+  tries = λ n x. rw (cast_null, cast_int (pos x.receipt), cast_int (pos x.moment), cast_int (pos x.length), cast_perhaps x.security, cast_words (option_map reading_word x.reading), cast_perhaps (stated_of x.reading), cast_perhaps (corrected_of x.reading), cast_perhaps (corrections_of x.reading), cast_perhaps (option_map as_number x.responsive), cast_perhaps x.quality, cast_int (pos (as_number x.failed)));
+  stores = λ n m x. rw (cast_int m, cast_int (pos x.receipt), cast_int (pos x.moment), cast_int (pos x.length), cast_perhaps x.security, cast_words (option_map reading_word x.reading), cast_perhaps (stated_of x.reading), cast_perhaps (corrected_of x.reading), cast_perhaps (corrections_of x.reading), cast_perhaps (option_map as_number x.responsive), cast_perhaps x.quality, cast_int (pos (as_number x.failed)));
+  meets = envelope_meets;
+  met = envelope_met;
+}
+
+-- ---- seals
+
+seal_meets : (u v : Value) (x y : SealRow) → seal_key x ≡ seal_key y → agree plain seals.primary (u ∷ seal_row x) seals.primary (v ∷ seal_row y) ≡ true
+unfolding first_key
+seal_meets u v x y e = one_true _ (numbers_equal x.receipt y.receipt e)
+
+seal_met : (u v : Value) (x y : SealRow) → agree plain seals.primary (u ∷ seal_row x) seals.primary (v ∷ seal_row y) ≡ true → seal_key x ≡ seal_key y
+unfolding first_key
+seal_met u v x y h = equal_numbers x.receipt y.receipt (only_true _ h)
+
+abbrev pub seal_terms : List Term
+seal_terms = lit Null ∷ col 0 0 ∷ col 0 1 ∷ []
+
+pub seal_stored : IsStored Seals nat_cmp seal_key seal_row seal_terms 3
+seal_stored = record {
+  total = nat_cmp_total;
+  exact = numbers_exact;
+  given = λ n x. refl;
+  tries = λ n x. rw (cast_null, cast_int (pos x.receipt));
+  stores = λ n m x. rw (cast_int m, cast_int (pos x.receipt));
+  meets = seal_meets;
+  met = seal_met;
+}
+
+-- ---- securities
+
+security_meets : (u v : Value) (x y : SecurityRow) → security_key x ≡ security_key y → agree plain securities.primary (u ∷ security_row x) securities.primary (v ∷ security_row y) ≡ true
+unfolding first_key
+security_meets u v x y e = one_true _ (numbers_equal x.security y.security e)
+
+security_met : (u v : Value) (x y : SecurityRow) → agree plain securities.primary (u ∷ security_row x) securities.primary (v ∷ security_row y) ≡ true → security_key x ≡ security_key y
+unfolding first_key
+security_met u v x y h = equal_numbers x.security y.security (only_true _ h)
+
+abbrev pub security_terms : List Term
+security_terms = lit Null ∷ col 0 0 ∷ col 0 1 ∷ col 0 2 ∷ col 0 3 ∷ col 0 4 ∷ col 0 5 ∷ col 0 6 ∷ []
+
+pub security_stored : IsStored Securities nat_cmp security_key security_row security_terms 8
+security_stored = record {
+  total = nat_cmp_total;
+  exact = numbers_exact;
+  given = λ n x. refl;
+  tries = λ n x. rw (cast_null, cast_int (pos x.security), cast_int (pos x.amount));
+  stores = λ n m x. rw (cast_int m, cast_int (pos x.security), cast_int (pos x.amount));
+  meets = security_meets;
+  met = security_met;
+}
+
+-- ---- awards
+
+award_meets : (u v : Value) (x y : AwardRow) → award_key x ≡ award_key y → agree plain awards.primary (u ∷ award_row x) awards.primary (v ∷ award_row y) ≡ true
+unfolding first_key
+award_meets u v x y e = one_true _ (numbers_equal x.award y.award e)
+
+award_met : (u v : Value) (x y : AwardRow) → agree plain awards.primary (u ∷ award_row x) awards.primary (v ∷ award_row y) ≡ true → award_key x ≡ award_key y
+unfolding first_key
+award_met u v x y h = equal_numbers x.award y.award (only_true _ h)
+
+abbrev pub award_terms : List Term
+award_terms = lit Null ∷ col 0 0 ∷ col 0 1 ∷ col 0 2 ∷ col 0 3 ∷ col 0 4 ∷ col 0 5 ∷ col 0 6 ∷ []
+
+pub award_stored : IsStored Awards nat_cmp award_key award_row award_terms 8
+award_stored = record {
+  total = nat_cmp_total;
+  exact = numbers_exact;
+  given = λ n x. refl;
+  tries = λ n x. rw (cast_null, cast_int (pos x.award), cast_int (pos x.receipt), cast_int (pos x.price), cast_int (pos x.moment));
+  stores = λ n m x. rw (cast_int m, cast_int (pos x.award), cast_int (pos x.receipt), cast_int (pos x.price), cast_int (pos x.moment));
+  meets = award_meets;
+  met = award_met;
+}
+
+-- ---- contracts
+
+contract_meets : (u v : Value) (x y : ContractRow) → contract_key x ≡ contract_key y → agree plain contracts.primary (u ∷ contract_row x) contracts.primary (v ∷ contract_row y) ≡ true
+unfolding first_key
+contract_meets u v x y e = one_true _ (numbers_equal x.contract y.contract e)
+
+contract_met : (u v : Value) (x y : ContractRow) → agree plain contracts.primary (u ∷ contract_row x) contracts.primary (v ∷ contract_row y) ≡ true → contract_key x ≡ contract_key y
+unfolding first_key
+contract_met u v x y h = equal_numbers x.contract y.contract (only_true _ h)
+
+abbrev pub contract_terms : List Term
+contract_terms = lit Null ∷ col 0 0 ∷ col 0 1 ∷ col 0 2 ∷ col 0 3 ∷ col 0 4 ∷ col 0 5 ∷ col 0 6 ∷ col 0 7 ∷ col 0 8 ∷ []
+
+pub contract_stored : IsStored Contracts nat_cmp contract_key contract_row contract_terms 10
+contract_stored = record {
+  total = nat_cmp_total;
+  exact = numbers_exact;
+  given = λ n x. refl;
+  tries = λ n x. rw (cast_null, cast_int (pos x.contract), cast_int (pos x.signed), cast_int (pos x.moment), cast_perhaps x.ended, cast_words (option_map how_text x.how), cast_int (pos x.released));
+  stores = λ n m x. rw (cast_int m, cast_int (pos x.contract), cast_int (pos x.signed), cast_int (pos x.moment), cast_perhaps x.ended, cast_words (option_map how_text x.how), cast_int (pos x.released));
+  meets = contract_meets;
+  met = contract_met;
+}
+
+-- ---- entries
+
+entry_meets : (u v : Value) (x y : EntryRow) → entry_key x ≡ entry_key y → agree plain entries.primary (u ∷ entry_row x) entries.primary (v ∷ entry_row y) ≡ true
+unfolding first_key
+entry_meets u v x y e = both_true _ _ (numbers_equal x.contract y.contract (ap (λ (q : ℕ × List ℕ). q.0) e)) (texts_equal x.entry y.entry (ap (λ (q : ℕ × List ℕ). q.1) e))
+
+entry_met : (u v : Value) (x y : EntryRow) → agree plain entries.primary (u ∷ entry_row x) entries.primary (v ∷ entry_row y) ≡ true → entry_key x ≡ entry_key y
+unfolding first_key
+entry_met u v x y h = let both = first_true _ _ h in ap₂ (λ a b. (a, b)) (equal_numbers x.contract y.contract both.0) (equal_texts x.entry y.entry both.1)
+
+abbrev pub entry_terms : List Term
+entry_terms = lit Null ∷ col 0 0 ∷ col 0 1 ∷ col 0 2 ∷ col 0 3 ∷ col 0 4 ∷ col 0 5 ∷ []
+
+pub entry_stored : IsStored Entries entry_cmp entry_key entry_row entry_terms 7
+entry_stored = record {
+  total = entries_total;
+  exact = entries_exact;
+  given = λ n x. refl;
+  tries = λ n x. rw (cast_null, cast_int (pos x.contract), cast_int (pos x.amount), cast_int (pos x.moment), cast_words x.rationale);
+  stores = λ n m x. rw (cast_int m, cast_int (pos x.contract), cast_int (pos x.amount), cast_int (pos x.moment), cast_words x.rationale);
+  meets = entry_meets;
+  met = entry_met;
+}
+
+-- ---- releases
+
+release_meets : (u v : Value) (x y : ReleaseRow) → release_key x ≡ release_key y → agree plain releases.primary (u ∷ release_row x) releases.primary (v ∷ release_row y) ≡ true
+unfolding first_key
+release_meets u v x y e = both_true _ _ (texts_equal x.notice y.notice (ap (λ (q : List ℕ × ℕ). q.0) e)) (numbers_equal x.seq y.seq (ap (λ (q : List ℕ × ℕ). q.1) e))
+
+release_met : (u v : Value) (x y : ReleaseRow) → agree plain releases.primary (u ∷ release_row x) releases.primary (v ∷ release_row y) ≡ true → release_key x ≡ release_key y
+unfolding first_key
+release_met u v x y h = let both = first_true _ _ h in ap₂ (λ a b. (a, b)) (equal_texts x.notice y.notice both.0) (equal_numbers x.seq y.seq both.1)
+
+abbrev pub release_terms : List Term
+release_terms = lit Null ∷ col 0 0 ∷ col 0 1 ∷ col 0 2 ∷ col 0 3 ∷ []
+
+pub release_stored : IsStored Releases release_cmp release_key release_row release_terms 5
+release_stored = record {
+  total = releases_total;
+  exact = releases_exact;
+  given = λ n x. refl;
+  tries = λ n x. rw (cast_null, cast_int (pos x.seq), cast_int (pos x.moment));
+  stores = λ n m x. rw (cast_int m, cast_int (pos x.seq), cast_int (pos x.moment));
+  meets = release_meets;
+  met = release_met;
+}
+
+-- ---- compiled
+
+compiled_meets : (u v : Value) (x y : CompiledRow) → compiled_key x ≡ compiled_key y → agree plain compiled.primary (u ∷ compiled_row x) compiled.primary (v ∷ compiled_row y) ≡ true
+unfolding first_key
+compiled_meets u v x y e = one_true _ (texts_equal x.notice y.notice e)
+
+compiled_met : (u v : Value) (x y : CompiledRow) → agree plain compiled.primary (u ∷ compiled_row x) compiled.primary (v ∷ compiled_row y) ≡ true → compiled_key x ≡ compiled_key y
+unfolding first_key
+compiled_met u v x y h = equal_texts x.notice y.notice (only_true _ h)
+
+abbrev pub compiled_terms : List Term
+compiled_terms = lit Null ∷ col 0 0 ∷ col 0 1 ∷ []
+
+pub compiled_stored : IsStored Compiled id_cmp compiled_key compiled_row compiled_terms 3
+compiled_stored = record {
+  total = nat_list_cmp_total;
+  exact = ids_exact;
+  given = λ n x. refl;
+  tries = λ n x. rw (cast_null);
+  stores = λ n m x. rw (cast_int m);
+  meets = compiled_meets;
+  met = compiled_met;
+}
+
+-- ---- office
+
+clock_meets : (u v : Value) (x y : ClockRow) → clock_key x ≡ clock_key y → agree plain office.primary (u ∷ clock_row x) office.primary (v ∷ clock_row y) ≡ true
+unfolding first_key
+clock_meets u v x y e = one_true _ (numbers_equal 1 1 refl)
+
+clock_met : (u v : Value) (x y : ClockRow) → agree plain office.primary (u ∷ clock_row x) office.primary (v ∷ clock_row y) ≡ true → clock_key x ≡ clock_key y
+clock_met u v x y h = refl
+
+abbrev pub clock_terms : List Term
+clock_terms = lit Null ∷ col 0 0 ∷ col 0 1 ∷ col 0 2 ∷ col 0 3 ∷ []
+
+pub clock_stored : IsStored Office clock_cmp clock_key clock_row clock_terms 5
+clock_stored = record {
+  total = clock_total;
+  exact = clock_exact;
+  given = λ n x. refl;
+  tries = λ n x. rw (cast_null, cast_int (pos 1), cast_int (pos x.moment), cast_int (pos x.receipts), cast_int (pos x.awards));
+  stores = λ n m x. rw (cast_int m, cast_int (pos 1), cast_int (pos x.moment), cast_int (pos x.receipts), cast_int (pos x.awards));
+  meets = clock_meets;
+  met = clock_met;
+}

@@ -1,0 +1,9 @@
+use Rattle.sqlite.specs.Held.{state}
+use Rattle.office_sql.proofs.DropStatements.{drops_seal}
+use Rattle.office_sql.proofs.Stepping.{on_ok_with}
+use Rattle.office_sql.proofs.puts.drop_seal.Goals as goal
+
+pub returns-clause-puts : goal.returns-clause-puts
+returns-clause-puts g c clean inside =
+    on_ok_with c.execute_one.result _ _ (rw c.given_value.ensures at (c.execute_one.ensures.ran clean inside)) (λ h.
+    drops_seal (state g.S.Store c.args.tx.now.conn.now) (state g.S.Store c.execute_one.new.tx.conn.now) c.args.receipt h.0 h.1)

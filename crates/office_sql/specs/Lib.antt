@@ -1,0 +1,9 @@
+pub mod Kept
+pub mod Clock
+pub mod Schema
+pub mod Known
+pub mod Standing
+pub mod Steps
+pub mod Making
+pub mod Laws
+pub mod Version

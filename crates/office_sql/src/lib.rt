@@ -1,0 +1,14 @@
+//! The tables of an office in SQL: each look-up and each change of a record as a statement. Nothing is assumed of
+//! other tables in the database.
+#![tactic(auto)]
+
+pub mod ask;
+mod faults;
+pub mod laws;
+pub mod lists;
+pub mod lookups;
+pub mod make;
+pub mod puts;
+mod statement;
+mod values;
+pub mod version;

@@ -1,0 +1,257 @@
+//! Changes of one record each, as statements of a transaction. A change is made, or it is refused and nothing of it stays.
+ghost use Rattle.std.specs.Prelude.{◌≡◌, [], ◌∷◌, IsTrue, OnOk, OnErr};
+ghost use Rattle.sqlite.specs.Held.{state};
+ghost use Rattle.sqlite.specs.State.{HasCleanDisk, Survives};
+ghost use Rattle.office_sql.specs.Steps.{Puts, Refused};
+
+use crate::statement::execute_one;
+use crate::values::given_value;
+use office_base::puts::Put;
+use office_base::records::{
+    AwardRow, BatchRow, ClockRow, CompiledRow, ContractRow, EntryRow, EnvelopeRow, LineRow, LotRow,
+    NoticeRow, ReleaseRow, SealRow, SecurityRow, TendererRow,
+};
+use office_rows::items::items_text;
+use office_rows::laws::{
+    awards_come_back, batches_come_back, clock_comes_back, compiled_comes_back,
+    contracts_come_back, entries_come_back, envelopes_come_back, lines_come_back, lots_come_back,
+    notices_come_back, releases_come_back, seals_come_back, securities_come_back,
+    tenderers_come_back,
+};
+use office_rows::values::{
+    award_values, batch_values, clock_values, compiled_values, contract_values, entry_values,
+    envelope_values, line_values, lot_values, notice_values, release_values, seal_values,
+    security_values, tenderer_values,
+};
+use office_values::given::GivenNumber;
+use sqlite::{Alter, Error, Transaction};
+use std::alloc::Global;
+
+/// Adds a budget line, or replaces the one of its key.
+pub fn put_line<S: Alter>(tx: &mut Transaction<'_, S>, row: &LineRow) -> Result<(), Error>
+    ensures same_reference { tx.new.conn.ghost_name ≡ tx.old.conn.ghost_name }
+    ensures puts { HasCleanDisk (state S.Store tx.new.conn.now) → IsTrue (state S.Store tx.old.conn.now).in_transaction → OnOk result (Puts (state S.Store tx.old.conn.now) (state S.Store tx.new.conn.now) (Put.Line row.now ∷ [])) }
+    ensures refused { HasCleanDisk (state S.Store tx.new.conn.now) → IsTrue (state S.Store tx.old.conn.now).in_transaction → OnErr result (Refused (state S.Store tx.old.conn.now) (state S.Store tx.new.conn.now)) }
+    ensures survives { Survives (state S.Store tx.old.conn.now) (state S.Store tx.new.conn.now) (λ _. ⊥) }
+{
+    lines_come_back();
+    execute_one(
+        tx,
+        "INSERT OR REPLACE INTO lines (line, title, appropriation, free) VALUES (?1, ?2, ?3, ?4)",
+        &line_values(row),
+    )
+}
+
+/// Adds a batch, or replaces the one of its key.
+pub fn put_batch<S: Alter>(tx: &mut Transaction<'_, S>, row: &BatchRow) -> Result<(), Error>
+    ensures same_reference { tx.new.conn.ghost_name ≡ tx.old.conn.ghost_name }
+    ensures puts { HasCleanDisk (state S.Store tx.new.conn.now) → IsTrue (state S.Store tx.old.conn.now).in_transaction → OnOk result (Puts (state S.Store tx.old.conn.now) (state S.Store tx.new.conn.now) (Put.Batch row.now ∷ [])) }
+    ensures refused { HasCleanDisk (state S.Store tx.new.conn.now) → IsTrue (state S.Store tx.old.conn.now).in_transaction → OnErr result (Refused (state S.Store tx.old.conn.now) (state S.Store tx.new.conn.now)) }
+    ensures survives { Survives (state S.Store tx.old.conn.now) (state S.Store tx.new.conn.now) (λ _. ⊥) }
+{
+    batches_come_back();
+    execute_one(
+        tx,
+        "INSERT OR REPLACE INTO batches (batch, moment, rows) VALUES (?1, ?2, ?3)",
+        &batch_values(row),
+    )
+}
+
+/// Adds a tenderer, or replaces the one of its key.
+pub fn put_tenderer<S: Alter>(tx: &mut Transaction<'_, S>, row: &TendererRow) -> Result<(), Error>
+    ensures same_reference { tx.new.conn.ghost_name ≡ tx.old.conn.ghost_name }
+    ensures puts { HasCleanDisk (state S.Store tx.new.conn.now) → IsTrue (state S.Store tx.old.conn.now).in_transaction → OnOk result (Puts (state S.Store tx.old.conn.now) (state S.Store tx.new.conn.now) (Put.Tenderer row.now ∷ [])) }
+    ensures refused { HasCleanDisk (state S.Store tx.new.conn.now) → IsTrue (state S.Store tx.old.conn.now).in_transaction → OnErr result (Refused (state S.Store tx.old.conn.now) (state S.Store tx.new.conn.now)) }
+    ensures survives { Survives (state S.Store tx.old.conn.now) (state S.Store tx.new.conn.now) (λ _. ⊥) }
+{
+    tenderers_come_back();
+    execute_one(
+        tx,
+        "INSERT OR REPLACE INTO tenderers (tenderer, name, address, key) VALUES (?1, ?2, ?3, ?4)",
+        &tenderer_values(row),
+    )
+}
+
+/// Adds a notice, or replaces the one of its key.
+pub fn put_notice<S: Alter>(tx: &mut Transaction<'_, S>, row: &NoticeRow) -> Result<(), Error>
+    ensures same_reference { tx.new.conn.ghost_name ≡ tx.old.conn.ghost_name }
+    ensures puts { HasCleanDisk (state S.Store tx.new.conn.now) → IsTrue (state S.Store tx.old.conn.now).in_transaction → OnOk result (Puts (state S.Store tx.old.conn.now) (state S.Store tx.new.conn.now) (Put.Notice row.now ∷ [])) }
+    ensures refused { HasCleanDisk (state S.Store tx.new.conn.now) → IsTrue (state S.Store tx.old.conn.now).in_transaction → OnErr result (Refused (state S.Store tx.old.conn.now) (state S.Store tx.new.conn.now)) }
+    ensures survives { Survives (state S.Store tx.old.conn.now) (state S.Store tx.new.conn.now) (λ _. ⊥) }
+{
+    notices_come_back();
+    execute_one(
+        tx,
+        "INSERT OR REPLACE INTO notices (notice, title, published, deadline, validity, standstill, weight, state, opened, amendments, releases) VALUES (?1, ?2, ?3, ?4, ?5, ?6, ?7, ?8, ?9, ?10, ?11)",
+        &notice_values(row),
+    )
+}
+
+/// Adds a lot, or replaces the one of its key.
+pub fn put_lot<S: Alter>(
+    alloc: Global,
+    tx: &mut Transaction<'_, S>,
+    row: &LotRow,
+) -> Result<(), Error>
+    ensures same_reference { tx.new.conn.ghost_name ≡ tx.old.conn.ghost_name }
+    ensures puts { HasCleanDisk (state S.Store tx.new.conn.now) → IsTrue (state S.Store tx.old.conn.now).in_transaction → OnOk result (Puts (state S.Store tx.old.conn.now) (state S.Store tx.new.conn.now) (Put.Lot row.now ∷ [])) }
+    ensures refused { HasCleanDisk (state S.Store tx.new.conn.now) → IsTrue (state S.Store tx.old.conn.now).in_transaction → OnErr result (Refused (state S.Store tx.old.conn.now) (state S.Store tx.new.conn.now)) }
+    ensures survives { Survives (state S.Store tx.old.conn.now) (state S.Store tx.new.conn.now) (λ _. ⊥) }
+{
+    lots_come_back();
+    let items = items_text(alloc, &row.items)?;
+    execute_one(
+        tx,
+        "INSERT OR REPLACE INTO lots (notice, lot, title, line, estimate, security, items, state, reserved) VALUES (?1, ?2, ?3, ?4, ?5, ?6, ?7, ?8, ?9)",
+        &lot_values(row, items.as_slice()),
+    )
+}
+
+/// Adds a tender, or replaces the one of its key.
+pub fn put_envelope<S: Alter>(tx: &mut Transaction<'_, S>, row: &EnvelopeRow) -> Result<(), Error>
+    ensures same_reference { tx.new.conn.ghost_name ≡ tx.old.conn.ghost_name }
+    ensures puts { HasCleanDisk (state S.Store tx.new.conn.now) → IsTrue (state S.Store tx.old.conn.now).in_transaction → OnOk result (Puts (state S.Store tx.old.conn.now) (state S.Store tx.new.conn.now) (Put.Envelope row.now ∷ [])) }
+    ensures refused { HasCleanDisk (state S.Store tx.new.conn.now) → IsTrue (state S.Store tx.old.conn.now).in_transaction → OnErr result (Refused (state S.Store tx.old.conn.now) (state S.Store tx.new.conn.now)) }
+    ensures survives { Survives (state S.Store tx.old.conn.now) (state S.Store tx.new.conn.now) (λ _. ⊥) }
+{
+    envelopes_come_back();
+    execute_one(
+        tx,
+        "INSERT OR REPLACE INTO envelopes (receipt, notice, lot, tenderer, moment, length, digest, security, state, reading, stated, corrected, corrections, responsive, quality, failed) VALUES (?1, ?2, ?3, ?4, ?5, ?6, ?7, ?8, ?9, ?10, ?11, ?12, ?13, ?14, ?15, ?16)",
+        &envelope_values(row),
+    )
+}
+
+/// Adds a tender's bytes, or replaces the one of its key.
+pub fn put_seal<S: Alter>(tx: &mut Transaction<'_, S>, row: &SealRow) -> Result<(), Error>
+    ensures same_reference { tx.new.conn.ghost_name ≡ tx.old.conn.ghost_name }
+    ensures puts { HasCleanDisk (state S.Store tx.new.conn.now) → IsTrue (state S.Store tx.old.conn.now).in_transaction → OnOk result (Puts (state S.Store tx.old.conn.now) (state S.Store tx.new.conn.now) (Put.Seal row.now ∷ [])) }
+    ensures refused { HasCleanDisk (state S.Store tx.new.conn.now) → IsTrue (state S.Store tx.old.conn.now).in_transaction → OnErr result (Refused (state S.Store tx.old.conn.now) (state S.Store tx.new.conn.now)) }
+    ensures survives { Survives (state S.Store tx.old.conn.now) (state S.Store tx.new.conn.now) (λ _. ⊥) }
+{
+    seals_come_back();
+    execute_one(
+        tx,
+        "INSERT OR REPLACE INTO seals (receipt, bytes) VALUES (?1, ?2)",
+        &seal_values(row),
+    )
+}
+
+/// Adds a security, or replaces the one of its key.
+pub fn put_security<S: Alter>(tx: &mut Transaction<'_, S>, row: &SecurityRow) -> Result<(), Error>
+    ensures same_reference { tx.new.conn.ghost_name ≡ tx.old.conn.ghost_name }
+    ensures puts { HasCleanDisk (state S.Store tx.new.conn.now) → IsTrue (state S.Store tx.old.conn.now).in_transaction → OnOk result (Puts (state S.Store tx.old.conn.now) (state S.Store tx.new.conn.now) (Put.Security row.now ∷ [])) }
+    ensures refused { HasCleanDisk (state S.Store tx.new.conn.now) → IsTrue (state S.Store tx.old.conn.now).in_transaction → OnErr result (Refused (state S.Store tx.old.conn.now) (state S.Store tx.new.conn.now)) }
+    ensures survives { Survives (state S.Store tx.old.conn.now) (state S.Store tx.new.conn.now) (λ _. ⊥) }
+{
+    securities_come_back();
+    execute_one(
+        tx,
+        "INSERT OR REPLACE INTO securities (security, tenderer, notice, lot, reference, amount, state) VALUES (?1, ?2, ?3, ?4, ?5, ?6, ?7)",
+        &security_values(row),
+    )
+}
+
+/// Adds an award, or replaces the one of its key.
+pub fn put_award<S: Alter>(tx: &mut Transaction<'_, S>, row: &AwardRow) -> Result<(), Error>
+    ensures same_reference { tx.new.conn.ghost_name ≡ tx.old.conn.ghost_name }
+    ensures puts { HasCleanDisk (state S.Store tx.new.conn.now) → IsTrue (state S.Store tx.old.conn.now).in_transaction → OnOk result (Puts (state S.Store tx.old.conn.now) (state S.Store tx.new.conn.now) (Put.Award row.now ∷ [])) }
+    ensures refused { HasCleanDisk (state S.Store tx.new.conn.now) → IsTrue (state S.Store tx.old.conn.now).in_transaction → OnErr result (Refused (state S.Store tx.old.conn.now) (state S.Store tx.new.conn.now)) }
+    ensures survives { Survives (state S.Store tx.old.conn.now) (state S.Store tx.new.conn.now) (λ _. ⊥) }
+{
+    awards_come_back();
+    execute_one(
+        tx,
+        "INSERT OR REPLACE INTO awards (award, notice, lot, receipt, price, moment, state) VALUES (?1, ?2, ?3, ?4, ?5, ?6, ?7)",
+        &award_values(row),
+    )
+}
+
+/// Adds a contract, or replaces the one of its key.
+pub fn put_contract<S: Alter>(tx: &mut Transaction<'_, S>, row: &ContractRow) -> Result<(), Error>
+    ensures same_reference { tx.new.conn.ghost_name ≡ tx.old.conn.ghost_name }
+    ensures puts { HasCleanDisk (state S.Store tx.new.conn.now) → IsTrue (state S.Store tx.old.conn.now).in_transaction → OnOk result (Puts (state S.Store tx.old.conn.now) (state S.Store tx.new.conn.now) (Put.Contract row.now ∷ [])) }
+    ensures refused { HasCleanDisk (state S.Store tx.new.conn.now) → IsTrue (state S.Store tx.old.conn.now).in_transaction → OnErr result (Refused (state S.Store tx.old.conn.now) (state S.Store tx.new.conn.now)) }
+    ensures survives { Survives (state S.Store tx.old.conn.now) (state S.Store tx.new.conn.now) (λ _. ⊥) }
+{
+    contracts_come_back();
+    execute_one(
+        tx,
+        "INSERT OR REPLACE INTO contracts (contract, notice, lot, tenderer, signed, moment, ended, how, released) VALUES (?1, ?2, ?3, ?4, ?5, ?6, ?7, ?8, ?9)",
+        &contract_values(row),
+    )
+}
+
+/// Adds an entry of a contract, or replaces the one of its key.
+pub fn put_entry<S: Alter>(tx: &mut Transaction<'_, S>, row: &EntryRow) -> Result<(), Error>
+    ensures same_reference { tx.new.conn.ghost_name ≡ tx.old.conn.ghost_name }
+    ensures puts { HasCleanDisk (state S.Store tx.new.conn.now) → IsTrue (state S.Store tx.old.conn.now).in_transaction → OnOk result (Puts (state S.Store tx.old.conn.now) (state S.Store tx.new.conn.now) (Put.Entry row.now ∷ [])) }
+    ensures refused { HasCleanDisk (state S.Store tx.new.conn.now) → IsTrue (state S.Store tx.old.conn.now).in_transaction → OnErr result (Refused (state S.Store tx.old.conn.now) (state S.Store tx.new.conn.now)) }
+    ensures survives { Survives (state S.Store tx.old.conn.now) (state S.Store tx.new.conn.now) (λ _. ⊥) }
+{
+    entries_come_back();
+    execute_one(
+        tx,
+        "INSERT OR REPLACE INTO entries (contract, entry, kind, amount, moment, rationale) VALUES (?1, ?2, ?3, ?4, ?5, ?6)",
+        &entry_values(row),
+    )
+}
+
+/// Adds a release, or replaces the one of its key.
+pub fn put_release<S: Alter>(tx: &mut Transaction<'_, S>, row: &ReleaseRow) -> Result<(), Error>
+    ensures same_reference { tx.new.conn.ghost_name ≡ tx.old.conn.ghost_name }
+    ensures puts { HasCleanDisk (state S.Store tx.new.conn.now) → IsTrue (state S.Store tx.old.conn.now).in_transaction → OnOk result (Puts (state S.Store tx.old.conn.now) (state S.Store tx.new.conn.now) (Put.Release row.now ∷ [])) }
+    ensures refused { HasCleanDisk (state S.Store tx.new.conn.now) → IsTrue (state S.Store tx.old.conn.now).in_transaction → OnErr result (Refused (state S.Store tx.old.conn.now) (state S.Store tx.new.conn.now)) }
+    ensures survives { Survives (state S.Store tx.old.conn.now) (state S.Store tx.new.conn.now) (λ _. ⊥) }
+{
+    releases_come_back();
+    execute_one(
+        tx,
+        "INSERT OR REPLACE INTO releases (notice, seq, moment, text) VALUES (?1, ?2, ?3, ?4)",
+        &release_values(row),
+    )
+}
+
+/// Adds the merge of a notice's releases, or replaces the one of its key.
+pub fn put_compiled<S: Alter>(tx: &mut Transaction<'_, S>, row: &CompiledRow) -> Result<(), Error>
+    ensures same_reference { tx.new.conn.ghost_name ≡ tx.old.conn.ghost_name }
+    ensures puts { HasCleanDisk (state S.Store tx.new.conn.now) → IsTrue (state S.Store tx.old.conn.now).in_transaction → OnOk result (Puts (state S.Store tx.old.conn.now) (state S.Store tx.new.conn.now) (Put.Compiled row.now ∷ [])) }
+    ensures refused { HasCleanDisk (state S.Store tx.new.conn.now) → IsTrue (state S.Store tx.old.conn.now).in_transaction → OnErr result (Refused (state S.Store tx.old.conn.now) (state S.Store tx.new.conn.now)) }
+    ensures survives { Survives (state S.Store tx.old.conn.now) (state S.Store tx.new.conn.now) (λ _. ⊥) }
+{
+    compiled_comes_back();
+    execute_one(
+        tx,
+        "INSERT OR REPLACE INTO compiled (notice, text) VALUES (?1, ?2)",
+        &compiled_values(row),
+    )
+}
+
+/// Adds the clock, or replaces the one of its key.
+pub fn put_clock<S: Alter>(tx: &mut Transaction<'_, S>, row: &ClockRow) -> Result<(), Error>
+    ensures same_reference { tx.new.conn.ghost_name ≡ tx.old.conn.ghost_name }
+    ensures puts { HasCleanDisk (state S.Store tx.new.conn.now) → IsTrue (state S.Store tx.old.conn.now).in_transaction → OnOk result (Puts (state S.Store tx.old.conn.now) (state S.Store tx.new.conn.now) (Put.Clock row.now ∷ [])) }
+    ensures refused { HasCleanDisk (state S.Store tx.new.conn.now) → IsTrue (state S.Store tx.old.conn.now).in_transaction → OnErr result (Refused (state S.Store tx.old.conn.now) (state S.Store tx.new.conn.now)) }
+    ensures survives { Survives (state S.Store tx.old.conn.now) (state S.Store tx.new.conn.now) (λ _. ⊥) }
+{
+    clock_comes_back();
+    execute_one(
+        tx,
+        "INSERT OR REPLACE INTO office (version, moment, receipts, awards) VALUES (?1, ?2, ?3, ?4)",
+        &clock_values(row),
+    )
+}
+
+/// Drops the bytes of a tender, by its receipt.
+pub fn drop_seal<S: Alter>(tx: &mut Transaction<'_, S>, receipt: GivenNumber) -> Result<(), Error>
+    ensures same_reference { tx.new.conn.ghost_name ≡ tx.old.conn.ghost_name }
+    ensures puts { HasCleanDisk (state S.Store tx.new.conn.now) → IsTrue (state S.Store tx.old.conn.now).in_transaction → OnOk result (Puts (state S.Store tx.old.conn.now) (state S.Store tx.new.conn.now) (Put.DropSeal receipt ∷ [])) }
+    ensures refused { HasCleanDisk (state S.Store tx.new.conn.now) → IsTrue (state S.Store tx.old.conn.now).in_transaction → OnErr result (Refused (state S.Store tx.old.conn.now) (state S.Store tx.new.conn.now)) }
+    ensures survives { Survives (state S.Store tx.old.conn.now) (state S.Store tx.new.conn.now) (λ _. ⊥) }
+{
+    execute_one(
+        tx,
+        "DELETE FROM seals WHERE receipt = ?1",
+        &[given_value(receipt)],
+    )
+}

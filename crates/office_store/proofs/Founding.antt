@@ -1,0 +1,78 @@
+-- Making an office in a transaction, and entering one.
+use Rattle.std.proofs.Common.{◌≡◌, inl, inr, Bool, true, false, [], Ok, Err, Result, refl, sym, ap, subst, ◌∙◌, IsTrue, true≢false}
+use Rattle.sqlite_tied.specs.Compute.{everything}
+use Rattle.sqlite_trees.specs.Tree.{Trees}
+use Rattle.sqlite_trees.specs.declared.memory.MemStore.{MemStore}
+use Rattle.sqlite_trees.specs.declared.store.Store.{Ghosts}
+use Rattle.sqlite_schema.specs.declared.schema.Schema.{Schema}
+use Rattle.sqlite_resolve.specs.declared.compiled.Compiled.{Compiled}
+use Rattle.sqlite_resolve.specs.declared.error.CompileError.{CompileError}
+use Rattle.sqlite.specs.Effect.{IsDatabase}
+use Rattle.sqlite.specs.Held.{Held, state}
+use Rattle.sqlite.specs.Listing.{understood, listing_schema}
+use Rattle.sqlite.specs.State.{State, Shows, Shown, IsLive}
+use Rattle.sqlite.specs.Steps.{over_memory, IsEmpty}
+use Rattle.office_base.specs.Tables.{no_tables}
+use Rattle.office_sql.specs.Making.{Founds, KeepsOthers}
+use Rattle.office_sql.specs.Standing.{Holds}
+use Rattle.office_sql.specs.Steps.{Refused, ShowsTables}
+use Rattle.office_sql.specs.Version.{get_version}
+use Rattle.office_store.specs.Founding.{Founded, LeavesNew, LeavesOffice, IsSoundOpen, Answered, Enters}
+
+sound_now : (old : State) → (IsTrue old.is_open → old.now ≡ old.committed) → IsSoundOpen old → IsTrue old.is_open → IsDatabase old.now
+sound_now old settled sound o = subst IsDatabase (sym (settled o)) (sound o)
+
+-- a look that was refused leaves the last commit sound
+pub sound_after : (old mid : State) → Refused old mid → IsLive old → IsSoundOpen mid
+sound_after old mid kept live o = subst IsDatabase (sym (kept.committed o)) (live (kept.was_open o)).1
+
+module _ (old mid : State) (settled : IsTrue old.is_open → old.now ≡ old.committed) (it : Founds (record old { in_transaction = true }) mid) where
+  pub founds : (new : State) → IsSoundOpen old → Shows mid new mid.now mid.now false → (IsTrue new.is_open → (db : Trees) → new.may_leave db → db ≡ new.committed.trees) → Founded old new
+  founds new sound shows only = record {
+    was_open = it.goes.was_open;
+    is_open = shows.is_open;
+    tables = subst (λ d. Holds d no_tables) (sym shows.committed_is) (it.tables (sound_now old settled sound it.goes.was_open));
+    others = subst (λ d. KeepsOthers old.committed d) (sym shows.committed_is) (subst (λ d. KeepsOthers d mid.now) (settled it.goes.was_open) (it.others (sound_now old settled sound it.goes.was_open)));
+    only = only shows.is_open;
+  }
+
+  pub found_leaves : (db : Trees) → db ≡ mid.now.trees → LeavesNew old db
+  found_leaves db is = (it.goes.was_open, λ sound. (mid.now, is, it.tables (sound_now old settled (λ _. sound) it.goes.was_open)))
+
+-- after a look that was refused
+pub founded_after : (old mid new : State) → Refused old mid → Founded mid new → Founded old new
+founded_after old mid new kept it = record {
+  was_open = kept.was_open it.was_open;
+  is_open = it.is_open;
+  tables = it.tables;
+  others = subst (λ d. KeepsOthers d new.committed) (kept.committed it.was_open) it.others;
+  only = it.only;
+}
+
+pub leaves_before : (old mid : State) (db : Trees) → Refused old mid → IsSoundOpen mid → LeavesNew mid db → LeavesOffice old db
+leaves_before old mid db kept sound it = (kept.was_open it.0, it.1 (sound it.0))
+
+-- ---- a database that has nothing
+
+is_understood : Result Compiled CompileError → Bool
+is_understood (Ok c) = true
+is_understood (Err e) = false
+
+abbrev pub no_schema : Schema
+no_schema = record { tables = []; indexes = []; views = [] }
+
+unanswered : is_understood (understood no_schema get_version) ≡ false
+unfolding understood everything listing_schema is_understood
+unanswered = refl
+
+-- there nothing answers
+no_version : {S : Type 0} (g : Ghosts S) (old : Held S) (first : Bool) → old.schema ≡ no_schema → Answered g old first → ⊥
+unfolding Shown is_understood
+no_version g old first none (rows, asked, is) = true≢false (sym (ap is_understood asked.shown.1.is) ∙ ap (λ s. is_understood (understood s get_version)) none ∙ unanswered)
+
+pub enters_bare : {S : Type 0} (g : Ghosts S) (old new : Held S) → old.schema ≡ no_schema → Enters g old new → ShowsTables (state g new) no_tables
+enters_bare g old new bare (inl answered) = absurd (no_version g old true bare answered)
+enters_bare g old new bare (inr made) = λ is_open. made.2.tables
+
+pub enters_empty : (old new : Held MemStore) → IsEmpty (state over_memory old) → Enters over_memory old new → ShowsTables (state over_memory new) no_tables
+enters_empty old new empty = enters_bare over_memory old new empty.2

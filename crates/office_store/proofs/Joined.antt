@@ -1,0 +1,108 @@
+-- A database that holds an office holds the tables that are joined.
+use Rattle.std.specs.Prelude.{map}
+use Rattle.std.proofs.Common.{◌≡◌, ◌⊎◌, inl, inr, ℕ, Bool, true, false, cond, find, ◌==◌, List, [], ◌∷◌, Some, None, refl, sym, ap, subst, ◌∙◌, true≢false}
+use Rattle.std.specs.declared.cmp.Ordering.{Ordering}
+use Rattle.std.specs.Ordering.{nat_cmp}
+use Rattle.std.proofs.lemmas.Bool.{eqb-true, eq-eqb}
+use Rattle.sqlite_value.specs.declared.value.Value.TheVariants.{Text}
+use Rattle.sqlite_value.specs.Order.{Row}
+use Rattle.sqlite_trees.specs.Tree.{rowid}
+use Rattle.sqlite_trees.specs.View.{is_int}
+use Rattle.sqlite_trees.proofs.ListLemmas.{all_weaker}
+use Rattle.sqlite_trees.specs.declared.store.Store.{Ghosts}
+use Rattle.sqlite_rules.specs.Lists.{Has}
+use Rattle.sqlite_schema.specs.declared.schema.Schema.{Schema}
+use Rattle.sqlite_schema.specs.declared.schema.Table.{Table}
+use Rattle.sqlite_catalog.proofs.AlterLemmas.{place_has}
+use Rattle.sqlite.specs.Effect.{Database}
+use Rattle.sqlite.specs.Held.{Held, state}
+use Rattle.office_values.specs.Ids.{id_cmp}
+use Rattle.office_base.specs.Rows.{row_put}
+use Rattle.office_base.specs.Tables.{Tables, IsSorted, line_key, lot_key, lot_cmp, contract_key, entry_key, entry_cmp}
+use Rattle.office_rows.specs.Budget.{line_row, line_in}
+use Rattle.office_rows.specs.Notices.{lot_row, lot_in}
+use Rattle.office_rows.specs.Awards.{contract_row, contract_in, entry_row, entry_in}
+use Rattle.office_sql.specs.Kept.{table_of as kept_of}
+use Rattle.office_sql.specs.Known.{IsIn, at_tree}
+use Rattle.office_sql.specs.Schema.{table_of}
+use Rattle.office_sql.specs.Schema.OfficeTable.{Lines, Lots, Contracts, Entries}
+use Rattle.office_sql.specs.Standing.{Stand, Holds}
+use Rattle.office_rows.specs.Words.{entry_kind_text}
+use Rattle.office_sql.specs.Steps.{IsAsked, ShowsTables}
+use Rattle.office_ledger.specs.Joins.{joined, joined_lots}
+use Rattle.office_joins.specs.Cells.{joined_cells, kind_text}
+use Rattle.office_joins.specs.Known.{Holds as HasTable}
+use Rattle.office_joins.specs.Select.{list_joined}
+use Rattle.office_joins.specs.SelectLots.{list_joined_of_line}
+use Rattle.office_joins.specs.Shows.{HoldsJoined, JoinIsShown, LotsAreShown, joined_lot_cells}
+use Rattle.office_joins.specs.Standing.{records_of, StandFor, StoredRowsShow}
+use Rattle.office_base.specs.declared.records.EntryKind.{EntryKind}
+use Rattle.office_base.specs.declared.records.EntryKind.TheVariants.{Raise, Cut, Payment}
+
+find_only : (n : ℕ) (x : Table) (xs : List Table) → Has xs x → x.tree ≡ n → ((y : Table) → Has xs y → y.tree ≡ n → y ≡ x) → find (λ t. t.tree == n) xs ≡ Some x
+find_only n x [] there is alone = absurd there
+find_only n x (y ∷ ys) there is alone = by (y.tree == n) refl there (λ more. find_only n x ys more is (λ z h. alone z (inr h)))
+  where
+    by : (b : Bool) → (y.tree == n) ≡ b → (x ≡ y) ⊎ Has ys x → (Has ys x → find (λ t. t.tree == n) ys ≡ Some x) → cond b (Some y) (find (λ t. t.tree == n) ys) ≡ Some x
+    by true e h rest = ap Some (alone y (inl refl) (eqb-true y.tree n e))
+    by false e (inl same) rest = absurd (true≢false (sym (eq-eqb y.tree n (ap (λ (t : Table). t.tree) (sym same) ∙ is)) ∙ e))
+    by false e (inr more) rest = rest more
+
+known : (schema : Schema) (table : Table) (n : ℕ) → table.key ≡ None → IsIn schema table n → HasTable schema table.name table.columns n
+known schema table n keyless it = record {
+  place = it.place;
+  table = at_tree table n;
+  named = it.named;
+  found = it.found;
+  columns_are = refl;
+  keyless = keyless;
+  tree_is = refl;
+  alone = find_only n (at_tree table n) schema.tables (place_has schema.tables it.place (at_tree table n) it.found) refl it.alone;
+  stored = it.stored;
+}
+
+module _ {K X : Type 0} (R : K → K → Ordering) (key : X → K) (encode : X → Row) (decode : Row → X) where
+  same_records : (rows : List Row) → records_of R key encode decode rows ≡ kept_of R key encode decode rows
+  same_records [] = refl
+  same_records (r ∷ rows) = ap (λ xs. row_put R key xs (decode r)) (same_records rows)
+
+  stands : (rows : List Row) (xs : List X) → Stand R key encode decode rows xs → StandFor R key encode decode rows xs
+  stands rows xs it = record {
+    rising = it.kept.rising;
+    each = all_weaker (λ r. (is_int (rowid r) ≡ true) × (r ≡ rowid r ∷ encode (decode r))) (λ r. r ≡ rowid r ∷ encode (decode r)) (λ r h. h.1) rows it.kept.each;
+    one = it.kept.one;
+    is = same_records rows ∙ it.is;
+  }
+
+same_kind : (kind : EntryKind) → Text (entry_kind_text kind) ≡ Text (kind_text kind)
+same_kind Raise = refl
+same_kind Cut = refl
+same_kind Payment = refl
+
+pub holds_joined : StoredRowsShow → (db : Database) (t : Tables) → IsSorted t → Holds db t → HoldsJoined db t
+holds_joined show db t sorted it = record {
+  at = record { lines = it.places Lines; lots = it.places Lots; contracts = it.places Contracts; entries = it.places Entries };
+  four = record {
+    lines = known db.schema (table_of Lines) (it.places Lines) refl (it.tables Lines);
+    lots = known db.schema (table_of Lots) (it.places Lots) refl (it.tables Lots);
+    contracts = known db.schema (table_of Contracts) (it.places Contracts) refl (it.tables Contracts);
+    entries = known db.schema (table_of Entries) (it.places Entries) refl (it.tables Entries);
+  };
+  sorted = sorted;
+  lines = show.lines line_row line_in (λ v x. record { line = refl; appropriation = refl; free = refl }) (db.trees (it.places Lines)) t.lines (stands id_cmp line_key line_row line_in (db.trees (it.places Lines)) t.lines (it.stands Lines));
+  lots = show.lots lot_row lot_in (λ v x. record { notice = refl; lot = refl; line = refl; reserved = refl }) (db.trees (it.places Lots)) t.lots (stands lot_cmp lot_key lot_row lot_in (db.trees (it.places Lots)) t.lots (it.stands Lots));
+  contracts = show.contracts contract_row contract_in (λ v x. record { contract = refl; notice = refl; lot = refl; signed = refl; released = refl }) (db.trees (it.places Contracts)) t.contracts
+      (stands nat_cmp contract_key contract_row contract_in (db.trees (it.places Contracts)) t.contracts (it.stands Contracts));
+  entries = show.entries entry_row entry_in (λ v x. record { contract = refl; entry = refl; kind = same_kind x.kind; amount = refl }) (db.trees (it.places Entries)) t.entries
+      (stands entry_cmp entry_key entry_row entry_in (db.trees (it.places Entries)) t.entries (it.stands Entries));
+}
+
+module _ {S : Type 0} (g : Ghosts S) (show : StoredRowsShow) (old : Held S) (rows : List Row) (t : Tables) (sorted : IsSorted t) (shows : ShowsTables (state g old) t) where
+  held : (sql : List ℕ) (params : Row) → IsAsked g sql params old rows → HoldsJoined (state g (record old { in_transaction = true })).now t
+  held sql params it = holds_joined show (state g old).now t sorted (subst (λ d. Holds d t) (sym it.settled) (shows it.was_open))
+
+  pub asked_joined : JoinIsShown g → IsAsked g list_joined [] old rows → rows ≡ map joined_cells (joined t)
+  asked_joined law it = law (record old { in_transaction = true }) it.after t rows (held list_joined [] it) it.shown
+
+  pub asked_lots : LotsAreShown g → (line : List ℕ) → IsAsked g list_joined_of_line (Text line ∷ []) old rows → rows ≡ map joined_lot_cells (joined_lots line t)
+  asked_lots law line it = law (record old { in_transaction = true }) it.after t line rows (held list_joined_of_line (Text line ∷ []) it) it.shown

@@ -1,0 +1,8 @@
+mod Steps
+mod Once
+mod Shelves
+mod Founding
+mod Reopening
+mod Joined
+mod Taking
+mod Readying

@@ -1,0 +1,118 @@
+-- What the calls of the shelf do to what it holds.
+use Rattle.std.proofs.Common.{Ok, Err, ℕ, arith, ◌≡◌, ◌⊎◌, inl, inr, List, refl, sym, subst}
+use Rattle.std.specs.Prelude.{⊤}
+use Rattle.sqlite_trees.specs.declared.store.Store.{Ghosts}
+use Rattle.sqlite.specs.Held.{Held, state}
+use Rattle.sqlite.specs.State.{State, HasCleanDisk, Survives}
+use Rattle.office_base.specs.Faults.{one_fault_more, IsFaultOf}
+use Rattle.office_base.specs.Shelves.{Keeps, LooksUp, SumsAnswer, AddsUp, Alters, Changes}
+use Rattle.office_base.specs.Tables.{Tables, IsSorted, after_puts, ChangesKeepOrder}
+use Rattle.office_base.specs.declared.puts.Put.{Put}
+use Rattle.office_base.specs.declared.shelf.ShelfFault.{ShelfFault}
+use Rattle.office_base.specs.declared.shelf.ShelfFault.TheVariants.{NoMemory, Store}
+use Rattle.office_sql.specs.Laws.{TreesTellOneOffice}
+use Rattle.office_sql.specs.Standing.{Holds}
+use Rattle.office_sql.specs.Steps.{Refused, Applied, LeavesPuts, ShowsTables, MayLeave}
+use Rattle.office_store.specs.SqlMeaning.{sql_meaning}
+
+-- ---- the last commit
+
+pub still_shows : (old new : State) (t : Tables) → Refused old new → ShowsTables old t → ShowsTables new t
+still_shows old new t it shows open_now = subst (λ d. Holds d t) (sym (it.committed open_now)) (shows (it.was_open open_now))
+
+applied_shows : (old new : State) (puts : List Put) (t : Tables) → Applied old new puts → ShowsTables old t → ShowsTables new (after_puts puts t)
+applied_shows old new puts t it shows open_now = it.tables t (shows it.was_open)
+
+applied_leaves : TreesTellOneOffice → (old new : State) (puts : List Put) (t u : Tables) → Applied old new puts → ShowsTables old t → MayLeave new u → u ≡ after_puts puts t
+applied_leaves once old new puts t u it shows left = once left.0 new.committed u (after_puts puts t) left.2 (it.tables t (shows it.was_open)) (it.only left.0.trees left.1)
+
+applied_stops : TreesTellOneOffice → (old new : State) (puts : List Put) (t u : Tables) → HasCleanDisk new → Survives old new (LeavesPuts old puts) → ShowsTables old t → MayLeave new u
+    → MayLeave old u ⊎ (u ≡ after_puts puts t)
+applied_stops once old new puts t u clean survives shows left = elim (survives.crash clean left.0.trees left.1) [
+  | inl before ↦ inl (left.0, before, left.2)
+  | inr commits ↦ (let it = commits.1 t (shows commits.0) in inr (once left.0 it.0 u (after_puts puts t) left.2 it.2 it.1))
+]
+
+-- a store may fail for causes of its own
+no_sums : {T : Type 0} (fault : ShelfFault) (right : Tables → T → Type 0) (Fits : Tables → Type 0) (t : Tables) → SumsAnswer {T = T} ⊤ right Fits (Err fault) t
+no_sums NoMemory right Fits t = tt
+no_sums Store right Fits t = inl tt
+
+module _ {S : Type 0} (g : Ghosts S) (old new : Held S) where
+  -- ---- a call that looks
+
+  pub keeps : (n m : ℕ) → (HasCleanDisk (state g new) → Refused (state g old) (state g new)) → Survives (state g old) (state g new) (λ _. ⊥) → Keeps (sql_meaning g) (old, n) (new, m)
+  keeps n m kept survives = record {
+    before = λ clean. omega (arith, clean, survives.clean);
+    same = λ clean t h. (h.0, still_shows (state g old) (state g new) t (kept clean) h.1);
+    stop = λ clean t h u left. elim (survives.crash clean left.0.trees left.1) [ inl before ↦ (left.0, before, left.2) | inr none ↦ absurd none ];
+  }
+
+  -- a call's answer, with its count; the shelf is told by its view
+  pub looked_sorted : {T : Type 0} (entry : Held S × ℕ) (n : ℕ) (value : T) (right : Tables → T → Type 0) → (old, n) ≡ entry
+      → (HasCleanDisk (state g new) → Refused (state g old) (state g new)) → Survives (state g old) (state g new) (λ _. ⊥)
+      → (HasCleanDisk (state g new) → (t : Tables) → IsSorted t → ShowsTables (state g old) t → right t value) → LooksUp (sql_meaning g) entry (new, n) (Ok value) right
+  looked_sorted entry n value right is kept survives got =
+      subst (λ e. LooksUp (sql_meaning g) e (new, n) (Ok value) right) is
+      ((keeps n n kept survives, λ clean t h. got clean t h.0 h.1), record { counted = refl; cause = tt })
+
+  pub looked : {T : Type 0} (entry : Held S × ℕ) (n : ℕ) (value : T) (right : Tables → T → Type 0) → (old, n) ≡ entry
+      → (HasCleanDisk (state g new) → Refused (state g old) (state g new)) → Survives (state g old) (state g new) (λ _. ⊥)
+      → (HasCleanDisk (state g new) → (t : Tables) → ShowsTables (state g old) t → right t value) → LooksUp (sql_meaning g) entry (new, n) (Ok value) right
+  looked entry n value right is kept survives got = looked_sorted entry n value right is kept survives (λ clean t sorted shows. got clean t shows)
+
+  pub unanswered : {T : Type 0} (entry after : Held S × ℕ) (n : ℕ) (fault : ShelfFault) (right : Tables → T → Type 0) → (old, n) ≡ entry → after.0 ≡ new → after.1 ≡ one_fault_more n → IsFaultOf ⊤ fault
+      → (HasCleanDisk (state g new) → Refused (state g old) (state g new)) → Survives (state g old) (state g new) (λ _. ⊥) → LooksUp (sql_meaning g) entry after (Err fault) right
+  unanswered entry after n fault right is same counted cause kept survives =
+      subst (λ e. LooksUp (sql_meaning g) e after (Err fault) right) is
+      ((subst (λ h. Keeps (sql_meaning g) (old, n) (h, after.1)) (sym same) (keeps n after.1 kept survives), λ clean t h. tt), record { counted = counted; cause = cause })
+
+  -- ---- a call that adds up
+
+  pub added : {T : Type 0} (entry : Held S × ℕ) (n : ℕ) (value : T) (right : Tables → T → Type 0) (Fits : Tables → Type 0) → (old, n) ≡ entry
+      → (HasCleanDisk (state g new) → Refused (state g old) (state g new)) → Survives (state g old) (state g new) (λ _. ⊥)
+      → (HasCleanDisk (state g new) → (t : Tables) → IsSorted t → ShowsTables (state g old) t → right t value × Fits t) → AddsUp (sql_meaning g) entry (new, n) (Ok value) right Fits
+  added entry n value right Fits is kept survives got =
+      subst (λ e. AddsUp (sql_meaning g) e (new, n) (Ok value) right Fits) is ((keeps n n kept survives, λ clean t h. got clean t h.0 h.1), refl)
+
+  pub not_added : {T : Type 0} (entry after : Held S × ℕ) (n : ℕ) (fault : ShelfFault) (right : Tables → T → Type 0) (Fits : Tables → Type 0) → (old, n) ≡ entry → after.0 ≡ new → after.1 ≡ one_fault_more n
+      → (HasCleanDisk (state g new) → Refused (state g old) (state g new)) → Survives (state g old) (state g new) (λ _. ⊥) → AddsUp (sql_meaning g) entry after (Err fault) right Fits
+  not_added entry after n fault right Fits is same counted kept survives =
+      subst (λ e. AddsUp (sql_meaning g) e after (Err fault) right Fits) is
+      ((subst (λ h. Keeps (sql_meaning g) (old, n) (h, after.1)) (sym same) (keeps n after.1 kept survives), λ clean t h. no_sums fault right Fits t), counted)
+
+  -- ---- a call that changes
+
+  module _ (once : TreesTellOneOffice) (sorted : ChangesKeepOrder) (puts : List Put) (survives : Survives (state g old) (state g new) (LeavesPuts (state g old) puts)) where
+    alters_all : {T : Type 0} (n m : ℕ) (value : T) → (HasCleanDisk (state g new) → Applied (state g old) (state g new) puts)
+        → Alters {T = T} {E = ShelfFault} (sql_meaning g) (old, n) (new, m) (Ok value) (after_puts puts)
+    alters_all n m value applied = record {
+      before = λ clean. omega (arith, clean, survives.clean);
+      all = λ clean t h. (sorted puts t h.0, applied_shows (state g old) (state g new) puts t (applied clean) h.1);
+      none = λ clean t h. tt;
+      stop_all = λ clean t h u left. applied_leaves once (state g old) (state g new) puts t u (applied clean) h.1 left;
+      stop_none = λ clean t h. tt;
+    }
+
+    alters_none : {T : Type 0} (n m : ℕ) (fault : ShelfFault) → (HasCleanDisk (state g new) → Refused (state g old) (state g new))
+        → Alters {T = T} {E = ShelfFault} (sql_meaning g) (old, n) (new, m) (Err fault) (after_puts puts)
+    alters_none n m fault refused = record {
+      before = λ clean. omega (arith, clean, survives.clean);
+      all = λ clean t h. tt;
+      none = λ clean t h. (h.0, still_shows (state g old) (state g new) t (refused clean) h.1);
+      stop_all = λ clean t h. tt;
+      stop_none = λ clean t h u left. applied_stops once (state g old) (state g new) puts t u clean survives h.1 left;
+    }
+
+    pub applied_ok : (entry : Held S × ℕ) (n : ℕ) → (old, n) ≡ entry → (HasCleanDisk (state g new) → Applied (state g old) (state g new) puts)
+        → Changes {T = Unit {0}} (sql_meaning g) entry (new, n) (Ok tt) (after_puts puts)
+    applied_ok entry n is applied =
+        subst (λ e. Changes {T = Unit {0}} (sql_meaning g) e (new, n) (Ok tt) (after_puts puts)) is (alters_all n n tt applied, record { counted = refl; cause = tt })
+
+    pub applied_err : (entry after : Held S × ℕ) (n : ℕ) (fault : ShelfFault) → (old, n) ≡ entry → after.0 ≡ new → after.1 ≡ one_fault_more n → IsFaultOf ⊤ fault
+        → (HasCleanDisk (state g new) → Refused (state g old) (state g new)) → Changes {T = Unit {0}} (sql_meaning g) entry after (Err fault) (after_puts puts)
+    applied_err entry after n fault is same counted cause refused =
+        subst (λ e. Changes {T = Unit {0}} (sql_meaning g) e after (Err fault) (after_puts puts)) is (
+          subst (λ h. Alters {T = Unit {0}} {E = ShelfFault} (sql_meaning g) (old, n) (h, after.1) (Err fault) (after_puts puts)) (sym same) (alters_none n after.1 fault refused),
+          record { counted = counted; cause = cause },
+        )

@@ -1,0 +1,81 @@
+-- Changes one after another.
+use Rattle.std.proofs.Common.{◌≡◌, inl, inr, Err, Ok, true, false, Result, List, [], ◌∷◌, ◌++◌, ℕ, refl, sym, subst, ◌∙◌, IsTrue}
+use Rattle.std.specs.Prelude.{OnErr, OnOk}
+use Rattle.sqlite_value.specs.Order.{Row}
+use Rattle.sqlite_trees.specs.Tree.{Trees}
+use Rattle.sqlite.specs.declared.error.Error.{Error}
+use Rattle.sqlite.specs.State.{State, IsUnchanged, IsRolledBack, IsNotRun, Shows}
+use Rattle.office_base.specs.Tables.{Tables, after_put, after_puts}
+use Rattle.office_base.specs.declared.puts.Put.{Put}
+use Rattle.office_sql.specs.Standing.{Holds}
+use Rattle.office_sql.specs.Steps.{Goes, Puts, Refused, Applied, LeavesPuts}
+
+pub after_puts-push : (t : Tables) (done : List Put) (p : Put) → after_puts (done ++ p ∷ []) t ≡ after_put p (after_puts done t)
+after_puts-push t [] p = refl
+after_puts-push t (q ∷ done) p = after_puts-push (after_put q t) done p
+
+pub on_err : {A E : Type 0} (r : Result A E) (P : Type 0) → P → OnErr r P
+on_err (Ok a) P h = tt
+on_err (Err e) P h = h
+
+pub on_ok_with : {A E : Type 0} (r : Result A E) (P Q : Type 0) → OnOk r P → (P → Q) → OnOk r Q
+on_ok_with (Ok a) P Q h f = f h
+on_ok_with (Err e) P Q h f = tt
+
+-- ---- within a transaction
+
+pub puts_none : (a b : State) → IsTrue a.in_transaction → IsUnchanged a b → Puts a b []
+puts_none a b inside h = record {
+  goes = record { mode = subst IsTrue (sym h.0.mode) inside; was_open = h.0.was_open; is_open = h.0.is_open; committed = h.0.committed_is };
+  tables = λ t holds. subst (λ d. Holds d t) (sym h.0.now_is) holds;
+}
+
+pub goes_then : (a b c : State) → Goes a b → Goes b c → Goes a c
+goes_then a b c first second = record { mode = second.mode; was_open = first.was_open; is_open = second.is_open; committed = second.committed ∙ first.committed }
+
+pub puts_push : (a b c : State) (done : List Put) (p : Put) → Puts a b done → Puts b c (p ∷ []) → Puts a c (done ++ p ∷ [])
+puts_push a b c done p first second = record {
+  goes = goes_then a b c first.goes second.goes;
+  tables = λ t h. subst (Holds c.now) (sym (after_puts-push t done p)) (second.tables (after_puts done t) (first.tables t h));
+}
+
+-- ---- nothing was committed
+
+pub unchanged : (old new : State) → IsUnchanged old new → Refused old new
+unchanged old new same = record { was_open = λ _. same.0.was_open; committed = λ _. same.0.committed_is }
+
+undone : (old new : State) → IsRolledBack old new → Refused old new
+undone old new back = record { was_open = back.was_open; committed = λ o. (back.undone o).1 }
+
+pub not_run_kept : (sql : List ℕ) (params : Row) (old new : State) (e : Error) → IsNotRun old new sql params e → Refused old new
+unfolding IsNotRun
+not_run_kept sql params old new e (inl none) = unchanged old new none.1
+not_run_kept sql params old new e (inr failed) = undone old new failed.3
+
+pub goes_refused : (a b c : State) → Goes a b → Refused b c → Refused a c
+goes_refused a b c first second = record { was_open = λ o. first.was_open; committed = λ o. second.committed o ∙ first.committed }
+
+pub refused_then : (a b c : State) (done : List Put) → Puts a b done → Refused b c → Refused a c
+refused_then a b c done first second = goes_refused a b c first.goes second
+
+pub rolled : (a b c : State) → Refused a b → IsRolledBack b c → Refused a c
+rolled a b c first back = record { was_open = λ o. first.was_open (back.was_open o); committed = λ o. (back.undone o).1 ∙ first.committed (back.was_open o) }
+
+pub begun_refused : (old new : State) → Refused (record old { in_transaction = true }) new → Refused old new
+begun_refused old new h = record { was_open = h.was_open; committed = h.committed }
+
+-- ---- the whole transaction
+
+pub put_leaves : (old mid : State) (puts : List Put) → (IsTrue old.is_open → old.now ≡ old.committed) → Puts (record old { in_transaction = true }) mid puts
+    → (db : Trees) → db ≡ mid.now.trees → LeavesPuts old puts db
+put_leaves old mid puts settled done db is =
+    (done.goes.was_open, λ t h. (mid.now, is, done.tables t (subst (λ d. Holds d t) (sym (settled done.goes.was_open)) h)))
+
+pub applies : (old mid new : State) (puts : List Put) → (IsTrue old.is_open → old.now ≡ old.committed) → Puts (record old { in_transaction = true }) mid puts
+    → Shows mid new mid.now mid.now false → (IsTrue new.is_open → (db : Trees) → new.may_leave db → db ≡ new.committed.trees) → Applied old new puts
+applies old mid new puts settled done shows only = record {
+  was_open = done.goes.was_open;
+  is_open = shows.is_open;
+  tables = λ t h. subst (λ d. Holds d (after_puts puts t)) (sym shows.committed_is) (done.tables t (subst (λ d. Holds d t) (sym (settled done.goes.was_open)) h));
+  only = only shows.is_open;
+}

@@ -1,0 +1,7 @@
+use Rattle.std.proofs.Common.{◌≡◌, drop}
+use Rattle.std.specs.List.{list_any}
+use Rattle.sqlite_catalog.specs.Change.{is_used}
+use Rattle.office_store.proofs.found.any_is_used.Given as goal
+
+abbrev pub invariant-names : goal.invariant-names
+invariant-names l = list_any (λ name. is_used l.fn.schema name.now) (drop l.name-index l.names) ≡ list_any (λ name. is_used l.fn.schema name.now) l.names

@@ -1,0 +1,71 @@
+use Rattle.std.proofs.Common.{rules, arith, ◌≡◌, ◌∙◌, ap, sym, subst, inl, inr, [], true, false, true≢false}
+use Rattle.sqlite.specs.Held.{state}
+use Rattle.sqlite.specs.declared.error.Error.TheVariants.{SqlInputError}
+use Rattle.sqlite.specs.State.{HasCleanDisk, IsLive}
+use Rattle.sqlite.proofs.StateLemmas.{survives_then}
+use Rattle.office_sql.specs.Steps.{IsRefusal}
+use Rattle.office_sql.specs.Version.{get_version}
+use Rattle.office_store.specs.Founding.{is_version_one, takes_a_name, LeavesOffice}
+use Rattle.office_store.proofs.Founding.{sound_after, founded_after, leaves_before}
+use Rattle.office_store.proofs.found.enter.Goals as goal
+
+pub returns-then-is_version_one-clause-enters : goal.returns-then-is_version_one-clause-enters
+returns-then-is_version_one-clause-enters g c clean =
+    let one : is_version_one c.in-Ok.rows.items ≡ true = search rules in
+    inl (c.in-Ok.rows.items, c.in-Ok.ensures.asked clean, one)
+
+pub returns-in-Ok-clause-none : goal.returns-in-Ok-clause-none
+returns-in-Ok-clause-none g c clean why =
+    let other : is_version_one c.in-Ok.rows.items ≡ false = search rules in
+    inl (c.in-Ok.rows.items, c.in-Ok.ensures.asked clean, other)
+
+pub returns-in-Ok-clause-known : goal.returns-in-Ok-clause-known
+returns-in-Ok-clause-known g c clean t shows why =
+    let other : is_version_one c.in-Ok.rows.items ≡ false = search rules in
+    true≢false (sym (ap is_version_one (c.in-Ok.ensures.one clean t shows)) ∙ other)
+
+pub returns-then-taken-clause-none : goal.returns-then-taken-clause-none
+returns-then-taken-clause-none g c clean why =
+    let taken : takes_a_name c.args.conn.now.schema ≡ true = search rules in
+    let input : c.in-Err-SqlInputError.field-0 ≡ SqlInputError c.in-Err-SqlInputError.field-0-0 = search rules in
+    inr ((c.in-Err-SqlInputError.field-0-0, subst (IsRefusal g.S.Store get_version [] c.args.conn.now) input (c.in-Err-SqlInputError.ensures.refused clean)), taken)
+
+pub returns-then-taken-clause-known : goal.returns-then-taken-clause-known
+returns-then-taken-clause-known g c clean t shows why =
+    let input : c.in-Err-SqlInputError.field-0 ≡ SqlInputError c.in-Err-SqlInputError.field-0-0 = search rules in
+    c.in-Err-SqlInputError.ensures.taken clean t shows c.in-Err-SqlInputError.field-0-0 input
+
+pub returns-in-Ok-found-clause-enters : goal.returns-in-Ok-found-clause-enters
+returns-in-Ok-found-clause-enters g c clean =
+    let old = state g.S.Store c.args.conn.now in
+    let mid = state g.S.Store c.ask_version.new.conn in
+    let end = state g.S.Store c.found.new.conn in
+    let early : HasCleanDisk mid = omega (arith, c.found.ensures.survives.clean) in
+    let kept = c.ask_version.ensures.kept early in
+    let live : IsLive old = search rules in
+    let none : takes_a_name c.args.conn.now.schema ≡ false = search rules in
+    let input : c.in-Err-SqlInputError.field-0 ≡ SqlInputError c.in-Err-SqlInputError.field-0-0 = search rules in
+    inr (
+      (c.in-Err-SqlInputError.field-0-0, subst (IsRefusal g.S.Store get_version [] c.args.conn.now) input (c.in-Err-SqlInputError.ensures.refused early)),
+      none,
+      founded_after old mid end kept (c.in-Ok-found.ensures.founded clean (sound_after old mid kept live)),
+    )
+
+pub returns-in-Ok-found-clause-found : goal.returns-in-Ok-found-clause-found
+returns-in-Ok-found-clause-found g c clean t shows =
+    let early : HasCleanDisk (state g.S.Store c.ask_version.new.conn) = omega (arith, c.found.ensures.survives.clean) in
+    let input : c.in-Err-SqlInputError.field-0 ≡ SqlInputError c.in-Err-SqlInputError.field-0-0 = search rules in
+    absurd (c.in-Err-SqlInputError.ensures.taken early t shows c.in-Err-SqlInputError.field-0-0 input)
+
+pub returns-in-Ok-found-clause-survives : goal.returns-in-Ok-found-clause-survives
+returns-in-Ok-found-clause-survives g c =
+    let old = state g.S.Store c.args.conn.now in
+    let mid = state g.S.Store c.ask_version.new.conn in
+    let end = state g.S.Store c.found.new.conn in
+    let live : IsLive old = search rules in
+    survives_then old mid end _ _ (LeavesOffice old) (λ _ db none. absurd none)
+    (λ clean db leaves.
+    let early : HasCleanDisk mid = omega (arith, clean, c.found.ensures.survives.clean) in
+    let kept = c.ask_version.ensures.kept early in
+    leaves_before old mid db kept (sound_after old mid kept live) leaves)
+    c.ask_version.ensures.survives c.found.ensures.survives

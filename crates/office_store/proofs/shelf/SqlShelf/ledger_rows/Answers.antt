@@ -1,0 +1,20 @@
+use Rattle.std.proofs.Common.{ℕ, [], subst}
+use Rattle.sqlite.specs.Held.{Held, state}
+use Rattle.sqlite.specs.State.{HasCleanDisk}
+use Rattle.office_base.specs.Shelves.{Keeps}
+use Rattle.office_base.specs.Tables.{Tables, IsSorted}
+use Rattle.office_sql.specs.Steps.{ShowsTables}
+use Rattle.office_store.specs.LedgerRows.{HasTaken}
+use Rattle.office_store.specs.SqlMeaning.{sql_meaning}
+use Rattle.office_store.proofs.Readying.{on_value}
+use Rattle.office_store.proofs.shelf.SqlShelf.ledger_rows.Goals as goal
+
+pub returns-clause-begun : goal.returns-clause-begun
+returns-clause-begun g c =
+    on_value c.begin.result
+    (λ it h. subst (λ (s : Held g.row.S.Denot × ℕ). HasCleanDisk (state g.S.Store it.rows.conn.now) → (t : Tables) → IsSorted t → ShowsTables (state g.S.Store s.0) t → HasTaken g.S.Store it t []) c.self.view_is h)
+    c.begin.ensures.begun
+
+pub returns-clause-kept : goal.returns-clause-kept
+returns-clause-kept g c =
+    on_value c.begin.result (λ it h. subst (λ (s : Held g.row.S.Denot × ℕ). Keeps (sql_meaning g.S.Store) s (it.rows.conn.now, s.1)) c.self.view_is (h c.self.inside.faults)) c.begin.ensures.kept

@@ -1,0 +1,14 @@
+use Rattle.std.proofs.Common.{◌≡◌}
+use Rattle.office_base.specs.Joined.{sums_of_line}
+use Rattle.office_store.proofs.Shelves.{looked_sorted, unanswered}
+use Rattle.office_store.proofs.shelf.SqlShelfLookups.list_contract_sums_of_line.Goals as goal
+
+pub returns-in-Ok : goal.returns-in-Ok
+returns-in-Ok g c =
+    looked_sorted g.S.Store c.self.inside.conn c.contract_sums.new.conn c.args.self.now c.self.inside.faults c.in-Ok.sums (λ t sums. sums.items ≡ sums_of_line c.args.line.now t) c.self.view_is c.in-Ok.ensures.kept c.in-Ok.ensures.survives
+    c.in-Ok.ensures.got
+
+pub returns-in-Err : goal.returns-in-Err
+returns-in-Err g c =
+    unanswered g.S.Store c.self.inside.conn c.contract_sums.new.conn c.args.self.now c.count.new.self c.self.inside.faults c.count.result (λ t sums. sums.items ≡ sums_of_line c.args.line.now t) c.self.view_is c.count.ensures.kept
+    c.count.ensures.counted c.count.ensures.cause c.in-Err.ensures.kept c.in-Err.ensures.survives

@@ -1,0 +1,71 @@
+-- What an opening finds in a database, and what it makes there.
+use Rattle.std.specs.Prelude.{◌≡◌, ◌⊎◌, ℕ, Bool, true, false, nat_eq, pos, IsTrue, List, [], ◌∷◌, codes}
+use Rattle.std.specs.List.{list_any}
+use Rattle.sqlite_value.specs.declared.value.Value.TheVariants.{Int}
+use Rattle.sqlite_value.specs.Order.{Row}
+use Rattle.sqlite_trees.specs.Tree.{Trees}
+use Rattle.sqlite_trees.specs.declared.store.Store.{Ghosts}
+use Rattle.sqlite_schema.specs.declared.schema.Schema.{Schema}
+use Rattle.sqlite_catalog.specs.Change.{is_used}
+use Rattle.sqlite.specs.Effect.{IsDatabase}
+use Rattle.sqlite.specs.Held.{Held, state}
+use Rattle.sqlite.specs.State.{State}
+use Rattle.office_base.specs.Tables.{no_tables}
+use Rattle.office_sql.specs.Making.{KeepsOthers}
+use Rattle.office_sql.specs.Standing.{Holds}
+use Rattle.office_sql.specs.Steps.{Leaves, IsAsked}
+use Rattle.office_sql.specs.Version.{get_version, HasNoVersion}
+
+-- the names of the office's tables, of the indexes that it makes on them, and of the indexes that come with their keys
+abbrev pub office_names : List (List ℕ)
+office_names =
+    codes "lines" ∷ codes "batches" ∷ codes "tenderers" ∷ codes "notices" ∷ codes "lots" ∷ codes "envelopes" ∷ codes "seals"
+    ∷ codes "securities" ∷ codes "awards" ∷ codes "contracts" ∷ codes "entries" ∷ codes "releases" ∷ codes "compiled" ∷ codes "office"
+    ∷ codes "lots_of_line" ∷ codes "envelopes_of_notice" ∷ codes "securities_of_notice" ∷ codes "awards_of_notice" ∷ codes "contracts_of_notice"
+    ∷ codes "sqlite_autoindex_lines_1" ∷ codes "sqlite_autoindex_batches_1" ∷ codes "sqlite_autoindex_tenderers_1" ∷ codes "sqlite_autoindex_notices_1"
+    ∷ codes "sqlite_autoindex_lots_1" ∷ codes "sqlite_autoindex_envelopes_1" ∷ codes "sqlite_autoindex_seals_1" ∷ codes "sqlite_autoindex_securities_1"
+    ∷ codes "sqlite_autoindex_awards_1" ∷ codes "sqlite_autoindex_contracts_1" ∷ codes "sqlite_autoindex_entries_1" ∷ codes "sqlite_autoindex_releases_1"
+    ∷ codes "sqlite_autoindex_compiled_1" ∷ codes "sqlite_autoindex_office_1"
+    ∷ []
+
+-- a table, an index or a view of the schema has one of them, so that a CREATE of the office would be refused
+abbrev pub takes_a_name : Schema → Bool
+takes_a_name schema = list_any (is_used schema) office_names
+
+-- the rows are one, and it is version 1
+abbrev pub is_version_one : List Row → Bool
+is_version_one ((Int (pos n) ∷ []) ∷ []) = nat_eq n 1
+is_version_one _ = false
+
+-- these rows were the answer to the question for the version
+abbrev pub Answered : {S : Type 0} → Ghosts S → Held S → Bool → Type 0
+Answered g old first = (rows : List Row) × IsAsked g get_version [] old rows × (is_version_one rows ≡ first)
+
+-- an office was made, and stands empty beside what was there
+pub record Founded (old new : State) : Type 0 where
+  pub was_open : IsTrue old.is_open
+  pub is_open : IsTrue new.is_open
+  pub tables : Holds new.committed no_tables
+  pub others : KeepsOthers old.committed new.committed
+  -- a stop leaves it and nothing else
+  pub only : (db : Trees) → new.may_leave db → db ≡ new.committed.trees
+
+-- an open store has a sound last commit
+abbrev pub IsSoundOpen : State → Type 0
+IsSoundOpen s = IsTrue s.is_open → IsDatabase s.committed
+
+-- what the commit of an office that is made leaves, in a sound database
+abbrev pub LeavesNew : State → Trees → Type 0
+LeavesNew old trees = IsTrue old.is_open × (IsDatabase old.committed → Leaves no_tables trees)
+
+-- what an opening may commit: the whole of an empty office
+abbrev pub LeavesOffice : State → Trees → Type 0
+LeavesOffice old trees = IsTrue old.is_open × Leaves no_tables trees
+
+-- an office of version 1 was there; or nothing answered, no name was taken, and an office was made
+abbrev pub Enters : {S : Type 0} → Ghosts S → Held S → Held S → Type 0
+Enters g old new = Answered g old true ⊎ (HasNoVersion g old × (takes_a_name old.schema ≡ false) × Founded (state g old) (state g new))
+
+-- what answered is another version or no single row; or nothing answered, and a name is taken
+abbrev pub IsNoOffice : {S : Type 0} → Ghosts S → Held S → Type 0
+IsNoOffice g old = Answered g old false ⊎ (HasNoVersion g old × (takes_a_name old.schema ≡ true))

@@ -1,0 +1,4 @@
+pub mod SqlMeaning
+pub mod Founding
+pub mod Reopening
+pub mod LedgerRows

@@ -1,0 +1,28 @@
+-- How to read an office in SQL: its connection, and its count of faults.
+use Rattle.std.specs.Prelude.{ℕ, ⊤}
+use Rattle.sqlite_trees.specs.declared.store.Store.{Ghosts}
+use Rattle.sqlite.specs.Held.{Held, state}
+use Rattle.sqlite.specs.State.{HasCleanDisk}
+use Rattle.office_base.specs.Tables.{IsSorted}
+use Rattle.office_base.specs.Shelves.{Meaning}
+use Rattle.office_sql.specs.Steps.{ShowsTables, MayLeave}
+
+-- A store that was shut shows no tables; what it held is in the order of its keys in any case.
+abbrev pub sql_meaning : {S : Type 0} → Ghosts S → Meaning (Held S × ℕ)
+sql_meaning g = record {
+  holds = λ s t. IsSorted t × ShowsTables (state g s.0) t;
+  honest = λ s. HasCleanDisk (state g s.0);
+  may_leave = λ s u. MayLeave (state g s.0) u;
+  fault_count = λ s. s.1;
+  may_break = ⊤;
+}
+
+-- how to read what has a shelf inside
+abbrev pub inside : {S T : Type 0} → (S → T) → Meaning T → Meaning S
+inside part M = record {
+  holds = λ s t. M.holds (part s) t;
+  honest = λ s. M.honest (part s);
+  may_leave = λ s u. M.may_leave (part s) u;
+  fault_count = λ s. M.fault_count (part s);
+  may_break = M.may_break;
+}

@@ -1,0 +1,150 @@
+//! Entering an office that is there, and making one.
+ghost use Rattle.std.specs.Prelude.{◌≡◌, IsTrue, OnOk, OnErr, IfErr};
+ghost use Rattle.std.specs.List.{list_any};
+ghost use Rattle.sqlite_catalog.specs.Change.{is_used};
+ghost use Rattle.sqlite.specs.Held.{state};
+ghost use Rattle.sqlite.specs.State.{HasCleanDisk, Survives};
+ghost use Rattle.office_base.specs.Tables.{Tables};
+ghost use Rattle.office_sql.specs.Steps.{Refused, ShowsTables};
+ghost use Rattle.office_store.specs.Founding.{Founded, LeavesNew, LeavesOffice, Enters, IsNoOffice, IsSoundOpen, takes_a_name, is_version_one};
+
+use crate::faults::fault;
+use office_base::shelf::ShelfFault;
+use office_sql::make::make;
+use office_sql::version::ask_version;
+use sqlite::{Alter, Connection, Error, ErrorCode, Row};
+use sqlite_catalog::layout::is_used;
+use sqlite_schema::schema::Schema;
+use sqlite_value::value::ValueRef;
+
+/// Why no office was opened.
+#[derive(Clone, Copy, Debug, PartialEq, Eq)]
+pub enum OpenFault {
+    /// Memory was refused.
+    NoMemory,
+    /// The store failed.
+    Store,
+    /// What stands there is no office of version 1: it has another version or no single row of one, or it has none, and a name of
+    /// the office's is taken.
+    NotAnOffice,
+}
+
+/// The fault of a store, as one of an opening.
+pub(crate) fn open_fault(error: Error) -> OpenFault
+    ensures { result ≡ OpenFault.NotAnOffice → ⊥ }
+{
+    match fault(error) {
+        ShelfFault::NoMemory => OpenFault::NoMemory,
+        ShelfFault::Store => OpenFault::Store,
+    }
+}
+
+/// Makes an office, in one transaction.
+fn found<S: Alter>(conn: &mut Connection<S>) -> Result<(), Error>
+    ensures founded { HasCleanDisk (state S.Store conn.new) → IsSoundOpen (state S.Store conn.old) → OnOk result (Founded (state S.Store conn.old) (state S.Store conn.new)) }
+    ensures refused { HasCleanDisk (state S.Store conn.new) → OnErr result (Refused (state S.Store conn.old) (state S.Store conn.new)) }
+    ensures survives { Survives (state S.Store conn.old) (state S.Store conn.new) (LeavesNew (state S.Store conn.old)) }
+{
+    if !conn.is_autocommit() {
+        return Err(Error::InvalidQuery);
+    }
+    let mut tx = conn.transaction();
+    make(&mut tx)?;
+    tx.commit()
+}
+
+// Whether one of the names is used.
+fn any_is_used(schema: &Schema, names: &[&[u8]]) -> bool
+    ensures { result ≡ list_any (λ name. is_used schema.now name.now) names.now }
+{
+    'names: for name in names {
+        if is_used(schema, name) {
+            return true;
+        }
+    }
+    false
+}
+
+fn takes_a_name(schema: &Schema) -> bool
+    ensures { result ≡ takes_a_name schema.now }
+{
+    let names: [&[u8]; 33] = [
+        b"lines",
+        b"batches",
+        b"tenderers",
+        b"notices",
+        b"lots",
+        b"envelopes",
+        b"seals",
+        b"securities",
+        b"awards",
+        b"contracts",
+        b"entries",
+        b"releases",
+        b"compiled",
+        b"office",
+        b"lots_of_line",
+        b"envelopes_of_notice",
+        b"securities_of_notice",
+        b"awards_of_notice",
+        b"contracts_of_notice",
+        b"sqlite_autoindex_lines_1",
+        b"sqlite_autoindex_batches_1",
+        b"sqlite_autoindex_tenderers_1",
+        b"sqlite_autoindex_notices_1",
+        b"sqlite_autoindex_lots_1",
+        b"sqlite_autoindex_envelopes_1",
+        b"sqlite_autoindex_seals_1",
+        b"sqlite_autoindex_securities_1",
+        b"sqlite_autoindex_awards_1",
+        b"sqlite_autoindex_contracts_1",
+        b"sqlite_autoindex_entries_1",
+        b"sqlite_autoindex_releases_1",
+        b"sqlite_autoindex_compiled_1",
+        b"sqlite_autoindex_office_1",
+    ];
+    any_is_used(schema, names.as_slice())
+}
+
+fn is_version_one(rows: &[Row]) -> bool
+    ensures { result ≡ is_version_one rows.now }
+{
+    if rows.len() != 1 || rows[0].column_count() != 1 {
+        return false;
+    }
+    matches!(rows[0].get_ref(0), Ok(ValueRef::Int(1)))
+}
+
+/// Enters the office that is there, or makes one where no name of the office's is taken.
+pub(crate) fn enter<S: Alter>(conn: &mut Connection<S>) -> Result<(), OpenFault>
+    ensures enters { HasCleanDisk (state S.Store conn.new) → OnOk result (Enters S.Store conn.old conn.new) }
+    ensures none { HasCleanDisk (state S.Store conn.new) → IfErr result (λ e. e ≡ OpenFault.NotAnOffice → IsNoOffice S.Store conn.old) }
+    ensures found { HasCleanDisk (state S.Store conn.new) → (t : Tables) → ShowsTables (state S.Store conn.old) t → OnOk result (ShowsTables (state S.Store conn.new) t) }
+    ensures known { HasCleanDisk (state S.Store conn.new) → (t : Tables) → ShowsTables (state S.Store conn.old) t → IfErr result (λ e. e ≡ OpenFault.NotAnOffice → ⊥) }
+    ensures kept { HasCleanDisk (state S.Store conn.new) → OnErr result (Refused (state S.Store conn.old) (state S.Store conn.new)) }
+    ensures survives { Survives (state S.Store conn.old) (state S.Store conn.new) (LeavesOffice (state S.Store conn.old)) }
+{
+    if !conn.is_autocommit() {
+        return Err(OpenFault::Store);
+    }
+    let taken = takes_a_name(conn.schema());
+    match ask_version(conn) {
+        Ok(rows) => {
+            if is_version_one(rows.as_slice()) {
+                Ok(())
+            } else {
+                Err(OpenFault::NotAnOffice)
+            }
+        }
+        Err(Error::SqlInputError(_)) => {
+            if taken {
+                return Err(OpenFault::NotAnOffice);
+            }
+            match found(conn) {
+                Ok(()) => Ok(()),
+                Err(error) => Err(open_fault(error)),
+            }
+        }
+        Err(error) => Err(open_fault(error)),
+    }
+}

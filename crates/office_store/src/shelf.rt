@@ -1,0 +1,296 @@
+//! The shelf of an office in SQL.
+ghost use Rattle.std.specs.Prelude.{◌≡◌, ⊤};
+ghost use Rattle.office_base.specs.Faults.{one_fault_more, IsFaultOf};
+ghost use Rattle.office_store.specs.SqlMeaning.{sql_meaning};
+
+use crate::apply::apply_all;
+use crate::faults::fault;
+use crate::sums;
+use office_base::counts::Sequence;
+use office_base::laws::changes_keep_order;
+use office_base::ledger::{ContractSums, LedgerRow};
+use office_base::puts::Put;
+use office_base::records::{
+    AwardRow, BatchRow, ClockRow, CompiledRow, ContractRow, EntryRow, EnvelopeRow, LineRow, LotRow,
+    NoticeRow, ReleaseRow, SealRow, SecurityRow, TendererRow,
+};
+use office_base::shelf::{Lookups, Shelf, ShelfFault};
+use office_sql::laws::trees_tell_one_office;
+use office_sql::{lists, lookups};
+use office_values::given::AskedNumber;
+use office_values::id::Id;
+use office_values::money::Amount;
+use sqlite::{Alter, Connection};
+use std::alloc::Global;
+use std::marker::Model;
+
+/// An office in a database: its connection, and how many faults it answered.
+pub struct SqlShelf<S: Alter> {
+    pub(crate) alloc: Global,
+    pub(crate) conn: Connection<S>,
+    pub(crate) faults: u64,
+}
+
+impl<S: Alter> Model for SqlShelf<S> {
+    ghost use Rattle.std.specs.Prelude.{ℕ};
+    ghost use Rattle.std.specs.Coded.{coded×, coded_ℕ};
+    ghost use Rattle.sqlite.specs.Held.{Held, held_code};
+
+    ghost Value = { Held S × ℕ };
+
+    ghost coded = { coded× (held_code S.code) coded_ℕ };
+
+    ghost view = { λ s. (s.conn, s.faults) };
+}
+
+impl<S: Alter + Drop> Drop for SqlShelf<S> {
+    fn drop(self) {
+        let SqlShelf {
+            alloc: _,
+            conn: _,
+            faults: _,
+        } = self;
+    }
+}
+
+impl<S: Alter> SqlShelf<S> {
+    /// Its connection.
+    pub(crate) fn into_connection(self) -> Connection<S>
+        ensures { result ≡ self.0 }
+    {
+        let SqlShelf {
+            alloc: _,
+            conn,
+            faults: _,
+        } = self;
+        conn
+    }
+
+    // Counts a fault.
+    fn count(&mut self, fault: ShelfFault) -> ShelfFault
+        ensures fault { result ≡ fault }
+        ensures kept { self.new.0 ≡ self.old.0 }
+        ensures counted { self.new.1 ≡ one_fault_more self.old.1 }
+        ensures cause { IsFaultOf ⊤ result }
+    {
+        self.faults = self.faults.saturating_add(1);
+        match fault {
+            ShelfFault::NoMemory => ShelfFault::NoMemory,
+            ShelfFault::Store => ShelfFault::Store,
+        }
+    }
+}
+
+impl<S: Alter> Lookups for SqlShelf<S> {
+    ghost meaning = { sql_meaning S.Store };
+
+    ghost held_sorted = { λ shelf t held. held.0 };
+
+    fn get_line(&mut self, line: &Id) -> Result<Option<LineRow>, ShelfFault> {
+        match lookups::get_line(self.alloc, &mut self.conn, line) {
+            Ok(found) => Ok(found),
+            Err(fault) => Err(self.count(fault)),
+        }
+    }
+
+    fn get_batch(&mut self, batch: &Id) -> Result<Option<BatchRow>, ShelfFault> {
+        match lookups::get_batch(self.alloc, &mut self.conn, batch) {
+            Ok(found) => Ok(found),
+            Err(fault) => Err(self.count(fault)),
+        }
+    }
+
+    fn get_tenderer(&mut self, tenderer: &Id) -> Result<Option<TendererRow>, ShelfFault> {
+        match lookups::get_tenderer(self.alloc, &mut self.conn, tenderer) {
+            Ok(found) => Ok(found),
+            Err(fault) => Err(self.count(fault)),
+        }
+    }
+
+    fn get_notice(&mut self, notice: &Id) -> Result<Option<NoticeRow>, ShelfFault> {
+        match lookups::get_notice(self.alloc, &mut self.conn, notice) {
+            Ok(found) => Ok(found),
+            Err(fault) => Err(self.count(fault)),
+        }
+    }
+
+    fn get_lot(&mut self, notice: &Id, lot: &Id) -> Result<Option<LotRow>, ShelfFault> {
+        match lookups::get_lot(self.alloc, &mut self.conn, notice, lot) {
+            Ok(found) => Ok(found),
+            Err(fault) => Err(self.count(fault)),
+        }
+    }
+
+    fn get_envelope(&mut self, receipt: AskedNumber) -> Result<Option<EnvelopeRow>, ShelfFault> {
+        match lookups::get_envelope(self.alloc, &mut self.conn, receipt) {
+            Ok(found) => Ok(found),
+            Err(fault) => Err(self.count(fault)),
+        }
+    }
+
+    fn get_seal(&mut self, receipt: AskedNumber) -> Result<Option<SealRow>, ShelfFault> {
+        match lookups::get_seal(self.alloc, &mut self.conn, receipt) {
+            Ok(found) => Ok(found),
+            Err(fault) => Err(self.count(fault)),
+        }
+    }
+
+    fn get_security(&mut self, security: AskedNumber) -> Result<Option<SecurityRow>, ShelfFault> {
+        match lookups::get_security(self.alloc, &mut self.conn, security) {
+            Ok(found) => Ok(found),
+            Err(fault) => Err(self.count(fault)),
+        }
+    }
+
+    fn get_award(&mut self, award: AskedNumber) -> Result<Option<AwardRow>, ShelfFault> {
+        match lookups::get_award(self.alloc, &mut self.conn, award) {
+            Ok(found) => Ok(found),
+            Err(fault) => Err(self.count(fault)),
+        }
+    }
+
+    fn get_contract(&mut self, contract: AskedNumber) -> Result<Option<ContractRow>, ShelfFault> {
+        match lookups::get_contract(self.alloc, &mut self.conn, contract) {
+            Ok(found) => Ok(found),
+            Err(fault) => Err(self.count(fault)),
+        }
+    }
+
+    fn get_entry(
+        &mut self,
+        contract: AskedNumber,
+        entry: &Id,
+    ) -> Result<Option<EntryRow>, ShelfFault> {
+        match lookups::get_entry(self.alloc, &mut self.conn, contract, entry) {
+            Ok(found) => Ok(found),
+            Err(fault) => Err(self.count(fault)),
+        }
+    }
+
+    fn get_release(
+        &mut self,
+        notice: &Id,
+        seq: Sequence,
+    ) -> Result<Option<ReleaseRow>, ShelfFault> {
+        match lookups::get_release(self.alloc, &mut self.conn, notice, seq) {
+            Ok(found) => Ok(found),
+            Err(fault) => Err(self.count(fault)),
+        }
+    }
+
+    fn get_compiled(&mut self, notice: &Id) -> Result<Option<CompiledRow>, ShelfFault> {
+        match lookups::get_compiled(self.alloc, &mut self.conn, notice) {
+            Ok(found) => Ok(found),
+            Err(fault) => Err(self.count(fault)),
+        }
+    }
+
+    fn get_clock(&mut self) -> Result<ClockRow, ShelfFault> {
+        match lookups::get_clock(self.alloc, &mut self.conn) {
+            Ok(clock) => Ok(clock),
+            Err(fault) => Err(self.count(fault)),
+        }
+    }
+
+    fn list_lines(&mut self) -> Result<Vec<LineRow>, ShelfFault> {
+        match lists::list_lines(self.alloc, &mut self.conn) {
+            Ok(rows) => Ok(rows),
+            Err(fault) => Err(self.count(fault)),
+        }
+    }
+
+    fn list_lots_of_notice(&mut self, notice: &Id) -> Result<Vec<LotRow>, ShelfFault> {
+        match lists::list_lots_of_notice(self.alloc, &mut self.conn, notice) {
+            Ok(rows) => Ok(rows),
+            Err(fault) => Err(self.count(fault)),
+        }
+    }
+
+    fn list_lots_of_line(&mut self, line: &Id) -> Result<Vec<LotRow>, ShelfFault> {
+        match lists::list_lots_of_line(self.alloc, &mut self.conn, line) {
+            Ok(rows) => Ok(rows),
+            Err(fault) => Err(self.count(fault)),
+        }
+    }
+
+    fn list_envelopes_of_notice(&mut self, notice: &Id) -> Result<Vec<EnvelopeRow>, ShelfFault> {
+        match lists::list_envelopes_of_notice(self.alloc, &mut self.conn, notice) {
+            Ok(rows) => Ok(rows),
+            Err(fault) => Err(self.count(fault)),
+        }
+    }
+
+    fn list_securities_of_notice(&mut self, notice: &Id) -> Result<Vec<SecurityRow>, ShelfFault> {
+        match lists::list_securities_of_notice(self.alloc, &mut self.conn, notice) {
+            Ok(rows) => Ok(rows),
+            Err(fault) => Err(self.count(fault)),
+        }
+    }
+
+    fn list_awards_of_notice(&mut self, notice: &Id) -> Result<Vec<AwardRow>, ShelfFault> {
+        match lists::list_awards_of_notice(self.alloc, &mut self.conn, notice) {
+            Ok(rows) => Ok(rows),
+            Err(fault) => Err(self.count(fault)),
+        }
+    }
+
+    fn list_contracts_of_notice(&mut self, notice: &Id) -> Result<Vec<ContractRow>, ShelfFault> {
+        match lists::list_contracts_of_notice(self.alloc, &mut self.conn, notice) {
+            Ok(rows) => Ok(rows),
+            Err(fault) => Err(self.count(fault)),
+        }
+    }
+
+    fn list_entries_of_contract(
+        &mut self,
+        contract: AskedNumber,
+    ) -> Result<Vec<EntryRow>, ShelfFault> {
+        match lists::list_entries_of_contract(self.alloc, &mut self.conn, contract) {
+            Ok(rows) => Ok(rows),
+            Err(fault) => Err(self.count(fault)),
+        }
+    }
+
+    fn list_releases_of_notice(&mut self, notice: &Id) -> Result<Vec<ReleaseRow>, ShelfFault> {
+        match lists::list_releases_of_notice(self.alloc, &mut self.conn, notice) {
+            Ok(rows) => Ok(rows),
+            Err(fault) => Err(self.count(fault)),
+        }
+    }
+
+    fn list_reservations_of_line(&mut self, line: &Id) -> Result<Vec<Amount>, ShelfFault> {
+        match lists::list_reservations_of_line(self.alloc, &mut self.conn, line) {
+            Ok(amounts) => Ok(amounts),
+            Err(fault) => Err(self.count(fault)),
+        }
+    }
+
+    fn list_contract_sums_of_line(&mut self, line: &Id) -> Result<Vec<ContractSums>, ShelfFault> {
+        match sums::contract_sums(self.alloc, &mut self.conn, line) {
+            Ok(sums) => Ok(sums),
+            Err(fault) => Err(self.count(fault)),
+        }
+    }
+
+    fn ledger(&mut self) -> Result<Vec<LedgerRow>, ShelfFault> {
+        match sums::ledger(self.alloc, &mut self.conn) {
+            Ok(rows) => Ok(rows),
+            Err(fault) => Err(self.count(fault)),
+        }
+    }
+
+    fn faults(&mut self) -> u64 {
+        self.faults
+    }
+}
+
+impl<S: Alter> Shelf for SqlShelf<S> {
+    fn apply(&mut self, puts: Vec<Put>) -> Result<(), ShelfFault> {
+        trees_tell_one_office();
+        changes_keep_order();
+        match apply_all(self.alloc, &mut self.conn, puts.as_slice()) {
+            Ok(()) => Ok(()),
+            Err(error) => Err(self.count(fault(error))),
+        }
+    }
+}

@@ -1,0 +1,19 @@
+use Rattle.std.proofs.Common.{◌≡◌, ◌∙◌, ap, true}
+use Rattle.clap.specs.Words.{App, app_of}
+use Rattle.clap.specs.Simple.{app_of_fields}
+use Rattle.procure_config.specs.Jobs.{procure, subcommands}
+use Rattle.procure_config.proofs.CommandLine.{subcommand_added}
+use Rattle.procure_config.proofs.command_line.procure.Goals as goal
+
+pub returns : goal.returns
+unfolding procure
+returns c =
+    let alone = ap app_of_fields c.about.ensures ∙ c.new.ensures.app in
+    let desk = subcommand_added _ _ _ _ _ c.in_ok-subcommand.ensures alone c.in_ok-desk.ensures.shape c.in_ok-desk.ensures.local in
+    let serve = subcommand_added _ _ _ _ _ c.in_ok-subcommand-2.ensures desk c.in_ok-serve.ensures.shape c.in_ok-serve.ensures.local in
+    let ledger = subcommand_added _ _ _ _ _ c.in_ok-subcommand-3.ensures serve c.in_ok-ledger.ensures.shape c.in_ok-ledger.ensures.local in
+    let minutes = subcommand_added _ _ _ _ _ c.in_ok-subcommand-4.ensures ledger c.in_ok-minutes.ensures.shape c.in_ok-minutes.ensures.local in
+    let whole : app_of c.in_ok-procure.procure ≡ subcommands =
+    subcommand_added _ _ _ _ _ c.in_ok-procure.ensures minutes c.in_ok-record.ensures.shape c.in_ok-record.ensures.local in
+    ap app_of_fields c.subcommand_required.ensures
+    ∙ ap (λ (a : App). let app : App = record a { top = record a.top { subcommand_required = true } } in app) whole

@@ -1,0 +1,109 @@
+//! The program's command line, as clap is told of it.
+ghost use Rattle.std.specs.Prelude.{◌≡◌, IfOk, false};
+ghost use Rattle.clap.specs.Words.{app_of, rule_of};
+ghost use Rattle.clap.specs.declared.builder.command.Command.TheViews.{out-Command as fields_of};
+ghost use Rattle.procure_config.specs.Jobs as spec;
+
+use clap::builder::ValueParser;
+use clap::{Arg, Command};
+use std::alloc::{AllocError, Global};
+
+/// The greatest port (RFC 9293, section 3.1).
+pub(crate) const PORT_BOUND: u16 = 65535;
+
+/// The most connections of one run.
+pub(crate) const COUNT_BOUND: u32 = 1_000_000;
+
+// An argument that must be given.
+fn needed<'a>(alloc: Global, name: &'a str, help: &'a str) -> Arg<'a>
+    ensures rule { rule_of result ≡ spec.needed_rule name.entry.now }
+    ensures local { result.global ≡ false }
+{
+    Arg::new(alloc, name).required(true).help(help)
+}
+
+// One that is a number from 1 to the most.
+fn number<'a>(alloc: Global, name: &'a str, most: u64, help: &'a str) -> Arg<'a>
+    ensures rule { rule_of result ≡ spec.number_rule name.entry.now most }
+    ensures local { result.global ≡ false }
+{
+    needed(alloc, name, help).value_parser(ValueParser::unsigned(1, most))
+}
+
+// A subcommand over the settings of an office.
+fn over_settings<'a>(
+    alloc: Global,
+    name: &'a str,
+    about: &'a str,
+) -> Result<Command<'a>, AllocError>
+    ensures shape { IfOk result (λ command. app_of command ≡ spec.over_settings name.entry.now) }
+    ensures local { IfOk result (λ command. (fields_of command).has_globals ≡ false) }
+{
+    let config = needed(alloc, "CONFIG", "The office's settings, a TOML file");
+    Command::new(alloc, name).about(about).arg(config)
+}
+
+// One over an office in a file.
+fn over_store<'a>(alloc: Global, name: &'a str, about: &'a str) -> Result<Command<'a>, AllocError>
+    ensures shape { IfOk result (λ command. app_of command ≡ spec.over_store name.entry.now) }
+    ensures local { IfOk result (λ command. (fields_of command).has_globals ≡ false) }
+{
+    let store = needed(
+        alloc,
+        "DB",
+        "The office's file, which is made where there is none",
+    );
+    over_settings(alloc, name, about)?.arg(store)
+}
+
+// One over a notice of such an office.
+fn over_notice<'a>(alloc: Global, name: &'a str, about: &'a str) -> Result<Command<'a>, AllocError>
+    ensures shape { IfOk result (λ command. app_of command ≡ spec.over_notice name.entry.now) }
+    ensures local { IfOk result (λ command. (fields_of command).has_globals ≡ false) }
+{
+    let notice = needed(alloc, "NOTICE", "The notice's identifier");
+    over_store(alloc, name, about)?.arg(notice)
+}
+
+// The subcommand `serve`.
+fn serve<'a>(alloc: Global) -> Result<Command<'a>, AllocError>
+    ensures shape { IfOk result (λ command. app_of command ≡ spec.serve) }
+    ensures local { IfOk result (λ command. (fields_of command).has_globals ≡ false) }
+{
+    let about = "Serves connections on 127.0.0.1, one after another, from an office in a file";
+    let port = number(
+        alloc,
+        "PORT",
+        PORT_BOUND as u64,
+        "The port, from 1 to 65535",
+    );
+    let count = number(
+        alloc,
+        "COUNT",
+        COUNT_BOUND as u64,
+        "How many connections are served, from 1 to 1000000",
+    );
+    over_store(alloc, "serve", about)?.arg(port)?.arg(count)
+}
+
+/// The program's command line.
+pub(crate) fn procure<'a>(alloc: Global) -> Result<Command<'a>, AllocError>
+    ensures { IfOk result (λ command. app_of command ≡ spec.procure) }
+{
+    let desk = over_settings(
+        alloc,
+        "desk",
+        "Answers the requests of the standard input, from an empty office in memory",
+    )?;
+    let ledger = over_store(alloc, "ledger", "Prints the ledger of an office in a file")?;
+    let minutes = over_notice(alloc, "minutes", "Prints the minutes of an opening")?;
+    let record = over_notice(alloc, "record", "Prints the record of a notice")?;
+    let procure = Command::new(alloc, "procure")
+        .about("A public procurement office")
+        .subcommand(desk)?
+        .subcommand(serve(alloc)?)?
+        .subcommand(ledger)?
+        .subcommand(minutes)?
+        .subcommand(record)?;
+    Ok(procure.subcommand_required(true))
+}

@@ -1,0 +1,32 @@
+//! Examples of words, computed by clap's own definitions.
+ghost use Rattle.std.specs.Prelude.{◌≡◌, true, false, codes, [], ◌∷◌, None, Some};
+ghost use Rattle.clap.specs.Words.{takes};
+ghost use Rattle.procure_config.specs.Jobs as spec;
+ghost use Rattle.procure_config.specs.Jobs.{Desk, Ledger, Minutes, Record, Serve, asked, faults_of};
+
+use clap::error::ErrorKind;
+
+/// Words that ask for each job.
+pub fn worked_jobs()
+    ensures desk { asked (codes "procure" ∷ codes "desk" ∷ codes "a" ∷ []) ≡ Some (Desk (codes "a")) }
+    ensures serve { asked (codes "procure" ∷ codes "serve" ∷ codes "a" ∷ codes "b" ∷ codes "80" ∷ codes "3" ∷ []) ≡ Some (Serve (codes "a") (codes "b") 80 3) }
+    ensures ledger { asked (codes "procure" ∷ codes "ledger" ∷ codes "a" ∷ codes "b" ∷ []) ≡ Some (Ledger (codes "a") (codes "b")) }
+    ensures minutes { asked (codes "procure" ∷ codes "minutes" ∷ codes "a" ∷ codes "b" ∷ codes "N1" ∷ []) ≡ Some (Minutes (codes "a") (codes "b") (codes "N1")) }
+    ensures record_of { asked (codes "procure" ∷ codes "record" ∷ codes "a" ∷ codes "b" ∷ codes "N1" ∷ []) ≡ Some (Record (codes "a") (codes "b") (codes "N1")) }
+    ensures taken { takes spec.procure (codes "procure" ∷ codes "serve" ∷ codes "a" ∷ codes "b" ∷ codes "65535" ∷ codes "1000000" ∷ []) ≡ true }
+    ensures right { faults_of (codes "procure" ∷ codes "desk" ∷ codes "office.toml" ∷ []) ≡ [] }
+{}
+
+/// Words that name no job, and the kinds of their faults.
+pub fn worked_faults()
+    ensures none { takes spec.procure (codes "procure" ∷ []) ≡ false }
+    ensures more { takes spec.procure (codes "procure" ∷ codes "desk" ∷ codes "a" ∷ codes "b" ∷ []) ≡ false }
+    ensures no_word { faults_of [] ≡ ErrorKind.MissingSubcommand ∷ [] }
+    ensures no_path { faults_of (codes "procure" ∷ codes "desk" ∷ []) ≡ ErrorKind.MissingRequiredArgument ∷ [] }
+    ensures no_notice { faults_of (codes "procure" ∷ codes "minutes" ∷ codes "a" ∷ codes "b" ∷ []) ≡ ErrorKind.MissingRequiredArgument ∷ [] }
+    ensures unknown { faults_of (codes "procure" ∷ codes "shop" ∷ []) ≡ ErrorKind.UnknownArgument ∷ ErrorKind.InvalidSubcommand ∷ [] }
+    ensures port_0 { faults_of (codes "procure" ∷ codes "serve" ∷ codes "a" ∷ codes "b" ∷ codes "0" ∷ codes "3" ∷ []) ≡ ErrorKind.ValueValidation ∷ [] }
+    ensures port_65536 { faults_of (codes "procure" ∷ codes "serve" ∷ codes "a" ∷ codes "b" ∷ codes "65536" ∷ codes "3" ∷ []) ≡ ErrorKind.ValueValidation ∷ [] }
+    ensures count_1000001 { faults_of (codes "procure" ∷ codes "serve" ∷ codes "a" ∷ codes "b" ∷ codes "80" ∷ codes "1000001" ∷ []) ≡ ErrorKind.ValueValidation ∷ [] }
+    ensures port_0_asks { asked (codes "procure" ∷ codes "serve" ∷ codes "a" ∷ codes "b" ∷ codes "0" ∷ codes "3" ∷ []) ≡ None }
+{}
