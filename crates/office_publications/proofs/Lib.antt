@@ -1,4 +1,8 @@
 pub mod ReadAgain
+pub mod TextsApart
+pub mod WrittenAlike
+pub mod ReleasesTold
+pub mod RecordsTold
 pub mod MergesKept
 pub mod ReleasesMade
 pub mod ReleasesStay
@@ -6,3 +10,4 @@ pub mod NoMerges
 pub mod EffectsPutNoMerge
 pub mod KeptPuts
 pub mod KeptReleases
+pub mod RepliesAlike

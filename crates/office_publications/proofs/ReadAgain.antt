@@ -14,7 +14,7 @@ use Rattle.office_publications.specs.Merges.{AreMerged, CanBeMerged, IsMerge, bo
 body_storable : (r : ReleaseRow) → CanBeMerged r → IsStorable (body_in r)
 body_storable r can = subst (λ o. IsStorable (body_of (unwrap_or o null))) (sym can.reads) can.storable
 
-bodies_storable : (notice : List ℕ) (s : Tables) → KeepsReleases s → All IsStorable (bodies notice s)
+pub bodies_storable : (notice : List ℕ) (s : Tables) → KeepsReleases s → All IsStorable (bodies notice s)
 bodies_storable notice s keeps =
     All-map IsStorable body_in (releases_of_notice notice s)
     (All-weaker CanBeMerged (λ r. IsStorable (body_in r)) body_storable (releases_of_notice notice s) (keeps.releases notice))

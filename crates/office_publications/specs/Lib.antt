@@ -6,3 +6,7 @@ pub mod ContractEvents
 pub mod Events
 pub mod Publishing
 pub mod Keeping
+pub mod Packages
+pub mod Standing
+pub mod Told
+pub mod Replies

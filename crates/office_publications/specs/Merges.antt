@@ -1,7 +1,8 @@
 -- The merge of a notice's releases, as it is kept beside them.
-use Rattle.std.specs.Prelude.{◌≡◌, ℕ, List, ◌∷◌, [], ◌++◌, map, filter, Some, unwrap_or, All}
+use Rattle.std.specs.Prelude.{◌≡◌, ℕ, List, ◌∷◌, [], ◌++◌, map, filter, Some, unwrap_or, All, false}
 use Rattle.serde_json.specs.Data.{Data, null}
 use Rattle.serde_json.specs.Read.{read}
+use Rattle.serde_json.specs.Written.{compact_text, has_float}
 use Rattle.ocds_merge.specs.Compile.{body_of}
 use Rattle.ocds_merge.specs.Stored.{KeepsMerge, IsStorable}
 use Rattle.office_values.specs.Ids.{same_id}
@@ -15,10 +16,12 @@ use Rattle.office_publications.specs.declared.merges.Kept.TheVariants.{Merge, Re
 abbrev pub data_in : ReleaseRow → Data
 data_in r = unwrap_or (read r.text) null
 
--- it can be read, and what it says without its head can be kept in a merge
+-- it can be read, is written as a release without floats is, and what it says without its head can be kept in a merge
 pub record CanBeMerged (r : ReleaseRow) : Type 0 where
   pub release : Data
   pub reads : read r.text ≡ Some release
+  pub written : r.text ≡ compact_text release
+  pub no_float : has_float release ≡ false
   pub storable : IsStorable (body_of release)
 
 -- what a release says without its head

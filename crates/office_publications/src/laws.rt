@@ -4,8 +4,13 @@ ghost use Rattle.office_publications.specs.Keeping.{NoEventPutsItsEffect, Effect
 ghost use Rattle.office_publications.specs.Keeping.{MergesStandBeside, KeptStepsReach, ReleasesStayKept, NothingIsKeptAtFirst};
 ghost use Rattle.office_publications.specs.Merges.{BodiesAreStorable, MergesStay, ReleasesStay};
 ghost use Rattle.office_publications.specs.Publishing.{ReleasesAreMade};
+ghost use Rattle.office_publications.specs.Replies.{RepliesAreTheSame};
+ghost use Rattle.office_publications.specs.Told.{RecordsAreCompiled, ReleasesAreTold};
 
+use ocds_merge::{dates_order_releases, merge_stays_storable};
+use ocds_release::laws::releases_can_be_kept;
 use office_base::laws::changes_keep_order;
+use office_values::moment::texts_keep_order;
 
 /// Where each merge that is kept is that of its notice's releases, and a release is put with the merge that it joins, each is so again.
 pub fn merges()
@@ -43,4 +48,22 @@ pub fn keeping()
     changes_keep_order();
     office_machine::laws::order();
     office_machine::laws::releases();
+}
+
+/// The reply to a command is the same whether or not releases are made.
+pub fn replies()
+    ensures { RepliesAreTheSame }
+{}
+
+/// In an office that stands as its commands left it, the text of each release that is kept is that of the release that is told of it, and its
+/// moment that release's date. What a notice's releases compile to is their merge, as it is kept, under a head.
+pub fn told()
+    ensures releases { ReleasesAreTold }
+    ensures records { RecordsAreCompiled }
+{
+    office_machine::laws::releases();
+    releases_can_be_kept();
+    texts_keep_order();
+    dates_order_releases();
+    merge_stays_storable();
 }

@@ -1,5 +1,5 @@
 //! The merge of a notice's releases, kept and carried on.
-ghost use Rattle.std.specs.Prelude.{◌≡◌, ◌∷◌, [], ◌++◌, List, map, All, IfOk, IfErr};
+ghost use Rattle.std.specs.Prelude.{◌≡◌, ℕ, ◌∷◌, [], ◌++◌, List, map, All, IfOk, IfErr};
 ghost use Rattle.serde_json.specs.Data.{Data};
 ghost use Rattle.serde_json.specs.View.{view};
 ghost use Rattle.ocds_merge.specs.Stored.{KeepsMerge, IsStorable};
@@ -87,6 +87,29 @@ fn carried_on(alloc: Global, kept: &CompiledRow, body: &Value) -> Result<JsonTex
     match merge_into_text(alloc, kept.text.as_str(), body) {
         Ok(text) => Ok(JsonText::from_string(text)),
         Err(_) => Err(Refusal::Unavailable),
+    }
+}
+
+// The merge that a row keeps.
+fn merge_in(alloc: Global, kept: &CompiledRow) -> Result<Value, Refusal>
+    ensures merge { IfOk result (λ merge. (vs : List Data) → KeepsMerge kept.now.text vs → view merge ≡ merge_or_null vs) }
+    ensures none { IfErr result (λ why. why ≡ Unavailable) }
+{
+    match merge_from_text(alloc, kept.text.as_str()) {
+        Ok(merge) => Ok(merge),
+        Err(_) => Err(Refusal::Unavailable),
+    }
+}
+
+/// The merge of a notice's releases without their heads.
+pub fn merge_kept(alloc: Global, kept: &Kept) -> Result<Value, Refusal>
+    ensures merge { IfOk result (λ merge. (notice : List ℕ) (t : Tables) → IsKeptOf notice t kept.now → AreMerged t
+        → view merge ≡ merge_or_null (bodies notice t)) }
+    ensures none { IfErr result (λ why. why ≡ Unavailable) }
+{
+    match kept {
+        Kept::Merge(row) => merge_in(alloc, row),
+        Kept::Releases(rows) => merge_of(alloc, rows.as_slice()),
     }
 }
 

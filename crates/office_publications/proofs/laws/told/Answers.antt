@@ -1,0 +1,15 @@
+use Rattle.office_publications.proofs.ReleasesTold.{rows_kept, rows_objects}
+use Rattle.office_publications.proofs.RecordsTold.{compiled}
+use Rattle.office_publications.proofs.laws.told.Goals as goal
+
+pub returns-clause-releases : goal.returns-clause-releases
+returns-clause-releases c settings s stands notice =
+    rows_kept c.releases_can_be_kept.ensures.storable c.releases_can_be_kept.ensures.dated settings c.releases.ensures.published s stands notice
+
+pub returns-clause-records : goal.returns-clause-records
+returns-clause-records c settings s stands notice some range =
+    compiled c.texts_keep_order.ensures c.releases.ensures.in_time c.dates_order_releases.ensures.kept_tree_compiles c.merge_stays_storable.ensures.merge
+    settings s stands notice
+    (rows_kept c.releases_can_be_kept.ensures.storable c.releases_can_be_kept.ensures.dated settings c.releases.ensures.published s stands notice)
+    (rows_objects c.releases_can_be_kept.ensures.storable c.releases_can_be_kept.ensures.dated settings c.releases.ensures.published s stands notice)
+    some range

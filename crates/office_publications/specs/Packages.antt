@@ -1,0 +1,26 @@
+-- The packages of a notice's releases and of its record, as they are told.
+use Rattle.std.specs.Prelude.{ℕ, List, [], map}
+use Rattle.serde_json.specs.Data.{Data}
+use Rattle.serde_json.specs.Written.{compact_text}
+use Rattle.office_acts.specs.declared.queries.Query.TheVariants as queries
+use Rattle.office_values.specs.declared.settings.Settings.{Settings}
+use Rattle.office_base.specs.Tables.{Tables, releases_of_notice}
+use Rattle.office_machine.specs.Sights.{Packages}
+use Rattle.ocds_merge.specs.Compile.{compiled_release}
+use Rattle.ocds_release.specs.Packages.{release_package, record_package}
+use Rattle.ocds_release.specs.Texts.{ocid_text}
+use Rattle.office_publications.specs.Merges.{data_in}
+
+-- the releases of a notice in their sequence, as data
+abbrev pub releases_told : List ℕ → Tables → List Data
+releases_told notice s = map data_in (releases_of_notice notice s)
+
+-- what they compile to (OCDS 1.1, "Merging")
+abbrev pub compiled_told : Settings → List ℕ → Tables → Data
+compiled_told settings notice s = compiled_release (ocid_text settings.prefix notice) (releases_told notice s)
+
+-- the text of the package that a query asks for; none where it asks for no package
+abbrev pub packages : Settings → Packages
+packages settings (queries.Releases notice) s = compact_text (release_package settings notice (releases_told notice s))
+packages settings (queries.Record notice) s = compact_text (record_package settings notice (releases_told notice s) (compiled_told settings notice s))
+packages settings query s = []

@@ -1,0 +1,39 @@
+-- What is told of a notice's releases, by the rows that keep them.
+use Rattle.std.specs.Prelude.{◌≡◌, ◌≤◌, ◌<◌, ◌-◌, ℕ, List, map, length, get_or, All}
+use Rattle.ocds_merge.specs.Compile.{with_head}
+use Rattle.ocds_merge.specs.Merge.{merge_or_null}
+use Rattle.ocds_release.specs.KeptReleases.{AreKept, HasText}
+use Rattle.ocds_release.specs.Texts.{ocid_text}
+use Rattle.office_values.specs.Moments.{last_moment, moment_text}
+use Rattle.office_values.specs.declared.settings.Settings.{Settings}
+use Rattle.office_base.specs.Tables.{Tables, releases_of_notice}
+use Rattle.office_base.specs.declared.records.ReleaseRow.{ReleaseRow}
+use Rattle.office_publications.specs.Merges.{bodies}
+use Rattle.office_publications.specs.Packages.{releases_told, compiled_told}
+use Rattle.office_publications.specs.Standing.{Stands}
+
+abbrev pub moment_of : ReleaseRow → ℕ
+moment_of r = r.moment
+
+-- the moment of the last release; 0 where there is none
+abbrev pub moment_of_last : List ReleaseRow → ℕ
+moment_of_last rows = get_or (map moment_of rows) (length rows - 1) 0
+
+-- it is a moment that has a text
+abbrev pub IsInRange : ReleaseRow → Type 0
+IsInRange r = r.moment ≤ last_moment
+
+-- each row keeps the release that is told: its text is the compact text of it, and its moment the release's date
+abbrev pub ReleasesAreTold : Type 0
+ReleasesAreTold = (settings : Settings) (s : Tables) → Stands settings s → (notice : List ℕ) → AreKept (releases_of_notice notice s) (releases_told notice s)
+
+-- what a notice's releases compile to is their merge under the head of the last release's moment, and its text is known
+pub record IsCompiled (settings : Settings) (notice : List ℕ) (s : Tables) : Type 0 where
+  pub is : compiled_told settings notice s
+      ≡ with_head (ocid_text settings.prefix notice) (moment_text (moment_of_last (releases_of_notice notice s))) (merge_or_null (bodies notice s))
+  pub has_text : HasText (compiled_told settings notice s)
+
+-- it does where there are releases, each at a moment that has a text: they stand in the order of their dates
+abbrev pub RecordsAreCompiled : Type 0
+RecordsAreCompiled = (settings : Settings) (s : Tables) → Stands settings s → (notice : List ℕ) → 0 < length (releases_of_notice notice s)
+    → All IsInRange (releases_of_notice notice s) → IsCompiled settings notice s

@@ -1,0 +1,2 @@
+pub mod NextRelease
+pub mod Packaged
