@@ -1,5 +1,5 @@
 -- A package of what is kept is that of what is told.
-use Rattle.std.specs.Prelude.{◌≡◌, ◌<◌, ◌==◌, ℕ, false, List, [], ◌∷◌, length}
+use Rattle.std.specs.Prelude.{◌≡◌, ◌<◌, ◌==◌, false, List, [], ◌∷◌, length}
 use Rattle.std.proofs.Common.{sym, subst, arith, true≢false}
 use Rattle.serde_json.specs.Data.{Data}
 use Rattle.ocds_release.specs.KeptReleases.{AreKept}

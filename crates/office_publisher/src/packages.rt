@@ -1,5 +1,5 @@
 //! The texts of the packages of a notice's releases and of its record, from what is kept.
-ghost use Rattle.std.specs.Prelude.{◌≡◌, All, IfOk, IfErr, string_bytes};
+ghost use Rattle.std.specs.Prelude.{◌≡◌, ◌∷◌, ◌++◌, All, IfOk, IfErr, string_bytes};
 ghost use Rattle.serde_json.specs.View.{view};
 ghost use Rattle.ocds_merge.specs.Compile.{with_head};
 ghost use Rattle.ocds_release.specs.Texts.{ocid_text};
@@ -84,13 +84,17 @@ fn read_moments(rows: &[ReleaseRow])
     }
 }
 
+fn dashed(alloc: Global, first: &str, second: &str) -> Result<String, AllocError>
+    ensures { IfOk result (λ text. string_bytes text ≡ first.now ++ 45 ∷ second.now) }
+{
+    format!(in alloc; "{first}-{second}")
+}
+
 // The ocid of the notice's contracting process.
 fn ocid_of(alloc: Global, settings: &Settings, notice: &Id) -> Result<String, AllocError>
     ensures { IfOk result (λ text. string_bytes text ≡ ocid_text settings.now.prefix notice.now) }
 {
-    let prefix = settings.prefix.as_str();
-    let notice = notice.as_str();
-    format!(in alloc; "{prefix}-{notice}")
+    dashed(alloc, settings.prefix.as_str(), notice.as_str())
 }
 
 // The compiled release, from the merge of the releases, the last of which is of this moment.
