@@ -27,6 +27,8 @@ routes = record {
   sees_the_ledger = refl;
   sees_minutes = refl;
   sees_registers = refl;
+  sees_releases = refl;
+  sees_records = refl;
   sees_tenders = refl;
   sees_securities = refl;
 }
@@ -36,8 +38,7 @@ unfolding requests_on_literals
 paths = record {
   no_path = refl;
   slash_behind = refl;
-  no_releases = refl;
-  no_record = refl;
+  no_records = refl;
   no_percent = refl;
   leading_zero = refl;
   zero_number = refl;

@@ -48,6 +48,8 @@ route_table =
     ∷ (codes "/ledger", (Queries queries.Ledger, Plain))
     ∷ (codes "/notices/{n}/minutes", (Queries queries.Minutes, OneId))
     ∷ (codes "/notices/{n}/register", (Queries queries.Register, OneId))
+    ∷ (codes "/notices/{n}/releases", (Queries queries.Releases, OneId))
+    ∷ (codes "/notices/{n}/record", (Queries queries.Record, OneId))
     ∷ (codes "/tenders/{r}", (Queries queries.Tender, Number))
     ∷ (codes "/securities/{s}", (Queries queries.Security, Number))
     ∷ []

@@ -123,6 +123,8 @@ pub record RoutesAreTaken : Type 0 where
   pub sees_the_ledger : Sees Public (codes "/ledger") queries.Ledger
   pub sees_minutes : Sees Public (codes "/notices/N1/minutes") (queries.Minutes (codes "N1"))
   pub sees_registers : Sees Clerk (codes "/notices/N1/register") (queries.Register (codes "N1"))
+  pub sees_releases : Sees Public (codes "/notices/N1/releases") (queries.Releases (codes "N1"))
+  pub sees_records : Sees Public (codes "/notices/N1/record") (queries.Record (codes "N1"))
   pub sees_tenders : Sees (Tenderer (codes "T1")) (codes "/tenders/9999999999") (queries.Tender 9999999999)
   pub sees_securities : Sees Clerk (codes "/securities/17") (queries.Security 17)
 
@@ -130,8 +132,7 @@ pub record RoutesAreTaken : Type 0 where
 pub record PathsAreRefused : Type 0 where
   pub no_path : IsNoPath (codes "/notices")
   pub slash_behind : IsNoPath (codes "/lines/1000/")
-  pub no_releases : IsNoPath (codes "/notices/N1/releases")
-  pub no_record : IsNoPath (codes "/notices/N1/record")
+  pub no_records : IsNoPath (codes "/notices/N1/records")
   pub no_percent : IsNoPath (codes "/lines/a%20b")
   pub leading_zero : IsNoPath (codes "/tenders/01")
   pub zero_number : IsNoPath (codes "/tenders/0")

@@ -20,7 +20,7 @@ use std::alloc::{AllocError, Global};
 #[derive(Clone, Copy)]
 struct Row(&'static str, Endpoint, Shape);
 
-const ROWS: [Row; 22] = [
+const ROWS: [Row; 24] = [
     Row("/budget/{batch}", Commands(CommandKind::Import), OneId),
     Row("/tenderers/{id}", Commands(CommandKind::Register), OneId),
     Row("/notices/{n}", Commands(CommandKind::Publish), OneId),
@@ -65,6 +65,8 @@ const ROWS: [Row; 22] = [
     Row("/ledger", Queries(QueryKind::Ledger), Plain),
     Row("/notices/{n}/minutes", Queries(QueryKind::Minutes), OneId),
     Row("/notices/{n}/register", Queries(QueryKind::Register), OneId),
+    Row("/notices/{n}/releases", Queries(QueryKind::Releases), OneId),
+    Row("/notices/{n}/record", Queries(QueryKind::Record), OneId),
     Row("/tenders/{r}", Queries(QueryKind::Tender), Number),
     Row("/securities/{s}", Queries(QueryKind::Security), Number),
 ];

@@ -90,7 +90,7 @@ const REGISTRATION: &[u8] =
 const AMENDMENT: &[u8] = b"{\"id\":\"E1\",\"kind\":\"cut\",\"amount\":5,\"rationale\":\"less\"}";
 
 // Each route but those of tenderers alone, with a body that it takes.
-const OF_CLERKS: [(&str, &[u8], Endpoint); 18] = [
+const OF_CLERKS: [(&str, &[u8], Endpoint); 20] = [
     (
         "POST /budget/B1",
         b"line,kind,amount,title\n1000,add,5,Roads\n",
@@ -156,6 +156,12 @@ const OF_CLERKS: [(&str, &[u8], Endpoint); 18] = [
         b"",
         Queries(QueryKind::Register),
     ),
+    (
+        "GET /notices/N1/releases",
+        b"",
+        Queries(QueryKind::Releases),
+    ),
+    ("GET /notices/N1/record", b"", Queries(QueryKind::Record)),
     ("GET /securities/17", b"", Queries(QueryKind::Security)),
 ];
 
@@ -204,11 +210,12 @@ fn refusal_of(alloc: Global, routes: &Routes, request: &Request) -> (u8, &'stati
     }
 }
 
-const REFUSED: [(&str, &[u8], (u8, &str)); 13] = [
+const REFUSED: [(&str, &[u8], (u8, &str)); 14] = [
     ("GET /lines/1000/", b"", (4, "")),
     ("GET /tenders/01", b"", (4, "")),
-    ("GET /notices/N1/releases", b"", (4, "")),
-    ("GET /notices/N1/record", b"", (4, "")),
+    ("GET /notices/N1/releases/1", b"", (4, "")),
+    ("GET /notices/N1/records", b"", (4, "")),
+    ("POST /notices/N1/record", b"{}", (5, "")),
     ("HEAD /ledger", b"", (5, "")),
     ("GET /tenders/17", b"", (7, "")),
     ("POST /tenders/1/modify", b"abc", (7, "")),
