@@ -11,3 +11,4 @@ pub mod EffectsPutNoMerge
 pub mod KeptPuts
 pub mod KeptReleases
 pub mod RepliesAlike
+pub mod NoSealsTold

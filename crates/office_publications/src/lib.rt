@@ -4,4 +4,5 @@
 pub mod laws;
 pub mod merges;
 pub mod publication;
+pub mod sealed;
 pub mod worth;

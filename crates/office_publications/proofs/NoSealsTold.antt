@@ -1,0 +1,186 @@
+-- Events and packages are the same whatever the digests of envelopes and the seals.
+use Rattle.std.specs.Prelude.{◌≡◌, ℕ, ◌+◌, Bool, true, false, cond, ◌&&◌, ◌||◌, List, [], ◌∷◌, map, filter}
+use Rattle.std.specs.Prelude.{Option, Some, None, unwrap_or, option_map, option_and_then}
+use Rattle.std.specs.List.{list_any}
+use Rattle.std.proofs.Common.{refl, sym, ◌∙◌, ap}
+use Rattle.serde_json.specs.Written.{compact_text}
+use Rattle.office_values.specs.Ids.{same_id}
+use Rattle.office_values.specs.declared.settings.Settings.{Settings}
+use Rattle.office_acts.specs.declared.commands.Command.{Command}
+use Rattle.office_acts.specs.declared.commands.Command.TheVariants.{Import, Register, Publish, AmendNotice, Cancel, Open, Present, Modify}
+use Rattle.office_acts.specs.declared.commands.Command.TheVariants.{Withdraw, Examine, Award, Fail, Sign, AmendContract, Pay, End}
+use Rattle.office_acts.specs.declared.queries.Query.TheVariants as queries
+use Rattle.office_base.specs.declared.records.EnvelopeRow.{EnvelopeRow}
+use Rattle.office_base.specs.declared.records.NoticeRow.{NoticeRow}
+use Rattle.office_base.specs.declared.records.SealRow.{SealRow}
+use Rattle.office_base.specs.declared.records.TendererRow.{TendererRow}
+use Rattle.office_base.specs.Tables.{Tables, notice_at, envelopes_of_lot}
+use Rattle.tender_core.specs.Rules.Open.{is_sealed_envelope}
+use Rattle.award_core.specs.Rules.Award.{is_admissible, price_of, lesser, lowest_price, is_better, better, best_with, weight_in, winner}
+use Rattle.ocds_release.specs.EventReleases.{release_of_event}
+use Rattle.ocds_release.specs.Tenderers.{tenderer_of}
+use Rattle.ocds_release.specs.declared.event.Event.{Event}
+use Rattle.ocds_release.specs.declared.event.Event.TheVariants as events
+use Rattle.office_machine.specs.Machine.{Given, time_of}
+use Rattle.office_machine.specs.Publications.{published_for, releases_in}
+use Rattle.office_machine.specs.Seals.{ButDigest}
+use Rattle.office_machine.specs.Worlds.{Pairs}
+use Rattle.office_publications.specs.AwardEvents.{awarded}
+use Rattle.office_publications.specs.Events.{event_of}
+use Rattle.office_publications.specs.NoticeEvents.{opened}
+use Rattle.office_publications.specs.Sealed.{ReleasesTellNoSeals, PackagesTellNoSeals}
+
+-- an envelope without its digest
+abbrev bare : EnvelopeRow → EnvelopeRow
+bare e = record e { digest = [] }
+
+same_bare : (es es' : List EnvelopeRow) → Pairs ButDigest es es' → map bare es' ≡ map bare es
+same_bare [] [] all = refl
+same_bare [] (e' ∷ es') all = absurd all
+same_bare (e ∷ es) [] all = absurd all
+same_bare (e ∷ es) (e' ∷ es') all = λ i. bare (all.0 i) ∷ same_bare es es' all.1 i
+
+-- what comes out the same of bare envelopes comes out the same of envelopes with other digests
+by_bare : {A : Type 0} (f : List EnvelopeRow → A) → ((es : List EnvelopeRow) → f (map bare es) ≡ f es)
+    → (es es' : List EnvelopeRow) → Pairs ButDigest es es' → f es' ≡ f es
+by_bare f blind es es' all = sym (blind es') ∙ (ap f (same_bare es es' all) ∙ blind es)
+
+-- bare envelopes are filtered as they were
+kept_bare : (b : Bool) (e : EnvelopeRow) (es : List EnvelopeRow) → cond b (bare e ∷ map bare es) (map bare es) ≡ map bare (cond b (e ∷ es) es)
+kept_bare true e es = refl
+kept_bare false e es = refl
+
+filter_bare : (p : EnvelopeRow → Bool) → ((e : EnvelopeRow) → p (bare e) ≡ p e) → (es : List EnvelopeRow) → filter p (map bare es) ≡ map bare (filter p es)
+filter_bare p blind [] = refl
+filter_bare p blind (e ∷ es) = (λ i. cond (blind e i) (bare e ∷ filter_bare p blind es i) (filter_bare p blind es i)) ∙ kept_bare (p e) e (filter p es)
+
+any_bare : (p : EnvelopeRow → Bool) → ((e : EnvelopeRow) → p (bare e) ≡ p e) → (es : List EnvelopeRow) → list_any p (map bare es) ≡ list_any p es
+any_bare p blind [] = refl
+any_bare p blind (e ∷ es) = λ i. blind e i || any_bare p blind es i
+
+-- the winner among them is the one that it was, bare
+lowest_bare : (es : List EnvelopeRow) → lowest_price (map bare es) ≡ lowest_price es
+lowest_bare [] = refl
+lowest_bare (e ∷ es) = ap (λ l. cond (is_admissible e) (Some (lesser (price_of e) l)) l) (lowest_bare es)
+
+chosen_bare : (b : Bool) (e f : EnvelopeRow) → cond b (bare f) (bare e) ≡ bare (cond b f e)
+chosen_bare true e f = refl
+chosen_bare false e f = refl
+
+better_bare : (weight lowest : ℕ) (e : EnvelopeRow) (o : Option EnvelopeRow)
+    → better weight lowest (bare e) (option_map bare o) ≡ bare (better weight lowest e o)
+better_bare weight lowest e None = refl
+better_bare weight lowest e (Some f) = chosen_bare (is_better weight lowest f e) e f
+
+first_bare : (weight lowest : ℕ) (b : Bool) (e : EnvelopeRow) (o : Option EnvelopeRow)
+    → cond b (Some (better weight lowest (bare e) (option_map bare o))) (option_map bare o) ≡ option_map bare (cond b (Some (better weight lowest e o)) o)
+first_bare weight lowest true e o = ap Some (better_bare weight lowest e o)
+first_bare weight lowest false e o = refl
+
+best_bare : (weight lowest : ℕ) (es : List EnvelopeRow) → best_with weight lowest (map bare es) ≡ option_map bare (best_with weight lowest es)
+best_bare weight lowest [] = refl
+best_bare weight lowest (e ∷ es) =
+    ap (λ o. cond (is_admissible e) (Some (better weight lowest (bare e) o)) o) (best_bare weight lowest es)
+    ∙ first_bare weight lowest (is_admissible e) e (best_with weight lowest es)
+
+winner_bare : (n : Option NoticeRow) (es : List EnvelopeRow) → winner n (map bare es) ≡ option_map bare (winner n es)
+winner_bare n es =
+    ap (λ l. best_with (weight_in n) (unwrap_or l 0) (map bare es)) (lowest_bare es) ∙ best_bare (weight_in n) (unwrap_or (lowest_price es) 0) es
+
+-- the event of an opening, by all envelopes
+abbrev opened_by : List ℕ → List TendererRow → List EnvelopeRow → Event
+opened_by notice tenderers es = opened notice (filter (λ (e : EnvelopeRow). same_id e.notice notice) es) tenderers
+
+opened_bare : (notice : List ℕ) (tenderers : List TendererRow) (es : List EnvelopeRow) → opened notice (map bare es) tenderers ≡ opened notice es tenderers
+opened_bare notice tenderers es = λ i. events.Open (record {
+  notice = notice;
+  tenderers = map tenderer_of
+      (filter (λ (r : TendererRow). any_bare (λ (e : EnvelopeRow). is_sealed_envelope e && same_id e.tenderer r.tenderer) (λ _. refl) es i) tenderers);
+})
+
+opened_blind : (notice : List ℕ) (tenderers : List TendererRow) (es : List EnvelopeRow)
+    → opened_by notice tenderers (map bare es) ≡ opened_by notice tenderers es
+opened_blind notice tenderers es =
+    ap (λ fs. opened notice fs tenderers) (filter_bare (λ (e : EnvelopeRow). same_id e.notice notice) (λ _. refl) es)
+    ∙ opened_bare notice tenderers (filter (λ (e : EnvelopeRow). same_id e.notice notice) es)
+
+-- and that of an award
+abbrev awarded_by : Tables → List ℕ → List ℕ → Option NoticeRow → List EnvelopeRow → Event
+awarded_by s notice lot n es = awarded s notice lot (winner n (filter (λ (e : EnvelopeRow). same_id e.notice notice && same_id e.lot lot) es))
+
+awarded_bare : (s : Tables) (notice lot : List ℕ) (o : Option EnvelopeRow) → awarded s notice lot (option_map bare o) ≡ awarded s notice lot o
+awarded_bare s notice lot None = refl
+awarded_bare s notice lot (Some e) = refl
+
+awarded_blind : (s : Tables) (notice lot : List ℕ) (n : Option NoticeRow) (es : List EnvelopeRow)
+    → awarded_by s notice lot n (map bare es) ≡ awarded_by s notice lot n es
+awarded_blind s notice lot n es =
+    let in_lot : EnvelopeRow → Bool = λ (e : EnvelopeRow). same_id e.notice notice && same_id e.lot lot in
+    ap (λ fs. awarded s notice lot (winner n fs)) (filter_bare in_lot (λ _. refl) es)
+    ∙ (ap (awarded s notice lot) (winner_bare n (filter in_lot es)) ∙ awarded_bare s notice lot (winner n (filter in_lot es)))
+
+-- a command in an office with other digests and seals
+module _ (s : Tables) (es' : List EnvelopeRow) (ss' : List SealRow) (all : Pairs ButDigest s.envelopes es') where
+  abbrev other : Tables
+  other = record s { envelopes = es'; seals = ss' }
+
+  awarded_other : (notice lot : List ℕ) (o : Option EnvelopeRow) → awarded other notice lot o ≡ awarded s notice lot o
+  awarded_other notice lot None = refl
+  awarded_other notice lot (Some e) = refl
+
+  same_event : (command : Command) → event_of other command ≡ event_of s command
+  same_event (Import batch rows) = refl
+  same_event (Register tenderer name address key) = refl
+  same_event (Publish notice content) = refl
+  same_event (AmendNotice notice deadline rationale) = refl
+  same_event (Cancel notice rationale) = refl
+  same_event (Open notice) = ap Some (by_bare (opened_by notice s.tenderers) (opened_blind notice s.tenderers) s.envelopes es' all)
+  same_event (Present notice lot security bytes) = refl
+  same_event (Modify receipt bytes) = refl
+  same_event (Withdraw receipt) = refl
+  same_event (Examine receipt responsive quality) = refl
+  same_event (Award notice lot) =
+      ap Some
+      (awarded_other notice lot (winner (notice_at notice s) (envelopes_of_lot notice lot other))
+      ∙ by_bare (awarded_by s notice lot (notice_at notice s)) (awarded_blind s notice lot (notice_at notice s)) s.envelopes es' all)
+  same_event (Fail award) = refl
+  same_event (Sign award) = refl
+  same_event (AmendContract contract entry kind amount rationale) = refl
+  same_event (Pay contract entry amount) = refl
+  same_event (End contract how) = refl
+
+  same_notice : (command : Command) → published_for other command ≡ published_for s command
+  same_notice (Import batch rows) = refl
+  same_notice (Register tenderer name address key) = refl
+  same_notice (Publish notice content) = refl
+  same_notice (AmendNotice notice deadline rationale) = refl
+  same_notice (Cancel notice rationale) = refl
+  same_notice (Open notice) = refl
+  same_notice (Present notice lot security bytes) = refl
+  same_notice (Modify receipt bytes) = refl
+  same_notice (Withdraw receipt) = refl
+  same_notice (Examine receipt responsive quality) = refl
+  same_notice (Award notice lot) = refl
+  same_notice (Fail award) = refl
+  same_notice (Sign award) = refl
+  same_notice (AmendContract contract entry kind amount rationale) = refl
+  same_notice (Pay contract entry amount) = refl
+  same_notice (End contract how) = refl
+
+-- the text of an event, under the next number of the notice that it is published for
+abbrev text_in : Settings → Given → Option (List ℕ) → Event → List ℕ
+text_in settings x notice e = compact_text (release_of_event settings (releases_in (option_and_then (λ n. notice_at n x.before) notice) + 1) (time_of x) e)
+
+pub releases_tell_no_seals : ReleasesTellNoSeals
+releases_tell_no_seals settings x es' ss' all opens = λ i.
+    option_map (text_in settings x (same_notice x.before es' ss' all x.command i)) (same_event x.before es' ss' all x.command i)
+
+pub packages_tell_no_seals : PackagesTellNoSeals
+packages_tell_no_seals settings (queries.Line line) s es' ss' all = refl
+packages_tell_no_seals settings queries.Ledger s es' ss' all = refl
+packages_tell_no_seals settings (queries.Minutes notice) s es' ss' all = refl
+packages_tell_no_seals settings (queries.Register notice) s es' ss' all = refl
+packages_tell_no_seals settings (queries.Releases notice) s es' ss' all = refl
+packages_tell_no_seals settings (queries.Record notice) s es' ss' all = refl
+packages_tell_no_seals settings (queries.Tender receipt) s es' ss' all = refl
+packages_tell_no_seals settings (queries.Security security) s es' ss' all = refl
