@@ -1,18 +1,23 @@
 -- What a desk answers: the machine's step, or want of memory or of the store.
-use Rattle.std.specs.Prelude.{◌≡◌, ℕ, ◌⊎◌, List, ◌∷◌, Some, None, Result, Ok, Err, Vec}
+use Rattle.std.specs.Prelude.{◌≡◌, ℕ, ◌⊎◌, List, ◌∷◌, Some, None, Result, Ok, Err, OnOk, OnErr, Vec}
 use Rattle.std.specs.declared.alloc.Global.{Global}
 use Rattle.office_acts.specs.declared.command.Caller.{Caller}
 use Rattle.office_acts.specs.declared.queries.Query.{Query}
+use Rattle.office_acts.specs.declared.queries.Query.TheVariants as queries
 use Rattle.office_values.specs.declared.refusal.Refusal.{Refusal}
 use Rattle.office_values.specs.declared.refusal.Refusal.TheVariants.{Unavailable}
+use Rattle.office_values.specs.declared.settings.Settings.{Settings}
 use Rattle.office_base.specs.Tables.{Tables}
 use Rattle.office_base.specs.Shelves.{Meaning}
-use Rattle.office_machine.specs.Machine.{Given, IsCommand, refusal_of, time_of, puts_of, next, Reaches}
-use Rattle.office_machine.specs.OfficeMeans.{unpublished_means}
+use Rattle.office_machine.specs.Machine.{Given, IsCommand, refusal_of, time_of, next, Reaches}
 use Rattle.office_machine.specs.Accounts.{AccountsHold}
 use Rattle.office_machine.specs.Fates.{TendersHaveFates, SecuritiesHaveFates}
 use Rattle.office_machine.specs.Replies.{Reply, reply_for}
 use Rattle.office_machine.specs.Sights.{Packages, told}
+use Rattle.office_publications.specs.Keeping.{KeepsReleases, PublicationReadsBack, kept_next, kept_puts}
+use Rattle.office_publications.specs.Packages.{packages}
+use Rattle.office_publications.specs.Publishing.{publishing}
+use Rattle.office_publications.specs.Standing.{Stands}
 use Rattle.office_desk.specs.Plans.{Plan}
 use Rattle.office_desk.specs.Replies.{reply_text, text_of}
 
@@ -22,38 +27,64 @@ read_text (Ok text) = Ok text.items
 read_text (Err why) = Err why
 
 -- the reply to a command that is accepted
-abbrev pub accepted_reply : Given → Reply
-accepted_reply x = reply_for unpublished_means x.before (next unpublished_means x) (time_of x) x.caller x.command
+abbrev pub accepted_reply : Settings → Given → Reply
+accepted_reply settings x = reply_for (publishing settings) x.before (next (publishing settings) x) (time_of x) x.caller x.command
 
--- the command is one that can be given and isn't refused, and this is what it puts and its reply
-pub record IsPlan (x : Given) (planned : Plan) : Type 0 where
+-- what is planned is what the machine puts, with the merge that the release joins; and what is published can be read again
+pub record IsPut (settings : Settings) (x : Given) (planned : Plan) : Type 0 where
+  pub puts : planned.puts ≡ kept_puts settings x
+  pub reads : PublicationReadsBack settings x
+
+-- the command is one that can be given and isn't refused, and this is its reply, and, where the office keeps its releases, what it puts
+pub record IsPlan (settings : Settings) (x : Given) (planned : Plan) : Type 0 where
   pub given : IsCommand x.command
   pub allowed : refusal_of x ≡ None
-  pub puts : planned.puts ≡ puts_of unpublished_means x
-  pub reply : planned.reply ≡ reply_text (accepted_reply x)
+  pub put : KeepsReleases x.before → IsPut settings x planned
+  pub reply : planned.reply ≡ reply_text (accepted_reply settings x)
 
 -- the plan, or the command's refusal, or Unavailable
-abbrev pub IsPlanned : Given → Result Plan Refusal → Type 0
-IsPlanned x (Ok planned) = IsPlan x planned
-IsPlanned x (Err why) = (refusal_of x ≡ Some why) ⊎ (why ≡ Unavailable)
+abbrev pub IsPlanned : Settings → Given → Result Plan Refusal → Type 0
+IsPlanned settings x (Ok planned) = IsPlan settings x planned
+IsPlanned settings x (Err why) = (refusal_of x ≡ Some why) ⊎ (why ≡ Unavailable)
 
 -- the reply, or the command's refusal, or Unavailable
-abbrev pub IsAnswered : Given → Result (List ℕ) Refusal → Type 0
-IsAnswered x (Ok reply) = (refusal_of x ≡ None) × (reply ≡ reply_text (accepted_reply x))
-IsAnswered x (Err why) = (refusal_of x ≡ Some why) ⊎ (why ≡ Unavailable)
+abbrev pub IsAnswered : Settings → Given → Result (List ℕ) Refusal → Type 0
+IsAnswered settings x (Ok reply) = (refusal_of x ≡ None) × (reply ≡ reply_text (accepted_reply settings x))
+IsAnswered settings x (Err why) = (refusal_of x ≡ Some why) ⊎ (why ≡ Unavailable)
 
--- no packages of releases are made yet
+-- a command that was asked for: it is done where the answer is Ok and the office keeps its releases, and else nothing is; a stop leaves the
+-- one or the other whole
+pub record Does {S T : Type 0} (M : Meaning S) (settings : Settings) (old new : S) (result : Result T Refusal) (x : Tables → Given) : Type 0 where
+  pub before : M.honest new → M.honest old
+  pub all : M.honest new → (t : Tables) → M.holds old t → KeepsReleases t → OnOk result (M.holds new (kept_next settings (x t)))
+  pub none : M.honest new → (t : Tables) → M.holds old t → OnErr result (M.holds new t)
+  pub stop_all : M.honest new → (t : Tables) → M.holds old t → KeepsReleases t
+      → OnOk result ((u : Tables) → M.may_leave new u → u ≡ kept_next settings (x t))
+  pub stop_none : M.honest new → (t : Tables) → M.holds old t → KeepsReleases t
+      → OnErr result ((u : Tables) → M.may_leave new u → M.may_leave old u ⊎ (u ≡ kept_next settings (x t)))
+
+-- a look at a package needs an office that commands led to, with its releases kept; any other look needs nothing
+abbrev pub Needs : Settings → Query → Tables → Type 0
+Needs settings (queries.Releases notice) s = Stands settings s
+Needs settings (queries.Record notice) s = Stands settings s
+Needs settings query s = Unit {0}
+
+-- what is seen, or the query's refusal, or Unavailable
+abbrev pub IsSeen : Settings → Caller → Query → Tables → Result (List ℕ) Refusal → Type 0
+IsSeen settings caller query s result =
+    Needs settings query s → (result ≡ text_of (told (packages settings) s caller query)) ⊎ (result ≡ Err Unavailable)
+
+-- what is seen where no packages are asked for
 abbrev pub no_packages : Packages
 no_packages query s = Rattle.std.specs.Prelude.[]
 
--- what is seen, or the query's refusal, or Unavailable
-abbrev pub IsSeen : Caller → Query → Tables → Result (List ℕ) Refusal → Type 0
-IsSeen caller query s result = (result ≡ text_of (told no_packages s caller query)) ⊎ (result ≡ Err Unavailable)
+abbrev pub IsShown : Caller → Query → Tables → Result (List ℕ) Refusal → Type 0
+IsShown caller query s result = (result ≡ text_of (told no_packages s caller query)) ⊎ (result ≡ Err Unavailable)
 
 -- the office after the answer, and the accepted commands
-abbrev pub office_after : Given → Result (List ℕ) Refusal → Tables
-office_after x (Ok reply) = next unpublished_means x
-office_after x (Err why) = x.before
+abbrev pub office_after : Settings → Given → Result (List ℕ) Refusal → Tables
+office_after settings x (Ok reply) = kept_next settings x
+office_after settings x (Err why) = x.before
 
 abbrev pub accepted_after : Given → Result (List ℕ) Refusal → List Given → List Given
 accepted_after x (Ok reply) xs = x ∷ xs
@@ -61,13 +92,15 @@ accepted_after x (Err why) xs = xs
 
 -- where accepted commands lead to an office, its accounts are what they moved, and each tender and each security has the fate that
 -- they gave it
-pub record IsKept (xs : List Given) (s : Tables) : Type 0 where
-  pub reaches : Reaches unpublished_means xs s
+pub record IsKept (settings : Settings) (xs : List Given) (s : Tables) : Type 0 where
+  pub reaches : Reaches (publishing settings) xs s
   pub accounts : AccountsHold xs s
-  pub tenders : TendersHaveFates unpublished_means xs s
+  pub tenders : TendersHaveFates (publishing settings) xs s
   pub securities : SecuritiesHaveFates xs s
 
--- the shelf holds the office after the answer; the commands accepted so far, with this one, lead to it; and so it is kept
-pub record Joins {S : Type 0} (M : Meaning S) (new : S) (x : Given) (result : Result (List ℕ) Refusal) (xs : List Given) : Type 0 where
-  pub holds : M.holds new (office_after x result)
-  pub kept : IsKept (accepted_after x result xs) (office_after x result)
+-- the shelf holds the office after the answer, which keeps its releases; the commands accepted so far, with this one, lead to it; and so it
+-- is kept
+pub record Joins {S : Type 0} (M : Meaning S) (settings : Settings) (new : S) (x : Given) (result : Result (List ℕ) Refusal) (xs : List Given) : Type 0 where
+  pub holds : M.holds new (office_after settings x result)
+  pub kept : IsKept settings (accepted_after x result xs) (office_after settings x result)
+  pub releases : KeepsReleases (office_after settings x result)

@@ -5,7 +5,7 @@ ghost use Rattle.office_base.specs.Rules.{first_of};
 ghost use Rattle.office_machine.specs.Machine.{Given, IsCommand, command_tests, effect, may_give, refusal_of};
 ghost use Rattle.office_machine.specs.OfficeMeans.{unpublished_means};
 ghost use Rattle.office_desk.specs.Replies.{said};
-ghost use Rattle.office_desk.specs.Steps.{IsPlanned, accepted_reply};
+ghost use Rattle.office_desk.specs.Effects.{HasEffect, effect_reply};
 
 use crate::planned::Planned;
 use crate::reply::{Reply, reply_text};
@@ -41,7 +41,7 @@ pub(crate) fn planned(
     reply: &Reply,
 ) -> Result<Planned, Refusal>
     ensures { (x : Given) → IsCommand x.command → may_give x.caller x.command ≡ true → Decides decided (first_of (command_tests x)) (effect unpublished_means x)
-        → (refusal_of x ≡ None → said reply.now ≡ accepted_reply x) → IsPlanned x result }
+        → (refusal_of x ≡ None → said reply.now ≡ effect_reply x) → HasEffect x result }
 {
     laws::nothing_published();
     let puts = decided?;

@@ -6,22 +6,25 @@ ghost use Rattle.office_acts.specs.Rights.{may, may_look};
 ghost use Rattle.office_base.specs.Tables.{Tables, after_puts};
 ghost use Rattle.office_base.specs.Faults.{HasRisen};
 ghost use Rattle.office_base.specs.Shelves.{Looks, Alters};
-ghost use Rattle.office_machine.specs.Machine.{Given, IsRegistered, Reaches, next};
-ghost use Rattle.office_machine.specs.OfficeMeans.{unpublished_means};
+ghost use Rattle.office_publications.specs.Keeping.{KeepsReleases};
+ghost use Rattle.office_publications.specs.Publishing.{publishing};
+ghost use Rattle.office_machine.specs.Machine.{Given, IsRegistered, Reaches};
+ghost use Rattle.office_values.specs.declared.settings.Settings.{Settings as SettingsOf};
 ghost use Rattle.office_desk.specs.Asking.{given};
 ghost use Rattle.office_desk.specs.Callers.{caller_of, names_no_tenderer};
-ghost use Rattle.office_desk.specs.Steps.{IsPlan, IsPlanned, IsAnswered, IsSeen, Joins, read_text};
+ghost use Rattle.office_desk.specs.Steps.{Does, IsPlan, IsPlanned, IsAnswered, IsSeen, Joins, read_text};
 
 use crate::asking::Asking;
 use crate::callers::{clerk_by, names_clerk, tenderer_named};
-use crate::commands::plan_command;
 use crate::planned::Planned;
+use crate::published::plan_command;
 use crate::queries::look_at;
 use office_acts::command::{Caller, may, may_look};
 use office_acts::commands::Command;
 use office_acts::queries::Query;
 use office_base::shelf::{Lookups, Shelf};
 use office_machine::{fates, laws};
+use office_publications::laws::keeping;
 use office_values::moment::Moment;
 use office_values::refusal::Refusal;
 use office_values::settings::Settings;
@@ -100,7 +103,7 @@ impl<H: Shelf + Drop> Desk<H> {
         caller: &Caller,
         command: Command<'_>,
     ) -> Result<Planned, Refusal>
-        ensures looks { Looks H.meaning self.old.shelf self.new.shelf (λ s. IsPlanned (given s moment caller.now command.entry) result) }
+        ensures looks { Looks H.meaning self.old.shelf self.new.shelf (λ s. IsPlanned self.old.settings (given s moment caller.now command.entry) result) }
         ensures settings { self.new.settings ≡ self.old.settings }
         ensures forbidden { may caller.now (commands.kind_of command.entry) ≡ false → result ≡ Err Refusal.Forbidden }
     {
@@ -108,7 +111,8 @@ impl<H: Shelf + Drop> Desk<H> {
             return Err(Refusal::Forbidden);
         }
         let asking = Asking { moment, caller };
-        plan_command(self.alloc, &mut self.shelf, &asking, command)
+        let shelf = &mut self.shelf;
+        plan_command(self.alloc, shelf, &self.settings, &asking, command)
     }
 
     /// Does what was planned, all or nothing, and hands out the reply. Once it is done nothing is allocated.
@@ -118,11 +122,12 @@ impl<H: Shelf + Drop> Desk<H> {
         ensures reply { IfOk result (λ reply. reply.items ≡ planned.reply) }
         ensures refused { IfErr result (λ why. why ≡ Refusal.Unavailable) }
         ensures risen { IfErr result (λ _. HasRisen (H.meaning.fault_count self.old.shelf) (H.meaning.fault_count self.new.shelf)) }
-        ensures joins { H.meaning.honest self.new.shelf → (x : Given) → IsPlan x planned → IsRegistered x.caller x.before.tenderers → H.meaning.holds self.old.shelf x.before
-            → (xs : List Given) → Reaches unpublished_means xs x.before → Joins H.meaning self.new.shelf x (read_text result) xs }
+        ensures joins { H.meaning.honest self.new.shelf → (settings : SettingsOf) (x : Given) → IsPlan settings x planned → IsRegistered x.caller x.before.tenderers
+            → H.meaning.holds self.old.shelf x.before → KeepsReleases x.before
+            → (xs : List Given) → Reaches (publishing settings) xs x.before → Joins H.meaning settings self.new.shelf x (read_text result) xs }
     {
         laws::accounts();
-        laws::runs();
+        keeping();
         fates::tenders();
         fates::securities();
         let (puts, reply) = planned.into_parts();
@@ -139,15 +144,16 @@ impl<H: Shelf + Drop> Desk<H> {
         caller: &Caller,
         command: Command<'_>,
     ) -> Result<Vec<u8>, Refusal>
-        ensures alters { Alters H.meaning self.old.shelf self.new.shelf result (λ s. next unpublished_means (given s moment caller.now command.entry)) }
+        ensures does { Does H.meaning self.old.settings self.old.shelf self.new.shelf result (λ s. given s moment caller.now command.entry) }
         ensures settings { self.new.settings ≡ self.old.settings }
         ensures answered { H.meaning.honest self.new.shelf → (s : Tables) → H.meaning.holds self.old.shelf s
-            → IsAnswered (given s moment caller.now command.entry) (read_text result) }
-        ensures joins { H.meaning.honest self.new.shelf → (s : Tables) → IsRegistered caller.now s.tenderers → H.meaning.holds self.old.shelf s
-            → (xs : List Given) → Reaches unpublished_means xs s → Joins H.meaning self.new.shelf (given s moment caller.now command.entry) (read_text result) xs }
+            → IsAnswered self.old.settings (given s moment caller.now command.entry) (read_text result) }
+        ensures joins { H.meaning.honest self.new.shelf → (s : Tables) → IsRegistered caller.now s.tenderers → H.meaning.holds self.old.shelf s → KeepsReleases s
+            → (xs : List Given) → Reaches (publishing self.old.settings) xs s
+            → Joins H.meaning self.old.settings self.new.shelf (given s moment caller.now command.entry) (read_text result) xs }
     {
         laws::accounts();
-        laws::runs();
+        keeping();
         fates::tenders();
         fates::securities();
         let planned = self.plan(moment, caller, command)?;
@@ -156,13 +162,13 @@ impl<H: Shelf + Drop> Desk<H> {
 
     /// Answers a query. Nothing changes.
     pub fn look(&mut self, caller: &Caller, query: Query) -> Result<Vec<u8>, Refusal>
-        ensures looks { Looks H.meaning self.old.shelf self.new.shelf (λ s. IsSeen caller.now query s (read_text result)) }
+        ensures looks { Looks H.meaning self.old.shelf self.new.shelf (λ s. IsSeen self.old.settings caller.now query s (read_text result)) }
         ensures settings { self.new.settings ≡ self.old.settings }
         ensures forbidden { may_look caller.now (queries.kind_of query) ≡ false → result ≡ Err Refusal.Forbidden }
     {
         if !may_look(caller, query.kind()) {
             return Err(Refusal::Forbidden);
         }
-        look_at(self.alloc, &mut self.shelf, caller, query)
+        look_at(self.alloc, &mut self.shelf, &self.settings, caller, query)
     }
 }

@@ -14,6 +14,7 @@ mod opened;
 mod outstanding;
 mod parents;
 pub mod planned;
+mod published;
 mod queries;
 mod releases;
 mod reply;

@@ -8,6 +8,7 @@ ghost use Rattle.office_desk.specs.Steps.{IsSeen, read_text};
 mod ledger;
 mod line;
 mod minutes;
+mod packages;
 mod register;
 mod security;
 mod tender;
@@ -16,17 +17,19 @@ use office_acts::command::Caller;
 use office_acts::queries::Query;
 use office_base::shelf::Lookups;
 use office_values::refusal::Refusal;
+use office_values::settings::Settings;
 use std::alloc::Global;
 
-/// Answers a query that the caller may ask. Packages of releases aren't there yet: they are answered `Unavailable`.
+/// Answers a query that the caller may ask.
 pub(crate) fn look_at<H: Lookups>(
     alloc: Global,
     shelf: &mut H,
+    settings: &Settings,
     caller: &Caller,
     query: Query,
 ) -> Result<Vec<u8>, Refusal>
     requires { may_look caller.now (kind_of query) ≡ true }
-    ensures { Looks H.meaning shelf.old shelf.new (λ s. IsSeen caller.now query s (read_text result)) }
+    ensures { Looks H.meaning shelf.old shelf.new (λ s. IsSeen settings.now caller.now query s (read_text result)) }
 {
     match query {
         Query::Line { line } => line::look(alloc, shelf, caller, line),
@@ -35,6 +38,11 @@ pub(crate) fn look_at<H: Lookups>(
         Query::Register { notice } => register::look(alloc, shelf, caller, notice),
         Query::Tender { receipt } => tender::look(alloc, shelf, caller, receipt),
         Query::Security { security } => security::look(alloc, shelf, caller, security),
-        Query::Releases { .. } | Query::Record { .. } => Err(Refusal::Unavailable),
+        Query::Releases { notice } => packages::look_at_releases(
+            alloc, shelf, settings, caller, notice,
+        ),
+        Query::Record { notice } => packages::look_at_record(
+            alloc, shelf, settings, caller, notice,
+        ),
     }
 }

@@ -9,7 +9,7 @@ ghost use Rattle.office_machine.specs.Machine.{refusal_of};
 ghost use Rattle.office_values.specs.declared.refusal.Refusal.TheVariants.{Unavailable};
 ghost use Rattle.office_desk.specs.Asking.{given_by};
 ghost use Rattle.office_desk.specs.Replies.{said};
-ghost use Rattle.office_desk.specs.Steps.{IsPlanned, accepted_reply};
+ghost use Rattle.office_desk.specs.Effects.{HasEffect, effect_reply};
 ghost use Rattle.award_core.specs.Rules.AmendContract.{amend_contract_rows};
 
 use crate::asking::{Asking, planned};
@@ -59,7 +59,7 @@ fn reply_to(
 ) -> Result<Reply, Refusal>
     ensures said { IfOk result (λ reply. (s : Tables) (entry rationale : List ℕ) → rows.now ≡ amend_contract_rows s contract
         → refusal_of (given_by asking.now s (AmendContract contract entry kind amount rationale)) ≡ None
-        → said reply ≡ accepted_reply (given_by asking.now s (AmendContract contract entry kind amount rationale))) }
+        → said reply ≡ effect_reply (given_by asking.now s (AmendContract contract entry kind amount rationale))) }
     ensures none { IfErr result (λ why. why ≡ Unavailable) }
 {
     laws::outstanding();
@@ -84,7 +84,7 @@ pub(crate) fn plan<H: Lookups>(
     rationale: TextLine,
 ) -> Result<Planned, Refusal>
     requires { may asking.now.caller.now kinds.AmendContract ≡ true }
-    ensures { Looks H.meaning shelf.old shelf.new (λ s. IsPlanned (given_by asking.now s (AmendContract contract entry kind amount rationale)) result) }
+    ensures { Looks H.meaning shelf.old shelf.new (λ s. HasEffect (given_by asking.now s (AmendContract contract entry kind amount rationale)) result) }
 {
     let rows = load(shelf, contract)?;
     let t = asking.time(&rows.clock);

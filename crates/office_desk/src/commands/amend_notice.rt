@@ -5,7 +5,7 @@ ghost use Rattle.office_acts.specs.declared.command.CommandKind.TheVariants as k
 ghost use Rattle.office_acts.specs.declared.commands.Command.TheVariants.{AmendNotice};
 ghost use Rattle.office_base.specs.Shelves.{Looks, LooksUp};
 ghost use Rattle.office_desk.specs.Asking.{given_by};
-ghost use Rattle.office_desk.specs.Steps.{IsPlanned};
+ghost use Rattle.office_desk.specs.Effects.{HasEffect};
 ghost use Rattle.tender_core.specs.Rules.AmendNotice.{amend_notice_rows};
 
 use crate::asking::{Asking, planned};
@@ -40,7 +40,7 @@ pub(crate) fn plan<H: Lookups>(
     rationale: TextLine,
 ) -> Result<Planned, Refusal>
     requires { may asking.now.caller.now kinds.AmendNotice ≡ true }
-    ensures { Looks H.meaning shelf.old shelf.new (λ s. IsPlanned (given_by asking.now s (AmendNotice notice deadline rationale)) result) }
+    ensures { Looks H.meaning shelf.old shelf.new (λ s. HasEffect (given_by asking.now s (AmendNotice notice deadline rationale)) result) }
 {
     drop(rationale);
     let rows = load(shelf, &notice)?;

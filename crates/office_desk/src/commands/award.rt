@@ -7,7 +7,7 @@ ghost use Rattle.office_base.specs.Shelves.{Looks, LooksUp};
 ghost use Rattle.office_machine.specs.Replies as replies;
 ghost use Rattle.office_desk.specs.Asking.{given_by};
 ghost use Rattle.office_desk.specs.Replies.{winning};
-ghost use Rattle.office_desk.specs.Steps.{IsPlanned};
+ghost use Rattle.office_desk.specs.Effects.{HasEffect};
 ghost use Rattle.award_core.specs.Rules.Award.{award_rows, weight_in, winner};
 
 use crate::asking::{Asking, planned};
@@ -78,7 +78,7 @@ pub(crate) fn plan<H: Lookups>(
     lot: Id,
 ) -> Result<Planned, Refusal>
     requires { may asking.now.caller.now kinds.Award ≡ true }
-    ensures { Looks H.meaning shelf.old shelf.new (λ s. IsPlanned (given_by asking.now s (Award notice lot)) result) }
+    ensures { Looks H.meaning shelf.old shelf.new (λ s. HasEffect (given_by asking.now s (Award notice lot)) result) }
 {
     let rows = load(shelf, &notice, &lot)?;
     let t = asking.time(&rows.clock);

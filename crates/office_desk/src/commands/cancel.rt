@@ -9,7 +9,7 @@ ghost use Rattle.office_base.specs.Shelves.{Looks};
 ghost use Rattle.office_base.specs.Tables.{Tables, notice_at, lots_of_notice, awards_of_notice, envelopes_of_notice, securities_of_notice};
 ghost use Rattle.office_desk.specs.Asking.{given_by};
 ghost use Rattle.office_desk.specs.Named.{line_of_lot, lines_named, cancel_named};
-ghost use Rattle.office_desk.specs.Steps.{IsPlanned};
+ghost use Rattle.office_desk.specs.Effects.{HasEffect};
 ghost use Rattle.tender_core.specs.Rules.Cancel.{is_open_lot, cancel_tests, cancel_puts};
 
 use crate::asking::{Asking, planned};
@@ -93,7 +93,7 @@ pub(crate) fn plan<H: Lookups>(
     rationale: TextLine,
 ) -> Result<Planned, Refusal>
     requires { may asking.now.caller.now kinds.Cancel ≡ true }
-    ensures { Looks H.meaning shelf.old shelf.new (λ s. IsPlanned (given_by asking.now s (Cancel notice rationale)) result) }
+    ensures { Looks H.meaning shelf.old shelf.new (λ s. HasEffect (given_by asking.now s (Cancel notice rationale)) result) }
 {
     drop(rationale);
     let rows = load(alloc, shelf, &notice)?;

@@ -10,7 +10,7 @@ ghost use Rattle.office_machine.specs.Machine.{refusal_of};
 ghost use Rattle.office_values.specs.declared.refusal.Refusal.TheVariants.{Unavailable};
 ghost use Rattle.office_desk.specs.Asking.{given_by};
 ghost use Rattle.office_desk.specs.Replies.{said};
-ghost use Rattle.office_desk.specs.Steps.{IsPlanned, accepted_reply};
+ghost use Rattle.office_desk.specs.Effects.{HasEffect, effect_reply};
 ghost use Rattle.award_core.specs.Rules.End.{end_rows};
 
 use crate::asking::{Asking, planned};
@@ -50,7 +50,7 @@ fn load<H: Lookups>(shelf: &mut H, contract: AskedNumber) -> Result<EndRows, She
 // The reply, should the end be accepted.
 fn reply_to(asking: &Asking, rows: &EndRows, contract: AskedNumber) -> Result<Reply, Refusal>
     ensures said { IfOk result (λ reply. (s : Tables) (how : How) → rows.now ≡ end_rows s contract → refusal_of (given_by asking.now s (End contract how)) ≡ None
-        → said reply ≡ accepted_reply (given_by asking.now s (End contract how))) }
+        → said reply ≡ effect_reply (given_by asking.now s (End contract how))) }
     ensures none { IfErr result (λ why. why ≡ Unavailable) }
 {
     laws::outstanding();
@@ -72,7 +72,7 @@ pub(crate) fn plan<H: Lookups>(
     how: How,
 ) -> Result<Planned, Refusal>
     requires { may asking.now.caller.now kinds.End ≡ true }
-    ensures { Looks H.meaning shelf.old shelf.new (λ s. IsPlanned (given_by asking.now s (End contract how)) result) }
+    ensures { Looks H.meaning shelf.old shelf.new (λ s. HasEffect (given_by asking.now s (End contract how)) result) }
 {
     let rows = load(shelf, contract)?;
     let t = asking.time(&rows.clock);

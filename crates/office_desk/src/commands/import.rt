@@ -11,7 +11,7 @@ ghost use Rattle.office_base.specs.Standings.{standings};
 ghost use Rattle.office_base.specs.Tables.{Tables, batch_at};
 ghost use Rattle.office_desk.specs.Asking.{given_by};
 ghost use Rattle.office_desk.specs.Named.{import_named};
-ghost use Rattle.office_desk.specs.Steps.{IsPlanned};
+ghost use Rattle.office_desk.specs.Effects.{HasEffect};
 ghost use Rattle.tender_core.specs.Rules.Import.{import_tests, import_puts};
 
 use crate::asking::{Asking, planned};
@@ -67,7 +67,7 @@ pub(crate) fn plan<H: Lookups>(
     rows: BudgetRows,
 ) -> Result<Planned, Refusal>
     requires { may asking.now.caller.now kinds.Import ≡ true }
-    ensures { Looks H.meaning shelf.old shelf.new (λ s. IsPlanned (given_by asking.now s (Import batch rows)) result) }
+    ensures { Looks H.meaning shelf.old shelf.new (λ s. HasEffect (given_by asking.now s (Import batch rows)) result) }
 {
     let count = rows.as_slice().len() as u64;
     let loaded = load(alloc, shelf, &batch, rows)?;

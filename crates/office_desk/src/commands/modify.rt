@@ -6,7 +6,7 @@ ghost use Rattle.office_acts.specs.declared.commands.Command.TheVariants.{Modify
 ghost use Rattle.office_base.specs.Shelves.{Looks, LooksUp};
 ghost use Rattle.office_desk.specs.Asking.{given_by};
 ghost use Rattle.office_desk.specs.Replies.{said};
-ghost use Rattle.office_desk.specs.Steps.{IsPlanned};
+ghost use Rattle.office_desk.specs.Effects.{HasEffect};
 ghost use Rattle.office_machine.specs.OfficeMeans.{unpublished_means};
 ghost use Rattle.office_machine.specs.Replies.{modify_reply};
 ghost use Rattle.tender_core.specs.Rules.Modify.{modify_rows};
@@ -69,7 +69,7 @@ pub(crate) fn plan<H: Lookups>(
     sealed: Sealed<'_>,
 ) -> Result<Planned, Refusal>
     requires { may asking.now.caller.now kinds.Modify ≡ true }
-    ensures { Looks H.meaning shelf.old shelf.new (λ s. IsPlanned (given_by asking.now s (Modify receipt sealed.entry)) result) }
+    ensures { Looks H.meaning shelf.old shelf.new (λ s. HasEffect (given_by asking.now s (Modify receipt sealed.entry)) result) }
 {
     let rows = load(shelf, receipt)?;
     let t = asking.time(&rows.clock);

@@ -9,7 +9,7 @@ ghost use Rattle.office_base.specs.Shelves.{Looks, LooksUp};
 ghost use Rattle.office_base.specs.Tables.{Tables, notice_at};
 ghost use Rattle.office_desk.specs.Asking.{given_by};
 ghost use Rattle.office_desk.specs.Opening.{tenders_read};
-ghost use Rattle.office_desk.specs.Steps.{IsPlanned};
+ghost use Rattle.office_desk.specs.Effects.{HasEffect};
 ghost use Rattle.office_machine.specs.Machine.{sealed_tenders};
 ghost use Rattle.office_machine.specs.OfficeMeans.{unpublished_means};
 ghost use Rattle.tender_core.specs.Rules.Open.{open_rows, open_tests, open_puts};
@@ -85,7 +85,7 @@ pub(crate) fn plan<H: Lookups>(
     notice: Id,
 ) -> Result<Planned, Refusal>
     requires { may asking.now.caller.now kinds.Open ≡ true }
-    ensures { Looks H.meaning shelf.old shelf.new (λ s. IsPlanned (given_by asking.now s (Open notice)) result) }
+    ensures { Looks H.meaning shelf.old shelf.new (λ s. HasEffect (given_by asking.now s (Open notice)) result) }
 {
     let rows = load(shelf, &notice)?;
     let t = asking.time(&rows.clock);

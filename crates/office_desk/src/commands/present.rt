@@ -10,7 +10,7 @@ ghost use Rattle.office_base.specs.RuleParts.{is_in_time};
 ghost use Rattle.office_base.specs.Shelves.{Looks, LooksUp};
 ghost use Rattle.office_desk.specs.Asking.{given_by};
 ghost use Rattle.office_desk.specs.Replies.{said};
-ghost use Rattle.office_desk.specs.Steps.{IsPlanned};
+ghost use Rattle.office_desk.specs.Effects.{HasEffect};
 ghost use Rattle.office_machine.specs.Replies.{received_reply};
 ghost use Rattle.tender_core.specs.Rules.Present.{present_rows, received};
 
@@ -82,7 +82,7 @@ pub(crate) fn plan<H: Lookups>(
     sealed: Sealed<'_>,
 ) -> Result<Planned, Refusal>
     requires { may asking.now.caller.now kinds.Present ≡ true }
-    ensures { Looks H.meaning shelf.old shelf.new (λ s. IsPlanned (given_by asking.now s (Present notice lot security sealed.entry)) result) }
+    ensures { Looks H.meaning shelf.old shelf.new (λ s. HasEffect (given_by asking.now s (Present notice lot security sealed.entry)) result) }
 {
     let rows = load(shelf, &notice, &lot)?;
     let t = asking.time(&rows.clock);

@@ -9,7 +9,7 @@ ghost use Rattle.office_base.specs.Shelves.{Looks};
 ghost use Rattle.office_base.specs.Tables.{Tables, notice_at};
 ghost use Rattle.office_desk.specs.Asking.{given_by};
 ghost use Rattle.office_desk.specs.Named.{line_of_new, lines_named, publish_named};
-ghost use Rattle.office_desk.specs.Steps.{IsPlanned};
+ghost use Rattle.office_desk.specs.Effects.{HasEffect};
 ghost use Rattle.tender_core.specs.Rules.Publish.{publish_tests, publish_puts};
 
 use crate::asking::{Asking, planned};
@@ -87,7 +87,7 @@ pub(crate) fn plan<H: Lookups>(
     content: NewNotice,
 ) -> Result<Planned, Refusal>
     requires { may asking.now.caller.now kinds.Publish ≡ true }
-    ensures { Looks H.meaning shelf.old shelf.new (λ s. IsPlanned (given_by asking.now s (Publish notice content)) result) }
+    ensures { Looks H.meaning shelf.old shelf.new (λ s. HasEffect (given_by asking.now s (Publish notice content)) result) }
 {
     let rows = load(alloc, shelf, &notice, content.lots.as_slice())?;
     let t = asking.time(&rows.clock);

@@ -5,7 +5,7 @@ ghost use Rattle.office_acts.specs.declared.command.CommandKind.TheVariants as k
 ghost use Rattle.office_acts.specs.declared.commands.Command.TheVariants.{Register};
 ghost use Rattle.office_base.specs.Shelves.{Looks, LooksUp};
 ghost use Rattle.office_desk.specs.Asking.{given_by};
-ghost use Rattle.office_desk.specs.Steps.{IsPlanned};
+ghost use Rattle.office_desk.specs.Effects.{HasEffect};
 ghost use Rattle.tender_core.specs.Rules.Register.{register_rows};
 
 use crate::asking::{Asking, planned};
@@ -39,7 +39,7 @@ pub(crate) fn plan<H: Lookups>(
     key: [u8; 32],
 ) -> Result<Planned, Refusal>
     requires { may asking.now.caller.now kinds.Register ≡ true }
-    ensures { Looks H.meaning shelf.old shelf.new (λ s. IsPlanned (given_by asking.now s (Register tenderer name address key)) result) }
+    ensures { Looks H.meaning shelf.old shelf.new (λ s. HasEffect (given_by asking.now s (Register tenderer name address key)) result) }
 {
     let rows = load(shelf, &tenderer)?;
     let t = asking.time(&rows.clock);

@@ -5,7 +5,7 @@ ghost use Rattle.office_acts.specs.declared.command.CommandKind.TheVariants as k
 ghost use Rattle.office_acts.specs.declared.commands.Command.TheVariants.{Sign};
 ghost use Rattle.office_base.specs.Shelves.{Looks, LooksUp};
 ghost use Rattle.office_desk.specs.Asking.{given_by};
-ghost use Rattle.office_desk.specs.Steps.{IsPlanned};
+ghost use Rattle.office_desk.specs.Effects.{HasEffect};
 ghost use Rattle.award_core.specs.Rules.Sign.{sign_rows};
 
 use crate::asking::{Asking, planned};
@@ -52,7 +52,7 @@ pub(crate) fn plan<H: Lookups>(
     award: AskedNumber,
 ) -> Result<Planned, Refusal>
     requires { may asking.now.caller.now kinds.Sign ≡ true }
-    ensures { Looks H.meaning shelf.old shelf.new (λ s. IsPlanned (given_by asking.now s (Sign award)) result) }
+    ensures { Looks H.meaning shelf.old shelf.new (λ s. HasEffect (given_by asking.now s (Sign award)) result) }
 {
     let rows = load(alloc, shelf, award)?;
     let t = asking.time(&rows.clock);

@@ -5,7 +5,7 @@ ghost use Rattle.office_acts.specs.declared.command.CommandKind.TheVariants as k
 ghost use Rattle.office_acts.specs.declared.commands.Command.TheVariants.{Withdraw};
 ghost use Rattle.office_base.specs.Shelves.{Looks, LooksUp};
 ghost use Rattle.office_desk.specs.Asking.{given_by};
-ghost use Rattle.office_desk.specs.Steps.{IsPlanned};
+ghost use Rattle.office_desk.specs.Effects.{HasEffect};
 ghost use Rattle.tender_core.specs.Rules.Withdraw.{withdraw_rows};
 
 use crate::asking::{Asking, planned};
@@ -42,7 +42,7 @@ pub(crate) fn plan<H: Lookups>(
     receipt: AskedNumber,
 ) -> Result<Planned, Refusal>
     requires { may asking.now.caller.now kinds.Withdraw ≡ true }
-    ensures { Looks H.meaning shelf.old shelf.new (λ s. IsPlanned (given_by asking.now s (Withdraw receipt)) result) }
+    ensures { Looks H.meaning shelf.old shelf.new (λ s. HasEffect (given_by asking.now s (Withdraw receipt)) result) }
 {
     let rows = load(shelf, receipt)?;
     let t = asking.time(&rows.clock);

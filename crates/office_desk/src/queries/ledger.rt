@@ -4,7 +4,7 @@ ghost use Rattle.office_acts.specs.Rights.{may_look};
 ghost use Rattle.office_acts.specs.declared.command.QueryKind.TheVariants as kinds;
 ghost use Rattle.office_acts.specs.declared.queries.Query.TheVariants.{Ledger};
 ghost use Rattle.office_base.specs.Shelves.{Looks};
-ghost use Rattle.office_desk.specs.Steps.{IsSeen, read_text};
+ghost use Rattle.office_desk.specs.Steps.{IsShown, read_text};
 
 use office_acts::command::Caller;
 use office_base::shelf::Lookups;
@@ -19,7 +19,7 @@ pub(crate) fn look<H: Lookups>(
     caller: &Caller,
 ) -> Result<Vec<u8>, Refusal>
     requires { may_look caller.now kinds.Ledger ≡ true }
-    ensures { Looks H.meaning shelf.old shelf.new (λ s. IsSeen caller.now Ledger s (read_text result)) }
+    ensures { Looks H.meaning shelf.old shelf.new (λ s. IsShown caller.now Ledger s (read_text result)) }
 {
     let rows = shelf.ledger()?;
     Ok(ledger_text(alloc, &rows)?.into_vec())

@@ -6,7 +6,7 @@ ghost use Rattle.office_acts.specs.declared.queries.Query.TheVariants.{Line};
 ghost use Rattle.office_base.specs.Shelves.{Looks};
 ghost use Rattle.office_machine.specs.Replies.{LineSeen};
 ghost use Rattle.office_desk.specs.Replies.{reply_text};
-ghost use Rattle.office_desk.specs.Steps.{IsSeen, read_text};
+ghost use Rattle.office_desk.specs.Steps.{IsShown, read_text};
 
 use crate::json::{Plain, object_text};
 use office_acts::command::Caller;
@@ -46,7 +46,7 @@ pub(crate) fn look<H: Lookups>(
     line: Id,
 ) -> Result<Vec<u8>, Refusal>
     requires { may_look caller.now kinds.Line ≡ true }
-    ensures { Looks H.meaning shelf.old shelf.new (λ s. IsSeen caller.now (Line line) s (read_text result)) }
+    ensures { Looks H.meaning shelf.old shelf.new (λ s. IsShown caller.now (Line line) s (read_text result)) }
 {
     laws::looks_follow::<H>();
     let Some(row) = shelf.get_line(&line)? else {

@@ -7,7 +7,7 @@ ghost use Rattle.office_values.specs.declared.refusal.Refusal.TheVariants.{Unava
 ghost use Rattle.office_base.specs.Shelves.{Looks};
 ghost use Rattle.office_machine.specs.Sights.{is_read_envelope, minuted};
 ghost use Rattle.office_desk.specs.Replies.{opened_tender};
-ghost use Rattle.office_desk.specs.Steps.{IsSeen, read_text};
+ghost use Rattle.office_desk.specs.Steps.{IsShown, read_text};
 ghost use Rattle.tender_papers.specs.Minutes.{minutes_text};
 
 use office_acts::command::Caller;
@@ -88,7 +88,7 @@ pub(crate) fn look<H: Lookups>(
     notice: Id,
 ) -> Result<Vec<u8>, Refusal>
     requires { may_look caller.now kinds.Minutes ≡ true }
-    ensures { Looks H.meaning shelf.old shelf.new (λ s. IsSeen caller.now (Minutes notice) s (read_text result)) }
+    ensures { Looks H.meaning shelf.old shelf.new (λ s. IsShown caller.now (Minutes notice) s (read_text result)) }
 {
     laws::looks_follow::<H>();
     let Some(row) = shelf.get_notice(&notice)? else {

@@ -7,7 +7,7 @@ ghost use Rattle.office_base.specs.Shelves.{Looks};
 ghost use Rattle.office_machine.specs.Replies.{Registry};
 ghost use Rattle.office_machine.specs.Sights.{registered};
 ghost use Rattle.office_desk.specs.Replies.{reply_text};
-ghost use Rattle.office_desk.specs.Steps.{IsSeen, read_text};
+ghost use Rattle.office_desk.specs.Steps.{IsShown, read_text};
 
 use office_acts::command::Caller;
 use office_base::laws;
@@ -34,7 +34,7 @@ pub(crate) fn look<H: Lookups>(
     notice: Id,
 ) -> Result<Vec<u8>, Refusal>
     requires { may_look caller.now kinds.Register ≡ true }
-    ensures { Looks H.meaning shelf.old shelf.new (λ s. IsSeen caller.now (Register notice) s (read_text result)) }
+    ensures { Looks H.meaning shelf.old shelf.new (λ s. IsShown caller.now (Register notice) s (read_text result)) }
 {
     laws::looks_follow::<H>();
     let Some(row) = shelf.get_notice(&notice)? else {

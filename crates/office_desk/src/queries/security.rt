@@ -7,7 +7,7 @@ ghost use Rattle.office_acts.specs.declared.queries.Query.TheVariants.{Security}
 ghost use Rattle.office_base.specs.Shelves.{Looks};
 ghost use Rattle.office_machine.specs.Replies.{Security as SecuritySeen};
 ghost use Rattle.office_desk.specs.Replies.{reply_text};
-ghost use Rattle.office_desk.specs.Steps.{IsSeen, read_text};
+ghost use Rattle.office_desk.specs.Steps.{IsShown, read_text};
 
 use crate::json::{Plain, object_text};
 use crate::reply::security_word;
@@ -55,7 +55,7 @@ pub(crate) fn look<H: Lookups>(
     security: AskedNumber,
 ) -> Result<Vec<u8>, Refusal>
     requires { may_look caller.now kinds.Security ≡ true }
-    ensures { Looks H.meaning shelf.old shelf.new (λ s. IsSeen caller.now (Security security) s (read_text result)) }
+    ensures { Looks H.meaning shelf.old shelf.new (λ s. IsShown caller.now (Security security) s (read_text result)) }
 {
     let Some(row) = shelf.get_security(security)? else {
         return Err(Refusal::NoSuch(Thing::Security));

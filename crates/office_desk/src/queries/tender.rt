@@ -6,7 +6,7 @@ ghost use Rattle.office_acts.specs.declared.queries.Query.TheVariants.{Tender};
 ghost use Rattle.office_base.specs.Shelves.{Looks};
 ghost use Rattle.office_machine.specs.Replies.{Tender as TenderSeen};
 ghost use Rattle.office_desk.specs.Replies.{reply_text};
-ghost use Rattle.office_desk.specs.Steps.{IsSeen, read_text};
+ghost use Rattle.office_desk.specs.Steps.{IsShown, read_text};
 
 use crate::json::{Plain, object_text};
 use crate::reply::state_word;
@@ -60,7 +60,7 @@ pub(crate) fn look<H: Lookups>(
     receipt: AskedNumber,
 ) -> Result<Vec<u8>, Refusal>
     requires { may_look caller.now kinds.Tender ≡ true }
-    ensures { Looks H.meaning shelf.old shelf.new (λ s. IsSeen caller.now (Tender receipt) s (read_text result)) }
+    ensures { Looks H.meaning shelf.old shelf.new (λ s. IsShown caller.now (Tender receipt) s (read_text result)) }
 {
     let Some(row) = shelf.get_envelope(receipt)? else {
         return Err(Refusal::NoSuch(Thing::Tender));

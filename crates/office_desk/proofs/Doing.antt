@@ -1,0 +1,60 @@
+-- A command that was asked for is done, or nothing is.
+use Rattle.std.specs.Prelude.{◌≡◌, ℕ, ◌⊎◌, List, Result, Ok, Err, IsErr, OnOk, OnErr}
+use Rattle.std.proofs.Common.{ap, ◌∙◌, subst, inl, inr}
+use Rattle.office_acts.specs.declared.command.Caller.{Caller}
+use Rattle.office_acts.specs.declared.commands.Command.{Command}
+use Rattle.office_values.specs.declared.refusal.Refusal.{Refusal}
+use Rattle.office_values.specs.declared.settings.Settings.{Settings}
+use Rattle.office_base.specs.Tables.{Tables, after_puts}
+use Rattle.office_base.specs.Shelves.{Meaning, Alters, Keeps}
+use Rattle.office_base.specs.declared.puts.Put.{Put}
+use Rattle.office_publications.specs.Keeping.{KeepsReleases, kept_next}
+use Rattle.office_desk.specs.Asking.{given}
+use Rattle.office_desk.specs.Plans.{Plan}
+use Rattle.office_desk.specs.Steps.{Does, IsPlan}
+
+module _ {S : Type 0} (M : Meaning S) (settings : Settings) (moment : ℕ) (caller : Caller) (command : Command) where
+  -- it was refused
+  pub does_nothing : {T : Type 0} (old new : S) (result : Result T Refusal) → IsErr result → Keeps M old new
+      → Does M settings old new result (λ s. given s moment caller command)
+  does_nothing old new (Ok done) err kept = cc
+  does_nothing old new (Err why) err kept = record {
+    before = kept.before;
+    all = λ honest t held keeps. tt;
+    none = λ honest t held. kept.same honest t held;
+    stop_all = λ honest t held keeps. tt;
+    stop_none = λ honest t held keeps u left. inl (kept.stop honest t held u left);
+  }
+
+  -- it was planned, and then done or not
+  module _ (old mid new : S) (planned : Plan) (kept : Keeps M old mid)
+      (plan : M.honest mid → (t : Tables) → M.holds old t → IsPlan settings (given t moment caller command) planned) where
+    next_is : (t : Tables) → IsPlan settings (given t moment caller command) planned → KeepsReleases t
+        → after_puts planned.puts t ≡ kept_next settings (given t moment caller command)
+    next_is t is keeps = ap (λ (ps : List Put). after_puts ps t) (is.put keeps).puts
+
+    pub does_what_was_planned : {T : Type 0} (result : Result T Refusal) → Alters M mid new result (after_puts planned.puts)
+        → Does M settings old new result (λ s. given s moment caller command)
+    does_what_was_planned (Ok done) alters = record {
+      before = λ honest. kept.before (alters.before honest);
+      all = λ honest t held keeps. subst (λ (u : Tables). M.holds new u) (next_is t (plan (alters.before honest) t held) keeps)
+          (alters.all honest t (kept.same (alters.before honest) t held));
+      none = λ honest t held. tt;
+      stop_all = λ honest t held keeps u left.
+          alters.stop_all honest t (kept.same (alters.before honest) t held) u left ∙ next_is t (plan (alters.before honest) t held) keeps;
+      stop_none = λ honest t held keeps. tt;
+    }
+    does_what_was_planned (Err why) alters = record {
+      before = λ honest. kept.before (alters.before honest);
+      all = λ honest t held keeps. tt;
+      none = λ honest t held. alters.none honest t (kept.same (alters.before honest) t held);
+      stop_all = λ honest t held keeps. tt;
+      stop_none = λ honest t held keeps u left.
+          stopped t (plan (alters.before honest) t held) keeps u (alters.before honest) held
+          (alters.stop_none honest t (kept.same (alters.before honest) t held) u left);
+    }
+      where
+        stopped : (t : Tables) → IsPlan settings (given t moment caller command) planned → KeepsReleases t → (u : Tables) → M.honest mid → M.holds old t
+            → M.may_leave mid u ⊎ (u ≡ after_puts planned.puts t) → M.may_leave old u ⊎ (u ≡ kept_next settings (given t moment caller command))
+        stopped t is keeps u honest held (inl left) = inl (kept.stop honest t held u left)
+        stopped t is keeps u honest held (inr done) = inr (done ∙ next_is t is keeps)

@@ -1,0 +1,126 @@
+//! Commands with what they publish: each is planned by its effect, and its release joins the plan.
+ghost use Rattle.std.specs.Prelude.{◌≡◌, None, true};
+ghost use Rattle.office_acts.specs.Commands.{kind_of};
+ghost use Rattle.office_acts.specs.Rights.{may};
+ghost use Rattle.office_base.specs.Shelves.{Looks};
+ghost use Rattle.office_machine.specs.Machine.{Given};
+ghost use Rattle.office_publications.specs.Events.{event_of};
+ghost use Rattle.office_publisher.specs.Released.{IsReleased};
+ghost use Rattle.office_values.specs.declared.settings.Settings.{Settings as SettingsOf};
+ghost use Rattle.office_desk.specs.Asking.{given_by};
+ghost use Rattle.office_desk.specs.Effects.{HasEffect, IsEffect};
+ghost use Rattle.office_desk.specs.Steps.{IsPlanned};
+
+mod awards;
+mod contracts;
+mod notices;
+
+use crate::asking::Asking;
+use crate::commands::{examine, import, modify, present, register, withdraw};
+use crate::planned::Planned;
+use office_acts::commands::Command;
+use office_base::shelf::Lookups;
+use office_machine::laws as machine;
+use office_publications::laws;
+use office_publisher::released::{Released, keep};
+use office_values::refusal::Refusal;
+use office_values::settings::Settings;
+use std::alloc::Global;
+
+// The plan of a command that publishes nothing: its effect.
+fn silent(planned: Result<Planned, Refusal>) -> Result<Planned, Refusal>
+    ensures { (settings : SettingsOf) (x : Given) → event_of x.before x.command ≡ None → HasEffect x planned → IsPlanned settings x result }
+{
+    laws::keeping();
+    laws::replies();
+    machine::nothing_published();
+    planned
+}
+
+// The plan of a command that publishes this release: its effect, the release, and the merge that the release joins.
+fn with_release<H: Lookups>(
+    alloc: Global,
+    shelf: &mut H,
+    planned: Planned,
+    released: Released,
+) -> Result<Planned, Refusal>
+    ensures { Looks H.meaning shelf.old shelf.new (λ s. (settings : SettingsOf) (x : Given) → x.before ≡ s → IsEffect x planned → IsReleased settings x released
+        → IsPlanned settings x result) }
+{
+    laws::keeping();
+    laws::replies();
+    machine::nothing_published();
+    let publication = keep(alloc, shelf, released)?;
+    planned.with_publication(publication)
+}
+
+/// Plans a command that the caller may give.
+pub(crate) fn plan_command<H: Lookups>(
+    alloc: Global,
+    shelf: &mut H,
+    settings: &Settings,
+    asking: &Asking,
+    command: Command<'_>,
+) -> Result<Planned, Refusal>
+    requires { may asking.now.caller.now (kind_of command) ≡ true }
+    ensures { Looks H.meaning shelf.old shelf.new (λ s. IsPlanned settings.now (given_by asking.now s command.entry) result) }
+{
+    match command {
+        Command::Import { batch, rows } => silent(import::plan(alloc, shelf, asking, batch, rows)),
+        Command::Register {
+            tenderer,
+            name,
+            address,
+            key,
+        } => silent(register::plan(alloc, shelf, asking, tenderer, name, address, key)),
+        Command::Publish { notice, content } => notices::publish(
+            alloc, shelf, settings, asking, notice, content,
+        ),
+        Command::AmendNotice {
+            notice,
+            deadline,
+            rationale,
+        } => notices::amend(alloc, shelf, settings, asking, notice, deadline, rationale),
+        Command::Cancel { notice, rationale } => notices::cancel(
+            alloc, shelf, settings, asking, notice, rationale,
+        ),
+        Command::Open { notice } => notices::open(alloc, shelf, settings, asking, notice),
+        Command::Present {
+            notice,
+            lot,
+            security,
+            sealed,
+        } => silent(present::plan(alloc, shelf, asking, notice, lot, security, sealed)),
+        Command::Modify { receipt, sealed } => silent(modify::plan(
+            alloc, shelf, asking, receipt, sealed,
+        )),
+        Command::Withdraw { receipt } => silent(withdraw::plan(alloc, shelf, asking, receipt)),
+        Command::Examine {
+            receipt,
+            responsive,
+            quality,
+        } => silent(examine::plan(alloc, shelf, asking, receipt, responsive, quality)),
+        Command::Award { notice, lot } => awards::award(
+            alloc, shelf, settings, asking, notice, lot,
+        ),
+        Command::Fail { award } => awards::fail(alloc, shelf, settings, asking, award),
+        Command::Sign { award } => awards::sign(alloc, shelf, settings, asking, award),
+        Command::AmendContract {
+            contract,
+            entry,
+            kind,
+            amount,
+            rationale,
+        } => contracts::amend(
+            alloc, shelf, settings, asking, contract, entry, kind, amount, rationale,
+        ),
+        Command::Pay {
+            contract,
+            entry,
+            amount,
+        } => contracts::pay(alloc, shelf, settings, asking, contract, entry, amount),
+        Command::End { contract, how } => contracts::end(
+            alloc, shelf, settings, asking, contract, how,
+        ),
+    }
+}

@@ -1,0 +1,73 @@
+//! Awards of lots, their failing, and their signing.
+ghost use Rattle.std.specs.Prelude.{◌≡◌, true};
+ghost use Rattle.office_acts.specs.Rights.{may};
+ghost use Rattle.office_acts.specs.declared.command.CommandKind.TheVariants as kinds;
+ghost use Rattle.office_acts.specs.declared.commands.Command.TheVariants.{Award, Fail, Sign};
+ghost use Rattle.office_base.specs.Shelves.{Looks};
+ghost use Rattle.office_desk.specs.Asking.{given_by};
+ghost use Rattle.office_desk.specs.Steps.{IsPlanned};
+
+use super::with_release;
+use crate::asking::Asking;
+use crate::commands::{award, fail, sign};
+use crate::planned::Planned;
+use office_base::laws::looks_follow;
+use office_base::shelf::Lookups;
+use office_publisher::awards;
+use office_values::given::AskedNumber;
+use office_values::id::Id;
+use office_values::refusal::Refusal;
+use office_values::settings::Settings;
+use std::alloc::Global;
+
+/// Plans the award of a lot.
+pub(crate) fn award<H: Lookups>(
+    alloc: Global,
+    shelf: &mut H,
+    settings: &Settings,
+    asking: &Asking,
+    notice: Id,
+    lot: Id,
+) -> Result<Planned, Refusal>
+    requires { may asking.now.caller.now kinds.Award ≡ true }
+    ensures { Looks H.meaning shelf.old shelf.new (λ s. IsPlanned settings.now (given_by asking.now s (Award notice lot)) result) }
+{
+    looks_follow::<H>();
+    let planned = award::plan(alloc, shelf, asking, notice, lot)?;
+    let released = awards::awarded(alloc, shelf, settings, asking.moment, &notice, &lot)?;
+    with_release(alloc, shelf, planned, released)
+}
+
+/// Plans that the winner of an award is passed over.
+pub(crate) fn fail<H: Lookups>(
+    alloc: Global,
+    shelf: &mut H,
+    settings: &Settings,
+    asking: &Asking,
+    award: AskedNumber,
+) -> Result<Planned, Refusal>
+    requires { may asking.now.caller.now kinds.Fail ≡ true }
+    ensures { Looks H.meaning shelf.old shelf.new (λ s. IsPlanned settings.now (given_by asking.now s (Fail award)) result) }
+{
+    looks_follow::<H>();
+    let planned = fail::plan(alloc, shelf, asking, award)?;
+    let released = awards::failed(alloc, shelf, settings, asking.moment, award)?;
+    with_release(alloc, shelf, planned, released)
+}
+
+/// Plans the signing of the contract of an award.
+pub(crate) fn sign<H: Lookups>(
+    alloc: Global,
+    shelf: &mut H,
+    settings: &Settings,
+    asking: &Asking,
+    award: AskedNumber,
+) -> Result<Planned, Refusal>
+    requires { may asking.now.caller.now kinds.Sign ≡ true }
+    ensures { Looks H.meaning shelf.old shelf.new (λ s. IsPlanned settings.now (given_by asking.now s (Sign award)) result) }
+{
+    looks_follow::<H>();
+    let planned = sign::plan(alloc, shelf, asking, award)?;
+    let released = awards::signed(alloc, shelf, settings, asking.moment, award)?;
+    with_release(alloc, shelf, planned, released)
+}

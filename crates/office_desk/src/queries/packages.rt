@@ -1,0 +1,52 @@
+//! The packages of a notice's releases and of its record.
+ghost use Rattle.std.specs.Prelude.{◌≡◌, true};
+ghost use Rattle.office_acts.specs.Rights.{may_look};
+ghost use Rattle.office_acts.specs.declared.command.QueryKind.TheVariants as kinds;
+ghost use Rattle.office_acts.specs.declared.queries.Query.TheVariants.{Record, Releases};
+ghost use Rattle.office_base.specs.Shelves.{Looks};
+ghost use Rattle.office_desk.specs.Steps.{IsSeen, read_text};
+
+use office_acts::command::Caller;
+use office_base::laws;
+use office_base::shelf::Lookups;
+use office_publisher::packages;
+use office_values::id::Id;
+use office_values::refusal::{Refusal, Thing};
+use office_values::settings::Settings;
+use std::alloc::Global;
+
+/// The package of a notice's releases.
+pub(crate) fn look_at_releases<H: Lookups>(
+    alloc: Global,
+    shelf: &mut H,
+    settings: &Settings,
+    caller: &Caller,
+    notice: Id,
+) -> Result<Vec<u8>, Refusal>
+    requires { may_look caller.now kinds.Releases ≡ true }
+    ensures { Looks H.meaning shelf.old shelf.new (λ s. IsSeen settings.now caller.now (Releases notice) s (read_text result)) }
+{
+    laws::looks_follow::<H>();
+    if shelf.get_notice(&notice)?.is_none() {
+        return Err(Refusal::NoSuch(Thing::Notice));
+    }
+    packages::releases_text(alloc, shelf, settings, &notice)
+}
+
+/// The package of a notice's record.
+pub(crate) fn look_at_record<H: Lookups>(
+    alloc: Global,
+    shelf: &mut H,
+    settings: &Settings,
+    caller: &Caller,
+    notice: Id,
+) -> Result<Vec<u8>, Refusal>
+    requires { may_look caller.now kinds.Record ≡ true }
+    ensures { Looks H.meaning shelf.old shelf.new (λ s. IsSeen settings.now caller.now (Record notice) s (read_text result)) }
+{
+    laws::looks_follow::<H>();
+    if shelf.get_notice(&notice)?.is_none() {
+        return Err(Refusal::NoSuch(Thing::Notice));
+    }
+    packages::record_text(alloc, shelf, settings, &notice)
+}
