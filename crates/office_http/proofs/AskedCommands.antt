@@ -49,7 +49,7 @@ value_read : {A : Type 0} (P : A → Type 0) (value : A) → P value → IsRead 
 unfolding IsRead
 value_read P value is = is
 
-why_read : {A : Type 0} (P : A → Type 0) (why : Refusal) → IsRead P (Err why)
+pub why_read : {A : Type 0} (P : A → Type 0) (why : Refusal) → IsRead P (Err why)
 unfolding IsRead
 why_read P why = tt
 

@@ -4,4 +4,5 @@ pub mod AnswerSteps
 pub mod RequestSteps
 pub mod WorkedRequests
 pub mod AskedCommands
+pub mod MeantSteps
 pub mod KeptSteps

@@ -1,28 +1,41 @@
 -- What the machine replies, as it is told.
-use Rattle.std.proofs.Common.{◌≡◌, ℕ, Bool, true, false, List, ◌∷◌, Option, Some, None, Err, refl}
-use Rattle.std.specs.Prelude.{not}
+use Rattle.std.proofs.Common.{◌≡◌, ℕ, Bool, true, false, List, ◌∷◌, Option, Some, None, Ok, Err, refl}
+use Rattle.std.specs.Prelude.{cond, not, map, filter, ◌||◌}
+use Rattle.office_acts.specs.Queries.{kind_of}
+use Rattle.office_acts.specs.Callers.{is_by}
+use Rattle.office_acts.specs.Rights.{is_clerk, may_look}
 use Rattle.office_acts.specs.declared.command.Caller.{Caller}
 use Rattle.office_acts.specs.declared.commands.Command.{Command}
 use Rattle.office_acts.specs.declared.commands.Command.TheVariants.{Import, Register, Publish, AmendNotice, Cancel, Open, Present, Modify}
 use Rattle.office_acts.specs.declared.commands.Command.TheVariants.{Withdraw, Examine, Award, Fail, Sign, AmendContract, Pay, End}
+use Rattle.office_acts.specs.declared.queries.Query.{Query}
+use Rattle.office_acts.specs.declared.queries.Query.TheVariants as queries
 use Rattle.office_values.specs.declared.refusal.Refusal.{Refusal}
-use Rattle.office_values.specs.declared.refusal.Refusal.TheVariants.{Forbidden}
+use Rattle.office_values.specs.declared.refusal.Refusal.TheVariants.{Forbidden, NotOpened, NotYourTender}
+use Rattle.office_values.specs.declared.settings.Settings.{Settings}
+use Rattle.office_base.specs.declared.records.LineRow.{LineRow}
+use Rattle.office_base.specs.declared.records.LotRow.{LotRow}
 use Rattle.office_base.specs.declared.records.NoticeRow.{NoticeRow}
+use Rattle.office_base.specs.declared.records.SecurityRow.{SecurityRow}
+use Rattle.office_base.specs.declared.records.TendererRow.{TendererRow}
 use Rattle.office_base.specs.declared.records.EnvelopeRow.{EnvelopeRow}
 use Rattle.office_base.specs.declared.records.ClockRow.{ClockRow}
 use Rattle.office_base.specs.Parents.{notice_of_envelope}
 use Rattle.office_base.specs.Rules.{first_of}
-use Rattle.office_base.specs.Tables.{Tables, envelope_at}
+use Rattle.office_base.specs.States.{is_opened}
+use Rattle.office_base.specs.Tables.{Tables, envelope_at, envelopes_of_notice, line_at, lots_of_notice, notice_at, security_at}
 use Rattle.tender_core.specs.Rules.Modify.{modify_tests}
-use Rattle.office_machine.specs.Machine.{Given, may_give, refusal_of, tests_for, time_of, next}
-use Rattle.office_machine.specs.OfficeMeans.{unpublished_means}
+use Rattle.office_machine.specs.Machine.{Given, Means, may_give, refusal_of, tests_for, time_of, next}
 use Rattle.office_machine.specs.Replies.{Reply, Refused, Imported, Enrolled, OfNotice, OpenedAll, Received, Withdrew, Examined}
 use Rattle.office_machine.specs.Replies.{Awarded, Failed, Signed, OfContract, LineSeen, LedgerSeen, Tender}
 use Rattle.office_machine.specs.Replies.{Security, Registry, Minutes, Package, modify_reply, reply_for}
+use Rattle.office_machine.specs.Sights.{Packages, is_read_envelope, line_told, minuted, minutes_told, package_told, register_told, security_told, shown, tender_told, told}
+use Rattle.office_publications.specs.Publishing.{publishing}
 use Rattle.office_desk.specs.Replies.{reply_text, text_of}
 use Rattle.office_desk.specs.Steps.{accepted_reply}
-use Rattle.office_http.specs.Answering.{told_as}
-use Rattle.office_http.specs.declared.reply.Reply.TheVariants.{Json}
+use Rattle.office_http.specs.Answering.{told_as, seen_as}
+use Rattle.office_http.specs.declared.reply.Reply as replies
+use Rattle.office_http.specs.declared.reply.Reply.TheVariants.{Json, Text}
 use Rattle.office_http.specs.declared.reply.Reply.TheVariants as variants
 
 -- what is refused is told as a refusal
@@ -49,34 +62,95 @@ refused_as (Package a) why is = absurd (cc)
 
 -- The reply to an accepted command.
 
-modified : (clock : ClockRow) (t : ℕ) (caller : Caller) (bytes : List ℕ) (given : Bool) (envelope : Option EnvelopeRow) (notice : Option NoticeRow)
+modified : (means : Means) (clock : ClockRow) (t : ℕ) (caller : Caller) (bytes : List ℕ) (given : Bool) (envelope : Option EnvelopeRow) (notice : Option NoticeRow)
     → first_of ((not given, Forbidden) ∷ modify_tests clock t caller envelope notice) ≡ None
-    → told_as (modify_reply unpublished_means clock t bytes envelope) ≡ Json (reply_text (modify_reply unpublished_means clock t bytes envelope))
-modified clock t caller bytes true None notice allowed = absurd (cc)
-modified clock t caller bytes false None notice allowed = absurd (cc)
-modified clock t caller bytes given (Some e) notice allowed = refl
+    → told_as (modify_reply means clock t bytes envelope) ≡ Json (reply_text (modify_reply means clock t bytes envelope))
+modified means clock t caller bytes true None notice allowed = absurd (cc)
+modified means clock t caller bytes false None notice allowed = absurd (cc)
+modified means clock t caller bytes given (Some e) notice allowed = refl
 
-as_json : (s u : Tables) (t : ℕ) (caller : Caller) (command : Command)
+as_json : (means : Means) (s u : Tables) (t : ℕ) (caller : Caller) (command : Command)
     → first_of ((not (may_give caller command), Forbidden) ∷ tests_for s t caller command) ≡ None
-    → told_as (reply_for unpublished_means s u t caller command) ≡ Json (reply_text (reply_for unpublished_means s u t caller command))
-as_json s u t caller (Import batch rows) allowed = refl
-as_json s u t caller (Register tenderer name address key) allowed = refl
-as_json s u t caller (Publish notice content) allowed = refl
-as_json s u t caller (AmendNotice notice deadline rationale) allowed = refl
-as_json s u t caller (Cancel notice rationale) allowed = refl
-as_json s u t caller (Open notice) allowed = refl
-as_json s u t caller (Present notice lot security bytes) allowed = refl
-as_json s u t caller (Modify receipt bytes) allowed =
-    modified s.clock t caller bytes (may_give caller (Modify receipt bytes)) (envelope_at receipt s) (notice_of_envelope (envelope_at receipt s) s) allowed
-as_json s u t caller (Withdraw receipt) allowed = refl
-as_json s u t caller (Examine receipt responsive quality) allowed = refl
-as_json s u t caller (Award notice lot) allowed = refl
-as_json s u t caller (Fail award) allowed = refl
-as_json s u t caller (Sign award) allowed = refl
-as_json s u t caller (AmendContract contract entry kind amount rationale) allowed = refl
-as_json s u t caller (Pay contract entry amount) allowed = refl
-as_json s u t caller (End contract how) allowed = refl
+    → told_as (reply_for means s u t caller command) ≡ Json (reply_text (reply_for means s u t caller command))
+as_json means s u t caller (Import batch rows) allowed = refl
+as_json means s u t caller (Register tenderer name address key) allowed = refl
+as_json means s u t caller (Publish notice content) allowed = refl
+as_json means s u t caller (AmendNotice notice deadline rationale) allowed = refl
+as_json means s u t caller (Cancel notice rationale) allowed = refl
+as_json means s u t caller (Open notice) allowed = refl
+as_json means s u t caller (Present notice lot security bytes) allowed = refl
+as_json means s u t caller (Modify receipt bytes) allowed =
+    modified means s.clock t caller bytes (may_give caller (Modify receipt bytes)) (envelope_at receipt s) (notice_of_envelope (envelope_at receipt s) s) allowed
+as_json means s u t caller (Withdraw receipt) allowed = refl
+as_json means s u t caller (Examine receipt responsive quality) allowed = refl
+as_json means s u t caller (Award notice lot) allowed = refl
+as_json means s u t caller (Fail award) allowed = refl
+as_json means s u t caller (Sign award) allowed = refl
+as_json means s u t caller (AmendContract contract entry kind amount rationale) allowed = refl
+as_json means s u t caller (Pay contract entry amount) allowed = refl
+as_json means s u t caller (End contract how) allowed = refl
 
 -- it is told in JSON
-pub accepted_as : (x : Given) → refusal_of x ≡ None → told_as (accepted_reply x) ≡ Json (reply_text (accepted_reply x))
-accepted_as x allowed = as_json x.before (next unpublished_means x) (time_of x) x.caller x.command allowed
+pub accepted_as : (settings : Settings) (x : Given) → refusal_of x ≡ None → told_as (accepted_reply settings x) ≡ Json (reply_text (accepted_reply settings x))
+accepted_as settings x allowed =
+    as_json (publishing settings) x.before (next (publishing settings) x) (time_of x) x.caller x.command allowed
+
+-- What a query sees.
+
+-- where it may be seen
+where_may : (may : Bool) (r : Reply) (why : Refusal) (reply : replies.Reply) (text : List ℕ) → (Ok text ≡ text_of r → told_as r ≡ reply)
+    → Ok text ≡ text_of (cond may r (Refused why)) → told_as (cond may r (Refused why)) ≡ reply
+where_may true r why reply text seen is = seen is
+where_may false r why reply text seen is = absurd (cc)
+
+line_seen : (s : Tables) (row : Option LineRow) (text : List ℕ) → Ok text ≡ text_of (line_told s row) → told_as (line_told s row) ≡ Json text
+line_seen s None text is = absurd (cc)
+line_seen s (Some row) text is = cc
+
+minutes_seen : (n : Option NoticeRow) (lots : List LotRow) (tenderers : List TendererRow) (envelopes : List EnvelopeRow) (text : List ℕ)
+    → Ok text ≡ text_of (minutes_told n lots tenderers envelopes) → told_as (minutes_told n lots tenderers envelopes) ≡ Text text
+minutes_seen None lots tenderers envelopes text is = absurd (cc)
+minutes_seen (Some n) lots tenderers envelopes text is =
+    where_may (is_opened n.state) (Minutes n lots (map (minuted tenderers) (filter is_read_envelope envelopes))) NotOpened (Text text) text (λ at. cc) is
+
+register_seen : (n : Option NoticeRow) (envelopes : List EnvelopeRow) (text : List ℕ) → Ok text ≡ text_of (register_told n envelopes)
+    → told_as (register_told n envelopes) ≡ Text text
+register_seen None envelopes text is = absurd (cc)
+register_seen (Some n) envelopes text is = cc
+
+package_seen : (n : Option NoticeRow) (package_text text : List ℕ) → Ok text ≡ text_of (package_told n package_text)
+    → told_as (package_told n package_text) ≡ Json text
+package_seen None package_text text is = absurd (cc)
+package_seen (Some n) package_text text is = cc
+
+tender_seen : (caller : Caller) (e : Option EnvelopeRow) (text : List ℕ) → Ok text ≡ text_of (tender_told caller e)
+    → told_as (tender_told caller e) ≡ Json text
+tender_seen caller None text is = absurd (cc)
+tender_seen caller (Some e) text is =
+    where_may (is_by caller e.tenderer) (Tender e.digest e.length e.notice e.lot e.moment e.receipt e.security e.state) NotYourTender (Json text) text
+    (λ at. cc) is
+
+security_seen : (caller : Caller) (w : Option SecurityRow) (text : List ℕ) → Ok text ≡ text_of (security_told caller w)
+    → told_as (security_told caller w) ≡ Json text
+security_seen caller None text is = absurd (cc)
+security_seen caller (Some w) text is =
+    where_may (is_clerk caller || is_by caller w.tenderer) (Security w.amount w.reference w.security w.state w.tenderer) NotYourTender (Json text) text
+    (λ at. cc) is
+
+shown_as : (p : Packages) (s : Tables) (caller : Caller) (query : Query) (text : List ℕ) → Ok text ≡ text_of (shown p s caller query)
+    → told_as (shown p s caller query) ≡ seen_as (kind_of query) text
+shown_as p s caller (queries.Line line) text is = line_seen s (line_at line s) text is
+shown_as p s caller queries.Ledger text is = cc
+shown_as p s caller (queries.Minutes notice) text is =
+    minutes_seen (notice_at notice s) (lots_of_notice notice s) s.tenderers (envelopes_of_notice notice s) text is
+shown_as p s caller (queries.Register notice) text is = register_seen (notice_at notice s) (envelopes_of_notice notice s) text is
+shown_as p s caller (queries.Releases notice) text is = package_seen (notice_at notice s) (p (queries.Releases notice) s) text is
+shown_as p s caller (queries.Record notice) text is = package_seen (notice_at notice s) (p (queries.Record notice) s) text is
+shown_as p s caller (queries.Tender receipt) text is = tender_seen caller (envelope_at receipt s) text is
+shown_as p s caller (queries.Security security) text is = security_seen caller (security_at security s) text is
+
+-- what is seen is told by the query's kind
+pub told_seen : (p : Packages) (s : Tables) (caller : Caller) (query : Query) (text : List ℕ) → Ok text ≡ text_of (told p s caller query)
+    → told_as (told p s caller query) ≡ seen_as (kind_of query) text
+told_seen p s caller query text is =
+    where_may (may_look caller (kind_of query)) (shown p s caller query) Forbidden (seen_as (kind_of query) text) text (shown_as p s caller query text) is

@@ -1,5 +1,5 @@
 -- How an office answers what is meant: the reply, its bytes, and the office after it.
-use Rattle.std.specs.Prelude.{◌≡◌, ℕ, Bool, List, None, if◌then◌else◌}
+use Rattle.std.specs.Prelude.{◌≡◌, ℕ, ◌⊎◌, Bool, List, None, if◌then◌else◌}
 use Rattle.office_acts.specs.declared.command.QueryKind.{QueryKind}
 use Rattle.office_acts.specs.declared.command.QueryKind.TheVariants as kinds
 use Rattle.office_values.specs.declared.refusal.Refusal.{Refusal}
@@ -8,14 +8,15 @@ use Rattle.office_values.specs.declared.settings.Settings.{Settings}
 use Rattle.office_base.specs.Tables.{Tables}
 use Rattle.office_base.specs.Shelves.{Meaning}
 use Rattle.office_machine.specs.Machine.{refusal_of}
-use Rattle.office_machine.specs.OfficeMeans.{unpublished_means}
 use Rattle.office_machine.specs.Replies as machine
-use Rattle.office_machine.specs.Requests.{reply_by, office_by}
+use Rattle.office_machine.specs.Requests.{reply_by}
 use Rattle.office_machine.specs.Sights.{told}
+use Rattle.office_publications.specs.Packages.{packages}
+use Rattle.office_publications.specs.Publishing.{publishing}
+use Rattle.office_publications.specs.Standing.{Stands, office_kept}
 use Rattle.office_desk.specs.Asking.{given}
 use Rattle.office_desk.specs.Plans.{DeskOf}
 use Rattle.office_desk.specs.Replies.{reply_text}
-use Rattle.office_desk.specs.Steps.{no_packages}
 use Rattle.office_wire.specs.Blocks.{Block}
 use Rattle.office_wire.specs.Request.{RequestView, IsRequest, IsRefused}
 use Rattle.office_wire.specs.Runs.{Answers}
@@ -42,28 +43,28 @@ seen_as kinds.Register text = Text text
 seen_as _ text = Json text
 
 -- the reply to what is meant, at this moment
-abbrev pub reply_to : Tables → ℕ → Meant → Reply
-reply_to s moment (Refuses why method) = Refused why method
-reply_to s moment (Gives caller command) =
-    told_as (reply_by (refusal_of (given s moment caller command)) unpublished_means (given s moment caller command))
-reply_to s moment (Sees caller query) = told_as (told no_packages s caller query)
+abbrev pub reply_to : Settings → Tables → ℕ → Meant → Reply
+reply_to settings s moment (Refuses why method) = Refused why method
+reply_to settings s moment (Gives caller command) =
+    told_as (reply_by (refusal_of (given s moment caller command)) (publishing settings) (given s moment caller command))
+reply_to settings s moment (Sees caller query) = told_as (told (packages settings) s caller query)
 
 -- the office after it
-abbrev pub tables_after : Tables → ℕ → Meant → Tables
-tables_after s moment (Refuses why method) = s
-tables_after s moment (Gives caller command) = office_by (refusal_of (given s moment caller command)) unpublished_means (given s moment caller command)
-tables_after s moment (Sees caller query) = s
+abbrev pub tables_after : Settings → Tables → ℕ → Meant → Tables
+tables_after settings s moment (Refuses why method) = s
+tables_after settings s moment (Gives caller command) = office_kept (refusal_of (given s moment caller command)) settings (given s moment caller command)
+tables_after settings s moment (Sees caller query) = s
 
 -- the response where memory or the store is wanting
 abbrev pub unavailable_text : List ℕ
 unavailable_text = response_of (Refused refusals.Unavailable None)
 
 -- the response's bytes, and the office after it; what is answered Unavailable changes nothing
-abbrev pub answer_bytes : Bool → Tables → ℕ → Meant → List ℕ
-answer_bytes busy s moment m = if busy then unavailable_text else response_of (reply_to s moment m)
+abbrev pub answer_bytes : Settings → Bool → Tables → ℕ → Meant → List ℕ
+answer_bytes settings busy s moment m = if busy then unavailable_text else response_of (reply_to settings s moment m)
 
-abbrev pub tables_left : Bool → Tables → ℕ → Meant → Tables
-tables_left busy s moment m = if busy then s else tables_after s moment m
+abbrev pub tables_left : Settings → Bool → Tables → ℕ → Meant → Tables
+tables_left settings busy s moment m = if busy then s else tables_after settings s moment m
 
 -- the refusal of what can't be read as a request
 abbrev pub fault_refusal : ReadFault → Refusal
@@ -96,23 +97,34 @@ meant_in h b = meant h.settings b.request h.tables
 -- how it answers the blocks of a run
 abbrev pub office_answers : Answers Held
 office_answers = record {
-  reply = λ busy h b. answer_bytes busy h.tables b.moment (meant_in h b);
-  after = λ busy h b. record h { tables = tables_left busy h.tables b.moment (meant_in h b) };
+  reply = λ busy h b. answer_bytes h.settings busy h.tables b.moment (meant_in h b);
+  after = λ busy h b. record h { tables = tables_left h.settings busy h.tables b.moment (meant_in h b) };
   refusal = fault_text;
 }
 
--- what is meant was answered with this text, perhaps with Unavailable, and the shelf holds the office after it
-abbrev pub IsAnswered : {S : Type 0} → Meaning S → S → S → ℕ → (Tables → Meant) → List ℕ → Type 0
-IsAnswered M old new moment m text =
-    M.honest new → (s : Tables) → M.holds old s
-    → (busy : Bool) × (text ≡ answer_bytes busy s moment (m s)) × M.holds new (tables_left busy s moment (m s))
+-- a desk over a shelf holds this, and it stands as its commands left it
+abbrev pub StandsAs : {S : Type 0} → Meaning S → DeskOf S → Held → Type 0
+StandsAs M desk h = IsHeld M desk h × Stands h.settings h.tables
+
+-- what is meant was answered with this text, perhaps with Unavailable; the shelf holds the office after it, which stands as its commands left it
+abbrev pub IsAnswered : {S : Type 0} → Meaning S → Settings → S → S → ℕ → (Tables → Meant) → List ℕ → Type 0
+IsAnswered M settings old new moment m text =
+    M.honest new → (s : Tables) → M.holds old s → Stands settings s
+    → (busy : Bool) × (text ≡ answer_bytes settings busy s moment (m s)) × M.holds new (tables_left settings busy s moment (m s))
+    × Stands settings (tables_left settings busy s moment (m s))
+
+-- whatever the shelf held, it holds it still, unless a command was accepted
+abbrev pub ChangesOnlyAccepting : {S : Type 0} → Meaning S → S → S → List ℕ → Type 0
+ChangesOnlyAccepting M old new text =
+    M.honest new → (s : Tables) → M.holds old s → M.holds new s ⊎ ((reply : List ℕ) × (text ≡ response_of (Json reply)))
 
 -- the request at the front of the bytes was answered
 pub record AnswersRequest {S : Type 0} (M : Meaning S) (settings : Settings) (old new : S) (moment : ℕ) (input text : List ℕ) : Type 0 where
   pub request : RequestView
   pub rest : List ℕ
   pub stands : IsRequest input request rest
-  pub answered : IsAnswered M old new moment (meant settings request) text
+  pub answered : IsAnswered M settings old new moment (meant settings request) text
+  pub changes : ChangesOnlyAccepting M old new text
 
 -- the bytes were refused, and nothing changed
 pub record RefusesBytes {S : Type 0} (M : Meaning S) (old new : S) (input text : List ℕ) : Type 0 where

@@ -4,8 +4,9 @@ use Rattle.office_values.specs.declared.settings.Settings.{Settings}
 use Rattle.office_base.specs.Tables.{Tables}
 use Rattle.office_base.specs.Shelves.{Meaning}
 use Rattle.office_machine.specs.Machine.{Given, Reaches, refusal_of}
-use Rattle.office_machine.specs.OfficeMeans.{unpublished_means}
 use Rattle.office_machine.specs.Requests.{joined_by}
+use Rattle.office_publications.specs.Keeping.{KeepsReleases}
+use Rattle.office_publications.specs.Publishing.{publishing}
 use Rattle.office_desk.specs.Asking.{given}
 use Rattle.office_desk.specs.Plans.{DeskOf}
 use Rattle.office_desk.specs.Steps.{IsKept}
@@ -13,7 +14,7 @@ use Rattle.office_wire.specs.Request.{RequestView, IsRequest, IsRequestRead, IsR
 use Rattle.office_wire.specs.Runs.{Step, IsOneAtMost, office_left}
 use Rattle.office_wire.specs.declared.fault.ReadFault.{ReadFault}
 use Rattle.office_http.specs.Meaning.{Meant, Refuses, Gives, Sees, meant}
-use Rattle.office_http.specs.Answering.{Held, IsHeld, answer_bytes, fault_text, meant_in, office_answers, tables_left}
+use Rattle.office_http.specs.Answering.{Held, StandsAs, answer_bytes, fault_text, meant_in, office_answers, tables_left}
 
 -- the accepted commands, the last one first, after what is meant: a refusal and a look add nothing
 abbrev pub joined_meant : Tables → ℕ → Meant → List Given → List Given
@@ -35,35 +36,35 @@ joined_steps h (x ∷ steps) xs =
 -- accounts are what they moved, and each tender and each security has the fate that they gave it
 abbrev pub RequestsAreKept : Type 0
 RequestsAreKept =
-    (xs : List Given) (s : Tables) → Reaches unpublished_means xs s → (settings : Settings) (request : RequestView) (moment : ℕ) (busy : Bool)
-    → IsKept (joined_with busy s moment (meant settings request s) xs) (tables_left busy s moment (meant settings request s))
+    (settings : Settings) (xs : List Given) (s : Tables) → Reaches (publishing settings) xs s → (request : RequestView) (moment : ℕ) (busy : Bool)
+    → IsKept settings (joined_with busy s moment (meant settings request s) xs) (tables_left settings busy s moment (meant settings request s))
 
 -- so it is of all steps of a run
 abbrev pub StepsAreKept : Type 0
 StepsAreKept =
-    (xs : List Given) (h : Held) → Reaches unpublished_means xs h.tables → (steps : List Step)
-    → IsKept (joined_steps h steps xs) (office_left office_answers h steps).tables
+    (xs : List Given) (h : Held) → Reaches (publishing h.settings) xs h.tables → (steps : List Step)
+    → IsKept h.settings (joined_steps h steps xs) (office_left office_answers h steps).tables
 
--- what is meant was answered with this text; the shelf holds the office after it, and all accepted commands are kept
-abbrev pub IsKeptAnswering : {S : Type 0} → Meaning S → S → S → ℕ → (Tables → Meant) → List ℕ → Type 0
-IsKeptAnswering M old new moment m text =
-    M.honest new → (s : Tables) → M.holds old s → (xs : List Given) → Reaches unpublished_means xs s
-    → (busy : Bool) × (text ≡ answer_bytes busy s moment (m s)) × M.holds new (tables_left busy s moment (m s))
-    × IsKept (joined_with busy s moment (m s) xs) (tables_left busy s moment (m s))
+-- what is meant was answered with this text; the shelf holds the office after it, all accepted commands are kept, and so are their releases
+abbrev pub IsKeptAnswering : {S : Type 0} → Meaning S → Settings → S → S → ℕ → (Tables → Meant) → List ℕ → Type 0
+IsKeptAnswering M settings old new moment m text =
+    M.honest new → (s : Tables) → M.holds old s → (xs : List Given) → Reaches (publishing settings) xs s → KeepsReleases s
+    → (busy : Bool) × (text ≡ answer_bytes settings busy s moment (m s)) × M.holds new (tables_left settings busy s moment (m s))
+    × IsKept settings (joined_with busy s moment (m s) xs) (tables_left settings busy s moment (m s)) × KeepsReleases (tables_left settings busy s moment (m s))
 
 -- so it is of the request at the front of the bytes
 pub record KeepsAnswering {S : Type 0} (M : Meaning S) (settings : Settings) (old new : S) (moment : ℕ) (input text : List ℕ) : Type 0 where
   pub request : RequestView
   pub rest : List ℕ
   pub stands : IsRequest input request rest
-  pub kept : IsKeptAnswering M old new moment (meant settings request) text
+  pub kept : IsKeptAnswering M settings old new moment (meant settings request) text
 
 -- the bytes were refused, nothing changed, and the commands accepted before are kept
-pub record KeepsRefusing {S : Type 0} (M : Meaning S) (old new : S) (input text : List ℕ) : Type 0 where
+pub record KeepsRefusing {S : Type 0} (M : Meaning S) (settings : Settings) (old new : S) (input text : List ℕ) : Type 0 where
   pub why : ReadFault
   pub refused : IsRefused input why
   pub text_is : text ≡ fault_text why
-  pub kept : M.honest new → (s : Tables) → M.holds old s → (xs : List Given) → Reaches unpublished_means xs s → M.holds new s × IsKept xs s
+  pub kept : M.honest new → (s : Tables) → M.holds old s → (xs : List Given) → Reaches (publishing settings) xs s → M.holds new s × IsKept settings xs s
 
 -- where one request is served there is no step, or one at the moment handed in, of the request that was read
 abbrev pub AreServed : List ℕ → Option (List ℕ) → ℕ → List Step → Type 0
@@ -76,10 +77,10 @@ pub record KeepsServing (input : List ℕ) (now : Option (List ℕ)) (moment : �
   pub steps : List Step
   pub are : AreServed input now moment steps
   pub left : k ≡ office_left office_answers h steps
-  pub kept : IsKept (joined_steps h steps xs) k.tables
+  pub kept : IsKept h.settings (joined_steps h steps xs) k.tables
 
 -- whatever a reader told of its bytes, nothing or one request was answered, at this moment: so the office is left
 abbrev pub IsServedOnce : {S : Type 0} → Meaning S → ℕ → DeskOf S → DeskOf S → Type 0
 IsServedOnce M moment old new =
-    M.honest new.shelf → (h : Held) → IsHeld M old h
-    → (steps : List Step) × IsOneAtMost moment steps × IsHeld M new (office_left office_answers h steps)
+    M.honest new.shelf → (h : Held) → StandsAs M old h
+    → (steps : List Step) × IsOneAtMost moment steps × StandsAs M new (office_left office_answers h steps)

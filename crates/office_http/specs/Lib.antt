@@ -3,3 +3,4 @@ pub mod Credentials
 pub mod Meaning
 pub mod Answering
 pub mod Joined
+pub mod Inside

@@ -4,7 +4,8 @@ ghost use Rattle.office_values.specs.declared.refusal.Refusal.TheVariants.{Unava
 ghost use Rattle.office_base.specs.Shelves.{Looks};
 ghost use Rattle.office_http.specs.Credentials.{credentials_of};
 ghost use Rattle.office_http.specs.Meaning.{Gives, Sees, meant, meant_asked, who};
-ghost use Rattle.office_http.specs.Answering.{AnswersRequest, IsAnswered, RefusesBytes, fault_text, unavailable_text};
+ghost use Rattle.office_http.specs.Answering.{AnswersRequest, ChangesOnlyAccepting, IsAnswered, RefusesBytes, fault_text, unavailable_text};
+ghost use Rattle.office_http.specs.Inside.Meant.{AnswersMeant};
 ghost use Rattle.office_http.specs.Joined.{IsKeptAnswering, KeepsAnswering, KeepsRefusing};
 ghost use Rattle.office_http.specs.Response.{response_of};
 ghost use Rattle.office_http.specs.declared.reply.Reply.TheVariants.{Refused};
@@ -19,6 +20,7 @@ use office_acts::commands::Command;
 use office_acts::queries::Query;
 use office_base::shelf::{Lookups, Shelf};
 use office_desk::desk::Desk;
+use office_publications::laws::keeping;
 use office_requests::asked::{Asked, command_of};
 use office_requests::route::Allow;
 use office_requests::routes::Routes;
@@ -50,8 +52,10 @@ fn answer_command<H: Shelf + Drop>(
 ) -> Answer
     ensures before { H.meaning.honest desk.new.shelf → H.meaning.honest desk.old.shelf }
     ensures settings { desk.new.settings ≡ desk.old.settings }
-    ensures answered { IsAnswered H.meaning desk.old.shelf desk.new.shelf moment (λ s. Gives caller.now command.entry) result }
+    ensures answered { AnswersMeant H.meaning desk.old.settings desk.old.shelf desk.new.shelf moment (λ s. Gives caller.now command.entry) result }
+    ensures changes { ChangesOnlyAccepting H.meaning desk.old.shelf desk.new.shelf result }
 {
+    keeping();
     let planned = match desk.plan(moment, caller, command) {
         Ok(planned) => planned,
         Err(refusal) => return refuse(alloc, refusal, None),
@@ -75,7 +79,8 @@ fn answer_query<H: Shelf + Drop>(
 ) -> Answer
     ensures before { H.meaning.honest desk.new.shelf → H.meaning.honest desk.old.shelf }
     ensures settings { desk.new.settings ≡ desk.old.settings }
-    ensures answered { IsAnswered H.meaning desk.old.shelf desk.new.shelf moment (λ s. Sees caller.now query) result }
+    ensures answered { AnswersMeant H.meaning desk.old.settings desk.old.shelf desk.new.shelf moment (λ s. Sees caller.now query) result }
+    ensures changes { ChangesOnlyAccepting H.meaning desk.old.shelf desk.new.shelf result }
 {
     let text = match desk.look(caller, query) {
         Ok(text) => text,
@@ -107,7 +112,8 @@ fn answer_asked<H: Shelf + Drop>(
 ) -> Answer
     ensures before { H.meaning.honest desk.new.shelf → H.meaning.honest desk.old.shelf }
     ensures settings { desk.new.settings ≡ desk.old.settings }
-    ensures answered { IsAnswered H.meaning desk.old.shelf desk.new.shelf moment (λ s. meant_asked caller.now asked.entry) result }
+    ensures answered { AnswersMeant H.meaning desk.old.settings desk.old.shelf desk.new.shelf moment (λ s. meant_asked caller.now asked.entry) result }
+    ensures changes { ChangesOnlyAccepting H.meaning desk.old.shelf desk.new.shelf result }
 {
     match asked {
         Ok(Asked::Does(command)) => answer_command(alloc, desk, moment, caller, command),
@@ -126,7 +132,8 @@ fn answer_read<H: Shelf + Drop>(
 ) -> Answer
     ensures before { H.meaning.honest desk.new.shelf → H.meaning.honest desk.old.shelf }
     ensures settings { desk.new.settings ≡ desk.old.settings }
-    ensures answered { IsAnswered H.meaning desk.old.shelf desk.new.shelf moment (meant desk.old.settings request.now) result }
+    ensures answered { IsAnswered H.meaning desk.old.settings desk.old.shelf desk.new.shelf moment (meant desk.old.settings request.now) result }
+    ensures changes { ChangesOnlyAccepting H.meaning desk.old.shelf desk.new.shelf result }
 {
     let route = match routes.route_of(request) {
         Ok(route) => route,
@@ -141,7 +148,8 @@ fn answer_read<H: Shelf + Drop>(
 }
 
 /// Answers a request that was read. The response is built whole before anything changes; where memory or the store is wanting, it
-/// is the constant response to `Unavailable`, and nothing changes.
+/// is the constant response to `Unavailable`, and nothing changes. An office that stands as its commands left it stands so again; whatever
+/// the shelf holds, only an accepted command changes it.
 pub fn answer_request<H: Shelf + Drop>(
     alloc: Global,
     routes: &Routes,
@@ -151,8 +159,9 @@ pub fn answer_request<H: Shelf + Drop>(
 ) -> Answer
     ensures before { H.meaning.honest desk.new.shelf → H.meaning.honest desk.old.shelf }
     ensures settings { desk.new.settings ≡ desk.old.settings }
-    ensures answered { IsAnswered H.meaning desk.old.shelf desk.new.shelf moment (meant desk.old.settings request.now) result }
-    ensures kept { IsKeptAnswering H.meaning desk.old.shelf desk.new.shelf moment (meant desk.old.settings request.now) result }
+    ensures answered { IsAnswered H.meaning desk.old.settings desk.old.shelf desk.new.shelf moment (meant desk.old.settings request.now) result }
+    ensures changes { ChangesOnlyAccepting H.meaning desk.old.shelf desk.new.shelf result }
+    ensures kept { IsKeptAnswering H.meaning desk.old.settings desk.old.shelf desk.new.shelf moment (meant desk.old.settings request.now) result }
 {
     laws::kept();
     answer_read(alloc, routes, desk, moment, request)
@@ -184,7 +193,7 @@ pub fn answer<H: Shelf + Drop>(
     ensures answered { AnswersRequest H.meaning desk.old.settings desk.old.shelf desk.new.shelf moment bytes.now result
         ⊎ RefusesBytes H.meaning desk.old.shelf desk.new.shelf bytes.now result }
     ensures kept { KeepsAnswering H.meaning desk.old.settings desk.old.shelf desk.new.shelf moment bytes.now result
-        ⊎ KeepsRefusing H.meaning desk.old.shelf desk.new.shelf bytes.now result }
+        ⊎ KeepsRefusing H.meaning desk.old.settings desk.old.shelf desk.new.shelf bytes.now result }
 {
     laws::kept();
     let mut reader = CountedReader::new(bytes);

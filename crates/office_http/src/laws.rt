@@ -3,6 +3,7 @@ ghost use Rattle.office_machine.specs.Seals.{SealsAreKept, WholeRunsAreAlike};
 ghost use Rattle.office_http.specs.Joined.{RequestsAreKept, StepsAreKept};
 
 use office_machine::{fates, laws, seals as of_seals};
+use office_publications::laws::keeping;
 
 /// Wherever accepted commands lead from the empty office, those that requests and whole runs accept join them: together they lead to the
 /// office after it, its accounts are what they moved, and each tender and each security has the fate that they gave it.
@@ -11,7 +12,7 @@ pub fn kept()
     ensures steps { StepsAreKept }
 {
     laws::accounts();
-    laws::runs();
+    keeping();
     fates::tenders();
     fates::securities();
 }

@@ -2,11 +2,13 @@
 ghost use Rattle.std.specs.Prelude.{◌≡◌, ◌≤◌, ℕ, List, true, Some, IfOk, IsErrOf, OnOk};
 ghost use Rattle.office_base.specs.Tables.{Tables};
 ghost use Rattle.office_machine.specs.Machine.{Given, Reaches};
-ghost use Rattle.office_machine.specs.OfficeMeans.{unpublished_means};
+ghost use Rattle.office_publications.specs.Keeping.{KeepsReleases};
+ghost use Rattle.office_publications.specs.Publishing.{publishing};
+ghost use Rattle.office_publications.specs.Standing.{Stands};
 ghost use Rattle.office_desk.specs.Steps.{IsKept};
 ghost use Rattle.office_wire.specs.Counting.{HasStopped};
 ghost use Rattle.office_wire.specs.Runs.{Step, Ran, Served, office_left};
-ghost use Rattle.office_http.specs.Answering.{Held, IsHeld, held_by, office_answers};
+ghost use Rattle.office_http.specs.Answering.{Held, StandsAs, held_by, office_answers};
 ghost use Rattle.office_http.specs.Joined.{IsServedOnce, KeepsServing, joined_steps};
 
 use crate::answering::{answer_request, fault_response};
@@ -60,12 +62,12 @@ impl<H: Shelf + Drop> Office<H> {
 
 impl<H: Shelf + Drop> Responder for Office<H> {
     ghost use Rattle.std.specs.Prelude.{◌≡◌};
-    ghost use Rattle.office_http.specs.Answering.{Held, IsHeld, office_answers};
+    ghost use Rattle.office_http.specs.Answering.{Held, StandsAs, office_answers};
 
     ghost meaning = { record {
       Office = Held;
       honest = λ o. H.meaning.honest o.shelf;
-      holds = λ o h. IsHeld H.meaning o h;
+      holds = λ o h. StandsAs H.meaning o h;
       answers = office_answers;
     } };
 
@@ -89,15 +91,16 @@ pub fn run<H: Shelf + Drop, R: BufRead, W: Write>(
 ) -> Result<u64, RunFault>
     ensures before { H.meaning.honest office.new.shelf → H.meaning.honest office.old.shelf }
     ensures ran { H.meaning.honest office.new.shelf → (input : List ℕ) → reader.old.remaining ≡ Some input → (s : Tables) → H.meaning.holds office.old.shelf s
+        → Stands office.old.settings s
         → (steps : List Step)
         × Ran office_answers result input reader.new.remaining (held_by office.old s) steps writer.old.contents writer.new.contents
-        × IsHeld H.meaning office.new (office_left office_answers (held_by office.old s) steps) }
+        × StandsAs H.meaning office.new (office_left office_answers (held_by office.old s) steps) }
     ensures kept { H.meaning.honest office.new.shelf → (input : List ℕ) → reader.old.remaining ≡ Some input → (s : Tables) → H.meaning.holds office.old.shelf s
-        → (xs : List Given) → Reaches unpublished_means xs s
+        → (xs : List Given) → Reaches (publishing office.old.settings) xs s → KeepsReleases s
         → (steps : List Step)
         × Ran office_answers result input reader.new.remaining (held_by office.old s) steps writer.old.contents writer.new.contents
-        × IsHeld H.meaning office.new (office_left office_answers (held_by office.old s) steps)
-        × IsKept (joined_steps (held_by office.old s) steps xs) (office_left office_answers (held_by office.old s) steps).tables }
+        × StandsAs H.meaning office.new (office_left office_answers (held_by office.old s) steps)
+        × IsKept office.old.settings (joined_steps (held_by office.old s) steps xs) (office_left office_answers (held_by office.old s) steps).tables }
     ensures cause { IsErrOf result RunFault.Read → HasStopped reader.new }
     ensures writes { IsErrOf result RunFault.Write → writer.new.has_failed ≡ true }
     ensures all_read { OnOk result (reader.new.has_failed ≡ reader.old.has_failed) }
@@ -120,14 +123,15 @@ pub fn serve_one<H: Shelf + Drop, R: BufRead, W: Write>(
 ) -> Result<(), RunFault>
     ensures before { H.meaning.honest office.new.shelf → H.meaning.honest office.old.shelf }
     ensures served { H.meaning.honest office.new.shelf → (input : List ℕ) → reader.old.remaining ≡ Some input → (s : Tables) → H.meaning.holds office.old.shelf s
+        → Stands office.old.settings s
         → (h : Held)
         × Served office_answers result input reader.new.remaining moment (held_by office.old s) h writer.old.contents writer.new.contents
-        × IsHeld H.meaning office.new h }
+        × StandsAs H.meaning office.new h }
     ensures kept { H.meaning.honest office.new.shelf → (input : List ℕ) → reader.old.remaining ≡ Some input → (s : Tables) → H.meaning.holds office.old.shelf s
-        → (xs : List Given) → Reaches unpublished_means xs s
+        → (xs : List Given) → Reaches (publishing office.old.settings) xs s → KeepsReleases s
         → (h : Held)
         × Served office_answers result input reader.new.remaining moment (held_by office.old s) h writer.old.contents writer.new.contents
-        × IsHeld H.meaning office.new h
+        × StandsAs H.meaning office.new h
         × KeepsServing input reader.new.remaining moment (held_by office.old s) h xs }
     ensures stepped { IsServedOnce H.meaning moment office.old office.new }
     ensures cause { IsErrOf result RunFault.Read → HasStopped reader.new }

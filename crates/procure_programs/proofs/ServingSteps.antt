@@ -3,7 +3,7 @@ use Rattle.std.proofs.Common.{◌≡◌, ℕ, ◌+◌, ◌≤◌, List, [], ◌�
 use Rattle.office_base.specs.Shelves.{Meaning}
 use Rattle.office_desk.specs.Plans.{DeskOf}
 use Rattle.office_wire.specs.Runs.{Answers, IsOneAtMost, Step, office_left}
-use Rattle.office_http.specs.Answering.{Held, IsHeld, office_answers}
+use Rattle.office_http.specs.Answering.{Held, StandsAs, office_answers}
 use Rattle.office_http.specs.Joined.{IsServedOnce, StepsAreKept}
 use Rattle.procure_programs.specs.Serving.{KeepsServing, Serves}
 
@@ -31,7 +31,7 @@ served_on M n moment first old new before so_far once honest h held =
     let (ys, one, after) = once honest (office_left office_answers h xs) now in
     let short : length ys ≤ 1 = at_most_one moment ys one in
     let bound : length (xs ++ ys) ≤ n + 1 = rw (length-append xs ys) (omega (arith, few, short)) in
-    (xs ++ ys, bound, subst (λ (k : Held). IsHeld M new k) (sym (office_on office_answers xs ys h)) after)
+    (xs ++ ys, bound, subst (λ (k : Held). StandsAs M new k) (sym (office_on office_answers xs ys h)) after)
 
 -- fewer than were allowed
 pub served_within : {S : Type 0} (M : Meaning S) (n most : ℕ) (old new : DeskOf S) → n ≤ most → Serves M n old new → Serves M most old new

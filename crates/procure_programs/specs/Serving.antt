@@ -2,22 +2,22 @@
 use Rattle.std.specs.Prelude.{ℕ, ◌≤◌, List, length}
 use Rattle.office_base.specs.Shelves.{Meaning}
 use Rattle.office_machine.specs.Machine.{Given, Reaches}
-use Rattle.office_machine.specs.OfficeMeans.{unpublished_means}
+use Rattle.office_publications.specs.Publishing.{publishing}
 use Rattle.office_desk.specs.Plans.{DeskOf}
 use Rattle.office_desk.specs.Steps.{IsKept}
 use Rattle.office_wire.specs.Runs.{Step, office_left}
-use Rattle.office_http.specs.Answering.{Held, IsHeld, office_answers}
+use Rattle.office_http.specs.Answering.{Held, StandsAs, office_answers}
 use Rattle.office_http.specs.Joined.{joined_steps}
 
 -- the office after so many steps at most, each a request that was read and answered
 abbrev pub Serves : {S : Type 0} → Meaning S → ℕ → DeskOf S → DeskOf S → Type 0
 Serves M most old new =
-    M.honest new.shelf → (h : Held) → IsHeld M old h
-    → (steps : List Step) × (length steps ≤ most) × IsHeld M new (office_left office_answers h steps)
+    M.honest new.shelf → (h : Held) → StandsAs M old h
+    → (steps : List Step) × (length steps ≤ most) × StandsAs M new (office_left office_answers h steps)
 
 -- so it is, and all accepted commands, these joined, are kept
 abbrev pub KeepsServing : {S : Type 0} → Meaning S → ℕ → DeskOf S → DeskOf S → Type 0
 KeepsServing M most old new =
-    M.honest new.shelf → (h : Held) → IsHeld M old h → (xs : List Given) → Reaches unpublished_means xs h.tables
-    → (steps : List Step) × (length steps ≤ most) × IsHeld M new (office_left office_answers h steps)
-    × IsKept (joined_steps h steps xs) (office_left office_answers h steps).tables
+    M.honest new.shelf → (h : Held) → StandsAs M old h → (xs : List Given) → Reaches (publishing h.settings) xs h.tables
+    → (steps : List Step) × (length steps ≤ most) × StandsAs M new (office_left office_answers h steps)
+    × IsKept h.settings (joined_steps h steps xs) (office_left office_answers h steps).tables

@@ -16,7 +16,7 @@ use procure_config::fault::ProgramFault;
 
 /// What the public sees by a query: what the programs `ledger`, `minutes` and `record` print. A refusal is `Refused`. Nothing changes.
 pub fn show<H: Shelf + Drop>(desk: &mut Desk<H>, query: Query) -> Result<Vec<u8>, ProgramFault>
-    ensures looks { Looks H.meaning desk.old.shelf desk.new.shelf (λ s. IsShown query s result) }
+    ensures looks { Looks H.meaning desk.old.shelf desk.new.shelf (λ s. IsShown desk.old.settings query s result) }
     ensures settings { desk.new.settings ≡ desk.old.settings }
     ensures forbidden { may_look Public (queries.kind_of query) ≡ false → result ≡ Err (Refused Forbidden) }
 {

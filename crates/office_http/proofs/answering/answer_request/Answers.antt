@@ -1,6 +1,13 @@
+use Rattle.office_publications.specs.Standing.{Stands}
 use Rattle.office_http.proofs.answering.answer_request.Goals as goal
 
 pub returns-clause-kept : goal.returns-clause-kept
-returns-clause-kept g c honest s held xs reached =
-    let answered = c.answer_read.ensures.answered honest s held in
-    (answered.0, answered.1, answered.2, c.kept.ensures.requests xs s reached c.args.desk.now.settings c.args.request.now c.args.moment answered.0)
+returns-clause-kept g c honest s held xs reached keeps =
+    let stands : Stands c.args.desk.now.settings s = record { commands = xs; reaches = reached; keeps = keeps } in
+    let answered = c.answer_read.ensures.answered honest s held stands in (
+      answered.0,
+      answered.1,
+      answered.2,
+      c.kept.ensures.requests c.args.desk.now.settings xs s reached c.args.request.now c.args.moment answered.0,
+      answered.3.keeps,
+    )

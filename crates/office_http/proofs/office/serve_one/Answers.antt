@@ -4,16 +4,17 @@ use Rattle.office_http.proofs.KeptSteps.{served_kept}
 use Rattle.office_http.proofs.office.serve_one.Goals as goal
 
 pub returns-clause-served : goal.returns-clause-served
-returns-clause-served g c honest input remains s held = c.serve_one.ensures.served honest input remains (held_by c.args.office.now s) (refl, held)
+returns-clause-served g c honest input remains s held stands =
+    c.serve_one.ensures.served honest input remains (held_by c.args.office.now s) ((refl, held), stands)
 
 pub returns-clause-kept : goal.returns-clause-kept
-returns-clause-kept g c honest input remains s held xs reached =
-    let served = c.serve_one.ensures.served honest input remains (held_by c.args.office.now s) (refl, held) in (
+returns-clause-kept g c honest input remains s held xs reached keeps =
+    let h = held_by c.args.office.now s in
+    let served = c.serve_one.ensures.served honest input remains h ((refl, held), record { commands = xs; reaches = reached; keeps = keeps }) in (
       served.0,
       served.1,
       served.2,
-      served_kept c.kept.ensures.steps input c.serve_one.new.reader.remaining c.args.moment (held_by c.args.office.now s) served.0 xs reached c.serve_one.result
-          served.1.told served.1.served,
+      served_kept c.kept.ensures.steps input c.serve_one.new.reader.remaining c.args.moment h served.0 xs reached c.serve_one.result served.1.told served.1.served,
     )
 
 pub returns-clause-stepped : goal.returns-clause-stepped

@@ -1,0 +1,38 @@
+-- What is meant by a request can be given.
+use Rattle.std.proofs.Common.{List, Option, Result, Ok, Err}
+use Rattle.office_acts.specs.declared.command.Caller.{Caller}
+use Rattle.office_values.specs.declared.refusal.Refusal.{Refusal}
+use Rattle.office_values.specs.declared.settings.Settings.{Settings}
+use Rattle.office_base.specs.Tables.{Tables}
+use Rattle.office_wire.specs.Request.{RequestView}
+use Rattle.office_requests.specs.Asking.{asked}
+use Rattle.office_requests.specs.Routing.{routed}
+use Rattle.office_requests.specs.declared.asked.Asked.{Asked}
+use Rattle.office_requests.specs.declared.asked.Asked.TheVariants.{Does, Looks}
+use Rattle.office_requests.specs.declared.route.Allow.{Allow}
+use Rattle.office_requests.specs.declared.route.Route.{Route}
+use Rattle.office_http.specs.Credentials.{credentials_of}
+use Rattle.office_http.specs.Meaning.{meant, meant_asked, meant_at, meant_by, who}
+use Rattle.office_http.specs.Inside.Meant.{CanBeMeant}
+use Rattle.office_http.proofs.AskedCommands.{IsAsked, IsKnown, IsRead, asked_is, who_known}
+
+pub asked_can : (s : Tables) (caller : Caller) (read : Result Asked Refusal) → IsRead (IsKnown s) (Ok caller) → IsRead IsAsked read → CanBeMeant s (meant_asked caller read)
+unfolding IsRead
+asked_can s caller (Err why) known is = tt
+asked_can s caller (Ok (Does command)) known is = (is, known)
+asked_can s caller (Ok (Looks query)) known is = tt
+
+caller_can : (s : Tables) (route : Route) (request : RequestView) (caller : Result Caller Refusal) → IsRead (IsKnown s) caller
+    → CanBeMeant s (meant_by route request caller)
+unfolding IsRead
+caller_can s route request (Err why) known = tt
+caller_can s route request (Ok caller) known = asked_can s caller (asked caller route request) known (asked_is caller route request)
+
+route_can : (settings : Settings) (request : RequestView) (s : Tables) (route : Result Route (Refusal × Option Allow))
+    → CanBeMeant s (meant_at settings request s route)
+route_can settings request s (Err why) = tt
+route_can settings request s (Ok route) =
+    caller_can s route request (who settings s (credentials_of request.head.fields)) (who_known settings s (credentials_of request.head.fields))
+
+pub meant_can : (settings : Settings) (request : RequestView) (s : Tables) → CanBeMeant s (meant settings request s)
+meant_can settings request s = route_can settings request s (routed request.head.method request.head.target)
