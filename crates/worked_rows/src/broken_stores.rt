@@ -1,12 +1,13 @@
 //! A store that breaks once: what was asked then is answered `Unavailable`, nothing has changed, and the same request is answered as ever when
 //! it is sent again.
 use crate::broken_shelf::BrokenShelf;
+use crate::releases::PUBLISHED;
 use crate::setup::{MONEY, NOTICE, TENDERERS};
 use crate::transcript::{Wrong, played};
 use std::alloc::Global;
 use std::test::Fail;
 
-// Every kind of command and of look, but those that end a notice.
+// Every kind of command and of look, but those that end a notice, and looks at what is published. Behind PUBLISHED.
 static TO_THE_END: &str = r#"
 at 2026-02-10T09:00:00Z clerk POST /notices/N1/amend
 > {"deadline":"2026-03-01T12:00:00Z","rationale":"Once more"}
@@ -171,7 +172,11 @@ fn breaks_anywhere(alloc: Global, name: &str, transcripts: &[&str]) -> Result<()
 #[test]
 fn a_store_that_breaks_changes_nothing(rt: HostRuntime) -> Result<(), Fail> {
     let alloc = rt.alloc();
-    breaks_anywhere(alloc, "to the end", &[MONEY, TENDERERS, NOTICE, TO_THE_END])?;
+    breaks_anywhere(
+        alloc,
+        "to the end",
+        &[MONEY, TENDERERS, NOTICE, PUBLISHED, TO_THE_END],
+    )?;
     breaks_anywhere(alloc, "cancelled", &[MONEY, TENDERERS, NOTICE, CANCELLED])
 }
 

@@ -22,13 +22,21 @@ mod examinations;
 #[cfg(test)]
 mod imports;
 #[cfg(test)]
+mod kept_merges;
+#[cfg(test)]
 mod late_tenders;
 #[cfg(test)]
 mod ledgers;
 #[cfg(test)]
 mod limits;
 #[cfg(test)]
+mod members;
+#[cfg(test)]
 mod modified_tenders;
+#[cfg(test)]
+mod ocds;
+#[cfg(test)]
+mod ocds_members;
 #[cfg(test)]
 mod office;
 #[cfg(test)]
@@ -38,7 +46,11 @@ mod presenting;
 #[cfg(test)]
 mod publications;
 #[cfg(test)]
+mod published_lives;
+#[cfg(test)]
 mod reading_of_tenders;
+#[cfg(test)]
+mod releases;
 #[cfg(test)]
 mod requests;
 #[cfg(test)]

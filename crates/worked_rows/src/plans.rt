@@ -24,7 +24,7 @@ at 2026-01-05T09:00:00Z public GET /lines/1000
 = 200 {"appropriation":1000,"contracted":0,"free":1000,"line":"1000","paid":0,"reserved":0,"title":"Roads"}
 "#;
 
-// A notice with two lots: it puts a line for each, the lots, the notice and the clock.
+// A notice with two lots: it puts a line for each, the lots, the notice and the clock, its release, and the merge of its releases.
 static TWO_LOTS: &str = r#"
 at 2026-02-01T09:00:00Z clerk POST /notices/N1
 > {"title":"Road repair","deadline":"2026-03-01T12:00:00Z","validity_days":90,"standstill_days":10,"criteria":"price","lots":[
@@ -116,6 +116,6 @@ fn is_planned(
 fn a_plan_does_nothing(rt: HostRuntime) -> Result<(), Fail> {
     let alloc = rt.alloc();
     assert!(rt; is_planned(alloc, &[], MONEY, 3, &[NO_LINE, FREE]));
-    assert!(rt; is_planned(alloc, &[MONEY, TENDERERS], TWO_LOTS, 6, &[FREE, RESERVED]));
+    assert!(rt; is_planned(alloc, &[MONEY, TENDERERS], TWO_LOTS, 8, &[FREE, RESERVED]));
     Ok(())
 }
