@@ -15,7 +15,7 @@ const OTHER: &str = r#"{"p":[{"id":"B"}]}"#;
 const SUPPLIER: &str = r#"{"p":[{"id":"A","roles":["tenderer","supplier"]}]}"#;
 
 /// Columns, as far as four values, and what they merge to.
-const MERGES: [(&[&str], &str); 13] = [
+const MERGES: [(&[&str], &str); 14] = [
     (&[], "null"),
     (&[r#"{"a":null}"#], "{}"),
     (
@@ -38,6 +38,8 @@ const MERGES: [(&[&str], &str); 13] = [
         &[r#"{"a":{"b":1}}"#, r#"{"a":{"b":null,"c":2}}"#],
         r#"{"a":{"c":2}}"#,
     ),
+    // A null member takes away what was there, and nothing beside it.
+    (&[r#"{"p":1,"q":2}"#, r#"{"p":null}"#], r#"{"q":2}"#),
     // The same id twice in one list, also where the item is new.
     (
         &[r#"[{"id":"A","v":1,"w":1},{"id":"B"},{"id":"A","v":2}]"#],
@@ -136,6 +138,46 @@ fn compiles_releases(rt: HostRuntime) -> Result<(), Fail> {
         compiled.to_string(alloc)?.as_str(),
         r#"{"a":3,"b":2,"date":"2026-01-05","id":"o-2026-01-05","tag":["compiled"]}"#
     );
+    Ok(())
+}
+
+/// The releases of a notice that is published and amended, with their dates, and what those so far compile to.
+const LIFE: [(&str, &str, &str); 2] = [
+    (
+        "2026-02-01T09:00:00Z",
+        r#"{"buyer":{"id":"B-city","name":"City Office"},"date":"2026-02-01T09:00:00Z","id":"ocds-a1b2c3-N1-0001","initiationType":"tender","language":"en","ocid":"ocds-a1b2c3-N1","parties":[{"id":"B-city","name":"City Office","roles":["buyer","procuringEntity"]}],"planning":{"budget":{"amount":{"amount":600,"currency":"EUR"}}},"tag":["planning","tender"],"tender":{"awardCriteria":"priceOnly","id":"N1","items":[{"description":"Paving","id":"L1/I1","quantity":3,"relatedLot":"L1"}],"lots":[{"id":"L1","status":"active","title":"North","value":{"amount":600,"currency":"EUR"}}],"procurementMethod":"open","procuringEntity":{"id":"B-city","name":"City Office"},"status":"active","submissionMethod":["electronicSubmission"],"tenderPeriod":{"endDate":"2026-03-01T12:00:00Z","startDate":"2026-02-01T09:00:00Z"},"title":"Road repair","value":{"amount":600,"currency":"EUR"}}}"#,
+        r#"{"buyer":{"id":"B-city","name":"City Office"},"date":"2026-02-01T09:00:00Z","id":"ocds-a1b2c3-N1-2026-02-01T09:00:00Z","initiationType":"tender","language":"en","ocid":"ocds-a1b2c3-N1","parties":[{"id":"B-city","name":"City Office","roles":["buyer","procuringEntity"]}],"planning":{"budget":{"amount":{"amount":600,"currency":"EUR"}}},"tag":["compiled"],"tender":{"awardCriteria":"priceOnly","id":"N1","items":[{"description":"Paving","id":"L1/I1","quantity":3,"relatedLot":"L1"}],"lots":[{"id":"L1","status":"active","title":"North","value":{"amount":600,"currency":"EUR"}}],"procurementMethod":"open","procuringEntity":{"id":"B-city","name":"City Office"},"status":"active","submissionMethod":["electronicSubmission"],"tenderPeriod":{"endDate":"2026-03-01T12:00:00Z","startDate":"2026-02-01T09:00:00Z"},"title":"Road repair","value":{"amount":600,"currency":"EUR"}}}"#,
+    ),
+    (
+        "2026-02-10T09:00:00Z",
+        r#"{"buyer":{"id":"B-city","name":"City Office"},"date":"2026-02-10T09:00:00Z","id":"ocds-a1b2c3-N1-0002","initiationType":"tender","language":"en","ocid":"ocds-a1b2c3-N1","tag":["tenderAmendment"],"tender":{"amendments":[{"date":"2026-02-10T09:00:00Z","description":"Deadline moved from 2026-03-01T12:00:00Z to 2026-03-02T12:00:00Z","id":"0002","rationale":"More time"}],"id":"N1","tenderPeriod":{"endDate":"2026-03-02T12:00:00Z"}}}"#,
+        r#"{"buyer":{"id":"B-city","name":"City Office"},"date":"2026-02-10T09:00:00Z","id":"ocds-a1b2c3-N1-2026-02-10T09:00:00Z","initiationType":"tender","language":"en","ocid":"ocds-a1b2c3-N1","parties":[{"id":"B-city","name":"City Office","roles":["buyer","procuringEntity"]}],"planning":{"budget":{"amount":{"amount":600,"currency":"EUR"}}},"tag":["compiled"],"tender":{"amendments":[{"date":"2026-02-10T09:00:00Z","description":"Deadline moved from 2026-03-01T12:00:00Z to 2026-03-02T12:00:00Z","id":"0002","rationale":"More time"}],"awardCriteria":"priceOnly","id":"N1","items":[{"description":"Paving","id":"L1/I1","quantity":3,"relatedLot":"L1"}],"lots":[{"id":"L1","status":"active","title":"North","value":{"amount":600,"currency":"EUR"}}],"procurementMethod":"open","procuringEntity":{"id":"B-city","name":"City Office"},"status":"active","submissionMethod":["electronicSubmission"],"tenderPeriod":{"endDate":"2026-03-02T12:00:00Z","startDate":"2026-02-01T09:00:00Z"},"title":"Road repair","value":{"amount":600,"currency":"EUR"}}}"#,
+    ),
+];
+
+// A merge that is kept as text and carried on compiles to what all releases compile to, and so does one that is made anew from them.
+#[test]
+fn kept_merges_compile_alike(rt: HostRuntime) -> Result<(), Fail> {
+    let alloc = rt.alloc();
+    let ocid = "ocds-a1b2c3-N1";
+    let mut kept = String::from_str(alloc, "null")?;
+    let mut anew = Value::Null;
+    let mut releases = Vec::new(alloc);
+    for (date, text, want) in LIFE {
+        let body = without_head(Value::from_str(alloc, text)?);
+        kept = merge_into_text(alloc, &kept, &body)?;
+        merge_into(alloc, &mut anew, &body)?;
+        assert_eq!(rt; merge_to_text(alloc, &anew)?.as_str(), kept.as_str());
+        let compiled = with_compiled_head(alloc, ocid, date, merge_from_text(alloc, &kept)?)?;
+        assert_eq!(rt; compiled.to_string(alloc)?.as_str(), want, "kept");
+        releases.push(Value::from_str(alloc, text)?)?;
+        let compiled = compile(alloc, ocid, &releases)?;
+        assert_eq!(rt;
+            compiled.to_string(alloc)?.as_str(),
+            want,
+            "from all releases"
+        );
+    }
     Ok(())
 }
 
