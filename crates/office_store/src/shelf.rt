@@ -54,8 +54,8 @@ impl<S: Alter + Drop> Drop for SqlShelf<S> {
 }
 
 impl<S: Alter> SqlShelf<S> {
-    /// Its connection.
-    pub(crate) fn into_connection(self) -> Connection<S>
+    /// Its connection, as for a store that can't be closed.
+    pub fn into_connection(self) -> Connection<S>
         ensures { result ≡ self.0 }
     {
         let SqlShelf {

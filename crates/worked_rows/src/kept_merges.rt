@@ -1,6 +1,7 @@
 //! An office that keeps no merge of a notice's releases: its record is the same, and the next publication keeps a merge.
 use crate::releases::{AMENDED, PUBLISHED};
 use crate::setup::{MONEY, NOTICE, TENDERERS};
+use crate::stores::in_sql;
 use crate::transcript::{Wrong, played};
 use office_base::puts::Put;
 use office_base::shelf::Shelf;
@@ -79,17 +80,34 @@ fn merges_in_memory(alloc: Global) -> Result<[bool; 4], Wrong> {
     merges_kept(alloc, MemoryShelf::new(alloc), MemoryShelf::new(alloc))
 }
 
+// The same over offices in SQL.
+fn merges_in_sql(alloc: Global) -> Result<[bool; 4], Wrong> {
+    let one = in_sql(alloc)?;
+    let other = in_sql(alloc)?;
+    merges_kept(alloc, one, other)
+}
+
+// That the first of two tries that doesn't fail is right: one allocation of a test may be refused.
+fn are_right(
+    first: Result<[bool; 4], Wrong>,
+    second: Result<[bool; 4], Wrong>,
+) -> Result<bool, Wrong> {
+    match first {
+        Ok(kept) => Ok(kept == [true, false, false, true]),
+        Err(_) => Ok(second? == [true, false, false, true]),
+    }
+}
+
 #[test]
 fn kept_merges(rt: HostRuntime) -> Result<(), Fail> {
     let alloc = rt.alloc();
-    // At a second try where the first has no memory: one allocation of a test may be refused.
-    let kept = match merges_in_memory(alloc) {
-        Ok(kept) => Ok(kept),
-        Err(_) => merges_in_memory(alloc),
-    };
-    match kept {
-        Ok(kept) => assert_eq!(rt; kept, [true, false, false, true]),
-        Err(wrong) => return Err(Fail::new(format_args!("kept merges: {wrong}"))),
+    match are_right(merges_in_memory(alloc), merges_in_memory(alloc)) {
+        Ok(right) => assert!(rt; right, "in memory"),
+        Err(wrong) => return Err(Fail::new(format_args!("kept merges, in memory: {wrong}"))),
+    }
+    match are_right(merges_in_sql(alloc), merges_in_sql(alloc)) {
+        Ok(right) => assert!(rt; right, "in SQL"),
+        Err(wrong) => return Err(Fail::new(format_args!("kept merges, in SQL: {wrong}"))),
     }
     Ok(())
 }

@@ -20,19 +20,27 @@ mod contracts;
 #[cfg(test)]
 mod examinations;
 #[cfg(test)]
+mod file_office;
+#[cfg(test)]
 mod imports;
 #[cfg(test)]
 mod kept_merges;
 #[cfg(test)]
 mod late_tenders;
 #[cfg(test)]
+mod ledger_rows;
+#[cfg(test)]
 mod ledgers;
 #[cfg(test)]
 mod limits;
 #[cfg(test)]
+mod loopback;
+#[cfg(test)]
 mod members;
 #[cfg(test)]
 mod modified_tenders;
+#[cfg(test)]
+mod no_offices;
 #[cfg(test)]
 mod ocds;
 #[cfg(test)]
@@ -59,6 +67,12 @@ mod rights;
 mod runs;
 #[cfg(test)]
 mod setup;
+#[cfg(test)]
+mod sql_office;
+#[cfg(test)]
+mod stops;
+#[cfg(test)]
+mod stores;
 #[cfg(test)]
 mod streams;
 #[cfg(test)]

@@ -1,11 +1,11 @@
 //! Transcripts played to an office: each block's request is sent, and its answer compared byte for byte.
 use crate::blocks::{Block, Fault, read};
 use crate::office::settings;
+use crate::stores::{Store, played_in};
 use office_base::shelf::Shelf;
 use office_desk::desk::Desk;
 use office_http::Routes;
 use office_http::answering::answer;
-use office_memory::memory::MemoryShelf;
 use office_wire::answer::Answer;
 use std::alloc::{AllocError, Global};
 use std::fmt::{self, Display, Formatter, Write};
@@ -19,6 +19,12 @@ pub(crate) enum Wrong {
     /// The block of this number is answered otherwise.
     Answer(u64, String),
     NoMemory,
+    /// Its store can't be opened or closed.
+    Unopened,
+    /// What stands in its store is no office.
+    NotAnOffice,
+    /// A disk that takes so many calls leaves neither what was there before a command nor what is there behind it.
+    Stop(u64),
 }
 
 impl From<AllocError> for Wrong {
@@ -34,6 +40,9 @@ impl Display for Wrong {
             Wrong::Block(number, Fault::NoMemory) => write!(f, "no memory for block {number}"),
             Wrong::Answer(number, told) => write!(f, "block {number} is answered by {told}"),
             Wrong::NoMemory => write!(f, "no memory"),
+            Wrong::Unopened => write!(f, "a store that can't be opened"),
+            Wrong::NotAnOffice => write!(f, "no office"),
+            Wrong::Stop(calls) => write!(f, "a stop after {calls} calls leaves something else"),
         }
     }
 }
@@ -57,7 +66,7 @@ pub(crate) struct Session<H: Shelf + Drop> {
     // How many blocks were played.
     played: u64,
     // All that the office has answered since it was last listened to.
-    told: Vec<u8>,
+    pub(crate) told: Vec<u8>,
 }
 
 impl<H: Shelf + Drop> Session<H> {
@@ -84,7 +93,8 @@ impl<H: Shelf + Drop> Session<H> {
         true
     }
 
-    fn answer_to(&mut self, block: &Block) -> Answer {
+    /// What it answers to a block's request.
+    pub(crate) fn answer_to(&mut self, block: &Block) -> Answer {
         answer(
             self.alloc,
             &self.routes,
@@ -162,14 +172,22 @@ pub(crate) fn heard<H: Shelf + Drop>(
     Ok(session.told)
 }
 
-/// Plays the transcripts to an empty office in memory, which is to answer each block as it says. Where the first try fails there is a second:
-/// one allocation of a test may be refused.
-pub(crate) fn shows(alloc: Global, name: &str, transcripts: &[&str]) -> Result<(), Fail> {
-    if played(alloc, MemoryShelf::new(alloc), 0, transcripts).is_ok() {
+// Plays the transcripts to an empty office in such a store, which is to answer each block as it says. Where the first try fails there is a second:
+// one allocation of a test may be refused.
+fn shows_in(alloc: Global, name: &str, store: Store, transcripts: &[&str]) -> Result<(), Fail> {
+    if played_in(alloc, store, transcripts).is_ok() {
         return Ok(());
     }
-    match played(alloc, MemoryShelf::new(alloc), 0, transcripts) {
-        Ok(_) => Ok(()),
-        Err(wrong) => Err(Fail::new(format_args!("{name}: {wrong}"))),
+    match played_in(alloc, store, transcripts) {
+        Ok(()) => Ok(()),
+        Err(wrong) => Err(Fail::new(format_args!("{name}, {}: {wrong}", store.name()))),
     }
+}
+
+/// Plays the transcripts to an empty office in memory, to one in SQL, and to one in files that is closed and opened between them. Each is to answer
+/// each block as it says.
+pub(crate) fn shows(alloc: Global, name: &str, transcripts: &[&str]) -> Result<(), Fail> {
+    shows_in(alloc, name, Store::Memory, transcripts)?;
+    shows_in(alloc, name, Store::Sql, transcripts)?;
+    shows_in(alloc, name, Store::Files, transcripts)
 }
