@@ -28,6 +28,14 @@ impl Drop for FileOffice {
     }
 }
 
+impl FileOffice {
+    /// The shelf over its tables.
+    pub(crate) fn into_shelf(self) -> SqlShelf<FileStore<Fuse<Memory>>> {
+        let FileOffice { shelf } = self;
+        shelf
+    }
+}
+
 impl Lookups for FileOffice {
     ghost meaning = { inside (λ s. s.shelf) (sql_meaning over_files) };
 

@@ -73,8 +73,7 @@ fn left_by_the_machine(
 
 // Its disks, whether or not it could be closed, and whether it could.
 fn put_down(office: FileOffice) -> (bool, Files<Fuse<Memory>>) {
-    let FileOffice { shelf } = office;
-    match shelf.into_connection().close_files() {
+    match office.into_shelf().into_connection().close_files() {
         Ok(files) => (true, files),
         Err((_, store)) => (false, store.close()),
     }

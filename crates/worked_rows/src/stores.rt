@@ -57,8 +57,7 @@ pub(crate) fn opened(alloc: Global, files: Files<Fuse<Memory>>) -> Result<FileOf
 
 /// Its files, once it is closed.
 pub(crate) fn closed(office: FileOffice) -> Result<Files<Fuse<Memory>>, Wrong> {
-    let FileOffice { shelf } = office;
-    match shelf.close_files() {
+    match office.into_shelf().close_files() {
         Ok(files) => Ok(files),
         Err(_) => Err(Wrong::Unopened),
     }
