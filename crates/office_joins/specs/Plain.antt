@@ -1,4 +1,4 @@
--- The select of joined rows only reads.
+-- The select of joined rows shows no rows of a write, and reads no clock.
 use Rattle.sqlite_schema.specs.declared.schema.Schema.{Schema}
 use Rattle.sqlite.specs.Listing.{understood}
 use Rattle.sqlite.specs.Given.{IsPlain}

@@ -47,7 +47,7 @@ pub fn stored_rows_show()
     ensures { StoredRowsShow }
 {}
 
-/// A law: the select of all lines only reads.
+/// A law: the select of all lines shows no rows of a write, and reads no clock.
 pub fn join_is_plain()
     ensures { JoinIsPlain }
 {}

@@ -1,4 +1,4 @@
--- The range of each field, as the types of the records keep it: a check of a table refuses no record.
+-- The range of each field, as the types of the records keep it. The checks of the tables are written with the same numbers.
 use Rattle.std.specs.Prelude.{◌≡◌, ℕ, ◌≤◌, ◌^◌, length, Option, IfSome}
 use Rattle.office_values.specs.Ids.{IsId}
 use Rattle.office_values.specs.Texts.{IsTextLine}

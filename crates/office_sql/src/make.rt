@@ -207,8 +207,8 @@ fn put_first_clock<S: Alter>(tx: &mut Transaction<'_, S>) -> Result<(), Error>
     )
 }
 
-/// Makes the tables of an office, with no content, beside what is there. A database in which a table, an index or a view has a name of
-/// theirs is refused, and nothing of them stays.
+/// Makes the tables of an office, with no content, beside what is there. Where it is refused, as where a table, an index or a view has a name of
+/// theirs, nothing is committed.
 pub fn make<S: Alter>(tx: &mut Transaction<'_, S>) -> Result<(), Error>
     ensures same_reference { tx.new.conn.ghost_name ≡ tx.old.conn.ghost_name }
     ensures founds { HasCleanDisk (state S.Store tx.new.conn.now) → IsTrue (state S.Store tx.old.conn.now).in_transaction → OnOk result (Founds (state S.Store tx.old.conn.now) (state S.Store tx.new.conn.now)) }

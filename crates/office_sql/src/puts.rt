@@ -1,4 +1,4 @@
-//! Changes of one record each, as statements of a transaction. A change is made, or it is refused and nothing of it stays.
+//! Changes of one record each, as statements of a transaction. A change is made, or it is refused and nothing is committed.
 ghost use Rattle.std.specs.Prelude.{◌≡◌, [], ◌∷◌, IsTrue, OnOk, OnErr};
 ghost use Rattle.sqlite.specs.Held.{state};
 ghost use Rattle.sqlite.specs.State.{HasCleanDisk, Survives};

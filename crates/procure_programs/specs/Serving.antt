@@ -9,7 +9,7 @@ use Rattle.office_wire.specs.Runs.{Step, office_left}
 use Rattle.office_http.specs.Answering.{Held, StandsAs, office_answers}
 use Rattle.office_http.specs.Joined.{joined_steps}
 
--- the office after so many steps at most, each a request that was read and answered
+-- the office after so many steps at most
 abbrev pub Serves : {S : Type 0} → Meaning S → ℕ → DeskOf S → DeskOf S → Type 0
 Serves M most old new =
     M.honest new.shelf → (h : Held) → StandsAs M old h
