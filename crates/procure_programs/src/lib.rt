@@ -4,3 +4,5 @@
 pub mod clock;
 pub mod serving;
 pub mod showing;
+#[cfg(test)]
+mod showing_tests;
