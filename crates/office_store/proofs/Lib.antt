@@ -6,3 +6,4 @@ mod Reopening
 mod Joined
 mod Taking
 mod Readying
+pub mod Adding

@@ -14,6 +14,7 @@ use Rattle.office_sql.specs.Laws.{TreesTellOneOffice}
 use Rattle.office_sql.specs.Standing.{Holds}
 use Rattle.office_sql.specs.Steps.{Refused, Applied, LeavesPuts, ShowsTables, MayLeave}
 use Rattle.office_store.specs.SqlMeaning.{sql_meaning}
+use Rattle.office_store.specs.LedgerRows.{KeepsOffice}
 
 -- ---- the last commit
 
@@ -69,17 +70,20 @@ module _ {S : Type 0} (g : Ghosts S) (old new : Held S) where
 
   -- ---- a call that adds up
 
-  pub added : {T : Type 0} (entry : Held S × ℕ) (n : ℕ) (value : T) (right : Tables → T → Type 0) (Fits : Tables → Type 0) → (old, n) ≡ entry
-      → (HasCleanDisk (state g new) → Refused (state g old) (state g new)) → Survives (state g old) (state g new) (λ _. ⊥)
+  -- a count of faults is no part of what an office is
+  recounted : (n m : ℕ) → KeepsOffice g old new → Keeps (sql_meaning g) (old, n) (new, m)
+  recounted n m kept = record { before = (kept n).before; same = (kept n).same; stop = (kept n).stop }
+
+  pub added : {T : Type 0} (entry : Held S × ℕ) (n : ℕ) (value : T) (right : Tables → T → Type 0) (Fits : Tables → Type 0) → (old, n) ≡ entry → KeepsOffice g old new
       → (HasCleanDisk (state g new) → (t : Tables) → IsSorted t → ShowsTables (state g old) t → right t value × Fits t) → AddsUp (sql_meaning g) entry (new, n) (Ok value) right Fits
-  added entry n value right Fits is kept survives got =
-      subst (λ e. AddsUp (sql_meaning g) e (new, n) (Ok value) right Fits) is ((keeps n n kept survives, λ clean t h. got clean t h.0 h.1), refl)
+  added entry n value right Fits is kept got =
+      subst (λ e. AddsUp (sql_meaning g) e (new, n) (Ok value) right Fits) is ((kept n, λ clean t h. got clean t h.0 h.1), refl)
 
   pub not_added : {T : Type 0} (entry after : Held S × ℕ) (n : ℕ) (fault : ShelfFault) (right : Tables → T → Type 0) (Fits : Tables → Type 0) → (old, n) ≡ entry → after.0 ≡ new → after.1 ≡ one_fault_more n
-      → (HasCleanDisk (state g new) → Refused (state g old) (state g new)) → Survives (state g old) (state g new) (λ _. ⊥) → AddsUp (sql_meaning g) entry after (Err fault) right Fits
-  not_added entry after n fault right Fits is same counted kept survives =
+      → KeepsOffice g old new → AddsUp (sql_meaning g) entry after (Err fault) right Fits
+  not_added entry after n fault right Fits is same counted kept =
       subst (λ e. AddsUp (sql_meaning g) e after (Err fault) right Fits) is
-      ((subst (λ h. Keeps (sql_meaning g) (old, n) (h, after.1)) (sym same) (keeps n after.1 kept survives), λ clean t h. no_sums fault right Fits t), counted)
+      ((subst (λ h. Keeps (sql_meaning g) (old, n) (h, after.1)) (sym same) (recounted n after.1 kept), λ clean t h. no_sums fault right Fits t), counted)
 
   -- ---- a call that changes
 

@@ -3,7 +3,7 @@ use Rattle.std.proofs.Common.{◌≡◌, List, [], ◌∷◌, ◌++◌, map, Som
 use Rattle.sqlite_value.specs.Order.{Row}
 use Rattle.sqlite_trees.specs.declared.store.Store.{Ghosts}
 use Rattle.sqlite.specs.Given.{HasGiven, Advances}
-use Rattle.sqlite.specs.Held.{state}
+use Rattle.sqlite.specs.Held.{Held, state}
 use Rattle.sqlite.specs.State.{IsUnchanged}
 use Rattle.sqlite.proofs.Callers.{given_begin}
 use Rattle.office_base.specs.Tables.{Tables}
@@ -14,7 +14,6 @@ use Rattle.office_joins.specs.Reading.{joined_read}
 use Rattle.office_joins.specs.ReadBack.{JoinedRowsComeBack}
 use Rattle.office_joins.specs.Select.{list_joined}
 use Rattle.office_joins.specs.Shows.{HoldsJoined, JoinIsShown, JoinIsBegun}
-use Rattle.office_store.specs.declared.ledger_rows.LedgerRows.{LedgerRows}
 use Rattle.office_store.specs.LedgerRows.{HasTaken}
 
 push : {X : Type 0} (xs : List X) (x : X) (ys : List X) → (xs ++ x ∷ []) ++ ys ≡ xs ++ x ∷ ys
@@ -35,23 +34,23 @@ next_is (y ∷ ys) more row rest e = next_is ys more row rest cc
 came_back : JoinedRowsComeBack → (x : JoinedRow) → joined_read (joined_cells x) ≡ x
 came_back back x = let one = back (x ∷ []) in cc
 
-module _ {S : Type 0} (g : Ghosts S) (back : JoinedRowsComeBack) (old new : LedgerRows S g) (t : Tables) (taken : List JoinedRow) (was : HasTaken g old t taken) where
-  pub takes : JoinIsBegun g → (row : Row) (x : JoinedRow) → IsUnchanged (state g old.rows.conn.now) (state g new.rows.conn.now) → Advances g old.rows.conn.now new.rows.conn.now (Some row) → x ≡ joined_read row
+module _ {S : Type 0} (g : Ghosts S) (back : JoinedRowsComeBack) (old new : Held S) (t : Tables) (taken : List JoinedRow) (was : HasTaken g old t taken) where
+  pub takes : JoinIsBegun g → (row : Row) (x : JoinedRow) → IsUnchanged (state g old) (state g new) → Advances g old new (Some row) → x ≡ joined_read row
       → HasTaken g new t (taken ++ x ∷ [])
   takes begun row x same on read =
-      let given : HasGiven g list_joined [] new.rows.conn.now (map joined_cells taken ++ row ∷ []) = on list_joined [] (map joined_cells taken) was.given in
-      let held : HoldsJoined (state g new.rows.conn.now).now t = subst (λ d. HoldsJoined d t) (sym same.0.now_is) was.held in
-      let all = begun new.rows.conn.now t (map joined_cells taken ++ row ∷ []) held (given_begin g list_joined [] new.rows.conn.now (map joined_cells taken ++ row ∷ []) given) in
+      let given : HasGiven g list_joined [] new (map joined_cells taken ++ row ∷ []) = on list_joined [] (map joined_cells taken) was.given in
+      let held : HoldsJoined (state g new).now t = subst (λ d. HoldsJoined d t) (sym same.0.now_is) was.held in
+      let all = begun new t (map joined_cells taken ++ row ∷ []) held (given_begin g list_joined [] new (map joined_cells taken ++ row ∷ []) given) in
       let next = next_is taken was.first.0 row all.0 (all.1 ∙ ap (map joined_cells) (sym was.first.1)) in
       let is : x ≡ next.0 = read ∙ ap joined_read next.3 ∙ came_back back next.0 in
       let cells : joined_cells x ≡ row = ap joined_cells is ∙ sym next.3 in
       record {
-        given = subst (HasGiven g list_joined [] new.rows.conn.now) (sym (map_push joined_cells taken x ∙ ap (λ r. map joined_cells taken ++ r ∷ []) cells)) given;
+        given = subst (HasGiven g list_joined [] new) (sym (map_push joined_cells taken x ∙ ap (λ r. map joined_cells taken ++ r ∷ []) cells)) given;
         held = held;
         first = (next.1, push taken x next.1 ∙ ap (λ y. taken ++ y ∷ next.1) is ∙ ap (λ l. taken ++ l) (sym next.2) ∙ was.first.1);
       }
 
-  pub all_taken : JoinIsShown g → Advances g old.rows.conn.now new.rows.conn.now None → taken ≡ joined t
+  pub all_taken : JoinIsShown g → Advances g old new None → taken ≡ joined t
   all_taken shown on =
-      let e : map joined_cells taken ≡ map joined_cells (joined t) = shown old.rows.conn.now new.rows.conn.now t (map joined_cells taken) was.held (on list_joined [] (map joined_cells taken) was.given) in
+      let e : map joined_cells taken ≡ map joined_cells (joined t) = shown old new t (map joined_cells taken) was.held (on list_joined [] (map joined_cells taken) was.given) in
       sym (back taken) ∙ ap (map joined_read) e ∙ back (joined t)

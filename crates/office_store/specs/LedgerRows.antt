@@ -28,16 +28,16 @@ module _ {S : Type 0} (g : Ghosts S) where
   abbrev pub IsAtEnd : LedgerRows S g → Type 0
   IsAtEnd it = IsEnded it.rows.conn.now
 
-  -- these rows were taken so far, and they are the first of the join of these tables
-  pub record HasTaken (it : LedgerRows S g) (t : Tables) (taken : List JoinedRow) : Type 0 where
-    pub given : HasGiven g list_joined [] it.rows.conn.now (map joined_cells taken)
-    pub held : HoldsJoined (state g it.rows.conn.now).now t
+  -- of a connection: these rows were taken so far, and they are the first of the join of these tables
+  pub record HasTaken (h : Held S) (t : Tables) (taken : List JoinedRow) : Type 0 where
+    pub given : HasGiven g list_joined [] h (map joined_cells taken)
+    pub held : HoldsJoined (state g h).now t
     pub first : (rest : List JoinedRow) × (taken ++ rest ≡ joined t)
 
   -- one more row is taken, or those so far are the whole join
-  abbrev pub TakesOn : LedgerRows S g → Tables → List JoinedRow → Option JoinedRow → Type 0
-  TakesOn it t taken (Some row) = HasTaken it t (taken ++ row ∷ [])
-  TakesOn it t taken None = taken ≡ joined t
+  abbrev pub TakesOn : Held S → Tables → List JoinedRow → Option JoinedRow → Type 0
+  TakesOn h t taken (Some row) = HasTaken h t (taken ++ row ∷ [])
+  TakesOn h t taken None = taken ≡ joined t
 
   -- the connection shows what it showed, and a stop leaves nothing that it could not have left before
   abbrev pub KeepsOffice : Held S → Held S → Type 0

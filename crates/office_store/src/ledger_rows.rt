@@ -9,12 +9,10 @@ ghost use Rattle.office_ledger.specs.declared.joined.JoinedRow.{JoinedRow as Joi
 ghost use Rattle.office_store.specs.SqlMeaning.{sql_meaning};
 
 use crate::faults::fault;
+use crate::joined_rows::take_row;
 use crate::shelf::SqlShelf;
 use office_base::shelf::ShelfFault;
-use office_joins::reading::{joined_row, joined_rows_come_back};
-use office_joins::select::{
-    join_is_begun, join_is_plain, join_is_shown, list_joined, stored_rows_show,
-};
+use office_joins::select::{join_is_plain, list_joined, stored_rows_show};
 use office_ledger::joined::JoinedRow;
 use sqlite::{Alter, Connection, Rows};
 
@@ -26,7 +24,7 @@ pub struct LedgerRows<'a, S: Alter> {
 }
 
 // A store that was shut, and one in a transaction, refuse.
-fn ready<S: Alter>(conn: &mut Connection<S>) -> Result<(), ShelfFault>
+pub(crate) fn ready<S: Alter>(conn: &mut Connection<S>) -> Result<(), ShelfFault>
     ensures unchanged { HasCleanDisk (state S.Store conn.new) → OnOk result (IsUnchanged (state S.Store conn.old) (state S.Store conn.new)) }
     ensures settled { HasCleanDisk (state S.Store conn.new) → OnOk result ((state S.Store conn.new).now ≡ (state S.Store conn.new).committed) }
     ensures kept { HasCleanDisk (state S.Store conn.new) → Refused (state S.Store conn.old) (state S.Store conn.new) }
@@ -46,43 +44,19 @@ impl<'a, S: Alter> LedgerRows<'a, S> {
 
     fn begin(conn: &'a mut Connection<S>) -> Result<LedgerRows<'a, S>, ShelfFault>
         ensures same_reference { IfOk result (λ it. it.rows.conn.ghost_name ≡ conn.entry.ghost_name) }
-        ensures begun { IfOk result (λ it. HasCleanDisk (state S.Store it.rows.conn.now) → (t : Tables) → IsSorted t → ShowsTables (state S.Store conn.old) t → HasTaken S.Store it t []) }
+        ensures begun { IfOk result (λ it. HasCleanDisk (state S.Store it.rows.conn.now) → (t : Tables) → IsSorted t → ShowsTables (state S.Store conn.old) t → HasTaken S.Store it.rows.conn.now t []) }
         ensures kept { IfOk result (λ it. KeepsOffice S.Store conn.old it.rows.conn.now) }
         ensures unbroken { IfOk result (λ it. it.is_broken ≡ false) }
     {
         join_is_plain();
         stored_rows_show();
         ready(conn)?;
-        let rows = match conn.query(list_joined(), &[]) {
-            Ok(rows) => rows,
-            Err(error) => return Err(fault(error)),
-        };
-        Ok(LedgerRows {
-            rows,
-            is_broken: false,
-        })
-    }
-
-    // The next row, whatever was a fault before.
-    fn take(&mut self) -> Result<Option<JoinedRow>, ShelfFault>
-        ensures same_reference { self.new.rows.conn.ghost_name ≡ self.old.rows.conn.ghost_name }
-        ensures kept { KeepsOffice S.Store self.old.rows.conn.now self.new.rows.conn.now }
-        ensures rows { HasCleanDisk (state S.Store self.new.rows.conn.now) → (t : Tables) (taken : List Joined) → HasTaken S.Store self.old t taken → IfOk result (TakesOn S.Store self.new t taken) }
-        ensures ends { IfOk result (λ row. IfNone row (IsAtEnd S.Store self.new)) }
-        ensures ended { IsAtEnd S.Store self.old → IfOk result IsNone }
-    {
-        join_is_begun::<S>();
-        join_is_shown::<S>();
-        joined_rows_come_back();
-        if let Err(error) = self.rows.advance() {
-            return Err(fault(error));
-        }
-        match self.rows.get() {
-            Some(row) => match joined_row(row) {
-                Ok(joined) => Ok(Some(joined)),
-                Err(fault) => Err(fault),
-            },
-            None => Ok(None),
+        match conn.query(list_joined(), &[]) {
+            Ok(rows) => Ok(LedgerRows {
+                rows,
+                is_broken: false,
+            }),
+            Err(error) => Err(fault(error)),
         }
     }
 
@@ -90,7 +64,7 @@ impl<'a, S: Alter> LedgerRows<'a, S> {
     pub fn next(&mut self) -> Result<Option<JoinedRow>, ShelfFault>
         ensures same_reference { self.new.rows.conn.ghost_name ≡ self.old.rows.conn.ghost_name }
         ensures kept { KeepsOffice S.Store self.old.rows.conn.now self.new.rows.conn.now }
-        ensures rows { HasCleanDisk (state S.Store self.new.rows.conn.now) → (t : Tables) (taken : List Joined) → HasTaken S.Store self.old t taken → IfOk result (TakesOn S.Store self.new t taken) }
+        ensures rows { HasCleanDisk (state S.Store self.new.rows.conn.now) → (t : Tables) (taken : List Joined) → HasTaken S.Store self.old.rows.conn.now t taken → IfOk result (TakesOn S.Store self.new.rows.conn.now t taken) }
         ensures ends { IfOk result (λ row. IfNone row (IsAtEnd S.Store self.new)) }
         ensures ended { IsAtEnd S.Store self.old → IfOk result IsNone }
         ensures fault { OnErr result (IsBroken S.Store self.new) }
@@ -99,7 +73,7 @@ impl<'a, S: Alter> LedgerRows<'a, S> {
         if self.is_broken {
             return Err(ShelfFault::Store);
         }
-        match self.take() {
+        match take_row(&mut self.rows) {
             Ok(row) => Ok(row),
             Err(fault) => {
                 self.is_broken = true;
@@ -114,7 +88,7 @@ impl<S: Alter> SqlShelf<S> {
 
     /// The ledger's joined rows, one at a time. The faults that they answer are not counted.
     pub fn ledger_rows(&mut self) -> Result<LedgerRows<'_, S>, ShelfFault>
-        ensures begun { IfOk result (λ it. HasCleanDisk (state S.Store it.rows.conn.now) → (t : Tables) → IsSorted t → ShowsTables (state S.Store self.old.0) t → HasTaken S.Store it t []) }
+        ensures begun { IfOk result (λ it. HasCleanDisk (state S.Store it.rows.conn.now) → (t : Tables) → IsSorted t → ShowsTables (state S.Store self.old.0) t → HasTaken S.Store it.rows.conn.now t []) }
         ensures kept { IfOk result (λ it. Keeps (sql_meaning S.Store) self.old (shelf_left S.Store it self.old.1)) }
         ensures unbroken { IfOk result (λ it. it.is_broken ≡ false) }
     {

@@ -5,6 +5,7 @@ mod apply;
 mod faults;
 pub mod file_shelf;
 pub mod found;
+mod joined_rows;
 pub mod ledger_rows;
 pub mod open;
 pub mod shelf;

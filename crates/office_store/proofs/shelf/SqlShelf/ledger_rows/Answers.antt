@@ -12,7 +12,7 @@ use Rattle.office_store.proofs.shelf.SqlShelf.ledger_rows.Goals as goal
 pub returns-clause-begun : goal.returns-clause-begun
 returns-clause-begun g c =
     on_value c.begin.result
-    (λ it h. subst (λ (s : Held g.row.S.Denot × ℕ). HasCleanDisk (state g.S.Store it.rows.conn.now) → (t : Tables) → IsSorted t → ShowsTables (state g.S.Store s.0) t → HasTaken g.S.Store it t []) c.self.view_is h)
+    (λ it h. subst (λ (s : Held g.row.S.Denot × ℕ). HasCleanDisk (state g.S.Store it.rows.conn.now) → (t : Tables) → IsSorted t → ShowsTables (state g.S.Store s.0) t → HasTaken g.S.Store it.rows.conn.now t []) c.self.view_is h)
     c.begin.ensures.begun
 
 pub returns-clause-kept : goal.returns-clause-kept

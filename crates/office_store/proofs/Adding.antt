@@ -1,0 +1,20 @@
+-- Rows that are taken and added up, one after another.
+use Rattle.std.proofs.Common.{Ok, Err, Result}
+use Rattle.std.specs.Prelude.{IfOk}
+use Rattle.sqlite_trees.specs.declared.store.Store.{Ghosts}
+use Rattle.sqlite.specs.Held.{Held}
+use Rattle.office_base.specs.Shelves.{SumsAnswer}
+use Rattle.office_base.specs.Tables.{Tables}
+use Rattle.office_base.specs.declared.shelf.ShelfFault.{ShelfFault}
+use Rattle.office_store.specs.LedgerRows.{KeepsOffice}
+
+pub keeps_then : {S : Type 0} (g : Ghosts S) (a b c : Held S) → KeepsOffice g a b → KeepsOffice g b c → KeepsOffice g a c
+keeps_then g a b c first second n = record {
+  before = λ clean. (first n).before ((second n).before clean);
+  same = λ clean t h. (second n).same clean t ((first n).same ((second n).before clean) t h);
+  stop = λ clean t h u left. let early = (second n).before clean in (first n).stop early t h u ((second n).stop clean t ((first n).same early t h) u left);
+}
+
+pub sums_right : {T : Type 0} (right : Tables → T → Type 0) (Fits : Tables → Type 0) (r : Result T ShelfFault) (t : Tables) → SumsAnswer ⊥ right Fits r t → IfOk r (λ x. right t x × Fits t)
+sums_right right Fits (Ok x) t h = h
+sums_right right Fits (Err e) t h = tt
