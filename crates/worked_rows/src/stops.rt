@@ -236,21 +236,33 @@ fn stops(
     Err(Wrong::Stop(2000))
 }
 
-// Whether stops of each disk leave the one or the other, and were found to leave both.
-fn is_all_or_none(alloc: Global, before: &[&str], command: &str) -> Result<bool, Wrong> {
+// Stops of the log's disk, and of that of the database file: what they leave.
+fn both(alloc: Global, before: &[&str], command: &str) -> Result<(Found, Found), Wrong> {
     let of_log = stops(alloc, before, command, Stopping::Log)?;
     let of_db = stops(alloc, before, command, Stopping::Database)?;
-    Ok(of_log.before > 0 && of_log.behind > 0 && of_db.before > 0 && of_db.behind > 0)
+    Ok((of_log, of_db))
 }
 
-// The same, at a second try where the first isn't: one allocation of a test may be refused.
-fn leaves_all_or_none(alloc: Global, before: &[&str], command: &str) -> Result<(), Fail> {
-    if matches!(is_all_or_none(alloc, before, command), Ok(true)) {
-        return Ok(());
+// The first of two tries that doesn't fail: one allocation of a test may be refused.
+fn either(
+    first: Result<(Found, Found), Wrong>,
+    second: Result<(Found, Found), Wrong>,
+) -> Result<(Found, Found), Wrong> {
+    match first {
+        Ok(found) => Ok(found),
+        Err(_) => second,
     }
-    match is_all_or_none(alloc, before, command) {
-        Ok(true) => Ok(()),
-        Ok(false) => Err(Fail::from("all stops leave the same")),
+}
+
+// That stops leave what is before the command or what is behind it. Those of the log were found to leave both.
+fn leaves_all_or_none(alloc: Global, before: &[&str], command: &str) -> Result<(), Fail> {
+    let second = both(alloc, before, command);
+    match either(both(alloc, before, command), second) {
+        Ok((log, db)) if log.before > 0 && log.behind > 0 && db.behind > 0 => Ok(()),
+        Ok((log, db)) => Err(Fail::new(format_args!(
+            "stops of the log leave {} as before and {} as behind, of the database file {} and {}",
+            log.before, log.behind, db.before, db.behind
+        ))),
         Err(wrong) => Err(Fail::new(format_args!("{wrong}"))),
     }
 }
