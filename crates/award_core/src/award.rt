@@ -151,7 +151,7 @@ fn lost(
 /// office lacks the lot's line, or the line would have more free than 10^15, as in none that commands reach.
 #[tactic(auto, unfolding(office_base::specs::Deciding::Decides))]
 pub fn decide_award(alloc: Global, t: Moment, rows: AwardRows) -> Result<Vec<Put>, Refusal>
-    ensures { Decides result (first_of (award_tests t rows.notice rows.lot rows.line rows.envelopes)) (award_puts rows.clock t rows.notice rows.lot rows.line rows.envelopes rows.securities) }
+    ensures { Decides result (first_of (award_tests rows t)) (award_puts rows t) }
 {
     let AwardRows {
         notice,

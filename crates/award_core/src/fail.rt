@@ -4,7 +4,7 @@ ghost use Rattle.office_base.specs.Deciding.{Decides};
 ghost use Rattle.office_base.specs.RuleParts.{put_if, security_forfeited};
 ghost use Rattle.office_base.specs.Rules.{first_of};
 ghost use Rattle.office_base.specs.declared.puts.Put.TheVariants as puts;
-ghost use Rattle.award_core.specs.Rules.Fail.{stands_still, failed_envelope, fail_tests, fail_puts};
+ghost use Rattle.award_core.specs.Rules.Fail.{stands_still, failed_envelope, fail_tests, fail_puts, fail_conditions};
 
 use office_base::parts::{at_moment, forfeited, has_all_releases, is_expired, released};
 use office_base::puts::Put;
@@ -43,7 +43,7 @@ pub(crate) fn refusal_of(
     award: &Option<AwardRow>,
     notice: &Option<NoticeRow>,
 ) -> Option<Refusal>
-    ensures { result ≡ first_of (fail_tests t award.now notice.now) }
+    ensures { result ≡ first_of (fail_conditions t award.now notice.now) }
 {
     let Some(award) = award else {
         return Some(Refusal::NoSuch(Thing::Award));
@@ -93,7 +93,7 @@ fn push_forfeited(made: &mut Vec<Put>, security: Option<SecurityRow>) -> Result<
 /// none does that commands reach.
 #[tactic(auto, unfolding(office_base::specs::Deciding::Decides))]
 pub fn decide_fail(alloc: Global, t: Moment, rows: FailRows) -> Result<Vec<Put>, Refusal>
-    ensures { Decides result (first_of (fail_tests t rows.award rows.notice)) (fail_puts rows.clock t rows.award rows.notice rows.lot rows.envelope rows.security) }
+    ensures { Decides result (first_of (fail_tests rows t)) (fail_puts rows t) }
 {
     let FailRows {
         award,

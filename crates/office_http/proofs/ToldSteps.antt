@@ -24,7 +24,7 @@ use Rattle.office_base.specs.Parents.{notice_of_envelope}
 use Rattle.office_base.specs.Rules.{first_of}
 use Rattle.office_base.specs.States.{is_opened}
 use Rattle.office_base.specs.Tables.{Tables, envelope_at, envelopes_of_notice, line_at, lots_of_notice, notice_at, security_at}
-use Rattle.tender_core.specs.Rules.Modify.{modify_tests}
+use Rattle.tender_core.specs.Rules.Modify.{modify_conditions}
 use Rattle.office_machine.specs.Machine.{Given, Means, may_give, refusal_of, tests_for, time_of, next}
 use Rattle.office_machine.specs.Replies.{Reply, Refused, Imported, Enrolled, OfNotice, OpenedAll, Received, Withdrew, Examined}
 use Rattle.office_machine.specs.Replies.{Awarded, Failed, Signed, OfContract, LineSeen, LedgerSeen, Tender}
@@ -63,7 +63,7 @@ refused_as (Package a) why is = absurd (cc)
 -- The reply to an accepted command.
 
 modified : (means : Means) (clock : ClockRow) (t : ℕ) (caller : Caller) (bytes : List ℕ) (given : Bool) (envelope : Option EnvelopeRow) (notice : Option NoticeRow)
-    → first_of ((not given, Forbidden) ∷ modify_tests clock t caller envelope notice) ≡ None
+    → first_of ((not given, Forbidden) ∷ modify_conditions clock t caller envelope notice) ≡ None
     → told_as (modify_reply means clock t bytes envelope) ≡ Json (reply_text (modify_reply means clock t bytes envelope))
 modified means clock t caller bytes true None notice allowed = absurd (cc)
 modified means clock t caller bytes false None notice allowed = absurd (cc)

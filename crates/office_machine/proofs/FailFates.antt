@@ -21,10 +21,10 @@ use Rattle.office_base.specs.declared.puts.Put.{Put}
 use Rattle.office_base.specs.States.{is_held}
 use Rattle.office_base.specs.Rules.{first_of}
 use Rattle.office_base.specs.RuleParts.{released}
-use Rattle.award_core.specs.Rules.Fail.{failed_award, failed_envelope, undecided_again, fail_tests, fail_puts}
-use Rattle.office_base.specs.Tables.{Tables, lot_cmp, envelope_key, award_key, lot_key, notice_key, find_award, put_award, envelope_at, seal_at, security_at, award_at, lot_at, notice_at, after_puts}
+use Rattle.award_core.specs.Rules.Fail.{failed_award, failed_envelope, undecided_again, fail_conditions, fail_effect}
+use Rattle.office_base.specs.Tables.{Tables, envelope_key, award_key, lot_key, envelope_at, seal_at, security_at, award_at, lot_at, notice_at, after_puts}
 use Rattle.office_base.specs.Parents.{notice_of_award, lot_of_award, envelope_of_award, security_of_envelope}
-use Rattle.office_machine.specs.Machine.{Given, Means}
+use Rattle.office_machine.specs.Machine.{Given, Readings}
 use Rattle.office_machine.specs.Fates.{Reception, came, fate_of_tender, security_decided, fate_of_security, is_kept, has_number, carries, is_award_security, SecurityIs}
 use Rattle.office_machine.proofs.Counting.{is_live, counts}
 use Rattle.office_machine.proofs.Passed.{none_holds}
@@ -50,9 +50,9 @@ row_there f None h = absurd (let no : false ≡ true = h in cc)
 row_there f (Some x) h = (x, refl)
 
 -- a lot that is found has its line
-pub on_line : (means : Means) (xs : List Given) (t : Tables) (kept : IsKept means xs t) (k : List ℕ × List ℕ) (l : LotRow) → lot_at k t ≡ Some l
+pub on_line : (readings : Readings) (xs : List Given) (t : Tables) (kept : IsKept readings xs t) (k : List ℕ × List ℕ) (l : LotRow) → lot_at k t ≡ Some l
     → IsOnLine t.lines l
-on_line means xs t kept k l found =
+on_line readings xs t kept k l found =
     all-found Rattle.office_base.proofs.Orders.lots_total lot_key (λ (o : Option LotRow). o ≡ Some l → IsOnLine t.lines l) t.lots k (λ h. let no : None ≡ Some l = h in absurd cc)
     (each t.lots kept.lines) found
   where
@@ -60,7 +60,7 @@ on_line means xs t kept k l found =
     each [] h = tt
     each (r ∷ rows) h = ((λ e. let is : r ≡ l = cc in subst (IsOnLine t.lines) is h.0), each rows h.1)
 
-module _ (means : Means) (number : ℕ) (xs : List Given) (t : Tables) (m : ℕ) (caller : Caller) (kept : IsKept means xs t)
+module _ (readings : Readings) (number : ℕ) (xs : List Given) (t : Tables) (m : ℕ) (caller : Caller) (kept : IsKept readings xs t)
     (w : AwardRow) (found : award_at number t ≡ Some w) (active : w.state ≡ award.Active) where
   abbrev T : ℕ
   T = max m t.clock.moment
@@ -74,7 +74,7 @@ module _ (means : Means) (number : ℕ) (xs : List Given) (t : Tables) (m : ℕ)
   abbrev e : EnvelopeRow
   e = fits.tender
 
-  abbrev stands : EnvelopeStands means.digest w.receipt (came xs w.receipt) (fate_of_tender xs w.receipt) e (seal_at w.receipt t)
+  abbrev stands : EnvelopeStands readings.digest w.receipt (came xs w.receipt) (fate_of_tender xs w.receipt) e (seal_at w.receipt t)
   stands = kept.tenders.received w.receipt e fits.found
 
   abbrev c : Change
@@ -85,7 +85,7 @@ module _ (means : Means) (number : ℕ) (xs : List Given) (t : Tables) (m : ℕ)
 
   module _ (n : NoticeRow) (notice_found : notice_at w.notice t ≡ Some n) (l : LotRow) (lot_found : lot_at (w.notice, w.lot) t ≡ Some l) where
     abbrev ps : Option SecurityRow → List Put
-    ps so = fail_puts t.clock T (Some w) (Some n) (Some l) (Some e) so
+    ps so = fail_effect t.clock T (Some w) (Some n) (Some l) (Some e) so
 
     abbrev after : Option SecurityRow → Tables
     after so = after_puts (ps so) t
@@ -131,9 +131,9 @@ module _ (means : Means) (number : ℕ) (xs : List Given) (t : Tables) (m : ℕ)
           (λ k. lots_put t.lots (w.notice, w.lot) k l undecided_again (λ s. lot.Undecided) (λ l. refl) (λ l. refl) lot_found)
           (λ q. notices-same t.notices (released n) (notice_stands t w.notice n notice_found) q ∙ map_same ((seen t).notice_at q))
 
-      failed_kept : IsKept means (x ∷ xs) (after so)
+      failed_kept : IsKept readings (x ∷ xs) (after so)
       failed_kept =
-          kept_by_change means xs x t (after so) c kept (fair_failing (seen t) kept.sound number w found active fits)
+          kept_by_change readings xs x t (after so) c kept (fair_failing (seen t) kept.sound number w found active fits)
           (record {
             none = refl;
             seen_is = seen_is;
@@ -165,14 +165,14 @@ module _ (means : Means) (number : ℕ) (xs : List Given) (t : Tables) (m : ℕ)
           (order-puts (ps so) t kept.order)
 
     line_there : IsOnLine t.lines (undecided_again l)
-    line_there = on_line means xs t kept (w.notice, w.lot) l lot_found
+    line_there = on_line readings xs t kept (w.notice, w.lot) l lot_found
 
-    by_security : (sec : Option ℕ) → e.security ≡ sec → IsKept means (x ∷ xs) (after (option_and_then (λ n. security_at n t) sec))
+    by_security : (sec : Option ℕ) → e.security ≡ sec → IsKept readings (x ∷ xs) (after (option_and_then (λ n. security_at n t) sec))
     by_security None none =
         failed_kept None (λ r. refl) (λ s. securities_left forfeited t.securities s ∙ ap (λ o. option_map (λ v. cond (has_number s o) (forfeited v) v) (security_at s t)) (sym none)) refl refl refl (tt, (line_there, (tt, (tt, (tt, tt)))))
     by_security (Some k) carried =
         let is = (kept.sound.envelopes w.receipt e fits.found).secured k carried in
-        subst (λ so. IsKept means (x ∷ xs) (after so)) (sym is.found)
+        subst (λ so. IsKept readings (x ∷ xs) (after so)) (sym is.found)
         (failed_kept (Some is.row) (λ r. refl)
         (λ s. securities_put forfeited t.securities k is.row is.found refl s ∙ ap (λ o. option_map (λ v. cond (has_number s o) (forfeited v) v) (security_at s t)) (sym carried))
         refl refl refl (tt, (line_there, (tt, (tt, (tt, (tt, tt)))))))
@@ -189,23 +189,23 @@ module _ (means : Means) (number : ℕ) (xs : List Given) (t : Tables) (m : ℕ)
       (subst (λ o. P (Some n.0) o (envelope_at w.receipt t)) (sym l.1)
       (subst (λ o. P (Some n.0) (Some l.0) o) (sym fits.found) (f n.0 n.1 l.0 l.1)))
 
-  fail_kept : IsKept means (x ∷ xs) (after_puts (fail_puts t.clock T (Some w) (notice_at w.notice t) (lot_at (w.notice, w.lot) t) (envelope_at w.receipt t) (security_of_envelope (envelope_at w.receipt t) t)) t)
+  fail_kept : IsKept readings (x ∷ xs) (after_puts (fail_effect t.clock T (Some w) (notice_at w.notice t) (lot_at (w.notice, w.lot) t) (envelope_at w.receipt t) (security_of_envelope (envelope_at w.receipt t) t)) t)
   fail_kept =
-      rows_there (λ n l o. IsKept means (x ∷ xs) (after_puts (fail_puts t.clock T (Some w) n l o (security_of_envelope o t)) t))
+      rows_there (λ n l o. IsKept readings (x ∷ xs) (after_puts (fail_effect t.clock T (Some w) n l o (security_of_envelope o t)) t))
       (λ n n_is l l_is. by_security n n_is l l_is e.security refl)
 
-fail_by : (means : Means) (number : ℕ) (xs : List Given) (t : Tables) (m : ℕ) (caller : Caller) (kept : IsKept means xs t) (o : Option AwardRow)
+fail_by : (readings : Readings) (number : ℕ) (xs : List Given) (t : Tables) (m : ℕ) (caller : Caller) (kept : IsKept readings xs t) (o : Option AwardRow)
     → award_at number t ≡ o
-    → first_of (fail_tests (max m t.clock.moment) o (notice_of_award o t)) ≡ None
-    → IsKept means (given t m caller (Fail number) ∷ xs)
-    (after_puts (fail_puts t.clock (max m t.clock.moment) o (notice_of_award o t) (lot_of_award o t) (envelope_of_award o t) (security_of_envelope (envelope_of_award o t) t)) t)
-fail_by means number xs t m caller kept None found allowed =
-    let passes : AllByRecursion (λ (test : Bool × Refusal). test.0 ≡ false) (fail_tests (max m t.clock.moment) None None) = none_holds (fail_tests (max m t.clock.moment) None None) allowed in
+    → first_of (fail_conditions (max m t.clock.moment) o (notice_of_award o t)) ≡ None
+    → IsKept readings (given t m caller (Fail number) ∷ xs)
+    (after_puts (fail_effect t.clock (max m t.clock.moment) o (notice_of_award o t) (lot_of_award o t) (envelope_of_award o t) (security_of_envelope (envelope_of_award o t) t)) t)
+fail_by readings number xs t m caller kept None found allowed =
+    let passes : AllByRecursion (λ (test : Bool × Refusal). test.0 ≡ false) (fail_conditions (max m t.clock.moment) None None) = none_holds (fail_conditions (max m t.clock.moment) None None) allowed in
     let no : true ≡ false = passes.0 in absurd cc
-fail_by means number xs t m caller kept (Some w) found allowed =
-    let tests = fail_tests (max m t.clock.moment) (Some w) (notice_at w.notice t) in
+fail_by readings number xs t m caller kept (Some w) found allowed =
+    let tests = fail_conditions (max m t.clock.moment) (Some w) (notice_at w.notice t) in
     let passes : AllByRecursion (λ (test : Bool × Refusal). test.0 ≡ false) tests = none_holds tests allowed in
-    fail_kept means number xs t m caller kept w found (active_state w.state passes.1.0)
+    fail_kept readings number xs t m caller kept w found (active_state w.state passes.1.0)
 
-pub fail_keeps : (means : Means) (award : ℕ) → Keeps means (Fail award)
-fail_keeps means number xs t m caller kept _ allowed = fail_by means number xs t m caller kept (award_at number t) refl allowed
+pub fail_keeps : (readings : Readings) (award : ℕ) → Keeps readings (Fail award)
+fail_keeps readings number xs t m caller kept _ allowed = fail_by readings number xs t m caller kept (award_at number t) refl allowed

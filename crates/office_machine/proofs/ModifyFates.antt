@@ -14,9 +14,9 @@ use Rattle.office_base.specs.declared.records.SealRow.{SealRow}
 use Rattle.office_base.specs.declared.records.EnvelopeState.TheVariants as envelope
 use Rattle.office_base.specs.States.{is_sealed}
 use Rattle.office_base.specs.Rules.{first_of}
-use Rattle.tender_core.specs.Rules.Modify.{withdrawn, replacing, modify_tests, modify_puts}
+use Rattle.tender_core.specs.Rules.Modify.{withdrawn, replacing, modify_conditions, modify_effect}
 use Rattle.office_base.specs.Parents.{notice_of_envelope}
-use Rattle.office_machine.specs.Machine.{Given, Means}
+use Rattle.office_machine.specs.Machine.{Given, Readings}
 use Rattle.office_machine.specs.Fates as fates
 use Rattle.office_machine.specs.Fates.{Reception, came, brought, tender_decided, fate_of_tender, is_kept, EnvelopeIs}
 use Rattle.office_machine.proofs.Passed.{none_holds}
@@ -35,7 +35,7 @@ use Rattle.office_machine.proofs.NextReceipt.{none_fate, came_other, came_here, 
 nothing_carried : (e : EnvelopeRow) (s : ℕ) → None ≡ Some s → e.security ≡ Some s
 nothing_carried e s h = cc
 
-module _ (means : Means) (receipt : ℕ) (bytes : List ℕ) (xs : List Given) (t : Tables) (m : ℕ) (caller : Caller) (kept : IsKept means xs t) where
+module _ (readings : Readings) (receipt : ℕ) (bytes : List ℕ) (xs : List Given) (t : Tables) (m : ℕ) (caller : Caller) (kept : IsKept readings xs t) where
   abbrev T : ℕ
   T = max m t.clock.moment
 
@@ -49,17 +49,17 @@ module _ (means : Means) (receipt : ℕ) (bytes : List ℕ) (xs : List Given) (t
     abbrev fits : EnvelopeFits (seen t) e
     fits = kept.sound.envelopes receipt e found
 
-    abbrev stands : EnvelopeStands means.digest receipt (came xs receipt) (fate_of_tender xs receipt) e (seal_at receipt t)
+    abbrev stands : EnvelopeStands readings.digest receipt (came xs receipt) (fate_of_tender xs receipt) e (seal_at receipt t)
     stands = kept.tenders.received receipt e found
 
     key_own : e.receipt ≡ receipt
     key_own = found_key nat_cmp_total nat_cmp-IsAntisymmetric envelope_key t.envelopes receipt e found
 
     abbrev new : EnvelopeRow
-    new = replacing means.digest t.clock T e bytes
+    new = replacing readings.digest t.clock T e bytes
 
     abbrev after : Tables
-    after = after_puts (modify_puts means.digest t.clock T (Some e) bytes) t
+    after = after_puts (modify_effect readings.digest t.clock T (Some e) bytes) t
 
     abbrev f : ℕ → EnvelopeRow → EnvelopeRow
     f r d = cond (eq_by_cmp nat_cmp r receipt) (withdrawn d) d
@@ -89,7 +89,7 @@ module _ (means : Means) (receipt : ℕ) (bytes : List ℕ) (xs : List Given) (t
     }
 
     no_new : W.envelope_at k ≡ None
-    no_new = ap (option_map (f k)) (no_envelope_yet means xs t kept)
+    no_new = ap (option_map (f k)) (no_envelope_yet readings xs t kept)
 
     alone : (q : ℕ) (d : EnvelopeRow) (s : ℕ) → W.envelope_at q ≡ Some d → is_kept d.state ≡ true → is_kept new.state ≡ true → d.security ≡ Some s
         → new.security ≡ Some s → ⊥
@@ -126,7 +126,7 @@ module _ (means : Means) (receipt : ℕ) (bytes : List ℕ) (xs : List Given) (t
     other_seal : (r : ℕ) → eq_by_cmp nat_cmp r k ≡ false → seal_at r after ≡ cond (eq_by_cmp nat_cmp r receipt) None (seal_at r t)
     other_seal r other = seal_is r ∙ ap (λ b. cond b (Some new_seal) (cond (eq_by_cmp nat_cmp r receipt) None (seal_at r t))) other
 
-    f_keeps : EnvelopeKeeps means.digest f
+    f_keeps : EnvelopeKeeps readings.digest f
     f_keeps = record {
       notice = λ r d. cond_keeps (λ (e : EnvelopeRow). e.notice) (eq_by_cmp nat_cmp r receipt) (withdrawn d) d refl;
       lot = λ r d. cond_keeps (λ (e : EnvelopeRow). e.lot) (eq_by_cmp nat_cmp r receipt) (withdrawn d) d refl;
@@ -148,7 +148,7 @@ module _ (means : Means) (receipt : ℕ) (bytes : List ℕ) (xs : List Given) (t
             sym (ap (λ s. cond (is_sealed s) envelope.Withdrawn s) (ap (λ (d : EnvelopeRow). d.state) is_e ∙ sealed))
         by false other = still_sealed d.state
 
-    seal_goes : (r : ℕ) (d : EnvelopeRow) (a : Reception) → EnvelopeIs means.digest r a (fate_of_tender xs r) d (seal_at r t)
+    seal_goes : (r : ℕ) (d : EnvelopeRow) (a : Reception) → EnvelopeIs readings.digest r a (fate_of_tender xs r) d (seal_at r t)
         → cond (eq_by_cmp nat_cmp r receipt) None (seal_at r t) ≡ cond (is_kept (f r d).state) (Some (record { receipt = r; bytes = a.bytes })) None
     seal_goes r d a is = by (eq_by_cmp nat_cmp r receipt)
       where
@@ -163,10 +163,10 @@ module _ (means : Means) (receipt : ℕ) (bytes : List ℕ) (xs : List Given) (t
 
     came_new : came (x ∷ xs) k ≡ Some (fates.replacing bytes stands.came)
     came_new =
-        came_here (came xs k) (option_map (fates.replacing bytes) (came xs receipt)) (same_number k k) (nothing_yet means xs t kept).no_reception (same_itself k)
+        came_here (came xs k) (option_map (fates.replacing bytes) (came xs receipt)) (same_number k k) (nothing_yet readings xs t kept).no_reception (same_itself k)
         ∙ ap (option_map (fates.replacing bytes)) stands.came_is
 
-    new_stands : EnvelopeStands means.digest k (came (x ∷ xs) k) (fate_of_tender (x ∷ xs) k) new (seal_at k after)
+    new_stands : EnvelopeStands readings.digest k (came (x ∷ xs) k) (fate_of_tender (x ∷ xs) k) new (seal_at k after)
     new_stands = record {
       came = fates.replacing bytes stands.came;
       came_is = came_new;
@@ -178,15 +178,15 @@ module _ (means : Means) (receipt : ℕ) (bytes : List ℕ) (xs : List Given) (t
         length_is = refl;
         digest_is = refl;
         fate_is =
-            ap (λ o. fates.fate_after o (came (x ∷ xs) k) (tender_decided (Modify receipt bytes) x (came xs) k)) (nothing_yet means xs t kept).no_fate
+            ap (λ o. fates.fate_after o (came (x ∷ xs) k) (tender_decided (Modify receipt bytes) x (came xs) k)) (nothing_yet readings xs t kept).no_fate
             ∙ ap (option_map fates.first_state) came_new;
         seal_is = seal_is k ∙ ap (λ b. cond b (Some new_seal) (cond (eq_by_cmp nat_cmp k receipt) None (seal_at k t))) (same_itself k);
       };
     }
 
-    tenders_after : EnvelopesMatch means.digest (came (x ∷ xs)) (fate_of_tender (x ∷ xs)) (λ r. seal_at r after) k (added k new (λ r. option_map (f r) (envelope_at r t)))
+    tenders_after : EnvelopesMatch readings.digest (came (x ∷ xs)) (fate_of_tender (x ∷ xs)) (λ r. seal_at r after) k (added k new (λ r. option_map (f r) (envelope_at r t)))
     tenders_after =
-        envelopes_received means.digest (came xs) (came (x ∷ xs)) (fate_of_tender xs) (fate_of_tender (x ∷ xs)) (λ r. seal_at r t) (λ r. seal_at r after) t.clock.receipts (λ r. envelope_at r t)
+        envelopes_received readings.digest (came xs) (came (x ∷ xs)) (fate_of_tender xs) (fate_of_tender (x ∷ xs)) (λ r. seal_at r t) (λ r. seal_at r after) t.clock.receipts (λ r. envelope_at r t)
         kept.tenders f f_keeps new
         (λ r other. came_other (came xs r) (brought (Modify receipt bytes) x (λ q. came xs q)) (same_number r k) other)
         (λ r d other at a came_is is. record {
@@ -208,25 +208,25 @@ module _ (means : Means) (receipt : ℕ) (bytes : List ℕ) (xs : List Given) (t
     unnamed None = refl
     unnamed (Some a) = refl
 
-    modified_kept : IsKept means (x ∷ xs) after
+    modified_kept : IsKept readings (x ∷ xs) after
     modified_kept = record {
       sound = sound_after;
       tenders =
-          subst (EnvelopesMatch means.digest (came (x ∷ xs)) (fate_of_tender (x ∷ xs)) (λ r. seal_at r after) k) (sym (λ i r. envelopes_are r i)) tenders_after;
-      named = securities_stay means xs t kept x (unnamed (came xs receipt)) (λ s. refl);
+          subst (EnvelopesMatch readings.digest (came (x ∷ xs)) (fate_of_tender (x ∷ xs)) (λ r. seal_at r after) k) (sym (λ i r. envelopes_are r i)) tenders_after;
+      named = securities_stay readings xs t kept x (unnamed (came xs receipt)) (λ s. refl);
       lines = kept.lines;
-      order = order-puts (modify_puts means.digest t.clock T (Some e) bytes) t kept.order;
+      order = order-puts (modify_effect readings.digest t.clock T (Some e) bytes) t kept.order;
     }
 
-  by_envelope : (o : Option EnvelopeRow) → envelope_at receipt t ≡ o → first_of (modify_tests t.clock T caller o (notice_of_envelope o t)) ≡ None
-      → IsKept means (x ∷ xs) (after_puts (modify_puts means.digest t.clock T o bytes) t)
+  by_envelope : (o : Option EnvelopeRow) → envelope_at receipt t ≡ o → first_of (modify_conditions t.clock T caller o (notice_of_envelope o t)) ≡ None
+      → IsKept readings (x ∷ xs) (after_puts (modify_effect readings.digest t.clock T o bytes) t)
   by_envelope None found allowed =
-      let passes : AllByRecursion (λ (test : Bool × Refusal). test.0 ≡ false) (modify_tests t.clock T caller None None) = none_holds (modify_tests t.clock T caller None None) allowed in
+      let passes : AllByRecursion (λ (test : Bool × Refusal). test.0 ≡ false) (modify_conditions t.clock T caller None None) = none_holds (modify_conditions t.clock T caller None None) allowed in
       let no : true ≡ false = passes.0 in cc
   by_envelope (Some e) found allowed =
-      let passes : AllByRecursion (λ (test : Bool × Refusal). test.0 ≡ false) (modify_tests t.clock T caller (Some e) (notice_at e.notice t)) = none_holds (modify_tests t.clock T caller (Some e) (notice_at e.notice t)) allowed in
+      let passes : AllByRecursion (λ (test : Bool × Refusal). test.0 ≡ false) (modify_conditions t.clock T caller (Some e) (notice_at e.notice t)) = none_holds (modify_conditions t.clock T caller (Some e) (notice_at e.notice t)) allowed in
       modified_kept e found (is_sealed_state e.state passes.1.1.1.0)
 
-pub modify_keeps : (means : Means) (receipt : ℕ) (bytes : List ℕ) → Keeps means (Modify receipt bytes)
-modify_keeps means receipt bytes xs t m caller kept _ allowed =
-    by_envelope means receipt bytes xs t m caller kept (envelope_at receipt t) refl allowed
+pub modify_keeps : (readings : Readings) (receipt : ℕ) (bytes : List ℕ) → Keeps readings (Modify receipt bytes)
+modify_keeps readings receipt bytes xs t m caller kept _ allowed =
+    by_envelope readings receipt bytes xs t m caller kept (envelope_at receipt t) refl allowed

@@ -3,7 +3,6 @@ pub mod Publications
 pub mod Machine
 pub mod Clock
 pub mod OfficeMeans
-pub mod Decided
 pub mod Moves
 pub mod Accounts
 pub mod Fits

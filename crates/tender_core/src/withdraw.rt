@@ -43,7 +43,7 @@ pub fn decide_withdraw(
     caller: &Caller,
     rows: WithdrawRows,
 ) -> Result<Vec<Put>, Refusal>
-    ensures { Decides result (first_of (withdraw_tests t caller.now rows.envelope rows.notice)) (withdraw_puts rows.clock t rows.envelope rows.security) }
+    ensures { Decides result (first_of (withdraw_tests rows t caller.now)) (withdraw_puts rows t) }
 {
     let WithdrawRows {
         envelope,
