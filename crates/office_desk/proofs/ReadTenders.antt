@@ -6,7 +6,7 @@ use Rattle.office_base.specs.Tables.{Tables}
 use Rattle.office_base.specs.declared.records.EnvelopeRow.{EnvelopeRow}
 use Rattle.tender_core.specs.Rules.Open.{with_reading}
 use Rattle.tender_core.specs.declared.opening.OpenedTender.{OpenedTender}
-use Rattle.office_machine.specs.Machine.{sealed_tender, sealed_tenders}
+use Rattle.office_machine.specs.Rule.{sealed_tender, sealed_tenders}
 use Rattle.office_machine.specs.OfficeMeans.{unpublished_means}
 use Rattle.office_desk.specs.Opening.{tender_read, sealed_of_notice, tenders_read}
 

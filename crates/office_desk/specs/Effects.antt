@@ -4,7 +4,8 @@ use Rattle.office_values.specs.declared.refusal.Refusal.{Refusal}
 use Rattle.office_values.specs.declared.refusal.Refusal.TheVariants.{Unavailable}
 use Rattle.office_machine.specs.Machine.{Given, IsCommand, refusal_of, time_of, puts_of, next}
 use Rattle.office_machine.specs.OfficeMeans.{unpublished_means}
-use Rattle.office_machine.specs.Replies.{Reply, reply_for}
+use Rattle.office_machine.specs.Replies.{Reply}
+use Rattle.office_machine.specs.Machine.{reply_for}
 use Rattle.office_desk.specs.Plans.{Plan}
 use Rattle.office_desk.specs.Replies.{reply_text}
 

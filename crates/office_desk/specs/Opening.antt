@@ -5,7 +5,7 @@ use Rattle.office_base.specs.declared.records.EnvelopeRow.{EnvelopeRow}
 use Rattle.office_base.specs.declared.records.LotRow.{LotRow}
 use Rattle.tender_core.specs.Rules.Open.{is_sealed_envelope, with_reading}
 use Rattle.tender_core.specs.declared.opening.OpenedTender.{OpenedTender}
-use Rattle.office_machine.specs.Machine.{sealed_tender}
+use Rattle.office_machine.specs.Rule.{sealed_tender}
 use Rattle.office_machine.specs.OfficeMeans.{unpublished_means}
 use Rattle.office_desk.specs.LookedUp.{IsAsIn, with_row}
 

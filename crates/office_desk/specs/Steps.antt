@@ -12,7 +12,8 @@ use Rattle.office_base.specs.Shelves.{Meaning}
 use Rattle.office_machine.specs.Machine.{Given, IsCommand, refusal_of, time_of, next, Reaches}
 use Rattle.office_machine.specs.Accounts.{AccountsHold}
 use Rattle.office_machine.specs.Fates.{TendersHaveFates, SecuritiesHaveFates}
-use Rattle.office_machine.specs.Replies.{Reply, reply_for}
+use Rattle.office_machine.specs.Replies.{Reply}
+use Rattle.office_machine.specs.Machine.{reply_for}
 use Rattle.office_machine.specs.Sights.{Packages, told}
 use Rattle.office_publications.specs.Keeping.{KeepsReleases, PublicationReadsBack, kept_next, kept_puts}
 use Rattle.office_publications.specs.Packages.{packages}

@@ -28,7 +28,8 @@ use Rattle.tender_core.specs.Rules.Modify.{modify_conditions}
 use Rattle.office_machine.specs.Machine.{Given, Means, may_give, refusal_of, tests_for, time_of, next}
 use Rattle.office_machine.specs.Replies.{Reply, Refused, Imported, Enrolled, OfNotice, OpenedAll, Received, Withdrew, Examined}
 use Rattle.office_machine.specs.Replies.{Awarded, Failed, Signed, OfContract, LineSeen, LedgerSeen, Tender}
-use Rattle.office_machine.specs.Replies.{Security, Registry, Minutes, Package, modify_reply, reply_for}
+use Rattle.office_machine.specs.Replies.{Security, Registry, Minutes, Package, modify_reply}
+use Rattle.office_machine.specs.Machine.{reply_for}
 use Rattle.office_machine.specs.Sights.{Packages, is_read_envelope, line_told, minuted, minutes_told, package_told, register_told, security_told, shown, tender_told, told}
 use Rattle.office_publications.specs.Publishing.{publishing}
 use Rattle.office_desk.specs.Replies.{reply_text, text_of}

@@ -30,7 +30,8 @@ use Rattle.office_base.specs.RuleParts.{clock_put, released, is_held_security, s
 use Rattle.award_core.specs.Rules.Award.{is_admissible, is_responsive, lowest_price, winner, unsuccessful, awarded, award_row, decision_puts, award_conditions, award_effect}
 use Rattle.office_base.specs.Tables.{Tables, lot_cmp, lot_key, award_key, envelope_key, security_key, award_at, lot_at, notice_at, line_at, envelope_at, seal_at, security_at, envelopes_of_lot, securities_of_lot, after_puts}
 use Rattle.office_base.specs.Parents.{line_of_lot}
-use Rattle.office_machine.specs.Machine.{Given, Readings}
+use Rattle.office_machine.specs.Machine.{Given}
+use Rattle.office_machine.specs.Readings.{Readings}
 use Rattle.office_machine.specs.Fates.{came, is_of_lot}
 use Rattle.office_base.proofs.ExactKeys.{equal_ids, lots_exact}
 use Rattle.office_base.proofs.Orders.{lots_total}

@@ -15,7 +15,8 @@ use Rattle.office_base.specs.declared.records.LotRow.{LotRow}
 use Rattle.office_base.specs.Tables.{Tables, line_at, notice_at, lot_at, find_line, put_line, find_lot, after_puts, lot_cmp, find_award, put_award, put_lot, envelopes_of_lot, securities_of_lot}
 use Rattle.office_base.specs.Joined.{free_in}
 use Rattle.office_base.specs.Parents.{line_of_lot}
-use Rattle.office_machine.specs.Machine.{Given, Readings, time_of, command_tests, effect}
+use Rattle.office_machine.specs.Machine.{Given, time_of, command_tests, effect}
+use Rattle.office_machine.specs.Readings.{Readings}
 use Rattle.office_machine.specs.Moves.{Move, Free, Reserved, moves, held_for, line_in, same_lot, price_after, move_of_award}
 use Rattle.office_acts.specs.declared.commands.Command.TheVariants as commands
 use Rattle.office_base.specs.declared.puts.Put.TheVariants as puts

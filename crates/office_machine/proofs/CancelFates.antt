@@ -31,7 +31,8 @@ use Rattle.office_base.specs.Rules.{first_of}
 use Rattle.office_base.specs.RuleParts.{clock_put, security_returned}
 use Rattle.tender_core.specs.Rules.Cancel.{is_open_lot, cancelled_lot, lot_put, line_row, line_put, ends, is_ended_award, cancelled_award, award_put, is_ended_envelope, returned_envelope, envelope_put, drop_put, is_ended_security, cancelled_notice, cancel_conditions, cancel_effect}
 use Rattle.office_base.specs.Tables.{Tables, lot_cmp, line_key, lot_key, envelope_key, seal_key, security_key, award_key, find_lot, of_notice, envelope_at, seal_at, security_at, award_at, lot_at, notice_at, lots_of_notice, envelopes_of_notice, securities_of_notice, awards_of_notice, after_puts}
-use Rattle.office_machine.specs.Machine.{Given, Readings}
+use Rattle.office_machine.specs.Machine.{Given}
+use Rattle.office_machine.specs.Readings.{Readings}
 use Rattle.office_machine.specs.Fates.{Reception, came, is_of_notice, tender_decided, fate_of_tender, security_decided, fate_of_security, is_kept, EnvelopeIs, SecurityIs}
 use Rattle.office_machine.proofs.Counting.{is_live}
 use Rattle.office_base.proofs.Orders.{lots_total}

@@ -14,7 +14,8 @@ use Rattle.office_base.specs.declared.records.LotRow.{LotRow}
 use Rattle.office_base.specs.declared.records.ContractRow.{ContractRow}
 use Rattle.office_base.specs.Tables.{Tables, IsSorted, notice_at, find_line, find_lot, after_puts, line_key, lot_key, lot_cmp, award_key, find_award, of_notice, lots_of_notice, awards_of_notice, envelopes_of_notice, securities_of_notice, after_put}
 use Rattle.office_base.specs.Joined.{plus, minus, paid_under, free_in, appropriation_in}
-use Rattle.office_machine.specs.Machine.{Given, Readings, time_of, command_tests, effect}
+use Rattle.office_machine.specs.Machine.{Given, time_of, command_tests, effect}
+use Rattle.office_machine.specs.Readings.{Readings}
 use Rattle.office_machine.specs.Moves.{Move, Outside, Free, Reserved, Contracted, Paid, moves, held_for, Pot, came, went, same_pot, move_back}
 use Rattle.office_acts.specs.declared.commands.Command.TheVariants as commands
 use Rattle.office_base.specs.declared.puts.Put.TheVariants as puts

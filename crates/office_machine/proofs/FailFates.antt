@@ -24,7 +24,8 @@ use Rattle.office_base.specs.RuleParts.{released}
 use Rattle.award_core.specs.Rules.Fail.{failed_award, failed_envelope, undecided_again, fail_conditions, fail_effect}
 use Rattle.office_base.specs.Tables.{Tables, envelope_key, award_key, lot_key, envelope_at, seal_at, security_at, award_at, lot_at, notice_at, after_puts}
 use Rattle.office_base.specs.Parents.{notice_of_award, lot_of_award, envelope_of_award, security_of_envelope}
-use Rattle.office_machine.specs.Machine.{Given, Readings}
+use Rattle.office_machine.specs.Machine.{Given}
+use Rattle.office_machine.specs.Readings.{Readings}
 use Rattle.office_machine.specs.Fates.{Reception, came, fate_of_tender, security_decided, fate_of_security, is_kept, has_number, carries, is_award_security, SecurityIs}
 use Rattle.office_machine.proofs.Counting.{is_live, counts}
 use Rattle.office_machine.proofs.Passed.{none_holds}

@@ -16,7 +16,8 @@ use Rattle.office_base.specs.declared.records.LotState.{LotState}
 use Rattle.office_base.specs.States.{is_sealed, is_held}
 use Rattle.office_base.specs.RuleParts.{is_past_deadline}
 use Rattle.office_base.specs.Tables.{Tables, security_key, envelope_at, seal_at, security_at, notice_at, find_security, put_security}
-use Rattle.office_machine.specs.Machine.{Given, Readings}
+use Rattle.office_machine.specs.Machine.{Given}
+use Rattle.office_machine.specs.Readings.{Readings}
 use Rattle.office_machine.specs.Fates.{Reception, brought, came, tender_decided, fate_of_tender, security_decided, fate_of_security, is_kept, has_number, is_before_deadline, is_effective, EnvelopeIs, SecurityIs}
 use Rattle.office_machine.proofs.RowsChanged.{found_key, row_at-changed_put}
 use Rattle.office_machine.proofs.Counting.{is_live, counts}

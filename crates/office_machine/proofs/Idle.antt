@@ -17,7 +17,9 @@ use Rattle.tender_core.specs.Rules.Modify.{modify_effect}
 use Rattle.tender_core.specs.Rules.Withdraw.{withdraw_effect}
 use Rattle.award_core.specs.Rules.Examine.{examine_effect}
 use Rattle.office_base.specs.Parents.{security_of_envelope}
-use Rattle.office_machine.specs.Machine.{Given, Readings, time_of, effect, sealed_tenders}
+use Rattle.office_machine.specs.Machine.{Given, time_of, effect}
+use Rattle.office_machine.specs.Readings.{Readings}
+use Rattle.office_machine.specs.Rule.{sealed_tenders}
 use Rattle.office_acts.specs.declared.commands.Command.{Command}
 use Rattle.office_acts.specs.declared.commands.Command.TheVariants as commands
 use Rattle.office_machine.proofs.Kept.{IsKept}

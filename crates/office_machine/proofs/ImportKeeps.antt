@@ -7,7 +7,8 @@ use Rattle.office_values.specs.declared.refusal.Refusal.{Refusal}
 use Rattle.office_base.specs.Rules.{first_of}
 use Rattle.office_base.specs.declared.records.LineRow.{LineRow}
 use Rattle.office_base.specs.Tables.{Tables, IsSorted, after_puts, line_key, put_batch}
-use Rattle.office_machine.specs.Machine.{Given, Readings, time_of, command_tests, effect}
+use Rattle.office_machine.specs.Machine.{Given, time_of, command_tests, effect}
+use Rattle.office_machine.specs.Readings.{Readings}
 use Rattle.office_machine.specs.Moves.{Move, Outside, Free, Reserved, Contracted, Paid, moves, Pot, came, went, same_pot, move_of_row}
 use Rattle.office_acts.specs.declared.commands.Command.TheVariants as commands
 use Rattle.office_machine.proofs.Kept.{IsKept, PotsAre}

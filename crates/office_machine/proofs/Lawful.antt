@@ -4,7 +4,8 @@ use Rattle.office_acts.specs.declared.command.Caller.{Caller}
 use Rattle.office_acts.specs.declared.commands.Command.{Command}
 use Rattle.office_base.specs.Rules.{first_of}
 use Rattle.office_base.specs.Tables.{Tables, IsSorted, after_puts}
-use Rattle.office_machine.specs.Machine.{Readings, Given, IsCommand, tests_for, puts_for}
+use Rattle.office_machine.specs.Readings.{Readings}
+use Rattle.office_machine.specs.Machine.{Given, IsCommand, tests_for, puts_for}
 use Rattle.office_machine.specs.Parents.{HaveParents}
 use Rattle.office_machine.specs.Publications.{published_for}
 use Rattle.office_machine.proofs.Kept.{IsKept}

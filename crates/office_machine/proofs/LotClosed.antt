@@ -18,7 +18,8 @@ use Rattle.office_base.specs.declared.records.NoticeState.TheVariants as notice
 use Rattle.office_base.specs.States.{is_held, is_sealed}
 use Rattle.office_base.specs.RuleParts.{is_held_security}
 use Rattle.office_base.specs.Tables.{Tables, lot_cmp, security_key, envelope_at, seal_at, security_at, securities_of_lot, find_security}
-use Rattle.office_machine.specs.Machine.{Given, Readings}
+use Rattle.office_machine.specs.Machine.{Given}
+use Rattle.office_machine.specs.Readings.{Readings}
 use Rattle.office_machine.specs.Fates.{Reception, brought, came, is_of_lot, tender_decided, security_decided, fate_of_security, SecurityIs}
 use Rattle.office_machine.proofs.Counting.{is_live}
 use Rattle.office_base.proofs.ExactKeys.{equal_ids, same_itself}

@@ -16,7 +16,8 @@ use Rattle.office_base.specs.States.{is_sealed}
 use Rattle.office_base.specs.Rules.{first_of}
 use Rattle.tender_core.specs.Rules.Modify.{withdrawn, replacing, modify_conditions, modify_effect}
 use Rattle.office_base.specs.Parents.{notice_of_envelope}
-use Rattle.office_machine.specs.Machine.{Given, Readings}
+use Rattle.office_machine.specs.Machine.{Given}
+use Rattle.office_machine.specs.Readings.{Readings}
 use Rattle.office_machine.specs.Fates as fates
 use Rattle.office_machine.specs.Fates.{Reception, came, brought, tender_decided, fate_of_tender, is_kept, EnvelopeIs}
 use Rattle.office_machine.proofs.Passed.{none_holds}

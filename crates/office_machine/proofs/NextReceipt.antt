@@ -7,7 +7,8 @@ use Rattle.office_base.specs.declared.records.SecurityRow.{SecurityRow}
 use Rattle.office_base.specs.declared.records.EnvelopeState.{EnvelopeState}
 use Rattle.office_base.specs.declared.records.SecurityState.{SecurityState}
 use Rattle.office_base.specs.declared.records.SecurityState.TheVariants as security
-use Rattle.office_machine.specs.Machine.{Given, Readings}
+use Rattle.office_machine.specs.Machine.{Given}
+use Rattle.office_machine.specs.Readings.{Readings}
 use Rattle.office_machine.specs.Fates.{Reception, brought, came_after, came, fate_after, fate_of_tender, security_received, security_decided, security_after, fate_of_security}
 use Rattle.office_machine.proofs.Matched.{NoneStands, SecuritiesMatch, named_in, securities_changed}
 use Rattle.office_machine.proofs.FatesHold.{IsKept, security_goes, still_held, securities_keep}

@@ -22,7 +22,9 @@ use Rattle.office_base.specs.RuleParts.{clock_put}
 use Rattle.tender_core.specs.Rules.Open.{is_sealed_envelope, opened_envelope, opened_put, opened_notice, open_conditions, open_effect}
 use Rattle.award_core.specs.Rules.Examine.{examined, examine_effect}
 use Rattle.office_base.specs.Tables.{Tables, envelope_key, envelope_at, notice_at, envelopes_of_notice, after_puts}
-use Rattle.office_machine.specs.Machine.{Given, Readings, sealed_tender, sealed_tenders}
+use Rattle.office_machine.specs.Machine.{Given}
+use Rattle.office_machine.specs.Readings.{Readings}
+use Rattle.office_machine.specs.Rule.{sealed_tender, sealed_tenders}
 use Rattle.office_machine.specs.Fates.{is_of_notice, is_kept}
 use Rattle.office_machine.proofs.Passed.{none_holds}
 use Rattle.office_machine.proofs.RowsChanged.{rows_put, changed, filter_filter, found_key, row_at-changed, row_at-changed_put}

@@ -23,7 +23,8 @@ use Rattle.office_base.specs.declared.records.EntryRow.{EntryRow}
 use Rattle.award_core.specs.Rules.AmendContract.{is_taken, has_ended, is_beyond, change_row, amend_contract_effect}
 use Rattle.award_core.specs.Rules.Pay.{payment_row, pay_effect}
 use Rattle.award_core.specs.Rules.End.{ended_contract, end_effect}
-use Rattle.office_machine.specs.Machine.{Readings, Means, Given, Reaches, time_of, command_tests}
+use Rattle.office_machine.specs.Readings.{Readings}
+use Rattle.office_machine.specs.Machine.{Means, Given, Reaches, time_of, command_tests}
 use Rattle.office_machine.specs.Outstanding.{left_with, left_by_payment, left_by_change, left_by_end, left_before, notice_under, line_under, IsLeft, LeftIsKnown, IsBooked, LeftIsBooked}
 use Rattle.office_machine.specs.Replies.{left_of}
 use Rattle.office_machine.proofs.Entered.{not_taken}

@@ -46,7 +46,8 @@ use Rattle.award_core.specs.Rules.Pay.{pay_effect}
 use Rattle.award_core.specs.Rules.End.{end_effect}
 use Rattle.office_base.specs.declared.records.ReleaseRow.{ReleaseRow}
 use Rattle.office_base.specs.Parents.{envelope_of_award, security_of_envelope, lot_of_award, notice_of_award, notice_of_contract, line_of_lot, lot_of_contract}
-use Rattle.office_machine.specs.Machine.{Means, Given, IsRegistered, may_give, publication_puts, command_tests, effect, next, puts_of, sealed_tender, publication, with_trees}
+use Rattle.office_machine.specs.Machine.{Means, Given, IsRegistered, may_give, publication_puts, command_tests, effect, next, puts_of, publication, with_trees}
+use Rattle.office_machine.specs.Rule.{sealed_tender}
 use Rattle.office_base.specs.declared.records.CompiledRow.{CompiledRow}
 use Rattle.office_machine.specs.Parents.{LotHas, EnvelopeHas, SecurityHas, AwardHas, HaveParents, ParentsAreThere}
 use Rattle.office_machine.proofs.Aside.{after-append}
@@ -121,10 +122,10 @@ module _ (s u : Tables) (order : IsSorted s) (have : HaveParents s s) (g : Grows
   opened_all read [] h = tt
   opened_all read (e ∷ rows) h = (record { notice = h.0.notice; lot = h.0.lot; tenderer = h.0.tenderer; security = h.0.security }, opened_all read rows h.1)
 
-  open_parents : (read : List ℕ → List Rattle.office_acts.specs.declared.item.Item.Item → Rattle.office_base.specs.declared.reading.Reading.Reading) (clock : ClockRow) (t : ℕ) (notice : List ℕ) (row : Option NoticeRow) → AllParents u (open_effect read clock t row (Rattle.office_machine.specs.Machine.sealed_tenders notice s))
+  open_parents : (read : List ℕ → List Rattle.office_acts.specs.declared.item.Item.Item → Rattle.office_base.specs.declared.reading.Reading.Reading) (clock : ClockRow) (t : ℕ) (notice : List ℕ) (row : Option NoticeRow) → AllParents u (open_effect read clock t row (Rattle.office_machine.specs.Rule.sealed_tenders notice s))
   open_parents read clock t notice None = tt
   open_parents read clock t notice (Some n) =
-      parents-append u (map (opened_put read) (Rattle.office_machine.specs.Machine.sealed_tenders notice s)) _
+      parents-append u (map (opened_put read) (Rattle.office_machine.specs.Rule.sealed_tenders notice s)) _
       (opened_all read (filter is_sealed_envelope (envelopes_of_notice notice s)) (all-filter _ is_sealed_envelope (envelopes_of_notice notice s) (all-filter _ _ s.envelopes
       (all-table keyed.envelopes (EnvelopeHas u) s.envelopes order.envelopes (λ k e is. envelope_still s u g e (have.envelopes k e is))))))
       (tt, (tt, tt))

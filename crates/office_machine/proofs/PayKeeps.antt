@@ -13,7 +13,8 @@ use Rattle.office_base.specs.declared.records.ContractRow.{ContractRow}
 use Rattle.office_base.specs.declared.records.EntryRow.{EntryRow}
 use Rattle.office_base.specs.Joined.{plus, minus, outstanding}
 use Rattle.office_base.specs.Parents.{notice_of_contract, lot_of_contract}
-use Rattle.office_machine.specs.Machine.{Given, Readings, time_of, command_tests, effect}
+use Rattle.office_machine.specs.Machine.{Given, time_of, command_tests, effect}
+use Rattle.office_machine.specs.Readings.{Readings}
 use Rattle.office_machine.specs.Moves.{moves, line_in}
 use Rattle.office_acts.specs.declared.commands.Command.TheVariants as commands
 use Rattle.office_base.specs.declared.puts.Put.TheVariants as puts

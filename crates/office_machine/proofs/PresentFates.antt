@@ -23,7 +23,8 @@ use Rattle.office_base.specs.declared.puts.Put.{Put}
 use Rattle.office_base.specs.States.{is_cancelled, is_opened}
 use Rattle.office_base.specs.RuleParts.{is_in_time}
 use Rattle.tender_core.specs.Rules.Present.{received, security_row, received_puts, present_conditions}
-use Rattle.office_machine.specs.Machine.{Given, Readings}
+use Rattle.office_machine.specs.Machine.{Given}
+use Rattle.office_machine.specs.Readings.{Readings}
 use Rattle.office_machine.specs.Fates.{presented, came, brought, tender_decided, fate_after, fate_of_tender, first_state, security_received, security_decided, security_after, fate_of_security, is_kept}
 use Rattle.office_machine.proofs.Counting.{is_live, counts}
 use Rattle.office_machine.proofs.Passed.{none_holds, not_false}

@@ -23,7 +23,8 @@ use Rattle.office_base.specs.declared.puts.Put.TheVariants as puts
 use Rattle.office_base.specs.declared.puts.Put.{Put}
 use Rattle.tender_core.specs.Rules.Publish.{is_on_no_line, publish_conditions, publish_effect, line_row, line_put, lot_row, lot_put, notice_row, notice_put}
 use Rattle.office_base.specs.Tables.{Tables, lot_cmp, line_key, lot_key, notice_key, find_line, put_notice, envelope_at, seal_at, security_at, lot_at, notice_at, after_puts}
-use Rattle.office_machine.specs.Machine.{Given, Readings}
+use Rattle.office_machine.specs.Machine.{Given}
+use Rattle.office_machine.specs.Readings.{Readings}
 use Rattle.office_base.proofs.Orders.{lots_total, same_key}
 use Rattle.office_base.proofs.ExactKeys.{lots_exact, ids_exact, equal_keys}
 use Rattle.office_machine.proofs.Passed.{none_holds, neither, not_false}

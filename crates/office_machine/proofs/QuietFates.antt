@@ -28,7 +28,8 @@ use Rattle.award_core.specs.Rules.Pay.{pay_effect}
 use Rattle.award_core.specs.Rules.End.{end_effect}
 use Rattle.office_base.specs.declared.records.ReleaseRow.{ReleaseRow}
 use Rattle.office_base.specs.Parents.{notice_of_contract, line_of_lot, lot_of_contract}
-use Rattle.office_machine.specs.Machine.{Given, Readings, publication_puts}
+use Rattle.office_machine.specs.Machine.{Given, publication_puts}
+use Rattle.office_machine.specs.Readings.{Readings}
 use Rattle.office_machine.specs.Fates.{brought, came, tender_decided, fate_of_tender, security_decided, fate_of_security}
 use Rattle.office_base.proofs.ExactKeys.{ids_exact}
 use Rattle.office_machine.proofs.RowsChanged.{found_key}

@@ -7,7 +7,8 @@ use Rattle.office_base.specs.declared.records.NoticeRow.{NoticeRow}
 use Rattle.office_base.specs.Tables.{Tables, find_notice, put_notice}
 use Rattle.office_machine.specs.Machine.{Means, Given, next}
 use Rattle.office_machine.specs.Releases.{is_for, AreCounted, ReleasesAreCounted}
-use Rattle.office_machine.specs.Publications.{published_for, releases_in}
+use Rattle.office_machine.specs.Publications.{published_for}
+use Rattle.office_machine.specs.Counted.{releases_in}
 use Rattle.office_base.proofs.ExactKeys.{equal_ids, same_id_is}
 use Rattle.office_machine.proofs.Keyed.{found_put, elsewhere}
 use Rattle.office_machine.proofs.Keyed as keyed

@@ -14,7 +14,8 @@ use Rattle.office_base.proofs.ExactKeys.{equal_ids, same_itself}
 use Rattle.office_base.proofs.Orders.{same_key}
 use Rattle.office_base.proofs.RowLaws.{all-put}
 use Rattle.office_machine.specs.Machine.{Means, Given, Reaches, publication, release_row, next}
-use Rattle.office_machine.specs.Publications.{published_for, releases_in}
+use Rattle.office_machine.specs.Publications.{published_for}
+use Rattle.office_machine.specs.Counted.{releases_in}
 use Rattle.office_machine.specs.Releases.{is_for, published_by, ReleasesArePublished}
 use Rattle.office_machine.proofs.Keyed as keyed
 use Rattle.office_machine.proofs.SortedTables.{sorted}

@@ -7,7 +7,8 @@ use Rattle.office_values.specs.Ids.{same_id}
 use Rattle.office_base.specs.Rows.{row_at}
 use Rattle.office_base.specs.declared.records.ReleaseRow.{ReleaseRow}
 use Rattle.office_base.specs.Tables.{release_cmp, find_notice, find_release, put_release}
-use Rattle.office_machine.specs.Publications.{published_for, releases_in}
+use Rattle.office_machine.specs.Publications.{published_for}
+use Rattle.office_machine.specs.Counted.{releases_in}
 use Rattle.office_machine.specs.Machine.{Means, Given, next}
 use Rattle.office_machine.specs.Releases.{AreNumbered, ReleasesAreNumbered}
 use Rattle.office_base.proofs.ExactKeys.{equal_ids, equal_keys, same_itself}

@@ -19,12 +19,13 @@ use Rattle.office_base.specs.declared.records.ClockRow.{ClockRow}
 use Rattle.tender_core.specs.Rules.Open.{is_sealed_envelope}
 use Rattle.award_core.specs.Rules.Award.{winner}
 use Rattle.office_base.specs.Tables.{Tables, find_envelope, notice_at, envelope_at, contract_at, envelopes_of_notice, envelopes_of_lot, lots_of_notice}
-use Rattle.office_machine.specs.Machine.{Readings}
+use Rattle.office_machine.specs.Readings.{Readings}
 use Rattle.office_machine.specs.Worlds.{Theirs, is_theirs, is_of_lot, AlikeRows, Pairs, AlikeOffices, SameBut, Same, Presented, Modified, OpensAlike}
 use Rattle.office_acts.specs.declared.queries.Query.{Query}
 use Rattle.office_acts.specs.declared.queries.Query.TheVariants as queries
 use Rattle.office_acts.specs.Queries.{kind_of}
-use Rattle.office_machine.specs.Replies.{Reply, Refused, OpenedAll, Received, Awarded, OfContract, Tender, Registry, Minutes, release_of, contract_release, left_of, modify_reply, winning, reply_for}
+use Rattle.office_machine.specs.Replies.{Reply, Refused, OpenedAll, Received, Awarded, OfContract, Tender, Registry, Minutes, release_of, contract_release, left_of, modify_reply, winning}
+use Rattle.office_machine.specs.Machine.{reply_for}
 use Rattle.office_machine.specs.Sights.{Packages, tender_told, registered, register_told, minuted, is_read_envelope, minutes_told, package_told, shown, told}
 use Rattle.office_machine.specs.Seals.{ButDigest, SeesBlindly, without_digest, ToldAlike}
 use Rattle.office_base.proofs.ExactKeys.{equal_ids, same_itself}

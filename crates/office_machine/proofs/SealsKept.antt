@@ -10,7 +10,8 @@ use Rattle.office_acts.specs.declared.commands.Command.{Command}
 use Rattle.office_acts.specs.declared.commands.Command.TheVariants as commands
 use Rattle.office_base.specs.declared.records.EnvelopeRow.{EnvelopeRow}
 use Rattle.office_base.specs.declared.records.SealRow.{SealRow}
-use Rattle.office_machine.specs.Publications.{published_for, releases_in}
+use Rattle.office_machine.specs.Publications.{published_for}
+use Rattle.office_machine.specs.Counted.{releases_in}
 use Rattle.office_base.specs.Tables.{Tables, notice_at, find_seal, envelope_at, seal_at, after_puts}
 use Rattle.office_base.specs.declared.records.ReleaseRow.{ReleaseRow}
 use Rattle.office_machine.specs.Machine.{Means, Given, IsCommand, CanBeGiven, Reaches, time_of, refusal_of, effect, done, next, publication_puts, publication, release_of_notice}

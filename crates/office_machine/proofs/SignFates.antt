@@ -22,7 +22,8 @@ use Rattle.office_base.specs.RuleParts.{clock_put, released, is_held_security, s
 use Rattle.award_core.specs.Rules.Sign.{signed_award, contracted_lot, contract_row, tenderer_in, sign_conditions, sign_effect}
 use Rattle.office_base.specs.Tables.{Tables, award_key, security_key, award_at, lot_at, notice_at, envelope_at, securities_of_lot, after_puts}
 use Rattle.office_base.specs.Parents.{notice_of_award, lot_of_award, envelope_of_award, securities_of_award}
-use Rattle.office_machine.specs.Machine.{Given, Readings}
+use Rattle.office_machine.specs.Machine.{Given}
+use Rattle.office_machine.specs.Readings.{Readings}
 use Rattle.office_machine.specs.Fates.{came, is_of_award}
 use Rattle.office_machine.proofs.Passed.{none_holds}
 use Rattle.office_machine.proofs.RowsChanged.{rows_put, found_key, row_at-changed_put}

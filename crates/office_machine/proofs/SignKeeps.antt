@@ -15,7 +15,8 @@ use Rattle.office_base.specs.declared.records.LotRow.{LotRow}
 use Rattle.office_base.specs.declared.records.ContractRow.{ContractRow}
 use Rattle.office_base.specs.Joined.{plus, minus, paid_under}
 use Rattle.office_base.specs.Parents.{notice_of_award, lot_of_award, envelope_of_award, securities_of_award}
-use Rattle.office_machine.specs.Machine.{Given, Readings, time_of, command_tests, effect}
+use Rattle.office_machine.specs.Machine.{Given, time_of, command_tests, effect}
+use Rattle.office_machine.specs.Readings.{Readings}
 use Rattle.office_machine.specs.Moves.{moves, held_for, line_in, lot_in_award}
 use Rattle.office_acts.specs.declared.commands.Command.TheVariants as commands
 use Rattle.office_base.specs.declared.puts.Put.TheVariants as puts

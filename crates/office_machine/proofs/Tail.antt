@@ -9,7 +9,7 @@ use Rattle.office_base.specs.declared.records.ClockRow.{ClockRow}
 use Rattle.office_base.specs.declared.puts.Put.{Put}
 use Rattle.office_base.specs.declared.puts.Put.TheVariants as puts
 use Rattle.office_base.specs.Tables.{Tables, put_notice, notice_at, after_put, after_puts}
-use Rattle.office_machine.specs.Publications.{releases_in}
+use Rattle.office_machine.specs.Counted.{releases_in}
 use Rattle.office_machine.proofs.Aside.{after-append}
 use Rattle.office_machine.proofs.Footprint.{TableName, Notices, Releases, Merges, Clock, AreOn, on-map, leaves}
 use Rattle.office_machine.proofs.Keyed.{found_key}

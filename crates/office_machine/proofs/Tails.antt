@@ -36,9 +36,12 @@ use Rattle.award_core.specs.Rules.Fail.{fail_effect, failed_envelope}
 use Rattle.award_core.specs.Rules.Sign.{sign_effect}
 use Rattle.award_core.specs.Rules.AmendContract.{amend_contract_effect}
 use Rattle.award_core.specs.Rules.End.{end_effect}
-use Rattle.office_machine.specs.Machine.{Readings, Given, command_tests, effect, sealed_tenders}
+use Rattle.office_machine.specs.Readings.{Readings}
+use Rattle.office_machine.specs.Machine.{Given, command_tests, effect}
+use Rattle.office_machine.specs.Rule.{sealed_tenders}
 use Rattle.office_machine.specs.Parents.{HaveParents}
-use Rattle.office_machine.specs.Publications.{published_for, releases_in}
+use Rattle.office_machine.specs.Publications.{published_for}
+use Rattle.office_machine.specs.Counted.{releases_in}
 use Rattle.office_machine.proofs.Footprint.{on-append, on-map, on-if}
 use Rattle.office_machine.proofs.Passed.{none_holds, not_false, neither, witness}
 use Rattle.office_machine.proofs.SpokenOf.{OfContract, of_award, of_contract}

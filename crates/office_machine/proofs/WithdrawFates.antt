@@ -22,7 +22,8 @@ use Rattle.tender_core.specs.Rules.Modify.{withdrawn}
 use Rattle.tender_core.specs.Rules.Withdraw.{withdraw_conditions, withdraw_effect}
 use Rattle.office_base.specs.Tables.{Tables, envelope_key, seal_key, envelope_at, seal_at, security_at, notice_at, after_puts}
 use Rattle.office_base.specs.Parents.{notice_of_envelope, security_of_envelope}
-use Rattle.office_machine.specs.Machine.{Given, Readings}
+use Rattle.office_machine.specs.Machine.{Given}
+use Rattle.office_machine.specs.Readings.{Readings}
 use Rattle.office_machine.specs.Fates.{Reception, came, tender_decided, fate_of_tender, security_decided, fate_of_security, is_kept, has_number, carries, is_effective, EnvelopeIs, SecurityIs}
 use Rattle.office_machine.proofs.Passed.{none_holds}
 use Rattle.office_machine.proofs.RowsChanged.{found_key, row_at-changed_put, row_at-row_drop}

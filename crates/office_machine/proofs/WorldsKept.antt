@@ -9,7 +9,8 @@ use Rattle.office_acts.specs.declared.command.Caller.{Caller}
 use Rattle.office_values.specs.declared.refusal.Refusal.TheVariants.{Forbidden}
 use Rattle.office_base.specs.Rules.{first_of}
 use Rattle.office_acts.specs.declared.commands.Command.{Command}
-use Rattle.office_machine.specs.Machine.{may_give, Readings, Given, time_of, effect}
+use Rattle.office_machine.specs.Machine.{may_give, Given, time_of, effect}
+use Rattle.office_machine.specs.Readings.{Readings}
 use Rattle.office_base.specs.declared.records.EnvelopeRow.{EnvelopeRow}
 use Rattle.office_base.specs.declared.records.SealRow.{SealRow}
 use Rattle.office_base.specs.Tables.{Tables, IsSorted, envelope_key, envelope_at, seal_at, after_puts}

@@ -13,7 +13,8 @@ use Rattle.office_values.specs.declared.refusal.Refusal.TheVariants.{Forbidden}
 use Rattle.office_base.specs.Rules.{first_of}
 use Rattle.office_base.specs.RuleParts.{is_in_time, receipt_clock, put_if}
 use Rattle.office_acts.specs.declared.commands.Command.{Command}
-use Rattle.office_machine.specs.Machine.{may_give, Readings, Given, time_of, command_tests, effect, refusal_of}
+use Rattle.office_machine.specs.Machine.{may_give, Given, time_of, command_tests, effect, refusal_of}
+use Rattle.office_machine.specs.Readings.{Readings}
 use Rattle.office_acts.specs.declared.commands.Command.TheVariants as commands
 use Rattle.office_base.specs.declared.records.EnvelopeRow.{EnvelopeRow}
 use Rattle.office_base.specs.declared.records.SealRow.{SealRow}

@@ -36,7 +36,9 @@ use Rattle.award_core.specs.Rules.Pay.{pay_conditions, pay_effect}
 use Rattle.award_core.specs.Rules.End.{end_conditions, end_effect}
 use Rattle.award_core.specs.Rules.Sign.{sign_effect, tenderer_in, signed_award, contracted_lot, contract_row}
 use Rattle.office_base.specs.Parents.{notice_of_envelope, lot_of_envelope, security_of_envelope, envelope_of_award, lot_of_award, notice_of_award, securities_of_award, notice_of_contract, lot_of_contract, line_of_lot}
-use Rattle.office_machine.specs.Machine.{Readings, tests_for, puts_for, sealed_tender, sealed_tenders, bytes_in, items_in}
+use Rattle.office_machine.specs.Readings.{Readings}
+use Rattle.office_machine.specs.Machine.{tests_for, puts_for}
+use Rattle.office_machine.specs.Rule.{sealed_tender, sealed_tenders, bytes_in, items_in}
 use Rattle.office_machine.specs.Worlds.{Theirs, Pairs}
 use Rattle.office_machine.proofs.WorldsPut.{Alike, IsPlain, PutPair, Plain, Envelopes, AlikeOptions, receipt_is, pairs-found, pairs-filter, pairs-any, blind, blind-option, plain_pairs, pairs-append}
 use Rattle.office_machine.proofs.WorldsEffects.{plain-map, plain-append, pairs-winner, withdraw_pairs, examine_pairs, fail_pairs, cancel_pairs, award_pairs}

@@ -1,4 +1,10 @@
 pub mod Filtered
+pub mod Counted
+pub mod Readings
+pub mod Replies
+pub mod Rule
+pub mod Commands
+pub mod Rules
 pub mod Publications
 pub mod Machine
 pub mod Clock
@@ -11,7 +17,6 @@ pub mod Releases
 pub mod Order
 pub mod Worlds
 pub mod Fates
-pub mod Replies
 pub mod Outstanding
 pub mod Sights
 pub mod Requests

@@ -3,7 +3,8 @@ use Rattle.std.specs.Prelude.{ℕ, List, Option}
 use Rattle.sha2.specs.Sha256.{sha256}
 use Rattle.tender_papers.specs.Files.{csv_records}
 use Rattle.tender_papers.specs.Tender.{reading_of}
-use Rattle.office_machine.specs.Machine.{Given, Readings, Means}
+use Rattle.office_machine.specs.Machine.{Given, Means}
+use Rattle.office_machine.specs.Readings.{Readings}
 
 abbrev pub office_readings : Readings
 office_readings = record { read = λ bytes items. reading_of items (csv_records bytes); digest = sha256 }

@@ -11,7 +11,8 @@ use Rattle.office_base.specs.declared.records.LineRow.{LineRow}
 use Rattle.office_base.specs.declared.records.NoticeRow.{NoticeRow}
 use Rattle.office_base.specs.declared.records.ContractRow.{ContractRow}
 use Rattle.office_base.specs.declared.records.EntryRow.{EntryRow}
-use Rattle.office_machine.specs.Machine.{Readings, Means, Given, Reaches, refusal_of, done}
+use Rattle.office_machine.specs.Readings.{Readings}
+use Rattle.office_machine.specs.Machine.{Means, Given, Reaches, refusal_of, done}
 use Rattle.office_machine.specs.Replies.{left_of}
 
 -- what is outstanding once so much more has come and gone

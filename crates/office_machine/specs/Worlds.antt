@@ -10,7 +10,8 @@ use Rattle.office_acts.specs.declared.commands.Command.TheVariants.{Present, Mod
 use Rattle.office_base.specs.declared.records.EnvelopeRow.{EnvelopeRow}
 use Rattle.office_base.specs.Tables.{Tables, IsSorted, envelope_at, seal_at, after_puts}
 use Rattle.tender_core.specs.Rules.Open.{is_sealed_envelope}
-use Rattle.office_machine.specs.Machine.{Readings, Given, refusal_of, effect}
+use Rattle.office_machine.specs.Readings.{Readings}
+use Rattle.office_machine.specs.Machine.{Given, refusal_of, effect}
 
 -- a tenderer and a lot
 pub record Theirs : Type 0 where

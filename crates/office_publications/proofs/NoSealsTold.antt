@@ -22,7 +22,8 @@ use Rattle.ocds_release.specs.Tenderers.{tenderer_of}
 use Rattle.ocds_release.specs.declared.event.Event.{Event}
 use Rattle.ocds_release.specs.declared.event.Event.TheVariants as events
 use Rattle.office_machine.specs.Machine.{Given, time_of}
-use Rattle.office_machine.specs.Publications.{published_for, releases_in}
+use Rattle.office_machine.specs.Publications.{published_for}
+use Rattle.office_machine.specs.Counted.{releases_in}
 use Rattle.office_machine.specs.Seals.{ButDigest}
 use Rattle.office_machine.specs.Worlds.{Pairs}
 use Rattle.office_publications.specs.AwardEvents.{awarded}

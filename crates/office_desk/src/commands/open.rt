@@ -10,7 +10,7 @@ ghost use Rattle.office_base.specs.Tables.{Tables, notice_at};
 ghost use Rattle.office_desk.specs.Asking.{given_by};
 ghost use Rattle.office_desk.specs.Opening.{tenders_read};
 ghost use Rattle.office_desk.specs.Effects.{HasEffect};
-ghost use Rattle.office_machine.specs.Machine.{sealed_tenders};
+ghost use Rattle.office_machine.specs.Rule.{sealed_tenders};
 ghost use Rattle.office_machine.specs.OfficeMeans.{unpublished_means};
 ghost use Rattle.tender_core.specs.Rules.Open.{open_rows, open_tests, open_puts};
 

@@ -6,7 +6,7 @@ use Rattle.office_base.specs.Tables.{notice_at, lots_of_notice, awards_of_notice
 use Rattle.tender_core.specs.Rules.Cancel.{cancel_conditions, cancel_effect}
 use Rattle.tender_core.specs.declared.cancel.CancelRows.{CancelRows}
 use Rattle.office_machine.specs.Machine.{Given, time_of}
-use Rattle.office_machine.specs.Publications.{releases_in}
+use Rattle.office_machine.specs.Counted.{releases_in}
 use Rattle.office_machine.specs.Replies.{OfNotice}
 use Rattle.office_desk.specs.Asking.{given_by}
 use Rattle.office_desk.specs.Named.{cancel_named}

@@ -3,7 +3,7 @@ use Rattle.office_base.specs.Tables.{notice_at}
 use Rattle.tender_core.specs.Rules.Open.{open_tests, opened_with}
 use Rattle.tender_core.specs.declared.opening.OpenRows.{OpenRows}
 use Rattle.tender_core.specs.declared.opening.OpenedTender.{OpenedTender}
-use Rattle.office_machine.specs.Machine.{sealed_tenders}
+use Rattle.office_machine.specs.Rule.{sealed_tenders}
 use Rattle.office_machine.specs.OfficeMeans.{unpublished_means}
 use Rattle.office_desk.proofs.DecidedAlike.{decides_alike}
 use Rattle.office_desk.proofs.ReadTenders.{tenders_are}
