@@ -6,6 +6,7 @@ use Rattle.office_base.specs.Rules.{first_of}
 use Rattle.office_base.specs.Tables.{Tables, IsSorted, after_puts}
 use Rattle.office_machine.specs.Readings.{Readings}
 use Rattle.office_machine.specs.Machine.{Given, IsCommand, tests_for, puts_for}
+use Rattle.office_machine.specs.Order.{NeverFall}
 use Rattle.office_machine.specs.Parents.{HaveParents}
 use Rattle.office_machine.specs.Publications.{published_for}
 use Rattle.office_machine.proofs.Kept.{IsKept}
@@ -16,6 +17,8 @@ abbrev pub given : Tables → ℕ → Caller → Command → Given
 given s moment caller command = record { before = s; moment = moment; caller = caller; command = command }
 
 pub record Lawful (command : Command) : Type 0 where
+  -- its refusals are tried in the order of their numbers
+  pub in_order : (s : Tables) (t : ℕ) (caller : Caller) → NeverFall 7 (tests_for s t caller command)
   -- the books stay balanced
   pub accounts : (readings : Readings) (xs : List Given) (s : Tables) (moment : ℕ) (caller : Caller) → IsKept xs s → IsSorted s → IsCommand command
       → first_of (tests_for s (max moment s.clock.moment) caller command) ≡ None

@@ -1,5 +1,5 @@
 -- The award of a lot keeps the laws of the office.
-use Rattle.std.proofs.Common.{◌≡◌, ℕ, false, List, [], ◌∷◌, Option, Some, None, refl, ◌∙◌, ap}
+use Rattle.std.proofs.Common.{arith, ◌≡◌, ℕ, false, List, [], ◌∷◌, Option, Some, None, refl, ◌∙◌, ap}
 use Rattle.std.specs.Prelude.{max}
 use Rattle.office_acts.specs.declared.commands.Command.TheVariants.{Award}
 use Rattle.office_base.specs.declared.records.LineRow.{LineRow}
@@ -25,6 +25,7 @@ module _ (s : Tables) (now : ℕ) (notice lot : List ℕ) (n : NoticeRow) (l : L
 
 pub award : (notice lot : List ℕ) → Lawful (Award notice lot)
 award notice lot = record {
+  in_order = λ s t caller. (omega arith, (omega arith, (omega arith, (omega arith, (omega arith, (omega arith, (omega arith, (omega arith, tt))))))));
   accounts = λ readings xs s moment caller kept order own allowed. award_keeps readings xs s moment caller notice lot kept allowed;
   fates = λ readings. award_fates.award_keeps readings notice lot;
   tail = λ readings s moment caller have allowed.

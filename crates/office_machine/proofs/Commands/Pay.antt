@@ -1,5 +1,5 @@
 -- A payment keeps the laws of the office.
-use Rattle.std.proofs.Common.{ℕ, List, [], ◌∷◌, refl}
+use Rattle.std.proofs.Common.{arith, ℕ, List, [], ◌∷◌, refl}
 use Rattle.std.specs.Prelude.{max}
 use Rattle.office_acts.specs.declared.commands.Command.TheVariants.{Pay}
 use Rattle.office_base.specs.declared.puts.Put.TheVariants as puts
@@ -17,6 +17,7 @@ use Rattle.office_machine.proofs.Tails.{on_contract}
 
 pub pay : (contract : ℕ) (entry : List ℕ) (amount : ℕ) → Lawful (Pay contract entry amount)
 pay contract entry amount = record {
+  in_order = λ s t caller. (omega arith, (omega arith, (omega arith, (omega arith, (omega arith, tt)))));
   accounts = λ readings xs s moment caller kept order own allowed. pay_keeps readings xs s moment caller contract entry amount kept order allowed;
   fates = λ readings. quiet_fates.pay_keeps readings contract entry amount;
   tail = λ readings s moment caller have allowed.

@@ -1,5 +1,5 @@
 -- The withdrawal of a tender keeps the laws of the office.
-use Rattle.std.proofs.Common.{ℕ, [], ◌∷◌, refl}
+use Rattle.std.proofs.Common.{arith, ℕ, [], ◌∷◌, refl}
 use Rattle.std.specs.Prelude.{max}
 use Rattle.office_acts.specs.declared.commands.Command.TheVariants.{Withdraw}
 use Rattle.office_base.specs.declared.puts.Put.TheVariants as puts
@@ -16,6 +16,7 @@ use Rattle.office_machine.proofs.WithdrawFates as withdraw_fates
 
 pub withdraw : (receipt : ℕ) → Lawful (Withdraw receipt)
 withdraw receipt = record {
+  in_order = λ s t caller. (omega arith, (omega arith, (omega arith, (omega arith, tt))));
   accounts = λ readings xs s moment caller kept order own allowed. withdraw_keeps readings xs s moment caller kept receipt;
   fates = λ readings. withdraw_fates.withdraw_keeps readings receipt;
   tail = λ readings s moment caller have allowed.
