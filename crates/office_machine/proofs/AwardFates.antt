@@ -26,7 +26,7 @@ use Rattle.office_base.specs.declared.puts.Put.TheVariants as puts
 use Rattle.office_base.specs.declared.puts.Put.{Put}
 use Rattle.office_base.specs.States.{is_read}
 use Rattle.office_base.specs.Rules.{first_of}
-use Rattle.office_base.specs.RuleParts.{clock_put, released, is_held_security, security_returned}
+use Rattle.office_base.specs.RuleParts.{clock_put, released, is_held_security, security_returned, returned}
 use Rattle.award_core.specs.Rules.Award.{is_admissible, is_responsive, lowest_price, winner, unsuccessful, awarded, award_row, decision_puts, award_conditions, award_effect}
 use Rattle.office_base.specs.Tables.{Tables, lot_cmp, lot_key, award_key, envelope_key, security_key, award_at, lot_at, notice_at, line_at, envelope_at, seal_at, security_at, envelopes_of_lot, securities_of_lot, after_puts}
 use Rattle.office_base.specs.Parents.{line_of_lot}
@@ -40,7 +40,7 @@ use Rattle.office_base.proofs.RowLaws.{row_at-row_put}
 use Rattle.office_machine.proofs.RowsChanged.{rows_put, found_key}
 use Rattle.office_machine.proofs.Views.{View, IsSound, AwardFits, Change, after_change, sound_changed}
 use Rattle.office_machine.proofs.Added.{added, sound_award}
-use Rattle.office_machine.proofs.Steps.{both_true, returned}
+use Rattle.office_machine.proofs.Steps.{both_true}
 use Rattle.office_machine.proofs.Decisions.{awarding, fair_awarding, same_lot}
 use Rattle.office_machine.proofs.Seen.{seen, alike, lot_state, notices-same, LotFits, AreInOrder, OnLines, IsOnLine, lines-puts, order-puts, after_securities}
 use Rattle.office_machine.proofs.FatesHold.{IsKept, Keeps, given, tenders_same, named_same}
@@ -200,7 +200,6 @@ module _ (readings : Readings) (name lot_name : List ℕ) (xs : List Given) (t :
       tender = e;
       found = best.0.0;
       opened = read_state e.state admissible.0;
-      willing = not_true e.failed admissible.1;
       of_notice = equal_ids e.notice name of_lot.0 ∙ sym (ap (λ (k : List ℕ × List ℕ). k.0) key_is);
       of_lot = equal_ids e.lot lot_name of_lot.1 ∙ sym (ap (λ (k : List ℕ × List ℕ). k.1) key_is);
       awarded =

@@ -28,7 +28,7 @@ use Rattle.office_base.specs.declared.puts.Put.TheVariants as puts
 use Rattle.office_base.specs.declared.puts.Put.{Put}
 use Rattle.office_base.specs.States.{is_sealed, is_held, is_active, is_receiving}
 use Rattle.office_base.specs.Rules.{first_of}
-use Rattle.office_base.specs.RuleParts.{clock_put, security_returned}
+use Rattle.office_base.specs.RuleParts.{clock_put, security_returned, returned}
 use Rattle.tender_core.specs.Rules.Cancel.{is_open_lot, cancelled_lot, lot_put, line_row, line_put, ends, is_ended_award, cancelled_award, award_put, is_ended_envelope, returned_envelope, envelope_put, drop_put, is_ended_security, cancelled_notice, cancel_conditions, cancel_effect}
 use Rattle.office_base.specs.Tables.{Tables, lot_cmp, line_key, lot_key, envelope_key, seal_key, security_key, award_key, find_lot, of_notice, envelope_at, seal_at, security_at, award_at, lot_at, notice_at, lots_of_notice, envelopes_of_notice, securities_of_notice, awards_of_notice, after_puts}
 use Rattle.office_machine.specs.Machine.{Given}
@@ -40,7 +40,7 @@ use Rattle.office_base.proofs.ExactKeys.{lots_exact, equal_ids, same_itself}
 use Rattle.office_machine.proofs.Passed.{none_holds}
 use Rattle.office_machine.proofs.RowsChanged.{rows_put, rows_drop, changed, filter_filter, found_key, row_at-filter, row_at-changed, some_passes_is, all_filter}
 use Rattle.office_machine.proofs.Views.{Change, after_change}
-use Rattle.office_machine.proofs.Steps.{cond_keeps, returned}
+use Rattle.office_machine.proofs.Steps.{cond_keeps}
 use Rattle.office_machine.proofs.Decisions.{cancelling, fair_cancelling}
 use Rattle.office_machine.proofs.Seen.{seen, alike, lot_state, LotFits, IsOnLine, OnLines, AreInOrder, lines-puts, order-puts, after-append, after_lines, after_lots, after_awards, after_envelopes, after_securities, after_drops, row_at-drops}
 use Rattle.office_machine.proofs.FatesHold.{IsKept, Keeps, given}

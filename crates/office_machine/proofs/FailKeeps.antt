@@ -3,8 +3,9 @@ use Rattle.std.proofs.Common.{◌≡◌, ℕ, Bool, true, false, List, ◌∷◌
 use Rattle.std.specs.List.{AllByRecursion}
 use Rattle.office_acts.specs.declared.command.Caller.{Caller}
 use Rattle.office_values.specs.declared.refusal.Refusal.{Refusal}
+use Rattle.office_base.specs.declared.records.SecurityState.TheVariants.{Forfeited}
 use Rattle.office_base.specs.Rules.{first_of}
-use Rattle.office_base.specs.RuleParts.{released, clock_put, security_forfeited, put_if}
+use Rattle.office_base.specs.RuleParts.{released, clock_put, put_if, passed_over, security_settled}
 use Rattle.office_base.specs.declared.records.NoticeRow.{NoticeRow}
 use Rattle.office_base.specs.declared.records.LotRow.{LotRow}
 use Rattle.office_base.specs.Tables.{Tables, notice_at, lot_at, find_lot, after_puts, find_award, put_award, put_lot, award_at}
@@ -22,7 +23,7 @@ use Rattle.office_machine.proofs.Kept.{IsKept, PotsAre, AwardIs}
 use Rattle.office_machine.proofs.Passed.{none_holds, not_false, witness, test_of}
 use Rattle.office_base.specs.declared.records.AwardRow.{AwardRow}
 use Rattle.office_base.specs.States.{is_awarded, is_active}
-use Rattle.award_core.specs.Rules.Fail.{isnt_active, failed_award, failed_envelope, undecided_again, fail_effect}
+use Rattle.award_core.specs.Rules.Fail.{isnt_active, failed_award, undecided_again, fail_effect}
 use Rattle.office_base.specs.declared.records.AwardState.TheVariants as award_states
 use Rattle.office_base.specs.declared.records.LotState.TheVariants as lot_states
 use Rattle.office_machine.proofs.LotChanged.{joined, reserved_after, lots_are, awards_are, one_active, award_of}
@@ -88,12 +89,12 @@ module _ (readings : Readings) (xs : List Given) (s : Tables) (moment : ℕ) (ca
     effect_is = λ i. fail_effect s.clock (time_of x) (sym is i) (sym (ap (λ o. notice_of_award o s) is ∙ notice) i) (sym (ap (λ o. lot_of_award o s) is ∙ lot) i) (envelope_of_award (award_at a s) s) (security_of_envelope (envelope_of_award (award_at a s) s) s)
 
     abbrev rest : List Rattle.office_base.specs.declared.puts.Put.Put
-    rest = put_if (λ e. puts.Envelope (failed_envelope e)) (envelope_of_award (award_at a s) s) ++ put_if security_forfeited (security_of_envelope (envelope_of_award (award_at a s) s) s)
+    rest = put_if (λ e. puts.Envelope (passed_over e)) (envelope_of_award (award_at a s) s) ++ put_if (security_settled Forfeited) (security_of_envelope (envelope_of_award (award_at a s) s) s)
 
     rest_aside : Rattle.office_machine.proofs.Aside.AreAside s.clock.awards rest
-    rest_aside = aside-append s.clock.awards (put_if (λ e. puts.Envelope (failed_envelope e)) (envelope_of_award (award_at a s) s)) (put_if security_forfeited (security_of_envelope (envelope_of_award (award_at a s) s) s))
-        (aside-if s.clock.awards (λ e. puts.Envelope (failed_envelope e)) (envelope_of_award (award_at a s) s) (λ _. tt))
-        (aside-if s.clock.awards security_forfeited (security_of_envelope (envelope_of_award (award_at a s) s) s) (λ _. tt))
+    rest_aside = aside-append s.clock.awards (put_if (λ e. puts.Envelope (passed_over e)) (envelope_of_award (award_at a s) s)) (put_if (security_settled Forfeited) (security_of_envelope (envelope_of_award (award_at a s) s) s))
+        (aside-if s.clock.awards (λ e. puts.Envelope (passed_over e)) (envelope_of_award (award_at a s) s) (λ _. tt))
+        (aside-if s.clock.awards (security_settled Forfeited) (security_of_envelope (envelope_of_award (award_at a s) s) s) (λ _. tt))
 
     keeps : IsKept (x ∷ xs) (after_puts (effect readings x) s)
     keeps = subst (λ ps. IsKept (x ∷ xs) (after_puts ps s)) effect_is

@@ -20,7 +20,7 @@ use Rattle.office_machine.specs.Machine.{Given}
 use Rattle.office_machine.specs.Readings.{Readings}
 use Rattle.office_machine.specs.Fates.{Reception, brought, came, tender_decided, fate_of_tender, security_decided, fate_of_security, is_kept, has_number, is_before_deadline, is_effective, EnvelopeIs, SecurityIs}
 use Rattle.office_machine.proofs.RowsChanged.{found_key, row_at-changed_put}
-use Rattle.office_machine.proofs.Counting.{is_live, counts}
+use Rattle.office_machine.proofs.Counting.{is_live}
 use Rattle.office_machine.proofs.Views.{View, IsSound, EnvelopeFits, Change, IsFair, after_change, sound_changed}
 use Rattle.office_machine.proofs.Matched.{EnvelopeKeeps, SecurityKeeps, EnvelopesMatch}
 use Rattle.office_machine.proofs.Seen.{seen, AreInOrder, OnLines}
@@ -73,17 +73,6 @@ live_by V sound e fits sealed (Some l) at = ap (λ x. is_live (Some x)) (sound.u
 pub sealed_live : (V : View) → IsSound V → (e : EnvelopeRow) → EnvelopeFits V e → e.state ≡ envelope.Sealed
     → is_live (V.lot_at (e.notice, e.lot)) ≡ true
 sealed_live V sound e fits sealed = live_by V sound e fits sealed (V.lot_at (e.notice, e.lot)) refl
-
--- and its security is held
-pub sealed_held : (V : View) → IsSound V → (r : ℕ) (e : EnvelopeRow) → V.envelope_at r ≡ Some e → e.state ≡ envelope.Sealed
-    → (s : ℕ) (w : SecurityRow) → e.security ≡ Some s → V.security_at s ≡ Some w → w.state ≡ security.Held
-sealed_held V sound r e at sealed s w carries found =
-    let fits = sound.envelopes r e at in
-    let is = fits.secured s carries in
-    let same : Some is.row ≡ Some w = sym is.found ∙ found in
-    let one : is.row ≡ w = cc in
-    let counted : counts e ≡ true = ap (λ s. is_kept s && not e.failed) sealed ∙ ap not (fits.willing sealed) in
-    sym (ap (λ (x : SecurityRow). x.state) one) ∙ is.held counted (sealed_live V sound e fits sealed)
 
 map_same : {X : Type 0} (o : Option X) → o ≡ option_map (λ x. x) o
 map_same None = refl

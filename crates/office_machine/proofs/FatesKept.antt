@@ -28,7 +28,6 @@ unfolding row_at
 start means = record {
   sound = record {
     envelopes = λ r e h. nothing e h;
-    one_carrier = λ q r d e s hd he kd ke sd se. nothing d hd;
     homed = λ k l h. nothing l h;
     undecided = λ k l receiving h. nothing l h;
     securities = λ s w h held. nothing w h;

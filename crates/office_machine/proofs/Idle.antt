@@ -9,11 +9,12 @@ use Rattle.office_base.specs.declared.records.EnvelopeRow.{EnvelopeRow}
 use Rattle.office_base.specs.declared.records.SecurityRow.{SecurityRow}
 use Rattle.office_base.specs.declared.records.ClockRow.{ClockRow}
 use Rattle.office_base.specs.Tables.{Tables, notice_at, envelope_at, after_puts}
-use Rattle.office_base.specs.RuleParts.{security_returned}
+use Rattle.office_base.specs.RuleParts.{security_settled}
 use Rattle.tender_core.specs.Rules.AmendNotice.{amend_notice_effect}
 use Rattle.tender_core.specs.Rules.Open.{SealedTender, open_effect, opened_put}
 use Rattle.tender_core.specs.Rules.Present.{received_puts, seal_puts, security_put}
 use Rattle.tender_core.specs.Rules.Modify.{modify_effect}
+use Rattle.office_base.specs.declared.records.SecurityState.TheVariants.{Returned}
 use Rattle.tender_core.specs.Rules.Withdraw.{withdraw_effect}
 use Rattle.award_core.specs.Rules.Examine.{examine_effect}
 use Rattle.office_base.specs.Parents.{security_of_envelope}
@@ -53,7 +54,7 @@ modify_aside digest clock t (Some e) bytes = (tt, (tt, (tt, (tt, (same clock.awa
 
 withdraw_aside : (clock : ClockRow) (t : ℕ) (envelope : Option EnvelopeRow) (security : Option SecurityRow) → AreAside clock.awards (withdraw_effect clock t envelope security)
 withdraw_aside clock t None security = tt
-withdraw_aside clock t (Some e) security = (tt, (tt, (same clock.awards, aside-if clock.awards security_returned security (λ _. tt))))
+withdraw_aside clock t (Some e) security = (tt, (tt, (same clock.awards, aside-if clock.awards (security_settled Returned) security (λ _. tt))))
 
 examine_aside : (clock : ClockRow) (t : ℕ) (envelope : Option EnvelopeRow) (responsive : Bool) (quality : Option ℕ) → AreAside clock.awards (examine_effect clock t envelope responsive quality)
 examine_aside clock t None responsive quality = tt

@@ -16,7 +16,7 @@ use Rattle.office_base.specs.declared.records.LotState.TheVariants as lot
 use Rattle.office_base.specs.declared.records.LotState.{LotState}
 use Rattle.office_base.specs.declared.records.NoticeState.TheVariants as notice
 use Rattle.office_base.specs.States.{is_held, is_sealed}
-use Rattle.office_base.specs.RuleParts.{is_held_security}
+use Rattle.office_base.specs.RuleParts.{is_held_security, returned}
 use Rattle.office_base.specs.Tables.{Tables, lot_cmp, security_key, envelope_at, seal_at, security_at, securities_of_lot, find_security}
 use Rattle.office_machine.specs.Machine.{Given}
 use Rattle.office_machine.specs.Readings.{Readings}
@@ -25,7 +25,7 @@ use Rattle.office_machine.proofs.Counting.{is_live}
 use Rattle.office_base.proofs.ExactKeys.{equal_ids, same_itself}
 use Rattle.office_machine.proofs.RowsChanged.{rows_put, changed, filter_filter, row_at-changed}
 use Rattle.office_machine.proofs.Views.{Change, after_change}
-use Rattle.office_machine.proofs.Steps.{cond_keeps, both_true, returned}
+use Rattle.office_machine.proofs.Steps.{cond_keeps, both_true}
 use Rattle.office_machine.proofs.Decisions.{closing, fair_closing}
 use Rattle.office_machine.proofs.Seen.{seen, alike, AreInOrder, OnLines}
 use Rattle.office_machine.proofs.FatesHold.{IsKept, still_sealed, all_keep}

@@ -12,6 +12,7 @@ use Rattle.office_values.specs.declared.refusal.Refusal.{Refusal}
 use Rattle.office_base.specs.declared.records.EnvelopeRow.{EnvelopeRow}
 use Rattle.office_base.specs.declared.records.SealRow.{SealRow}
 use Rattle.office_base.specs.declared.records.EnvelopeState.TheVariants as envelope
+use Rattle.office_base.specs.declared.records.SecurityState.TheVariants as security
 use Rattle.office_base.specs.States.{is_sealed}
 use Rattle.office_base.specs.Rules.{first_of}
 use Rattle.tender_core.specs.Rules.Modify.{withdrawn, replacing, modify_conditions, modify_effect}
@@ -23,18 +24,15 @@ use Rattle.office_machine.specs.Fates.{Reception, came, brought, tender_decided,
 use Rattle.office_machine.proofs.Passed.{none_holds}
 use Rattle.office_base.proofs.RowLaws.{row_at-row_put}
 use Rattle.office_machine.proofs.RowsChanged.{found_key, row_at-changed_put, row_at-row_drop}
-use Rattle.office_machine.proofs.Views.{View, IsSound, EnvelopeFits, Change, after_change, sound_changed, before}
+use Rattle.office_machine.proofs.Views.{View, IsSound, EnvelopeFits, Change, after_change, sound_changed}
 use Rattle.office_machine.proofs.Added.{added, equal_numbers, sound_envelope}
 use Rattle.office_machine.proofs.Matched.{EnvelopesMatch, EnvelopeStands, EnvelopeKeeps, named_in, same_itself, envelopes_received}
-use Rattle.office_machine.proofs.Steps.{choose, cond_keeps, withdrawal, fair_withdrawal}
+use Rattle.office_machine.proofs.Steps.{cond_keeps, taking_back, fair_withdrawal}
 use Rattle.office_machine.proofs.Seen.{seen, alike, order-puts}
 use Rattle.office_machine.proofs.FatesHold.{IsKept, Keeps, given, fate_goes, still_sealed}
-use Rattle.office_machine.proofs.FatesChanged.{is_sealed_state, sealed_held}
+use Rattle.office_machine.proofs.FatesChanged.{is_sealed_state}
 use Rattle.office_machine.proofs.States.{map_same}
 use Rattle.office_machine.proofs.NextReceipt.{none_fate, came_other, came_here, no_envelope_yet, nothing_yet, securities_stay}
-
-nothing_carried : (e : EnvelopeRow) (s : ℕ) → None ≡ Some s → e.security ≡ Some s
-nothing_carried e s h = cc
 
 module _ (readings : Readings) (receipt : ℕ) (bytes : List ℕ) (xs : List Given) (t : Tables) (m : ℕ) (caller : Caller) (kept : IsKept readings xs t) where
   abbrev T : ℕ
@@ -70,39 +68,26 @@ module _ (readings : Readings) (receipt : ℕ) (bytes : List ℕ) (xs : List Giv
     W = record (seen t) { envelope_at = λ r. option_map (f r) (envelope_at r t) }
 
     abbrev c : Change
-    c = withdrawal (seen t) kept.sound receipt e found sealed None (nothing_carried e)
+    c = taking_back (seen t) receipt withdrawn security.Returned None
 
     sound_W : IsSound W
     sound_W =
         subst IsSound
         (alike (after_change c (seen t)) W (λ r. refl) (λ s. sym (map_same (security_at s t))) (λ a. sym (map_same ((seen t).award_at a))) (λ k. sym (map_same ((seen t).lot_at k))) (λ n. sym (map_same ((seen t).notice_at n))))
-        (sound_changed c (seen t) kept.sound (fair_withdrawal (seen t) kept.sound receipt e found sealed None (nothing_carried e)))
+        (sound_changed c (seen t) kept.sound (fair_withdrawal (seen t) receipt e found sealed security.Returned None))
 
     new_fits : EnvelopeFits W new
     new_fits = record {
       noticed = fits.noticed;
       housed = fits.housed;
       receiving = λ h. fits.receiving sealed;
-      willing = λ h. refl;
       secured = λ s h.
           let is = fits.secured s h in
-          record { row = is.row; found = is.found; of_notice = is.of_notice; of_lot = is.of_lot; held = λ counted live. sealed_held (seen t) kept.sound receipt e found sealed s is.row h is.found };
+          record { row = is.row; found = is.found; of_notice = is.of_notice; of_lot = is.of_lot };
     }
 
     no_new : W.envelope_at k ≡ None
     no_new = ap (option_map (f k)) (no_envelope_yet readings xs t kept)
-
-    alone : (q : ℕ) (d : EnvelopeRow) (s : ℕ) → W.envelope_at q ≡ Some d → is_kept d.state ≡ true → is_kept new.state ≡ true → d.security ≡ Some s
-        → new.security ≡ Some s → ⊥
-    alone q d s at keptd keptn carries also =
-        let b = before (f q) (envelope_at q t) d at in
-        choose (λ (z : EnvelopeRow). z ≡ d → ⊥) (eq_by_cmp nat_cmp q receipt) (withdrawn b.old) b.old
-        (λ _ is. let no : false ≡ true = ap (λ (z : EnvelopeRow). is_kept z.state) is ∙ keptd in cc)
-        (λ other is.
-        let one : q ≡ receipt = kept.sound.one_carrier q receipt b.old e s b.was found (ap (λ (z : EnvelopeRow). is_kept z.state) is ∙ keptd) (ap is_kept sealed) (ap (λ (z : EnvelopeRow). z.security) is ∙ carries) also in
-        let no : eq_by_cmp nat_cmp q receipt ≡ true = ap (λ q. eq_by_cmp nat_cmp q receipt) one ∙ same_itself receipt in
-        cc)
-        b.is
 
     envelopes_are : (r : ℕ) → envelope_at r after ≡ added k new (λ r. option_map (f r) (envelope_at r t)) r
     envelopes_are r =
@@ -113,7 +98,7 @@ module _ (readings : Readings) (receipt : ℕ) (bytes : List ℕ) (xs : List Giv
     sound_after =
         subst IsSound
         (alike (record W { envelope_at = added k new W.envelope_at }) (seen after) (λ r. sym (envelopes_are r)) (λ s. refl) (λ a. refl) (λ k. refl) (λ n. refl))
-        (sound_envelope k new W sound_W no_new new_fits alone)
+        (sound_envelope k new W sound_W no_new new_fits)
 
     abbrev new_seal : SealRow
     new_seal = record { receipt = k; bytes = bytes }

@@ -85,7 +85,7 @@ module _ (readings : Readings) (name : List ℕ) (xs : List Given) (t : Tables) 
 
     abbrev c : Change
     c =
-        opening (seen t) name test (λ r e. open_row e) notice_to sealed_test all_test (λ r e. refl) (λ r e. refl) (λ r e. refl) (λ r e. refl)
+        opening (seen t) name test (λ r e. open_row e) notice_to sealed_test all_test (λ r e. refl) (λ r e. refl) (λ r e. refl)
         (λ r e. refl) receive
 
     envelopes_are : (r : ℕ) → envelope_at r after ≡ option_map (changed test open_row) (envelope_at r t)
@@ -117,7 +117,7 @@ module _ (readings : Readings) (name : List ℕ) (xs : List Given) (t : Tables) 
     opened_kept : IsKept readings (x ∷ xs) after
     opened_kept =
         kept_by_change readings xs x t after c kept
-        (fair_opening (seen t) name test (λ r e. open_row e) notice_to sealed_test all_test (λ r e. refl) (λ r e. refl) (λ r e. refl) (λ r e. refl) (λ r e. refl) receive)
+        (fair_opening (seen t) name test (λ r e. open_row e) notice_to sealed_test all_test (λ r e. refl) (λ r e. refl) (λ r e. refl) (λ r e. refl) receive)
         (record {
           none = refl;
           seen_is = seen_is;
@@ -163,7 +163,7 @@ module _ (readings : Readings) (receipt : ℕ) (responsive : Bool) (quality : Op
 
   module _ (e : EnvelopeRow) (found : envelope_at receipt t ≡ Some e) where
     abbrev examine_change : Change
-    examine_change = examination (seen t) receipt (examined responsive quality) (λ e. refl) (λ e. refl) (λ e. refl) (λ e. refl) (λ e. refl)
+    examine_change = examination (seen t) receipt (examined responsive quality) (λ e. refl) (λ e. refl) (λ e. refl) (λ e. refl)
 
     abbrev after_examine : Tables
     after_examine = after_puts (puts.Envelope (examined responsive quality e) ∷ clock_put t.clock (max m t.clock.moment) ∷ []) t
@@ -174,7 +174,7 @@ module _ (readings : Readings) (receipt : ℕ) (responsive : Bool) (quality : Op
     examined_kept : IsKept readings (given_examine ∷ xs) after_examine
     examined_kept =
         kept_by_change readings xs given_examine t after_examine examine_change kept
-        (fair_examination (seen t) receipt (examined responsive quality) (λ e. refl) (λ e. refl) (λ e. refl) (λ e. refl) (λ e. refl))
+        (fair_examination (seen t) receipt (examined responsive quality) (λ e. refl) (λ e. refl) (λ e. refl) (λ e. refl))
         (record {
           none = refl;
           seen_is =

@@ -27,7 +27,7 @@ use Rattle.office_base.specs.Tables.{Tables, IsSorted, no_tables, tenderer_at, n
 use Rattle.office_base.specs.declared.puts.Put.{Put}
 use Rattle.office_base.specs.declared.puts.Put.TheVariants as puts
 use Rattle.office_base.specs.Rules.{first_of}
-use Rattle.office_base.specs.RuleParts.{put_if, security_returned, security_forfeited, securities_returned, is_held_security}
+use Rattle.office_base.specs.RuleParts.{put_if, security_returned, settled, security_settled, passed_over, securities_returned, is_held_security}
 use Rattle.office_base.specs.Standings.{standings}
 use Rattle.tender_core.specs.Rules.Import.{after_rows, line_put as import_line}
 use Rattle.tender_core.specs.Rules.Publish.{line_put, lot_put}
@@ -39,7 +39,9 @@ use Rattle.tender_core.specs.Rules.Modify.{modify_effect}
 use Rattle.tender_core.specs.Rules.Withdraw.{withdraw_effect}
 use Rattle.award_core.specs.Rules.Examine.{examine_effect}
 use Rattle.award_core.specs.Rules.Award.{winner, best_of, decision_puts, award_effect}
-use Rattle.award_core.specs.Rules.Fail.{fail_effect, failed_envelope}
+use Rattle.office_base.specs.declared.records.SecurityState.{SecurityState}
+use Rattle.office_base.specs.declared.records.SecurityState.TheVariants.{Forfeited, Returned}
+use Rattle.award_core.specs.Rules.Fail.{fail_effect}
 use Rattle.award_core.specs.Rules.Sign.{sign_effect, tenderer_in}
 use Rattle.award_core.specs.Rules.AmendContract.{amend_contract_effect}
 use Rattle.award_core.specs.Rules.Pay.{pay_effect}
@@ -76,6 +78,9 @@ module _ (s u : Tables) (order : IsSorted s) (have : HaveParents s s) (g : Grows
 
   returned : (r : SecurityRow) → SecurityHas u r → SecurityHas u (record r { state = Rattle.office_base.specs.declared.records.SecurityState.TheVariants.Returned })
   returned r h = record { notice = h.notice; lot = h.lot; tenderer = h.tenderer }
+
+  settled_has : (state : SecurityState) (r : SecurityRow) → SecurityHas u r → SecurityHas u (settled state r)
+  settled_has state r h = record { notice = h.notice; lot = h.lot; tenderer = h.tenderer }
 
   lot_securities : (notice lot : List ℕ) → AllParents u (securities_returned (securities_of_lot notice lot s))
   lot_securities notice lot =
@@ -173,7 +178,7 @@ module _ (s u : Tables) (order : IsSorted s) (have : HaveParents s s) (g : Grows
   withdraw_parents clock t receipt None is = tt
   withdraw_parents clock t receipt (Some e) is =
       let h = envelope_still s u g e (have.envelopes receipt e is) in
-      (record { notice = h.notice; lot = h.lot; tenderer = h.tenderer; security = h.security }, (tt, (tt, parents-if u security_returned (security_of_envelope (Some e) s) (λ r found. returned r (security_found (Some e) r found)))))
+      (record { notice = h.notice; lot = h.lot; tenderer = h.tenderer; security = h.security }, (tt, (tt, parents-if u (security_settled Returned) (security_of_envelope (Some e) s) (λ r found. settled_has Returned r (security_found (Some e) r found)))))
 
   examine_parents : (clock : ClockRow) (t receipt : ℕ) (responsive : Bool) (quality : Option ℕ) (o : Option EnvelopeRow) → envelope_at receipt s ≡ o → AllParents u (examine_effect clock t o responsive quality)
   examine_parents clock t receipt responsive quality None is = tt
@@ -227,9 +232,9 @@ module _ (s u : Tables) (order : IsSorted s) (have : HaveParents s s) (g : Grows
             tt,
             (
               tt,
-              parents-append u (put_if (λ e. puts.Envelope (failed_envelope e)) (envelope_of_award (Some a) s)) _
-                  (parents-if u (λ e. puts.Envelope (failed_envelope e)) (envelope_of_award (Some a) s) (λ e found. let f = envelope_of (Some a) e found in record { notice = f.notice; lot = f.lot; tenderer = f.tenderer; security = f.security }))
-                  (parents-if u security_forfeited (security_of_envelope (envelope_of_award (Some a) s) s) (λ r found. let f = security_found (envelope_of_award (Some a) s) r found in record { notice = f.notice; lot = f.lot; tenderer = f.tenderer })),
+              parents-append u (put_if (λ e. puts.Envelope (passed_over e)) (envelope_of_award (Some a) s)) _
+                  (parents-if u (λ e. puts.Envelope (passed_over e)) (envelope_of_award (Some a) s) (λ e found. let f = envelope_of (Some a) e found in record { notice = f.notice; lot = f.lot; tenderer = f.tenderer; security = f.security }))
+                  (parents-if u (security_settled Forfeited) (security_of_envelope (envelope_of_award (Some a) s) s) (λ r found. let f = security_found (envelope_of_award (Some a) s) r found in record { notice = f.notice; lot = f.lot; tenderer = f.tenderer })),
             ),
           ),
         ),

@@ -26,7 +26,7 @@ use Rattle.tender_core.specs.Rules.Present.{received, security_row, received_put
 use Rattle.office_machine.specs.Machine.{Given}
 use Rattle.office_machine.specs.Readings.{Readings}
 use Rattle.office_machine.specs.Fates.{presented, came, brought, tender_decided, fate_after, fate_of_tender, first_state, security_received, security_decided, security_after, fate_of_security, is_kept}
-use Rattle.office_machine.proofs.Counting.{is_live, counts}
+use Rattle.office_machine.proofs.Counting.{is_live}
 use Rattle.office_machine.proofs.Passed.{none_holds, not_false}
 use Rattle.office_base.proofs.RowLaws.{row_at-row_put}
 use Rattle.office_machine.proofs.Views.{View, IsSound, IsSecured, EnvelopeFits}
@@ -99,17 +99,9 @@ module _ (readings : Readings) (name lot_name : List ℕ) (bytes : List ℕ) (xs
       by true h = refl
       by false h = cc
 
-  counts_in_time : counts new ≡ true → b ≡ true
-  counts_in_time h = by b h
-    where
-      by : (b : Bool) → (is_kept (cond b envelope.Sealed envelope.Returned) && true) ≡ true → b ≡ true
-      by true h = refl
-      by false h = cc
-
   -- the office with the new security
   module _ (S : ℕ → Option SecurityRow) (sound_S : IsSound (record V { security_at = S }))
-      (secured : (s : ℕ) → new.security ≡ Some s → IsSecured (record V { security_at = S }) new s)
-      (alone : (s : ℕ) → new.security ≡ Some s → s ≡ k) where
+      (secured : (s : ℕ) → new.security ≡ Some s → IsSecured (record V { security_at = S }) new s) where
     abbrev W : View
     W = record V { security_at = S }
 
@@ -118,20 +110,12 @@ module _ (readings : Readings) (name lot_name : List ℕ) (bytes : List ℕ) (xs
       noticed = there_some notice_state (notice_at name t) notice_there;
       housed = there_some lot_state (lot_at (name, lot_name) t) lot_there;
       receiving = λ h. receiving (sealed_in_time h);
-      willing = λ h. refl;
       secured = secured;
     }
-
-    nobody : (s : ℕ) → s ≡ k → (w : SecurityRow) → security_at s t ≡ Some w → ⊥
-    nobody s is w found = let no : None ≡ Some w = sym (no_security_yet readings xs t kept) ∙ sym (ap (λ s. security_at s t) is) ∙ found in cc
-
-    no_other : (q : ℕ) (d : EnvelopeRow) (s : ℕ) → envelope_at q t ≡ Some d → d.security ≡ Some s → new.security ≡ Some s → ⊥
-    no_other q d s at carries also = let is = (kept.sound.envelopes q d at).secured s carries in nobody s (alone s also) is.row is.found
 
     sound_new : IsSound (record W { envelope_at = added k new (λ r. envelope_at r t) })
     sound_new =
         sound_envelope k new W sound_S (no_envelope_yet readings xs t kept) new_fits
-        (λ q d s at keptd keptn carries also. no_other q d s at carries also)
 
   abbrev new_seal : SealRow
   new_seal = record { receipt = k; bytes = bytes }
@@ -249,7 +233,7 @@ module _ (readings : Readings) (name lot_name : List ℕ) (bytes : List ℕ) (xs
     unnamed_kept = record {
       sound =
           subst IsSound (ap (λ (E : ℕ → Option EnvelopeRow). record (seen t) { envelope_at = E }) (sym (λ i r. envelopes_are r i)) ∙ sym rest)
-          (sound_new readings name lot_name bytes xs t m caller kept None b b_is notice_there lot_there unended (λ s. security_at s t) kept.sound (λ s h. no_number s h) (λ s h. no_number s h));
+          (sound_new readings name lot_name bytes xs t m caller kept None b b_is notice_there lot_there unended (λ s. security_at s t) kept.sound (λ s h. no_number s h));
       tenders =
           subst (λ (n : ℕ). EnvelopesMatch readings.digest (came (given_present None ∷ xs)) (fate_of_tender (given_present None ∷ xs)) (λ r. seal_at r u) n (λ r. envelope_at r u)) (sym receipts_are)
           (tenders_are readings name lot_name bytes xs t m caller kept None b b_is notice_there lot_there unended u envelopes_are seals_are);
@@ -299,8 +283,6 @@ module _ (readings : Readings) (name lot_name : List ℕ) (bytes : List ℕ) (xs
       found = ap S (number_is s h) ∙ ap (λ a. cond a (Some w) (security_at next t)) (same_itself next);
       of_notice = refl;
       of_lot = refl;
-      held = λ counted alive.
-          ap (λ b. cond b security.Held security.Returned) (counts_in_time readings name lot_name bytes xs t m caller kept (Some named) b b_is notice_there lot_there unended counted);
     }
 
     came_is : came (given_present (Some named) ∷ xs) next ≡ Some (presented (given_present (Some named)) name lot_name (Some named) bytes)
@@ -348,7 +330,7 @@ module _ (readings : Readings) (name lot_name : List ℕ) (bytes : List ℕ) (xs
           (alike (record N { envelope_at = added next (row (Some named) b) (λ r. envelope_at r t) }) (record (seen t) { envelope_at = λ r. envelope_at r u; security_at = λ s. security_at s u })
           (λ r. sym (envelopes_are r)) (λ s. sym (securities_are s)) (λ a. refl) (λ k. refl) (λ n. refl)
           ∙ sym rest)
-          (sound_new readings name lot_name bytes xs t m caller kept (Some named) b b_is notice_there lot_there unended S sound_N secured number_is);
+          (sound_new readings name lot_name bytes xs t m caller kept (Some named) b b_is notice_there lot_there unended S sound_N secured);
       tenders =
           subst (λ (n : ℕ). EnvelopesMatch readings.digest (came (given_present (Some named) ∷ xs)) (fate_of_tender (given_present (Some named) ∷ xs)) (λ r. seal_at r u) n (λ r. envelope_at r u)) (sym receipts_are)
           (tenders_are readings name lot_name bytes xs t m caller kept (Some named) b b_is notice_there lot_there unended u envelopes_are seals_are);

@@ -18,7 +18,7 @@ use Rattle.office_base.specs.declared.records.LotState.TheVariants as lot
 use Rattle.office_base.specs.declared.puts.Put.TheVariants as puts
 use Rattle.office_base.specs.declared.puts.Put.{Put}
 use Rattle.office_base.specs.Rules.{first_of}
-use Rattle.office_base.specs.RuleParts.{clock_put, released, is_held_security, security_returned}
+use Rattle.office_base.specs.RuleParts.{clock_put, released, is_held_security, security_returned, returned}
 use Rattle.award_core.specs.Rules.Sign.{signed_award, contracted_lot, contract_row, tenderer_in, sign_conditions, sign_effect}
 use Rattle.office_base.specs.Tables.{Tables, award_key, security_key, award_at, lot_at, notice_at, envelope_at, securities_of_lot, after_puts}
 use Rattle.office_base.specs.Parents.{notice_of_award, lot_of_award, envelope_of_award, securities_of_award}
@@ -29,7 +29,7 @@ use Rattle.office_machine.proofs.Passed.{none_holds}
 use Rattle.office_machine.proofs.RowsChanged.{rows_put, found_key, row_at-changed_put}
 use Rattle.office_machine.proofs.Views.{AwardFits}
 use Rattle.office_machine.proofs.Matched.{same_itself}
-use Rattle.office_machine.proofs.Steps.{choose, cond_keeps, returned}
+use Rattle.office_machine.proofs.Steps.{choose, cond_keeps}
 use Rattle.office_machine.proofs.Seen.{seen, notices-same, LotFits, AreInOrder, OnLines, lines-puts, order-puts, after_securities}
 use Rattle.office_machine.proofs.FatesHold.{IsKept, Keeps, given}
 use Rattle.office_machine.proofs.QuietFates.{notice_stands, all_of_map}

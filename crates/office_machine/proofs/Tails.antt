@@ -4,7 +4,7 @@ use Rattle.std.specs.Prelude.{max}
 use Rattle.std.specs.List.{AllByRecursion}
 use Rattle.office_base.specs.Rows.{holds_of}
 use Rattle.office_base.specs.Rules.{first_of}
-use Rattle.office_base.specs.RuleParts.{released, has_all_releases, security_returned, security_forfeited, is_in_time}
+use Rattle.office_base.specs.RuleParts.{released, has_all_releases, security_returned, security_settled, passed_over, is_in_time}
 use Rattle.office_base.specs.Standings.{standings}
 use Rattle.office_acts.specs.declared.budget.BudgetRow.{BudgetRow}
 use Rattle.office_acts.specs.declared.contract.ChangeKind.{ChangeKind}
@@ -32,7 +32,8 @@ use Rattle.tender_core.specs.Rules.Open.{opened_put, opened_notice, open_effect}
 use Rattle.tender_core.specs.Rules.Present.{received_puts}
 use Rattle.tender_core.specs.Rules.Modify.{modify_effect}
 use Rattle.award_core.specs.Rules.Examine.{examine_effect}
-use Rattle.award_core.specs.Rules.Fail.{fail_effect, failed_envelope}
+use Rattle.office_base.specs.declared.records.SecurityState.TheVariants.{Forfeited}
+use Rattle.award_core.specs.Rules.Fail.{fail_effect}
 use Rattle.award_core.specs.Rules.Sign.{sign_effect}
 use Rattle.award_core.specs.Rules.AmendContract.{amend_contract_effect}
 use Rattle.award_core.specs.Rules.End.{end_effect}
@@ -141,7 +142,7 @@ module _ (readings : Readings) (s : Tables) (moment : ℕ) (caller : Caller) (ha
       moved (ap (option_map (λ (a : AwardRow). a.notice)) of.is) (λ i. fail_effect s.clock now (of.is i) (of.notice i) (of.lot i) envelope security)
       (front (puts.Award _ ∷ puts.Lot _ ∷ []) (refl, (refl, tt))
       (loud of.w.notice of.n (released of.n) _ _ of.notice_is (ap has_all_releases (of.notice_is ∙ sym of.notice) ∙ tests.1.1.1.1.0) refl refl
-      (on-append is_own _ _ (on-if is_own (λ e. puts.Envelope (failed_envelope e)) envelope (λ _. refl)) (on-if is_own security_forfeited security (λ _. refl))) refl))
+      (on-append is_own _ _ (on-if is_own (λ e. puts.Envelope (passed_over e)) envelope (λ _. refl)) (on-if is_own (security_settled Forfeited) security (λ _. refl))) refl))
 
   pub signing : (award : ℕ) → Tail (Sign award)
   signing award allowed =

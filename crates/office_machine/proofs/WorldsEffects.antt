@@ -14,14 +14,15 @@ use Rattle.office_base.specs.declared.records.AwardRow.{AwardRow}
 use Rattle.office_base.specs.declared.records.ClockRow.{ClockRow}
 use Rattle.office_base.specs.declared.puts.Put.{Put}
 use Rattle.office_base.specs.declared.puts.Put.TheVariants as puts
-use Rattle.office_base.specs.RuleParts.{clock_put, put_if, security_returned, security_forfeited, is_held_security}
+use Rattle.office_base.specs.RuleParts.{clock_put, put_if, security_returned, security_settled, passed_over, is_held_security}
 use Rattle.tender_core.specs.Rules.Present.{received, received_puts, seal_puts, security_put}
 use Rattle.tender_core.specs.Rules.Modify.{modify_effect, withdrawn, replacing}
 use Rattle.tender_core.specs.Rules.Withdraw.{withdraw_effect}
 use Rattle.award_core.specs.Rules.Examine.{examine_effect, examined}
 use Rattle.tender_core.specs.Rules.Cancel.{is_open_lot, lot_put as cancel_lot, line_put as cancel_line, is_ended_award, award_put, is_ended_envelope, envelope_put, drop_put, returned_envelope, is_ended_security, cancelled_notice, cancel_effect}
 use Rattle.award_core.specs.Rules.Award.{is_admissible, price_of, lesser, lowest_price, is_better, better, best_with, winner, decision_puts, award_effect}
-use Rattle.award_core.specs.Rules.Fail.{fail_effect, failed_envelope}
+use Rattle.office_base.specs.declared.records.SecurityState.TheVariants.{Forfeited, Returned}
+use Rattle.award_core.specs.Rules.Fail.{fail_effect}
 use Rattle.office_machine.specs.Worlds.{Theirs, is_theirs, Pairs}
 use Rattle.office_machine.proofs.WorldsPut.{Alike, IsPlain, PutPair, Plain, Envelopes, Seals, AlikeOptions, receipt_is, pairs-filter, blind, blind-option, plain_pairs, pairs-append, pairs-map, alike-set}
 
@@ -138,7 +139,7 @@ module _ (th : Theirs) (W : ℕ → Bool) where
     Envelopes (withdrawn e) (withdrawn e') refl refl (alike-set th W withdrawn (λ _ _. refl) (λ _. refl) (λ _. refl) (λ _. refl) e e' a),
     (
       Plain tt (ap (λ n. puts.DropSeal n) (sym (receipt_is th W e e' a))),
-      (Plain tt refl, subst (λ q. Pairs (PutPair th W) (put_if security_returned r) (put_if security_returned q)) (sym same) (plain_pairs th W (put_if security_returned r) (plain-if security_returned r (λ _. tt)))),
+      (Plain tt refl, subst (λ q. Pairs (PutPair th W) (put_if (security_settled Returned) r) (put_if (security_settled Returned) q)) (sym same) (plain_pairs th W (put_if (security_settled Returned) r) (plain-if (security_settled Returned) r (λ _. tt)))),
     ),
   )
 
@@ -164,18 +165,18 @@ module _ (th : Theirs) (W : ℕ → Bool) where
         Plain tt refl,
         (
           Plain tt refl,
-          pairs-append th W (put_if (λ e. puts.Envelope (failed_envelope e)) o) (put_if (λ e. puts.Envelope (failed_envelope e)) o') (put_if security_forfeited r) (put_if security_forfeited r') (by o o' a)
-              (subst (λ q. Pairs (PutPair th W) (put_if security_forfeited r) (put_if security_forfeited q)) (sym same) (plain_pairs th W (put_if security_forfeited r) (plain-if security_forfeited r (λ _. tt)))),
+          pairs-append th W (put_if (λ e. puts.Envelope (passed_over e)) o) (put_if (λ e. puts.Envelope (passed_over e)) o') (put_if (security_settled Forfeited) r) (put_if (security_settled Forfeited) r') (by o o' a)
+              (subst (λ q. Pairs (PutPair th W) (put_if (security_settled Forfeited) r) (put_if (security_settled Forfeited) q)) (sym same) (plain_pairs th W (put_if (security_settled Forfeited) r) (plain-if (security_settled Forfeited) r (λ _. tt)))),
         ),
       ),
     ),
   )
     where
-      by : (o o' : Option EnvelopeRow) → AlikeOptions th W o o' → Pairs (PutPair th W) (put_if (λ e. puts.Envelope (failed_envelope e)) o) (put_if (λ e. puts.Envelope (failed_envelope e)) o')
+      by : (o o' : Option EnvelopeRow) → AlikeOptions th W o o' → Pairs (PutPair th W) (put_if (λ e. puts.Envelope (passed_over e)) o) (put_if (λ e. puts.Envelope (passed_over e)) o')
       by None None a = tt
       by None (Some e') a = absurd a
       by (Some e) None a = absurd a
-      by (Some e) (Some e') a = (Envelopes (failed_envelope e) (failed_envelope e') refl refl (alike-set th W failed_envelope (λ _ _. refl) (λ _. refl) (λ _. refl) (λ _. refl) e e' a), tt)
+      by (Some e) (Some e') a = (Envelopes (passed_over e) (passed_over e') refl refl (alike-set th W passed_over (λ _ _. refl) (λ _. refl) (λ _. refl) (λ _. refl) e e' a), tt)
 
   -- a cancellation
   pub cancel_pairs : (clock : ClockRow) (t : ℕ) (lines : List LineRow) (n : Option NoticeRow) (lots : List LotRow) (awards : List AwardRow) (es es' : List EnvelopeRow) (securities : List SecurityRow) → Pairs (Alike th W) es es'

@@ -5,10 +5,11 @@ use Rattle.office_values.specs.declared.refusal.Thing.TheVariants as things
 use Rattle.office_values.specs.declared.refusal.Refusal.{Refusal}
 use Rattle.office_values.specs.declared.refusal.Refusal.TheVariants.{NoSuch, AlreadyDecided, Expired, Standstill, LimitReached}
 use Rattle.office_base.specs.Rows.{holds_of}
-use Rattle.office_base.specs.RuleParts.{clock_put, released, has_all_releases, is_expired, security_forfeited, put_if}
+use Rattle.office_base.specs.RuleParts.{clock_put, released, has_all_releases, is_expired, passed_over, security_settled, put_if}
 use Rattle.office_base.specs.States.{is_active}
 use Rattle.office_base.specs.declared.records.LotState.TheVariants as lot_states
 use Rattle.office_base.specs.declared.records.AwardState.TheVariants as award_states
+use Rattle.office_base.specs.declared.records.SecurityState.TheVariants.{Forfeited}
 use Rattle.office_base.specs.declared.records.NoticeRow.{NoticeRow}
 use Rattle.office_base.specs.declared.records.LotRow.{LotRow}
 use Rattle.office_base.specs.declared.records.EnvelopeRow.{EnvelopeRow}
@@ -44,9 +45,6 @@ fail_conditions t award notice =
 abbrev pub failed_award : AwardRow → AwardRow
 failed_award a = record a { state = award_states.Failed }
 
-abbrev pub failed_envelope : EnvelopeRow → EnvelopeRow
-failed_envelope e = record e { failed = true }
-
 -- what was reserved stays so
 abbrev pub undecided_again : LotRow → LotRow
 undecided_again l = record l { state = lot_states.Undecided }
@@ -58,8 +56,8 @@ fail_effect clock t (Some a) (Some n) (Some l) envelope security =
     ∷ puts.Lot (undecided_again l)
     ∷ puts.Notice (released n)
     ∷ clock_put clock t
-    ∷ put_if (λ e. puts.Envelope (failed_envelope e)) envelope
-    ++ put_if security_forfeited security
+    ∷ put_if (λ e. puts.Envelope (passed_over e)) envelope
+    ++ put_if (security_settled Forfeited) security
 fail_effect clock t award notice lot envelope security = []
 
 -- the rows that the failing of an award looks at

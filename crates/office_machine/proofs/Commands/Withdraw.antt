@@ -3,9 +3,10 @@ use Rattle.std.proofs.Common.{arith, ℕ, [], ◌∷◌, refl}
 use Rattle.std.specs.Prelude.{max}
 use Rattle.office_acts.specs.declared.commands.Command.TheVariants.{Withdraw}
 use Rattle.office_base.specs.declared.puts.Put.TheVariants as puts
-use Rattle.office_base.specs.RuleParts.{security_returned}
+use Rattle.office_base.specs.RuleParts.{security_settled}
 use Rattle.office_base.specs.Parents.{security_of_envelope}
 use Rattle.office_base.specs.Tables.{envelope_at}
+use Rattle.office_base.specs.declared.records.SecurityState.TheVariants.{Returned}
 use Rattle.tender_core.specs.Rules.Withdraw.{withdraw_rows, withdraw_tests, withdraw_effect}
 use Rattle.office_machine.proofs.Footprint.{on-if}
 use Rattle.office_machine.proofs.Idle.{withdraw_keeps}
@@ -24,5 +25,5 @@ withdraw receipt = record {
       let e = witness (envelope_at receipt s) (not_false _ tests.0) in
       let security = security_of_envelope (envelope_at receipt s) s in
       moved refl (λ i. withdraw_effect s.clock (max moment s.clock.moment) (e.1 i) security)
-      (front (puts.Envelope _ ∷ puts.DropSeal _ ∷ []) (refl, (refl, tt)) (quiet _ _ (on-if is_own security_returned security (λ _. refl)) refl));
+      (front (puts.Envelope _ ∷ puts.DropSeal _ ∷ []) (refl, (refl, tt)) (quiet _ _ (on-if is_own (security_settled Returned) security (λ _. refl)) refl));
 }

@@ -5,8 +5,9 @@ use Rattle.office_values.specs.declared.refusal.Thing.TheVariants as things
 use Rattle.office_values.specs.declared.refusal.Refusal.{Refusal}
 use Rattle.office_values.specs.declared.refusal.Refusal.TheVariants.{NoSuch, NotYourTender, DeadlinePassed, NotSealed}
 use Rattle.office_base.specs.Rows.{holds_of}
-use Rattle.office_base.specs.RuleParts.{clock_put, is_past_deadline, security_returned, put_if}
+use Rattle.office_base.specs.RuleParts.{clock_put, is_past_deadline, security_settled, put_if}
 use Rattle.tender_core.specs.Rules.Modify.{is_anothers, isnt_sealed, withdrawn}
+use Rattle.office_base.specs.declared.records.SecurityState.TheVariants.{Returned}
 use Rattle.office_base.specs.declared.records.NoticeRow.{NoticeRow}
 use Rattle.office_base.specs.declared.records.EnvelopeRow.{EnvelopeRow}
 use Rattle.office_base.specs.declared.records.SecurityRow.{SecurityRow}
@@ -30,7 +31,7 @@ withdraw_conditions t caller envelope notice =
 abbrev pub withdraw_effect : ClockRow → ℕ → Option EnvelopeRow → Option SecurityRow → List Put
 withdraw_effect clock t None security = []
 withdraw_effect clock t (Some e) security =
-    puts.Envelope (withdrawn e) ∷ puts.DropSeal e.receipt ∷ clock_put clock t ∷ put_if security_returned security
+    puts.Envelope (withdrawn e) ∷ puts.DropSeal e.receipt ∷ clock_put clock t ∷ put_if (security_settled Returned) security
 
 -- the rows of an office that a withdrawal looks at
 abbrev pub withdraw_rows : Tables → ℕ → WithdrawRows
