@@ -1,0 +1,13 @@
+//! What an office in files does where a transcript can't say it: its disk stops at each of its writes, and files that are no office.
+#![tactic(auto)]
+
+#[cfg(test)]
+mod file_office;
+#[cfg(test)]
+mod no_offices;
+#[cfg(test)]
+mod setup;
+#[cfg(test)]
+mod stops;
+#[cfg(test)]
+mod stores;
