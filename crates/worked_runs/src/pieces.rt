@@ -2,14 +2,21 @@
 use crate::sections::Piece;
 use std::alloc::{AllocError, Global};
 
-/// Whether a piece of this name is there.
-pub(crate) fn has(pieces: &[Piece], name: &str) -> bool {
+// Where the first piece of this name stands.
+fn index_of(pieces: &[Piece], name: &str) -> Option<usize> {
+    let mut index = 0usize;
     for piece in pieces {
         if piece.name == name {
-            return true;
+            return Some(index);
         }
+        index = index.saturating_add(1);
     }
-    false
+    None
+}
+
+/// Whether a piece of this name is there.
+pub(crate) fn has(pieces: &[Piece], name: &str) -> bool {
+    index_of(pieces, name).is_some()
 }
 
 /// The first of these names, which blanks part, that no piece has.
@@ -22,21 +29,6 @@ pub(crate) fn missing<'n>(pieces: &[Piece], names: &'n str) -> Option<&'n str> {
     None
 }
 
-// Appends the blocks of this name, which are played now.
-fn append<'a>(
-    all: &mut Vec<&'a str>,
-    pieces: &mut [Piece<'a>],
-    name: &str,
-) -> Result<(), AllocError> {
-    for piece in pieces {
-        if piece.name == name {
-            piece.is_played = true;
-            all.push(piece.blocks)?;
-        }
-    }
-    Ok(())
-}
-
 /// The blocks of these names, which are played now.
 pub(crate) fn blocks_of<'a>(
     alloc: Global,
@@ -45,7 +37,12 @@ pub(crate) fn blocks_of<'a>(
 ) -> Result<Vec<&'a str>, AllocError> {
     let mut all = Vec::new(alloc);
     for name in names.split(" ") {
-        append(&mut all, pieces, name)?;
+        if let Some(index) = index_of(pieces, name)
+            && let Some(piece) = pieces.get_mut(index)
+        {
+            piece.is_played = true;
+            all.push(piece.blocks)?;
+        }
     }
     Ok(all)
 }

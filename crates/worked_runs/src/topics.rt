@@ -47,26 +47,18 @@ fn play(
     Ok(())
 }
 
-// Plays two lives over each store, and behind both the same pieces, to which both are to be told the same.
+// Lives two lives over each store, which are to be told the same.
 fn play_alike(
     rt: &HostRuntime,
     topic: &mut Topic,
     title: &str,
-    lives: [&[&str]; 2],
-    told: &[&str],
+    one: Life<'_>,
+    other: Life<'_>,
 ) -> io::Result<()> {
-    let [one, other] = lives;
     for store in STORES {
         let place = place_of(rt, topic, title, store.name())?;
-        let one = told_in(rt, store, Life { before: one, told });
-        let other = told_in(
-            rt,
-            store,
-            Life {
-                before: other,
-                told,
-            },
-        );
+        let one = told_in(rt, store, one);
+        let other = told_in(rt, store, other);
         find_alike(rt, topic, place.as_str(), one, other)?;
     }
     Ok(())
@@ -86,21 +78,24 @@ fn play_lives(
     let Some((other, told)) = rest.split_once(" | ") else {
         return topic.tell(rt, title, "nothing behind two lives");
     };
-    for names in [one, other, told] {
-        if let Some(name) = missing(pieces, names) {
-            return topic.tell_missing(rt, title, name);
-        }
+    if let Some(name) = missing(pieces, one)
+        .or(missing(pieces, other))
+        .or(missing(pieces, told))
+    {
+        return topic.tell_missing(rt, title, name);
     }
     let one = blocks_of(rt.alloc(), pieces, one)?;
     let other = blocks_of(rt.alloc(), pieces, other)?;
     let told = blocks_of(rt.alloc(), pieces, told)?;
-    play_alike(
-        rt,
-        topic,
-        title,
-        [one.as_slice(), other.as_slice()],
-        told.as_slice(),
-    )
+    let one = Life {
+        before: one.as_slice(),
+        told: told.as_slice(),
+    };
+    let other = Life {
+        before: other.as_slice(),
+        told: told.as_slice(),
+    };
+    play_alike(rt, topic, title, one, other)
 }
 
 // Plays pieces of these names.
