@@ -2,8 +2,6 @@
 #![tactic(auto)]
 
 #[cfg(test)]
-mod file_office;
-#[cfg(test)]
 mod no_offices;
 #[cfg(test)]
 mod setup;

@@ -1,93 +1,48 @@
 //! Files in which no office is opened, and those in which one is made beside what stands there.
 use crate::setup::MONEY;
-use crate::stores::{blank, closed, opened};
-use office_store::open::OpenRefusal;
-use office_store::shelf::SqlShelf;
-use sqlite::{Connection, FileStore, Files, Options};
-use sqlite_disk::{Fuse, Memory};
+use crate::stores::played_in_files;
+use office_on_disks::database::{changed, number};
+use office_on_disks::disks::Disks;
+use office_on_disks::office::{OfficeOnDisks, Unopened};
 use std::alloc::Global;
 use std::test::Fail;
-use transcripts::session::{Wrong, played};
-
-// A database in these files.
-fn connected(
-    alloc: Global,
-    files: Files<Fuse<Memory>>,
-) -> Result<Connection<FileStore<Fuse<Memory>>>, Wrong> {
-    if !files.may_be_used() {
-        return Err(Wrong::Unopened);
-    }
-    match Connection::open_files(alloc, files, Options::new(3)) {
-        Ok(conn) => Ok(conn),
-        Err(_) => Err(Wrong::Unopened),
-    }
-}
-
-fn disconnected(conn: Connection<FileStore<Fuse<Memory>>>) -> Result<Files<Fuse<Memory>>, Wrong> {
-    match conn.close_files() {
-        Ok(files) => Ok(files),
-        Err(_) => Err(Wrong::Unopened),
-    }
-}
-
-// The files behind these statements.
-fn changed(
-    alloc: Global,
-    files: Files<Fuse<Memory>>,
-    statements: &str,
-) -> Result<Files<Fuse<Memory>>, Wrong> {
-    let mut conn = connected(alloc, files)?;
-    if conn.execute_batch(statements).is_err() {
-        return Err(Wrong::Unopened);
-    }
-    disconnected(conn)
-}
-
-// The number that a question has for its answer.
-fn number(alloc: Global, files: Files<Fuse<Memory>>, question: &str) -> Result<i64, Wrong> {
-    let mut conn = connected(alloc, files)?;
-    let Ok(row) = conn.query_row(question, &[]) else {
-        return Err(Wrong::Unopened);
-    };
-    match row.get(0) {
-        Ok(number) => Ok(number),
-        Err(_) => Err(Wrong::Unopened),
-    }
-}
 
 // The files, where they are refused as no office.
-fn refused(alloc: Global, files: Files<Fuse<Memory>>) -> Result<Files<Fuse<Memory>>, Wrong> {
-    if !files.may_be_used() {
-        return Err(Wrong::Unopened);
-    }
-    match SqlShelf::open_files(alloc, files, Options::new(9)) {
-        Err(OpenRefusal::NotAnOffice(files)) => Ok(files),
-        _ => Err(Wrong::Unopened),
+fn refused(alloc: Global, disks: Disks) -> Option<Disks> {
+    match OfficeOnDisks::open(alloc, disks) {
+        Err(Unopened::NotAnOffice(disks)) => Some(disks),
+        _ => None,
     }
 }
 
 // What a question shows of the files behind these statements, once they were refused as no office.
-fn shown(alloc: Global, statements: &str, question: &str) -> Result<i64, Wrong> {
-    let files = changed(alloc, blank(alloc), statements)?;
-    number(alloc, refused(alloc, files)?, question)
+fn shown(alloc: Global, statements: &str, question: &str) -> Option<i64> {
+    let disks = changed(alloc, Disks::blank(alloc), statements)?;
+    number(alloc, refused(alloc, disks)?, question)
 }
 
-// The same of an office in files that were changed by these statements.
-fn shown_of_office(alloc: Global, statements: &str, question: &str) -> Result<i64, Wrong> {
-    let files = closed(opened(alloc, blank(alloc))?)?;
-    let files = changed(alloc, files, statements)?;
-    number(alloc, refused(alloc, files)?, question)
+// A new office's files.
+fn made(alloc: Global) -> Option<Disks> {
+    OfficeOnDisks::open(alloc, Disks::blank(alloc))
+        .ok()?
+        .close()
+}
+
+// What a question shows of an office's files behind these statements, once they were refused as no office.
+fn shown_of_office(alloc: Global, statements: &str, question: &str) -> Option<i64> {
+    let disks = changed(alloc, made(alloc)?, statements)?;
+    number(alloc, refused(alloc, disks)?, question)
 }
 
 // At a second try where the first isn't right: one allocation of a test may be refused.
 fn shows_number(alloc: Global, statements: &str, question: &str, wanted: i64) -> bool {
-    matches!(shown(alloc, statements, question), Ok(number) if number == wanted)
-        || matches!(shown(alloc, statements, question), Ok(number) if number == wanted)
+    shown(alloc, statements, question) == Some(wanted)
+        || shown(alloc, statements, question) == Some(wanted)
 }
 
 fn office_shows_number(alloc: Global, statements: &str, question: &str, wanted: i64) -> bool {
-    matches!(shown_of_office(alloc, statements, question), Ok(number) if number == wanted)
-        || matches!(shown_of_office(alloc, statements, question), Ok(number) if number == wanted)
+    shown_of_office(alloc, statements, question) == Some(wanted)
+        || shown_of_office(alloc, statements, question) == Some(wanted)
 }
 
 #[test]
@@ -133,23 +88,17 @@ at 2026-01-05T09:00:00Z public GET /ledger
 | 1000\t1000\t1000\t0\t0\t0
 "#;
 
-// An office beside another table, which keeps its row.
-fn stands_beside(alloc: Global) -> Result<bool, Wrong> {
-    let files = changed(
-        alloc,
-        blank(alloc),
-        "CREATE TABLE other (a INTEGER); INSERT INTO other VALUES (8)",
-    )?;
-    let shelf = played(alloc, opened(alloc, files)?, 0, &[MONEY])?;
-    let shelf = played(alloc, opened(alloc, closed(shelf)?)?, 0, &[LOOK])?;
-    Ok(number(alloc, closed(shelf)?, "SELECT a FROM other")? == 8)
+// What another table has whose file an office was made in, played to and opened again.
+fn beside(alloc: Global) -> Option<i64> {
+    let statements = "CREATE TABLE other (a INTEGER); INSERT INTO other VALUES (8)";
+    let disks = changed(alloc, Disks::blank(alloc), statements)?;
+    let disks = played_in_files(alloc, disks, &[MONEY, LOOK]).ok()?;
+    number(alloc, disks, "SELECT a FROM other")
 }
 
 #[test]
 fn other_tables_stay(rt: HostRuntime) -> Result<(), Fail> {
     let alloc = rt.alloc();
-    let stands = matches!(stands_beside(alloc), Ok(true))
-        || matches!(stands_beside(alloc), Ok(true));
-    assert!(rt; stands);
+    assert!(rt; beside(alloc) == Some(8) || beside(alloc) == Some(8));
     Ok(())
 }

@@ -1,11 +1,9 @@
 //! Stops: a disk takes so many calls, and fails at every one behind them. Whatever that number is, the office that is then opened again holds what it
 //! held before the command, or all that the command changes; and nothing less where the command was answered.
-use crate::file_office::FileOffice;
 use crate::setup::{MONEY, NOTICE, TENDERERS};
 use crate::stores::{opened, played_in_files};
 use office_base::shelf::Shelf;
-use sqlite::Files;
-use sqlite_disk::{Crash, Disk, Fuse, Memory};
+use office_on_disks::disks::Disks;
 use std::alloc::Global;
 use std::test::Fail;
 use transcripts::blocks::{Block, read};
@@ -29,56 +27,6 @@ at 2026-12-31T23:59:59Z public GET /notices/N1/record
 = any
 "#;
 
-// The same bytes on a disk of its own, where no stop loses them.
-fn copied(alloc: Global, bytes: &[u8]) -> Result<Memory, Wrong> {
-    let mut disk = Memory::new(alloc);
-    if disk.write_at(0, bytes).is_err() || disk.sync().is_err() {
-        return Err(Wrong::NoMemory);
-    }
-    Ok(disk)
-}
-
-// Copies of what stands in these files, on disks that take so many calls.
-fn fused(
-    alloc: Global,
-    files: &Files<Fuse<Memory>>,
-    log_calls: u64,
-    db_calls: u64,
-) -> Result<Files<Fuse<Memory>>, Wrong> {
-    let log = copied(alloc, files.log.inner().bytes())?;
-    let db = copied(alloc, files.db.inner().bytes())?;
-    Ok(Files {
-        log: Fuse::new(log, log_calls),
-        db: Fuse::new(db, db_calls),
-    })
-}
-
-// What a process that ends leaves: all that it has written.
-fn left_by_the_process(
-    alloc: Global,
-    files: &Files<Fuse<Memory>>,
-) -> Result<Files<Fuse<Memory>>, Wrong> {
-    fused(alloc, files, u64::MAX, u64::MAX)
-}
-
-// What a machine that ends leaves: what was flushed, and nothing that was written behind it.
-fn left_by_the_machine(
-    alloc: Global,
-    mut files: Files<Fuse<Memory>>,
-) -> Result<Files<Fuse<Memory>>, Wrong> {
-    files.log.crash();
-    files.db.crash();
-    fused(alloc, &files, u64::MAX, u64::MAX)
-}
-
-// Its disks, whether or not it could be closed, and whether it could.
-fn put_down(office: FileOffice) -> (bool, Files<Fuse<Memory>>) {
-    match office.into_shelf().into_connection().close_files() {
-        Ok(files) => (true, files),
-        Err((_, store)) => (false, store.close()),
-    }
-}
-
 // Sends a command to the office of this shelf: whether it is answered as its block says, and the shelf then.
 fn commanded<H: Shelf + Drop>(alloc: Global, shelf: H, block: &Block) -> Result<(bool, H), Wrong> {
     let mut session = Session::new(alloc, shelf, 0)?;
@@ -96,8 +44,8 @@ fn seen<H: Shelf + Drop>(alloc: Global, shelf: H, block: &Block) -> Result<Vec<u
 }
 
 // The same of the office in these files.
-fn seen_in(alloc: Global, files: Files<Fuse<Memory>>, block: &Block) -> Result<Vec<u8>, Wrong> {
-    seen(alloc, opened(alloc, files)?, block)
+fn seen_in(alloc: Global, disks: Disks, block: &Block) -> Result<Vec<u8>, Wrong> {
+    seen(alloc, opened(alloc, disks)?, block)
 }
 
 // A command, and what is seen of the office before it and behind it.
@@ -113,38 +61,34 @@ struct Change {
 struct Ending {
     is_done: bool,
     is_closed: bool,
-    files: Files<Fuse<Memory>>,
+    disks: Disks,
 }
 
 // Opens an office, and sends it a command. None where it can't even be opened.
-fn ended(
-    alloc: Global,
-    files: Files<Fuse<Memory>>,
-    block: &Block,
-) -> Result<Option<Ending>, Wrong> {
-    let Ok(shelf) = opened(alloc, files) else {
+fn ended(alloc: Global, disks: Disks, block: &Block) -> Result<Option<Ending>, Wrong> {
+    let Ok(office) = opened(alloc, disks) else {
         return Ok(None);
     };
-    let (is_done, shelf) = commanded(alloc, shelf, block)?;
-    let (is_closed, files) = put_down(shelf);
+    let (is_done, office) = commanded(alloc, office, block)?;
+    let (is_closed, disks) = office.put_down();
     Ok(Some(Ending {
         is_done,
         is_closed,
-        files,
+        disks,
     }))
 }
 
 // What this command changes of the office in these files.
-fn change_of(alloc: Global, files: &Files<Fuse<Memory>>, command: &str) -> Result<Change, Wrong> {
+fn change_of(alloc: Global, disks: &Disks, command: &str) -> Result<Change, Wrong> {
     let block = match read(alloc, command.trim()) {
         Ok(block) => block,
         Err(fault) => return Err(Wrong::Block(0, fault)),
     };
-    let Some(whole) = ended(alloc, left_by_the_process(alloc, files)?, &block)? else {
+    let Some(whole) = ended(alloc, disks.left_by_the_process(alloc)?, &block)? else {
         return Err(Wrong::Unopened);
     };
-    let before = seen_in(alloc, left_by_the_process(alloc, files)?, &block)?;
-    let behind = seen_in(alloc, left_by_the_process(alloc, &whole.files)?, &block)?;
+    let before = seen_in(alloc, disks.left_by_the_process(alloc)?, &block)?;
+    let behind = seen_in(alloc, whole.disks.left_by_the_process(alloc)?, &block)?;
     Ok(Change {
         block,
         before,
@@ -177,9 +121,9 @@ fn look_at(
     change: &Change,
     ending: Ending,
 ) -> Result<bool, Wrong> {
-    let left = left_by_the_process(alloc, &ending.files)?;
+    let left = ending.disks.left_by_the_process(alloc)?;
     let of_process = seen_in(alloc, left, &change.block)?;
-    let left = left_by_the_machine(alloc, ending.files)?;
+    let left = ending.disks.left_by_the_machine(alloc)?;
     let of_machine = seen_in(alloc, left, &change.block)?;
     let is_right = found.count(change, ending.is_done, &of_process);
     Ok(found.count(change, ending.is_done, &of_machine) && is_right)
@@ -197,10 +141,10 @@ fn is_whole(
     alloc: Global,
     found: &mut Found,
     change: &Change,
-    files: Files<Fuse<Memory>>,
+    disks: Disks,
     calls: u64,
 ) -> Result<bool, Wrong> {
-    let Some(ending) = ended(alloc, files, &change.block)? else {
+    let Some(ending) = ended(alloc, disks, &change.block)? else {
         return Ok(false);
     };
     let is_whole = ending.is_closed;
@@ -218,18 +162,18 @@ fn stops(
     command: &str,
     stopping: Stopping,
 ) -> Result<Found, Wrong> {
-    let files = played_in_files(alloc, before)?;
-    let change = change_of(alloc, &files, command)?;
+    let disks = played_in_files(alloc, Disks::blank(alloc), before)?;
+    let change = change_of(alloc, &disks, command)?;
     let mut found = Found {
         before: 0,
         behind: 0,
     };
     for calls in 0..2000 {
-        let files = match stopping {
-            Stopping::Log => fused(alloc, &files, calls, u64::MAX)?,
-            Stopping::Database => fused(alloc, &files, u64::MAX, calls)?,
+        let fused = match stopping {
+            Stopping::Log => disks.fused(alloc, calls, u64::MAX)?,
+            Stopping::Database => disks.fused(alloc, u64::MAX, calls)?,
         };
-        if is_whole(alloc, &mut found, &change, files, calls)? {
+        if is_whole(alloc, &mut found, &change, fused, calls)? {
             return Ok(found);
         }
     }

@@ -1,8 +1,9 @@
-//! An office in two files on disks in memory that take so many calls, for tests: the shelf over its tables. It is a type of its own, without parameters, so
-//! that what stands over any shelf is proved to stand over this one.
+//! An office in two files on disks in memory: the shelf over its tables. It is a type of its own, without parameters, so that what stands over any shelf is
+//! proved to stand over this one.
 ghost use Rattle.sqlite.specs.Files.{over_files};
 ghost use Rattle.office_store.specs.SqlMeaning.{sql_meaning, inside};
 
+use crate::disks::Disks;
 use office_base::counts::Sequence;
 use office_base::ledger::{ContractSums, LedgerRow};
 use office_base::puts::Put;
@@ -11,32 +12,77 @@ use office_base::records::{
     NoticeRow, ReleaseRow, SealRow, SecurityRow, TendererRow,
 };
 use office_base::shelf::{Lookups, Shelf, ShelfFault};
+use office_store::open::OpenRefusal;
 use office_store::shelf::SqlShelf;
 use office_values::given::AskedNumber;
 use office_values::id::Id;
 use office_values::money::Amount;
-use sqlite::FileStore;
+use sqlite::{FileStore, Options};
 use sqlite_disk::{Fuse, Memory};
+use std::alloc::Global;
 
-pub(crate) struct FileOffice {
-    pub(crate) shelf: SqlShelf<FileStore<Fuse<Memory>>>,
+/// An office in two files, which is open.
+pub struct OfficeOnDisks {
+    shelf: SqlShelf<FileStore<Fuse<Memory>>>,
 }
 
-impl Drop for FileOffice {
+impl Drop for OfficeOnDisks {
     fn drop(self) {
-        let FileOffice { shelf: _ } = self;
+        let OfficeOnDisks { shelf: _shelf } = self;
     }
 }
 
-impl FileOffice {
-    /// The shelf over its tables.
-    pub(crate) fn into_shelf(self) -> SqlShelf<FileStore<Fuse<Memory>>> {
-        let FileOffice { shelf } = self;
+/// Why no office is opened.
+#[derive(Drop)]
+pub enum Unopened {
+    /// What stands in the files is none; they come back.
+    NotAnOffice(Disks),
+    /// The files can't be used, or read.
+    Unusable,
+}
+
+impl OfficeOnDisks {
+    /// The office in these files, or a new one.
+    pub fn open(alloc: Global, disks: Disks) -> Result<OfficeOnDisks, Unopened> {
+        let files = disks.into_files();
+        if !files.may_be_used() {
+            return Err(Unopened::Unusable);
+        }
+        match SqlShelf::open_files(alloc, files, Options::new(7)) {
+            Ok(shelf) => Ok(OfficeOnDisks { shelf }),
+            Err(OpenRefusal::NotAnOffice(files)) => Err(Unopened::NotAnOffice(Disks { files })),
+            Err(_) => Err(Unopened::Unusable),
+        }
+    }
+
+    fn into_shelf(self) -> SqlShelf<FileStore<Fuse<Memory>>> {
+        let OfficeOnDisks { shelf } = self;
         shelf
     }
+
+    /// Its files, once it is closed; None where it can't be.
+    pub fn close(self) -> Option<Disks> {
+        match self.into_shelf().close_files() {
+            Ok(files) => Some(Disks { files }),
+            Err(_) => None,
+        }
+    }
+
+    /// Whether it could be closed, and its files, whether or not it could.
+    pub fn put_down(self) -> (bool, Disks) {
+        match self.into_shelf().into_connection().close_files() {
+            Ok(files) => (true, Disks { files }),
+            Err((_, store)) => (
+                false,
+                Disks {
+                    files: store.close(),
+                },
+            ),
+        }
+    }
 }
 
-impl Lookups for FileOffice {
+impl Lookups for OfficeOnDisks {
     ghost meaning = { inside (λ s. s.shelf) (sql_meaning over_files) };
 
     ghost held_sorted = { λ shelf t held. held.0 };
@@ -161,7 +207,7 @@ impl Lookups for FileOffice {
     }
 }
 
-impl Shelf for FileOffice {
+impl Shelf for OfficeOnDisks {
     fn apply(&mut self, puts: Vec<Put>) -> Result<(), ShelfFault> {
         self.shelf.apply(puts)
     }
