@@ -1,26 +1,15 @@
-//! Tests of the public calls of the crates below, in one crate, so that each of those is proved once and not once more with its tests.
+//! Tests of public calls of low crates, apart from these, so that each of them is proved once and not once more with its tests: values and rights, requests,
+//! budgets and tenders as they are read, texts as they are written, merges. Settings and SQL have crates beside this one.
 #![tactic(auto)]
 
 #[cfg(test)]
 mod budget_files;
-#[cfg(test)]
-mod faults;
-#[cfg(test)]
-mod jobs;
-#[cfg(test)]
-mod joined_ledgers;
-#[cfg(test)]
-mod joins;
-#[cfg(test)]
-mod kinds_of_settings;
 #[cfg(test)]
 mod merges;
 #[cfg(test)]
 mod moments;
 #[cfg(test)]
 mod notices;
-#[cfg(test)]
-mod notices_named;
 #[cfg(test)]
 mod papers;
 #[cfg(test)]
@@ -30,11 +19,7 @@ mod requests_read;
 #[cfg(test)]
 mod rights;
 #[cfg(test)]
-mod rows;
-#[cfg(test)]
 mod runs;
-#[cfg(test)]
-mod settings_files;
 #[cfg(test)]
 mod streams;
 #[cfg(test)]
