@@ -1,11 +1,26 @@
 //! Files in which no office is opened, and those in which one is made beside what stands there.
+use crate::changes::changes_of;
 use crate::setup::MONEY;
-use crate::stores::played_in_files;
-use office_on_disks::database::{changed, number};
+use crate::stores::all_changed;
+use office_on_disks::database::Database;
 use office_on_disks::disks::Disks;
 use office_on_disks::office::{OfficeOnDisks, Unopened};
 use std::alloc::Global;
 use std::test::Fail;
+
+// The files behind these statements; None where one can't be run.
+fn changed(alloc: Global, disks: Disks, statements: &str) -> Option<Disks> {
+    let mut database = Database::open(alloc, disks)?;
+    match database.changes(statements) {
+        true => database.close(),
+        false => None,
+    }
+}
+
+// The number that a question of these files has for its answer.
+fn number(alloc: Global, disks: Disks, question: &str) -> Option<i64> {
+    Database::open(alloc, disks)?.number(question)
+}
 
 // The files, where they are refused as no office.
 fn refused(alloc: Global, disks: Disks) -> Option<Disks> {
@@ -80,25 +95,22 @@ fn versions_are_others(rt: HostRuntime) -> Result<(), Fail> {
     Ok(())
 }
 
-static LOOK: &str = r#"
-at 2026-01-05T09:00:00Z public GET /ledger
-= 200 text
-| LEDGER
-| line\tappropriation\tfree\treserved\tcontracted\tpaid
-| 1000\t1000\t1000\t0\t0\t0
-"#;
-
-// What another table has whose file an office was made in, played to and opened again.
-fn beside(alloc: Global) -> Option<i64> {
+// What is shown by a question of files in which another table stood, and an office was made then, and changed.
+fn beside(alloc: Global, question: &str) -> Option<i64> {
     let statements = "CREATE TABLE other (a INTEGER); INSERT INTO other VALUES (8)";
     let disks = changed(alloc, Disks::blank(alloc), statements)?;
-    let disks = played_in_files(alloc, disks, &[MONEY, LOOK]).ok()?;
-    number(alloc, disks, "SELECT a FROM other")
+    let changes = changes_of(alloc, &[MONEY]).ok()?;
+    number(alloc, all_changed(alloc, disks, &changes).ok()?, question)
+}
+
+fn beside_shows_number(alloc: Global, question: &str, wanted: i64) -> bool {
+    beside(alloc, question) == Some(wanted) || beside(alloc, question) == Some(wanted)
 }
 
 #[test]
 fn other_tables_stay(rt: HostRuntime) -> Result<(), Fail> {
     let alloc = rt.alloc();
-    assert!(rt; beside(alloc) == Some(8) || beside(alloc) == Some(8));
+    assert!(rt; beside_shows_number(alloc, "SELECT a FROM other", 8));
+    assert!(rt; beside_shows_number(alloc, "SELECT appropriation FROM lines", 1000));
     Ok(())
 }

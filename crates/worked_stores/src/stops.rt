@@ -1,57 +1,18 @@
-//! Stops: a disk takes so many calls, and fails at every one behind them. Whatever that number is, the office that is then opened again holds what it
-//! held before the command, or all that the command changes; and nothing less where the command was answered.
+//! Stops: a disk takes so many calls, and fails at every one behind them. Whatever that number is, the office that is then opened again has the rows that it
+//! had before the command, or all that the command changes; and nothing less where the changes were made.
+use crate::changes::{changes_of, copied};
 use crate::setup::{MONEY, NOTICE, TENDERERS};
-use crate::stores::{opened, played_in_files};
-use office_base::shelf::Shelf;
+use crate::stores::{all_changed, opened, tables_in};
+use office_base::puts::Put;
 use office_on_disks::disks::Disks;
 use std::alloc::Global;
 use std::test::Fail;
-use transcripts::blocks::{Block, read};
-use transcripts::session::{Session, Wrong};
+use transcripts::session::Wrong;
 
-// What is seen of an office: its ledger and its registers, and all that it has published.
-static LOOKS: &str = r#"
-at 2026-12-31T23:59:59Z public GET /ledger
-= any
-
-at 2026-12-31T23:59:59Z public GET /lines/1000
-= any
-
-at 2026-12-31T23:59:59Z clerk GET /notices/N1/register
-= any
-
-at 2026-12-31T23:59:59Z public GET /notices/N1/releases
-= any
-
-at 2026-12-31T23:59:59Z public GET /notices/N1/record
-= any
-"#;
-
-// Sends a command to the office of this shelf: whether it is answered as its block says, and the shelf then.
-fn commanded<H: Shelf + Drop>(alloc: Global, shelf: H, block: &Block) -> Result<(bool, H), Wrong> {
-    let mut session = Session::new(alloc, shelf, 0)?;
-    let is_done = session.answer_to(block).bytes() == block.response.as_slice();
-    Ok((is_done, session.into_shelf()))
-}
-
-// All that is seen of the office of this shelf, and what it answers to the command if that is sent now.
-fn seen<H: Shelf + Drop>(alloc: Global, shelf: H, block: &Block) -> Result<Vec<u8>, Wrong> {
-    let mut session = Session::new(alloc, shelf, 0)?;
-    session.play(LOOKS)?;
-    let again = session.answer_to(block);
-    session.told.extend_from_slice(again.bytes())?;
-    Ok(session.told)
-}
-
-// The same of the office in these files.
-fn seen_in(alloc: Global, disks: Disks, block: &Block) -> Result<Vec<u8>, Wrong> {
-    seen(alloc, opened(alloc, disks)?, block)
-}
-
-// A command, and what is seen of the office before it and behind it.
+// A command's changes, and all rows of the office before it and behind it.
 #[derive(Drop)]
 struct Change {
-    block: Block,
+    puts: Vec<Put>,
     before: Vec<u8>,
     behind: Vec<u8>,
 }
@@ -64,12 +25,12 @@ struct Ending {
     disks: Disks,
 }
 
-// Opens an office, and sends it a command. None where it can't even be opened.
-fn ended(alloc: Global, disks: Disks, block: &Block) -> Result<Option<Ending>, Wrong> {
-    let Ok(office) = opened(alloc, disks) else {
+// Opens an office, and makes a command's changes. None where it can't even be opened.
+fn ended(alloc: Global, disks: Disks, puts: &[Put]) -> Result<Option<Ending>, Wrong> {
+    let Ok(mut office) = opened(alloc, disks) else {
         return Ok(None);
     };
-    let (is_done, office) = commanded(alloc, office, block)?;
+    let is_done = office.apply(copied(alloc, puts)?);
     let (is_closed, disks) = office.put_down();
     Ok(Some(Ending {
         is_done,
@@ -78,19 +39,15 @@ fn ended(alloc: Global, disks: Disks, block: &Block) -> Result<Option<Ending>, W
     }))
 }
 
-// What this command changes of the office in these files.
-fn change_of(alloc: Global, disks: &Disks, command: &str) -> Result<Change, Wrong> {
-    let block = match read(alloc, command.trim()) {
-        Ok(block) => block,
-        Err(fault) => return Err(Wrong::Block(0, fault)),
-    };
-    let Some(whole) = ended(alloc, disks.left_by_the_process(alloc)?, &block)? else {
+// What these changes make of the office in these files.
+fn change_of(alloc: Global, disks: &Disks, puts: Vec<Put>) -> Result<Change, Wrong> {
+    let Some(whole) = ended(alloc, disks.left_by_the_process(alloc)?, &puts)? else {
         return Err(Wrong::Unopened);
     };
-    let before = seen_in(alloc, disks.left_by_the_process(alloc)?, &block)?;
-    let behind = seen_in(alloc, whole.disks.left_by_the_process(alloc)?, &block)?;
+    let before = tables_in(alloc, disks.left_by_the_process(alloc)?)?;
+    let behind = tables_in(alloc, whole.disks.left_by_the_process(alloc)?)?;
     Ok(Change {
-        block,
+        puts,
         before,
         behind,
     })
@@ -104,13 +61,13 @@ struct Found {
 }
 
 impl Found {
-    fn count(&mut self, change: &Change, is_done: bool, seen: &[u8]) -> bool {
-        if seen == change.behind.as_slice() {
+    fn count(&mut self, change: &Change, is_done: bool, rows: &[u8]) -> bool {
+        if rows == change.behind.as_slice() {
             self.behind = self.behind.saturating_add(1);
             return true;
         }
         self.before = self.before.saturating_add(1);
-        !is_done && seen == change.before.as_slice()
+        !is_done && rows == change.before.as_slice()
     }
 }
 
@@ -121,10 +78,8 @@ fn look_at(
     change: &Change,
     ending: Ending,
 ) -> Result<bool, Wrong> {
-    let left = ending.disks.left_by_the_process(alloc)?;
-    let of_process = seen_in(alloc, left, &change.block)?;
-    let left = ending.disks.left_by_the_machine(alloc)?;
-    let of_machine = seen_in(alloc, left, &change.block)?;
+    let of_process = tables_in(alloc, ending.disks.left_by_the_process(alloc)?)?;
+    let of_machine = tables_in(alloc, ending.disks.left_by_the_machine(alloc)?)?;
     let is_right = found.count(change, ending.is_done, &of_process);
     Ok(found.count(change, ending.is_done, &of_machine) && is_right)
 }
@@ -144,7 +99,7 @@ fn is_whole(
     disks: Disks,
     calls: u64,
 ) -> Result<bool, Wrong> {
-    let Some(ending) = ended(alloc, disks, &change.block)? else {
+    let Some(ending) = ended(alloc, disks, &change.puts)? else {
         return Ok(false);
     };
     let is_whole = ending.is_closed;
@@ -155,15 +110,13 @@ fn is_whole(
     }
 }
 
-// Sends the command behind these transcripts with a disk that takes ever more calls, until none is stopped.
+// Makes the changes with a disk that takes ever more calls, until none is stopped.
 fn stops(
     alloc: Global,
-    before: &[&str],
-    command: &str,
+    disks: &Disks,
+    change: &Change,
     stopping: Stopping,
 ) -> Result<Found, Wrong> {
-    let disks = played_in_files(alloc, Disks::blank(alloc), before)?;
-    let change = change_of(alloc, &disks, command)?;
     let mut found = Found {
         before: 0,
         behind: 0,
@@ -173,17 +126,21 @@ fn stops(
             Stopping::Log => disks.fused(alloc, calls, u64::MAX)?,
             Stopping::Database => disks.fused(alloc, u64::MAX, calls)?,
         };
-        if is_whole(alloc, &mut found, &change, fused, calls)? {
+        if is_whole(alloc, &mut found, change, fused, calls)? {
             return Ok(found);
         }
     }
     Err(Wrong::Stop(2000))
 }
 
-// Stops of the log's disk, and of that of the database file: what they leave.
-fn both(alloc: Global, before: &[&str], command: &str) -> Result<(Found, Found), Wrong> {
-    let of_log = stops(alloc, before, command, Stopping::Log)?;
-    let of_db = stops(alloc, before, command, Stopping::Database)?;
+// Stops of the log's disk, and of that of the database file, in the last command of these transcripts: what they leave.
+fn both(alloc: Global, transcripts: &[&str]) -> Result<(Found, Found), Wrong> {
+    let mut changes = changes_of(alloc, transcripts)?;
+    let last = changes.pop().ok_or(Wrong::NotAnOffice)?;
+    let disks = all_changed(alloc, Disks::blank(alloc), &changes)?;
+    let change = change_of(alloc, &disks, last)?;
+    let of_log = stops(alloc, &disks, &change, Stopping::Log)?;
+    let of_db = stops(alloc, &disks, &change, Stopping::Database)?;
     Ok((of_log, of_db))
 }
 
@@ -198,10 +155,10 @@ fn either(
     }
 }
 
-// That stops leave what is before the command or what is behind it. Those of the log were found to leave both.
-fn leaves_all_or_none(alloc: Global, before: &[&str], command: &str) -> Result<(), Fail> {
-    let second = both(alloc, before, command);
-    match either(both(alloc, before, command), second) {
+// That stops in the last command leave what is before it or what is behind it. Those of the log were found to leave both.
+fn leaves_all_or_none(alloc: Global, transcripts: &[&str]) -> Result<(), Fail> {
+    let second = both(alloc, transcripts);
+    match either(both(alloc, transcripts), second) {
         Ok((log, db)) if log.before > 0 && log.behind > 0 && db.behind > 0 => Ok(()),
         Ok((log, db)) => Err(Fail::new(format_args!(
             "stops of the log leave {} as before and {} as behind, of the database file {} and {}",
@@ -213,10 +170,10 @@ fn leaves_all_or_none(alloc: Global, before: &[&str], command: &str) -> Result<(
 
 #[test]
 fn an_import_is_stopped(rt: HostRuntime) -> Result<(), Fail> {
-    leaves_all_or_none(rt.alloc(), &[TENDERERS], MONEY)
+    leaves_all_or_none(rt.alloc(), &[TENDERERS, MONEY])
 }
 
 #[test]
 fn a_publication_is_stopped(rt: HostRuntime) -> Result<(), Fail> {
-    leaves_all_or_none(rt.alloc(), &[MONEY, TENDERERS], NOTICE)
+    leaves_all_or_none(rt.alloc(), &[MONEY, TENDERERS, NOTICE])
 }
