@@ -1,7 +1,9 @@
 """Files of transcripts, read by their form, which is told at the head of crates/worked_runs/data/setup.txt."""
 import os, re
 
-ROOT = os.path.dirname(os.path.dirname(os.path.abspath(__file__)))
+import common
+from common import CLERK, ROOT
+
 CRATE = os.path.join(ROOT, "crates", "worked_runs")
 PHRASES = {"200": "OK", "400": "Bad Request", "401": "Unauthorized", "403": "Forbidden", "404": "Not Found", "405": "Method Not Allowed",
            "409": "Conflict", "413": "Payload Too Large", "501": "Not Implemented", "503": "Service Unavailable"}
@@ -39,6 +41,19 @@ def text_of(line):
     if line != "|" and not line.startswith("| "):
         raise ValueError(f"no line of a body: {line}")
     return (line[2:].replace(r"\t", "\t").replace(r"\r", "\r").replace(r"\u{feff}", "\ufeff") + "\n") * count
+
+
+def request_of(block):
+    """A block of `procure desk` that asks what a block of a transcript asks."""
+    first, *lines = block.split("\n= ", 1)[0].split("\n")
+    moment, who, rest = re.fullmatch(r"at (\S+) (\S+)(?: (.*))?", first).groups()
+    body = "".join(map(text_of, lines)).encode()
+    if who == "bytes":
+        return common.block(moment.encode(), body)
+    method, target = rest.encode().split(b" ", 1)
+    name, colon, key = who.encode().partition(b":")
+    caller = {"public": None, "clerk": CLERK}.get(who, (name, key if colon else b"hello"))
+    return common.block(moment.encode(), common.request(method, target, body, caller))
 
 
 def answer_of(block):
