@@ -1,4 +1,4 @@
-"""The office that `tests/audit` audits: procurements of every end, made by a program that serves. Most of its eight seconds it waits for a deadline."""
+"""The office that `tests/audit` audits: procurements of every end, made by a program that serves. Most of its five seconds it waits for a deadline."""
 import hashlib, json, time
 
 from common import CLERK, fail, request, timed_exchange
@@ -28,7 +28,7 @@ class Life:
     """Requests to an office at a port, each of which must be accepted; `receipt` has the receipts by the names that they are given here."""
 
     def __init__(self, port):
-        self.port, self.receipt, self.deadline = port, {}, int(time.time()) + 6
+        self.port, self.receipt, self.deadline = port, {}, int(time.time()) + 4
 
     def ask(self, caller, target, body):
         return json.loads(timed_exchange(self.port, request(b"POST", target.encode(), body.encode(), caller), patience=20)[0])

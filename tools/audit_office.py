@@ -96,11 +96,12 @@ def copied(path, folder):
 
 
 class Office:
-    """A copy of an office's file, opened read-only."""
+    """A copy of an office's file, which is only read. (SQLite tests no checks of tables in a file that is opened as read-only.)"""
 
     def __init__(self, path, folder):
         self.path, self.stamp, self.unread = path, copied(path, folder), 0
-        self.base = sqlite3.connect("file:" + urllib.parse.quote(os.path.join(folder, "office.db")) + "?mode=ro", uri=True)
+        self.base = sqlite3.connect(os.path.join(folder, "office.db"))
+        self.base.execute("PRAGMA trusted_schema = OFF")
         self.base.text_factory = lambda text: text.decode("utf-8", "surrogateescape")
         self.base.create_function("sha256", 1, lambda data: hashlib.sha256(data).digest() if isinstance(data, bytes) else b"", deterministic=True)
         self.base.create_function("text_of", 1, text_of, deterministic=True)
@@ -110,7 +111,7 @@ class Office:
                 raise Unreadable(f"{path}: it is no office: the table {table} isn't there, or lacks a column")
         if self.rows("SELECT version FROM office") != [(1,)]:
             raise Unreadable(f"{path}: it is no office of version 1")
-        self.base.executescript(SUMS)
+        self.base.executescript(SUMS + "PRAGMA query_only = ON")
 
     def rows(self, sql, *values):
         return self.base.execute(sql, values).fetchall()

@@ -21,16 +21,21 @@ EVENTS = """
         FROM entries AS e JOIN contracts AS c ON c.contract = e.contract WHERE c.notice = ?1
     UNION ALL SELECT printf('end of contract %d: at %s', contract, text_of(ended)) FROM contracts WHERE notice = ?1 AND ended IS NOT NULL"""
 
-# What they say of its terms, and of its lots, awards and contracts how much and how far, as `facts_told` tells it of a merge.
+# What they say of its terms, lots, tenderers, awards and contracts, as `facts_told` tells it of a merge.
 FACTS = """
-    SELECT 'deadline', text_of(deadline) FROM notices WHERE notice = ?1
-    UNION ALL SELECT 'title', title FROM notices WHERE notice = ?1
+    SELECT 'terms', printf('%s to %s, %s, %s', text_of(published), text_of(deadline), iif(weight = 0, 'priceOnly', 'ratedCriteria'), title)
+        FROM notices WHERE notice = ?1
+    UNION ALL SELECT DISTINCT 'tenderer T-' || e.tenderer, printf('%s, %s', name, address) FROM envelopes AS e JOIN tenderers AS t ON t.tenderer = e.tenderer
+        WHERE e.notice = ?1 AND e.state = 'opened'
     UNION ALL SELECT 'status', CASE WHEN max(state IN ('undecided', 'awarded')) THEN 'active' WHEN max(state = 'contracted') THEN 'complete'
         WHEN max(state = 'cancelled') THEN 'cancelled' ELSE 'unsuccessful' END FROM lots WHERE notice = ?1
-    UNION ALL SELECT 'lot ' || lot, printf('%d %s', estimate, CASE state WHEN 'contracted' THEN 'complete' WHEN 'cancelled' THEN state
-        WHEN 'unsuccessful' THEN state ELSE 'active' END) FROM lots WHERE notice = ?1
+    UNION ALL SELECT 'lot ' || lot, printf('%d %s %s', estimate, CASE state WHEN 'contracted' THEN 'complete' WHEN 'cancelled' THEN state
+        WHEN 'unsuccessful' THEN state ELSE 'active' END, title) FROM lots WHERE notice = ?1
+    UNION ALL SELECT 'items of ' || lot, items FROM lots WHERE notice = ?1
     UNION ALL SELECT 'award ' || award, printf('%d %s', price, iif(state IN ('active', 'signed'), 'active', 'cancelled')) FROM awards WHERE notice = ?1
     UNION ALL SELECT 'contract ' || contract, printf('%d %s', signed + raised - cut, iif(ended IS NULL, 'active', 'terminated')) FROM sums WHERE notice = ?1
+    UNION ALL SELECT 'entry ' || e.contract || '/' || entry, rationale FROM entries AS e JOIN contracts AS c ON c.contract = e.contract
+        WHERE c.notice = ?1 AND rationale IS NOT NULL
     UNION ALL SELECT 'paid under ' || contract, CAST(paid AS TEXT) FROM sums WHERE notice = ?1"""
 
 
@@ -96,7 +101,8 @@ def difference(here, there, path=""):
         pairs = [(f"{path}/{place}", *pair) for place, pair in enumerate(zip(here, there))]
     else:
         texts = [json.dumps(value, sort_keys=True) for value in (here, there)]
-        return None if texts[0] == texts[1] else (path or "/", texts[0][:60], texts[1][:60])
+        told = [f"a list of {len(value)}" if isinstance(value, list) else text[:60] for value, text in zip((here, there), texts)]
+        return None if texts[0] == texts[1] else (path or "/", *told)
     return next((found for place, *values in pairs if (found := difference(*values, place))), None)
 
 
@@ -139,13 +145,22 @@ def told_by(tag, release):
 
 
 def facts_told(merge):
-    """What a merge says of a notice: its terms, and of its lots, awards and contracts how much and how far."""
-    tender = merge.get("tender", {})
-    told = {"deadline": tender.get("tenderPeriod", {}).get("endDate"), "title": tender.get("title"), "status": tender.get("status")}
-    for name, things in (("lot", tender.get("lots", [])), ("award", merge.get("awards", [])), ("contract", merge.get("contracts", []))):
-        told.update({f"{name} {thing['id']}": f"{thing.get('value', {}).get('amount')} {thing.get('status')}" for thing in things})
+    """What a merge says of a notice: its terms, tenderers and items, and of its lots, awards and contracts how much and how far."""
+    tender, period = merge["tender"], merge["tender"]["tenderPeriod"]
+    told = {"terms": f"{period['startDate']} to {period['endDate']}, {tender['awardCriteria']}, {tender['title']}", "status": tender["status"]}
+    for lot in tender["lots"]:
+        told["lot " + lot["id"]] = f"{lot['value']['amount']} {lot['status']} {lot['title']}"
+        told["items of " + lot["id"]] = "".join(f"{item['id'].removeprefix(lot['id'] + '/')}\t{item['quantity']}\t{item['description']}\n"
+                                                for item in tender["items"] if item["relatedLot"] == lot["id"])
+    for party in merge["parties"]:
+        if "tenderer" in party["roles"]:
+            told["tenderer " + party["id"]] = f"{party['name']}, {party['address']['streetAddress']}"
+    for award in merge.get("awards", []):
+        told["award " + award["id"]] = f"{award['value']['amount']} {award['status']}"
     for contract in merge.get("contracts", []):
+        told["contract " + contract["id"]] = f"{contract['value']['amount']} {contract['status']}"
         told["paid under " + contract["id"]] = str(sum(paid["value"]["amount"] for paid in contract.get("implementation", {}).get("transactions", [])))
+        told.update({f"entry {contract['id']}/{entry['id']}": entry["rationale"] for entry in contract.get("amendments", [])})
     return told
 
 
@@ -205,12 +220,12 @@ def merges_are_of_their_releases(office, notice, releases):
 
 @rule("kept")
 def merges_say_what_the_rows_say(office, notice, releases):
-    """Merged, the releases of a notice say of its deadline, title, status, lots, awards, contracts and payments what the rows say."""
+    """Merged, the releases of a notice say of its terms, status, lots, tenderers, awards, contracts and payments what the rows say."""
     kept = dict(office.rows(FACTS, notice))
     try:
         told = facts_told(merge_of(releases))
     except (KeyError, TypeError, AttributeError) as wrong:
-        told = {"a member that is wrong or missing": str(wrong)}
+        told = {"what can't be read of the releases": repr(wrong)}
     for name in sorted(kept.keys() | told.keys()):
         if kept.get(name) != told.get(name):
             yield f"notices {notice}", f"{name}: the releases say {told.get(name)}, and the rows {kept.get(name)}"
