@@ -162,11 +162,8 @@ class Office:
             stream.sendall(data)
             stream.shutdown(socket.SHUT_WR)
             parts = []
-            try:
-                while part := stream.recv(1 << 16):
-                    parts.append(part)
-            except ConnectionResetError:  # what wasn't read of a request that is too long resets the connection behind the answer
-                pass
+            while part := stream.recv(1 << 16):
+                parts.append(part)
         return Answer(b"".join(parts))
 
     def stop(self):
@@ -197,7 +194,9 @@ class Asker:
             named = [] if who == "public" else [f"Office-Caller: {who}", f"Office-Key: {self.KEYS[who]}"]
             fields = [*named, f"Content-Length: {len(body)}"]
         self.count += 1
-        answer = self.office.exchange("\r\n".join([f"{method} {target} HTTP/1.1", *fields, "", ""]).encode() + body)
+        # Of a longer head no more is read, and what isn't read resets the connection, perhaps before the answer comes.
+        head = "\r\n".join([f"{method} {target} HTTP/1.1", *fields, "", ""]).encode()[:8192]
+        answer = self.office.exchange(head + body)
         if flaw := answer.flaw():
             self.note(f"{method} {target}: {flaw}")
         return answer
@@ -221,7 +220,7 @@ class Asker:
         self.seen.add((operation.name, name, what or None))
         return answer
 
-    def sent(self, name, example, **members):
+    def sent(self, name, example, /, **members):
         """The example of an operation's body with these members in place of its own; a text is left as it is."""
         value = self.operation(name).example(example)
         return {**value, **members} if isinstance(value, dict) else value

@@ -70,7 +70,7 @@ def publish(asker, now, deadline):
     ask("amendNotice", "clerk", "N1", body=sent("amendNotice", "later", deadline=deadline), like="later")
     for name, standstill, lot in (("N2", 10, {}), ("N3", 0, {"security": 0}), ("N4", 0, {}), ("N5", 0, {}), ("N7", 0, {"line": "3000"})):
         ask("publish", "clerk", name, body=notice(deadline, standstill, **lot))
-    ask("publish", "clerk", "N6", body=sent("publish", "byPoints", deadline=deadline, standstill_days=0), like="byPoints")
+    ask("publish", "clerk", "N6", body=sent("publish", "byPoints", deadline=deadline, standstill_days=0))
     items = [{"id": f"I{number}", "title": "Paving", "quantity": 1} for number in range(51)]
     lots = [{**LOT, "id": f"L{number}", "estimate": 1} for number in range(21)]
     refused(asker, "publish", "clerk",
