@@ -36,12 +36,12 @@ def page_of(scene, place, width=1280):
 
 def views(scene):
     """Each view: its text; its headings, names and landmarks; no wider than the window; contrast; pictures. Nothing is kept, and nothing foreign asked."""
-    page = Page(scene.browser, 1280)
+    page, differences = Page(scene.browser, 1280), ""
     for name, place in VIEWS.items():
         page.go(scene.front.address(place))
         if name == "budget":
             page.wait("[...document.querySelectorAll('main h3')].every((heading) => heading.textContent.includes(':'))")
-        says(scene, name, page)
+        differences += difference(scene, name, page)
         is_read_out(name, page)
         for width, shape in WIDTHS.items():
             for dark in (False, True):
@@ -52,20 +52,21 @@ def views(scene):
         for width in (*WIDTHS.values(), NARROWEST):
             page.shape(width)
             check(f"{name} is wider than {width}", page.run("document.documentElement.scrollWidth <= innerWidth"))
+    check("what is said is something else than in page_texts:\n" + differences, not differences)
     keeps_nothing(scene, page)
 
 
-def says(scene, name, page):
-    """The text of a view is that of `page_texts/`, moments apart; markup in it is text."""
+def difference(scene, name, page):
+    """Where the text of a view is another than that of `page_texts/`, moments apart. Markup in it is text."""
     text = MOMENT.sub("MOMENT", page.text())
     with open(os.path.join(scene.pictures, f"{name}.txt"), "w") as file:
         file.write(text)
     with open(os.path.join(ROOT, "tests", "page_texts", f"{name}.txt")) as file:
         wanted = file.read()
-    check(f"{name} says something else:\n" + "".join(difflib.unified_diff(wanted.splitlines(True), text.splitlines(True), "page_texts", "page")), text == wanted)
     title = page.run("document.title")
     check(f"{name} has the title {title}", title.endswith(SITE) and (name != "awarded" or title.startswith(SCRIPT)))
     check(f"{name} has a script or a mark from a text", page.run("document.scripts.length === 1 && !document.querySelector('main :is(script, i, img, style)')"))
+    return "".join(difflib.unified_diff(wanted.splitlines(True), text.splitlines(True), f"page_texts/{name}.txt", "the page", n=1))
 
 
 def is_read_out(name, page):

@@ -58,7 +58,10 @@ class Procurements:
         self.clerk(f"/notices/{notice}", {**terms, "lots": lots})
 
     def present(self, tenderer, notice, lot_name, body, security=""):
-        return self.ask((tenderer, key_of(tenderer)), f"/notices/{notice}/lots/{lot_name}/tenders{security}", body)["receipt"]
+        receipt = self.ask((tenderer, key_of(tenderer)), f"/notices/{notice}/lots/{lot_name}/tenders{security}", body)
+        if receipt["state"] != "sealed":
+            fail("the deadline came before all tenders were in: the machine is too busy")
+        return receipt["receipt"]
 
     def examine(self, receipt, responsive=True):
         self.clerk(f"/tenders/{receipt}/examine", {"responsive": responsive})
@@ -89,9 +92,7 @@ class Procurements:
 
     def after_the_deadline(self):
         """The openings, and how N1 and N2 go on."""
-        if time.time() >= self.deadline:
-            fail("the deadline came before all tenders were in: the machine is too busy")
-        time.sleep(self.deadline + 1.05 - time.time())
+        time.sleep(max(0.0, self.deadline + 1.05 - time.time()))
         for notice in ("N1", "N2"):
             self.clerk(f"/notices/{notice}/open")
         for receipt in (self.cheap, self.dear, self.fails, self.wins):
