@@ -38,14 +38,15 @@ def views(scene):
     """Each view: its text; its headings, names and landmarks; no wider than the window; contrast; pictures. Nothing is kept, and nothing foreign asked."""
     page, differences = Page(scene.browser, 1280), ""
     for name, place in VIEWS.items():
+        page.shape(WIDTHS["wide"])
         page.go(scene.front.address(place))
         if name == "budget":
             page.wait("[...document.querySelectorAll('main h3')].every((heading) => heading.textContent.includes(':'))")
         differences += difference(scene, name, page)
-        is_read_out(name, page)
         for width, shape in WIDTHS.items():
             for dark in (False, True):
                 page.shape(shape, dark=dark)
+                is_read_out(name, page)
                 page.picture(os.path.join(scene.pictures, f"{name}-{width}-{'dark' if dark else 'light'}.png"))
                 pale = page.run(PALE)
                 check(f"{name}, {width}, {'dark' if dark else 'light'}: too little contrast: {pale}", not pale)
