@@ -65,7 +65,8 @@ class Browser:
 
 
 class Page:
-    """A page in a context of its own: nothing is kept from another one. `answers` takes the place of the server for those paths that it has, by status and body."""
+    """A page in a context of its own: nothing is kept from another one. For the paths that `answers` has, it stands in the server's place: a status and a body, or
+    None for no answer."""
 
     def __init__(self, browser, width, height=800, dark=False):
         self.browser, self.answers, self.session = browser, {}, None
@@ -111,16 +112,18 @@ class Page:
         for event in paused:
             request = event["params"]["requestId"]
             path = "/" + event["params"]["request"]["url"].split("/", 3)[3]
-            if path in self.answers:
+            if path not in self.answers:
+                self.ask("Fetch.continueRequest", requestId=request)
+            elif self.answers[path] is None:
+                self.ask("Fetch.failRequest", requestId=request, errorReason="ConnectionClosed")
+            else:
                 status, body = self.answers[path]
                 self.ask("Fetch.fulfillRequest", requestId=request, responseCode=status, body=base64.b64encode(body).decode())
-            else:
-                self.ask("Fetch.continueRequest", requestId=request)
 
     def answer_for(self, answers):
         """From now on these are the answers."""
         self.answers = answers
-        self.ask("Fetch.enable", patterns=[{"urlPattern": "*"}])
+        self.ask("Fetch.enable", patterns=[{"urlPattern": "*", "resourceType": "Fetch"}])
 
     def go(self, address):
         """Loads a page anew, until it has drawn what its address asks for."""

@@ -1,8 +1,9 @@
 """What `tests/page` asks of the page, in a browser: what each view says and how, for eyes, keyboards and screen readers, and what can't break it."""
-import difflib, json, os, re
+import contextlib, difflib, json, os, re
 
 from browser import Page
 from common import ROOT, check
+from front import OUTSIDE, exchange
 from page_office import SCRIPT
 
 SITE = "Public procurement"
@@ -100,4 +101,143 @@ def is_quiet(page):
     check(f"the console says {faults}", not faults)
 
 
-CHECKS = [views]
+def focused(page):
+    """What has the focus: its name, and whether it is seen there with an outline around it."""
+    return page.run("""(() => {
+      const at = document.activeElement, box = at.getBoundingClientRect(), style = getComputedStyle(at);
+      const seen = box.left >= 0 && box.top >= 0 && box.right <= innerWidth && box.bottom <= innerHeight;
+      return [at.id || at.textContent, seen && style.outlineStyle === "solid" && parseFloat(style.outlineWidth) >= 2];
+    })()""")
+
+
+def tab(page, count):
+    """What has the focus behind each of so many tabs."""
+    seen = []
+    for _ in range(count):
+        page.press("Tab")
+        seen.append(focused(page))
+    return seen
+
+
+def keyboard(scene):
+    """Everything can be reached and used by the keyboard, in the order in which it stands there, and it is seen where one is."""
+    page = page_of(scene, "")
+    order = tab(page, 6)
+    page.picture(os.path.join(scene.pictures, "focus-wide-light.png"))
+    check(f"tabs lead to {order}", order == [[name, True] for name in ("skip", "to-notices", "to-ledger", "notice", "Show", "budget, line by line")])
+    page.press("Enter")
+    page.wait("document.title.startsWith('Budget')")
+    check(f"the link to the budget leads to {focused(page)}", focused(page)[0] == "Budget")
+    page.wait("document.querySelectorAll('main h3').length === 20")
+    page.press("Tab")
+    page.press("Enter")
+    check(f"the button for more lines leads to {focused(page)}", focused(page)[0].startswith("Line 3100"))
+    check("the other lines are shown, and the button is gone", page.run("document.querySelectorAll('main h3').length === 22 && document.querySelector('.more').hidden"))
+    page.go(scene.front.address())
+    page.press("Tab")
+    page.press("Enter")
+    check(f"the skip link leads to {focused(page)}", focused(page)[0] == "content")
+    page.press("Tab")
+    check(f"behind it is {focused(page)}", focused(page) == ["budget, line by line", True])
+    page.run("document.getElementById('notice').focus()")
+    page.type("N1")
+    page.press("Enter")
+    page.wait("document.title.startsWith('Road repair')")
+    check(f"the form leads to {focused(page)}", focused(page)[0] == "Road repair in the north")
+    check(f"behind it is {focused(page)}", tab(page, 1) == [["/notices/N1/record", True]])
+    is_quiet(page)
+
+
+def refusals():
+    """The rows of the table of docs/API.md: what each refusal answers, as a status and a body."""
+    with open(os.path.join(ROOT, "docs", "API.md")) as file:
+        rows = re.findall(r"^\| (\d+) \| `(\w+)` \| (\d+) \| ([^|]*) \|", file.read(), re.M)
+    check(f"docs/API.md has {len(rows)} refusals, and not 32", len(rows) == 32)
+    for number, name, status, what in rows:
+        for word in re.findall(r"`(\w+)`", what) if name == "NoSuch" else [None]:
+            yield int(status), json.dumps({"name": name, "refusal": int(number), **({"what": word} if word else {})}).encode()
+
+
+def sentence(page, notice, *answers):
+    """The sentence that the page shows where its three requests are answered so."""
+    page.answer_for(dict(zip((f"/notices/{notice}/{name}" for name in ("record", "releases", "minutes")), answers)))
+    page.run(f"location.hash = '#notice/{notice}'")
+    page.wait(f"document.getElementById('notice').value === '{notice}' && document.querySelector('main').getAttribute('aria-busy') === 'false'")
+    head, _, rest = page.text().partition("\n")
+    check(f"{answers[0]} is shown as {rest!r}", head == "Not shown" and re.fullmatch(r"[A-Z][^\n]*\.\n", rest) and "answered with the status" not in rest)
+    check(f"{answers[0]} isn't read out", page.run("document.getElementById('status').textContent") + "\n" == rest)
+    return rest
+
+
+def each_refusal(scene):
+    """Each refusal of the office is shown as a sentence of its own, what the front or the net says as one too; so is what is no number of a notice."""
+    page = page_of(scene, "")
+    told = [sentence(page, f"R{at}", *[answer] * 3) for at, answer in enumerate(refusals())]
+    check(f"two refusals have one sentence: {told}", len(set(told)) == len(told))
+    for at, status in enumerate((403, 404, 413, 429, 502, 503, 504)):
+        sentence(page, f"F{at}", *[(status, b'{"front":"no"}')] * 3)
+        sentence(page, f"H{at}", *[(status, b"<html><b>no</b></html>")] * 3)
+    sentence(page, "B1", *[(200, b"{")] * 3)
+    sentence(page, "B2", *[(200, b'{"records":[]}')] * 3)
+    sentence(page, "B3", None, None, None)
+    page.answer_for({})
+    for text in ("N 1", "a/b", "..", "x" * 33, "<b>", "%00", "é"):
+        page.run(f"location.hash = '#notice/' + encodeURIComponent({json.dumps(text)})")
+        page.wait("document.querySelector('main').textContent.includes('no number of a notice')")
+        page.run("location.hash = ''")
+        page.wait("document.querySelector('h1').textContent.startsWith('What is bought')")
+
+
+def long_texts(scene):
+    """Texts of the greatest length, without a space and of either direction, and the greatest amounts: nothing is wider than the window."""
+    answers = {}
+    for name in ("record", "releases", "minutes"):
+        text = scene.front.ask("GET", f"/notices/N1/{name}").body.decode()
+        text = re.sub(r'"(title|name|rationale|description|streetAddress)":"(?:[^"\\]|\\.)*"', lambda found: f'"{found[1]}":"\u202e{"W" * 197}"', text)
+        text = re.sub(r'"amount":\d+', '"amount":999999999999', text)
+        answers[f"/notices/N9/{name}"] = (200, re.sub(r"^(tender\t\d+\tT\d)\t[^\t]*\t[^\t]*", r"\1\t" + "W" * 200 + r"\t" + "M" * 200, text, flags=re.M).encode())
+    answers["/ledger"] = (200, b"LEDGER\nline\n" + b"".join(b"%s\t999999999999999\t1\t2\t3\t999999999999993\n" % (b"W" * 32) for _ in range(3)))
+    answers["/lines/" + "W" * 32] = (200, json.dumps({"title": "M" * 200}).encode())
+    page = page_of(scene, "")
+    page.answer_for(answers)
+    for name, place in (("long", "#notice/N9"), ("large", "#ledger")):
+        page.go(scene.front.address(place))
+        page.wait("!document.title.startsWith('Public')")
+        for width in (NARROWEST, *WIDTHS.values()):
+            page.shape(width)
+            page.answer()
+            page.picture(os.path.join(scene.pictures, f"{name}-{width}.png"))
+            check(f"{name} is wider than {width}", page.run("document.documentElement.scrollWidth <= innerWidth"))
+    is_quiet(page)
+
+
+def injected(scene):
+    """What would be done to the page by a fault of it: no markup is made of texts, no script within the page runs, and nothing is asked of another server."""
+    page = page_of(scene, "")
+    elsewhere = f"https://{OUTSIDE}:{scene.front.port}/ledger"
+    for harm in ("document.body.innerHTML = '<img src=x onerror=hurt()>'", "document.body.append(Object.assign(document.createElement('script'), {textContent: 'hurt()'}))",
+                 f"fetch('{elsewhere}')", f"new Promise((yes, no) => Object.assign(new Image(), {{onload: yes, onerror: no}}).src = '{elsewhere}')"):
+        check(f"{harm} is done", page.run(f"(async () => {{ {harm if '=>' not in harm and 'fetch' not in harm else 'await ' + harm}; }})().then(() => false, () => true)"))
+    check("no breach of the policy is told", page.events("Audits.issueAdded"))
+
+
+def office_away(scene):
+    """Where the office is gone, the front says so, and so does the page."""
+    scene.office.kill()
+    scene.office.wait()
+    answer = scene.front.ask("GET", "/lines/77")
+    check(f"a look without an office: {answer}", answer.status == 502 and b"front" in answer.body)
+    said = page_of(scene, "#notice/N77").text()
+    check(f"the page says {said!r}", said == "Not shown\nThe office isn't answering at the moment. Try again in a while.\n")
+
+
+def too_often(scene):
+    """Who asks too often is told so, by the front and by the page."""
+    with contextlib.closing(scene.front.connection()) as connection:
+        answers = [exchange(connection, "GET", "/lines/77") for _ in range(250)]
+    check("many looks in a second are all taken", answers[-1].status == 429 and b"front" in answers[-1].body)
+    said = page_of(scene, "#notice/N78").text()
+    check(f"the page says {said!r}", said == "Not shown\nToo many requests came from here. Wait a minute and try again.\n")
+
+
+CHECKS = [views, keyboard, each_refusal, long_texts, injected, office_away, too_often]

@@ -37,7 +37,7 @@ function tenderTable(found, lot) {
 
 function why(compiled, lot, minutes, passed) {
   const tenders = minutes.lots.get(lot.id) ?? [];
-  const shown = minutes.refused ? element("p", { class: "refusal" }, minutes.refused.message)
+  const shown = minutes.refused ? element("p", { class: "note" }, minutes.refused.message)
     : tenders.length === 0 ? element("p", {}, "No tender for this lot was opened.")
       : tenderTable(findings(compiled, lot, tenders, passed), lot);
   return [element("h4", {}, "How it is decided"), element("p", {}, criteria(compiled)), shown];
@@ -46,14 +46,14 @@ function why(compiled, lot, minutes, passed) {
 /** A price beside the estimate. */
 function against(price, estimate) {
   const less = estimate.amount - price.amount;
-  return less === 0 ? "just the estimate" : `${number(Math.abs(less))} ${price.currency} ${less > 0 ? "below" : "above"} the estimate`;
+  return less === 0 ? "As estimated" : `${number(Math.abs(less))} ${price.currency} ${less > 0 ? "below" : "above"} the estimate`;
 }
 
 function award(compiled, lot, one, passed) {
   const ended = passed.has(one.id) ? "Passed over" : "Ended, the lot was cancelled";
   const [kind, state] = one.status === "active" ? (contractOf(compiled, one) ? ["done", "Signed"] : ["running", "Not signed yet"]) : ["stopped", ended];
-  return [element("b", {}, given(one.suppliers[0].name), ` for ${money(one.value)}`), `, ${against(one.value, lot.value)} `, badge(kind, state),
-    element("span", { class: "quiet below" }, "Awarded on ", moment(one.date))];
+  return [element("b", {}, given(one.suppliers[0].name), ` for ${money(one.value)} `), badge(kind, state),
+    element("span", { class: "below" }, against(one.value, lot.value)), element("span", { class: "quiet below" }, "Awarded on ", moment(one.date))];
 }
 
 /** A contract: its worth, and how much of it was paid, as a bar. */
@@ -81,8 +81,8 @@ function lotPart(compiled, lot, minutes, passed) {
 }
 
 /** How a number of tenderers is told: it is known from the opening on. */
-function tenderers(tender) {
-  return tender.numberOfTenderers === undefined ? "not known before the opening" : number(tender.numberOfTenderers);
+function tenderers({ numberOfTenderers, status }) {
+  return numberOfTenderers !== undefined ? number(numberOfTenderers) : status === "cancelled" ? "Not known, none was opened" : "Not known before the opening";
 }
 
 /** The whole of a notice. */
