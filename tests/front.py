@@ -10,7 +10,7 @@ MAIN = """
 daemon off;
 worker_processes 2;
 pid {folder}/nginx.pid;
-error_log {folder}/errors.log info;
+error_log {folder}/errors.log warn;
 events {{ }}
 http {{
     include /etc/nginx/mime.types;

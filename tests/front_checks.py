@@ -48,8 +48,9 @@ def headers(scene):
         check(f"{path} has Content-Security-Policy: {head['Content-Security-Policy']}", (head["Content-Security-Policy"] or "").split("; ") == POLICY)
 
 
-def bodies(scene):
-    """65,536 bytes pass, and are taken by the office; one more doesn't, nor does a body in chunks. None of them is written to a disk."""
+def sizes(scene):
+    """A body of 65,536 bytes passes, and is taken by the office; one more doesn't, nor does a body in chunks, a long head or a long path. No body is written to a
+    disk."""
     body = json.dumps({"name": "Epsilon", "address": "5 Row", "key": "0" * 64}).encode()
     answer = scene.front.ask("POST", "/tenderers/T5", body.ljust(MOST), CLERK)
     check(f"a body of {MOST} bytes is taken: {answer}", answer.status == 200)
@@ -59,7 +60,13 @@ def bodies(scene):
         connection.request("POST", "/tenderers/T6", iter([body]), dict(zip(("Office-Caller", "Office-Key"), CLERK)), encode_chunked=True)
         answer = connection.getresponse()
         check(f"a body in chunks is refused: {answer.status}", answer.status == 501 and "front" in json.loads(answer.read()))
-    check("no body is written to a file", "temporary file" not in scene.front.logged("errors.log"))
+    check("a body is written to a file", "temporary file" not in scene.front.logged("errors.log"))
+    answer = scene.front.ask("GET", "/ledger", caller=(b"T1", b"x" * 9000))
+    check(f"a long head is refused: {answer}", answer.status == 400)
+    answer = scene.front.ask("GET", "/lines/" + "x" * 9000)
+    check(f"a long path is refused: {answer}", answer.status == 414)
+    answer = scene.front.ask("PUT", "/")
+    check(f"another method is refused: {answer}", is_own(answer, 405))
 
 
 def odd_paths(scene):
@@ -110,6 +117,9 @@ def without_tls(scene):
         for method, path in (("GET", "/ledger"), ("POST", "/notices/N1/open"), ("POST", "/")):
             answer = exchange(connection, method, path, caller=CLERK)
             check(f"{method} {path} in the clear: {answer}", answer.status == 403)
+    with contextlib.closing(http.client.HTTPConnection(HOST, scene.front.port, timeout=PATIENCE)) as connection:
+        answer = exchange(connection, "GET", "/ledger")
+        check(f"in the clear at the port of TLS: {answer}", answer.status == 400)
     old = ssl.create_default_context(cafile=scene.front.certificate)
     old.set_ciphers("DEFAULT:@SECLEVEL=0")
     old.minimum_version = old.maximum_version = ssl.TLSVersion.TLSv1_1
@@ -121,4 +131,4 @@ def without_tls(scene):
         pass
 
 
-CHECKS = [headers, bodies, odd_paths, networks, slow_clients, names_and_keys, without_tls]
+CHECKS = [headers, sizes, odd_paths, networks, slow_clients, names_and_keys, without_tls]

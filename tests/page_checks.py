@@ -28,6 +28,15 @@ PALE = """(() => {
   return found;
 })()"""
 
+# Texts with a mark that turns the direction of what follows, and nothing that ends it.
+TURNING = """(() => {
+  const texts = document.createTreeWalker(document.body, NodeFilter.SHOW_TEXT), found = [];
+  while (texts.nextNode()) {
+    if (texts.currentNode.data.includes("\u202e") && !texts.currentNode.parentElement.closest("bdi")) found.push(texts.currentNode.data);
+  }
+  return found;
+})()"""
+
 
 def page_of(scene, place, width=1280):
     page = Page(scene.browser, width)
@@ -151,7 +160,7 @@ def keyboard(scene):
 def refusals():
     """The rows of the table of docs/API.md: what each refusal answers, as a status and a body."""
     with open(os.path.join(ROOT, "docs", "API.md")) as file:
-        rows = re.findall(r"^\| (\d+) \| `(\w+)` \| (\d+) \| ([^|]*) \|", file.read(), re.M)
+        rows = re.findall(r"^\| (\d+) \| `(\w+)` \| (\d+) \|([^|]*)\|", file.read(), re.M)
     check(f"docs/API.md has {len(rows)} refusals, and not 32", len(rows) == 32)
     for number, name, status, what in rows:
         for word in re.findall(r"`(\w+)`", what) if name == "NoSuch" else [None]:
@@ -208,16 +217,28 @@ def long_texts(scene):
             page.answer()
             page.picture(os.path.join(scene.pictures, f"{name}-{width}.png"))
             check(f"{name} is wider than {width}", page.run("document.documentElement.scrollWidth <= innerWidth"))
+        turning = page.run(TURNING)
+        check(f"{name} has texts that turn others round: {turning}", not turning)
     is_quiet(page)
+
+
+def without_scripts(scene):
+    """Where scripts are turned off, the page says where the answers are."""
+    page = Page(scene.browser, WIDTHS["narrow"])
+    page.ask("Emulation.setScriptExecutionDisabled", value=True)
+    page.ask("Page.navigate", url=scene.front.address())
+    page.wait("document.readyState === 'complete' && document.querySelector('main')")
+    check(f"the page says {page.text()!r}", "/notices/NUMBER/record" in page.text())
 
 
 def injected(scene):
     """What would be done to the page by a fault of it: no markup is made of texts, no script within the page runs, and nothing is asked of another server."""
     page = page_of(scene, "")
     elsewhere = f"https://{OUTSIDE}:{scene.front.port}/ledger"
-    for harm in ("document.body.innerHTML = '<img src=x onerror=hurt()>'", "document.body.append(Object.assign(document.createElement('script'), {textContent: 'hurt()'}))",
-                 f"fetch('{elsewhere}')", f"new Promise((yes, no) => Object.assign(new Image(), {{onload: yes, onerror: no}}).src = '{elsewhere}')"):
-        check(f"{harm} is done", page.run(f"(async () => {{ {harm if '=>' not in harm and 'fetch' not in harm else 'await ' + harm}; }})().then(() => false, () => true)"))
+    harms = ["document.body.innerHTML = '<img src=x onerror=hurt()>'", "document.body.append(Object.assign(document.createElement('script'), {textContent: 'hurt()'}))",
+             f"await fetch('{elsewhere}')", f"await new Promise((yes, no) => Object.assign(new Image(), {{onload: yes, onerror: no}}).src = '{elsewhere}')"]
+    for harm in harms:
+        check(f"{harm} is done", page.run(f"(async () => {{ {harm}; }})().then(() => false, () => true)"))
     check("no breach of the policy is told", page.events("Audits.issueAdded"))
 
 
@@ -233,11 +254,17 @@ def office_away(scene):
 
 def too_often(scene):
     """Who asks too often is told so, by the front and by the page."""
+    page = page_of(scene, "")
     with contextlib.closing(scene.front.connection()) as connection:
-        answers = [exchange(connection, "GET", "/lines/77") for _ in range(250)]
+        for attempt in range(5):
+            answers = [exchange(connection, "GET", "/lines/77") for _ in range(120)]
+            # (By now one look may be free again)
+            page.run(f"location.hash = '#notice/T{attempt}'")
+            page.wait(f"document.getElementById('notice').value === 'T{attempt}' && document.querySelector('main').getAttribute('aria-busy') === 'false'")
+            if "Too many requests came from here." in page.text():
+                break
     check("many looks in a second are all taken", answers[-1].status == 429 and b"front" in answers[-1].body)
-    said = page_of(scene, "#notice/N78").text()
-    check(f"the page says {said!r}", said == "Not shown\nToo many requests came from here. Wait a minute and try again.\n")
+    check(f"the page says {page.text()!r}", page.text() == "Not shown\nToo many requests came from here. Wait a minute and try again.\n")
 
 
-CHECKS = [views, keyboard, each_refusal, long_texts, injected, office_away, too_often]
+CHECKS = [views, keyboard, each_refusal, long_texts, without_scripts, injected, office_away, too_often]

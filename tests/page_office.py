@@ -98,8 +98,9 @@ class Procurements:
         for receipt in (self.cheap, self.dear, self.fails, self.wins):
             self.examine(receipt)
         self.examine(self.unfit, responsive=False)
-        self.is_paid(self.award("N1", "L1"))
+        north = self.award("N1", "L1")
         self.award("N1", "L2")
+        self.is_paid(north)
         self.clerk(f"/awards/{self.award('N2', 'L1')}/fail")
         self.award("N2", "L1")
 

@@ -43,7 +43,7 @@ export function moment(text) {
 
 /** What a change of a contract did, as `Raised by 12,000 EUR`: the office tells it without groups and currency. */
 export function change({ description }, currency) {
-  return description.replace(/\d+/g, (digits) => `${number(Number(digits))} ${currency}`);
+  return given(description.replace(/\d+/g, (digits) => `${number(Number(digits))} ${currency}`));
 }
 
 /** A list of names with what each is: pairs of texts or elements. */

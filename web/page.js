@@ -20,7 +20,7 @@ async function noticeView(notice) {
     throw new Refused("", "That is no number of a notice. A number has 1 to 32 letters, digits, _ . or -");
   }
   const [compiled, all, opened] = await Promise.all([record(notice), releases(notice), minutes(notice)]);
-  return { title: compiled.tender.title, told: `${compiled.tender.title}: ${stateText(compiled)}.`, content: drawProcess(notice, compiled, all, opened) };
+  return { title: compiled.tender.title, told: `${stateText(compiled)}.`, content: drawProcess(notice, compiled, all, opened) };
 }
 
 async function ledgerView() {

@@ -62,7 +62,7 @@ function contract(one) {
   const left = Math.max(one.value.amount - paid, 0);
   const ended = one.status === "terminated";
   const parts = [{ kind: "paid", name: "Paid", amount: paid }, { kind: ended ? "free" : "contracted", name: ended ? "Not paid, free again" : "Still to pay", amount: left }];
-  const changes = (one.amendments ?? []).map((it) => [moment(it.date), `: ${change(it, one.value.currency)}. `, given(it.rationale)]);
+  const changes = (one.amendments ?? []).map((it) => [moment(it.date), ": ", change(it, one.value.currency), ". ", given(it.rationale)]);
   const payments = (one.implementation?.transactions ?? []).map(({ date, value }) => [moment(date), `: ${money(value)}`]);
   return element("section", { class: "contract", "aria-label": `Contract ${one.id}` },
     element("h4", {}, `Contract ${one.id} `, ended ? badge("done", "Ended") : badge("running", "Runs")),

@@ -63,7 +63,7 @@ function signed({ contracts: [contract] }) {
 
 function changed({ contracts: [contract] }) {
   const [amendment] = contract.amendments;
-  return ["Changed", [`Contract ${contract.id}: ${change(amendment, contract.value.currency)}, to ${money(contract.value)}.`, reason(amendment.rationale)]];
+  return ["Changed", [`Contract ${contract.id}: `, change(amendment, contract.value.currency), `, to ${money(contract.value)}.`, reason(amendment.rationale)]];
 }
 
 function paid({ contracts: [contract] }) {
