@@ -1,6 +1,6 @@
 """The office that `tests/page` shows: four notices, one open, one awarded, one paid and one cancelled, and texts that no page may take for markup.
 
-All is asked through the front, with the keys of who asks. Most of its four seconds it waits for a deadline.
+All is asked through the front, with the keys of who asks. Most of its five seconds it waits for a deadline.
 """
 import hashlib, json, time
 
@@ -19,7 +19,7 @@ TENDERERS = {"T1": ('Alpha <b>Bau</b> & "Söhne"', "Straße 1 &amp; <i>2</i>"), 
 # What stands in no log of the front.
 SECURITY = "GUARANTEE-77"
 # Seconds.
-WAIT, DAY = 3, 86_400
+WAIT, DAY = 4, 86_400
 
 
 def key_of(tenderer):

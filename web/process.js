@@ -89,7 +89,7 @@ function tenderers({ numberOfTenderers, status }) {
 export function drawProcess(notice, compiled, releases, minutes) {
   const { tender, buyer } = compiled;
   const passed = passedOver(releases);
-  const raw = ["record", "releases", "minutes"].map((name) => element("li", {}, element("a", { href: `/notices/${notice}/${name}` }, `/notices/${notice}/${name}`)));
+  const raw = ["record", "releases", ...(minutes.refused ? [] : ["minutes"])].map((name) => element("li", {}, element("a", { href: `/notices/${notice}/${name}` }, `/notices/${notice}/${name}`)));
   const drawn = [
     element("h1", { tabindex: "-1" }, given(tender.title)),
     element("p", {}, badge(...stateOf(compiled))),
