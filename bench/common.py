@@ -22,9 +22,20 @@ def fail(what):
     sys.exit(f"{os.path.basename(sys.argv[0])}: {what}")
 
 
+def check(said, holds):
+    """That something holds; else what was said of it is raised."""
+    if not holds:
+        raise AssertionError(said)
+
+
+def place_of(tool):
+    """Where a tool stands, also one that is root's, or None."""
+    return shutil.which(tool) or shutil.which(tool, path="/usr/sbin:/sbin")
+
+
 def need(tool, package):
     """Ends the script with status 3 where the tool is missing, and says how to get it."""
-    if not shutil.which(tool):
+    if not place_of(tool):
         print(f"{os.path.basename(sys.argv[0])}: missing: {tool}. Get it: apt-get install {package}", file=sys.stderr)
         sys.exit(3)
 

@@ -68,7 +68,7 @@ function isBetter(first, second) {
   return first.corrected < second.corrected || (first.corrected === second.corrected && first.receipt < second.receipt);
 }
 
-/** A lot's tenders, each with what was found of it: pairs of a tender and a text. `passed` are the awards that were passed over. */
+/** A lot's tenders, each with what was found of it: a tender, a kind of badge, a word and a sentence. `passed` are the awards that were passed over. */
 export function findings(compiled, lot, tenders, passed) {
   const awards = awardsOf(compiled, lot);
   const awardTo = (tender) => awards.filter(({ suppliers }) => suppliers?.[0]?.id === `T-${tender.tenderer}`).at(-1);
@@ -76,35 +76,35 @@ export function findings(compiled, lot, tenders, passed) {
   const byPrice = compiled.tender.awardCriteria === "priceOnly";
   return tenders.map((tender) => {
     const award = awardTo(tender);
-    if (award) {
-      return [tender, ofWinner(award, passed)];
-    }
-    return [tender, unpriced(tender) ?? ofOther(lot, awards, byPrice, winners.some((winner) => isBetter(tender, winner)))];
+    const found = award ? ofWinner(award, passed, byPrice) : UNPRICED[tender.reading] ?? ofOther(lot, awards, byPrice, winners.some((winner) => isBetter(tender, winner)));
+    return [tender, ...found];
   });
 }
 
-function unpriced(tender) {
-  const words = { unreadable: "Not admitted: couldn't be read as a price list.", nonconforming: "Not admitted: doesn't offer the lot's items in their quantities." };
-  return words[tender.reading];
-}
+const UNPRICED = {
+  unreadable: ["stopped", "Not admitted", "It couldn't be read as a list of prices."],
+  nonconforming: ["stopped", "Not admitted", "It doesn't offer the lot's items in their quantities."],
+};
 
-function ofWinner(award, passed) {
+function ofWinner(award, passed, byPrice) {
   if (award.status === "active") {
-    return "Examined, and won the award.";
+    return ["done", "Won", byPrice ? "Examined. The lowest price that can win." : "Examined. The most points of those that can win."];
   }
-  return passed.has(award.id) ? "Examined and awarded, then passed over: the winner didn't sign." : "Examined and awarded; then the lot was cancelled.";
+  return passed.has(award.id) ? ["stopped", "Passed over", "Examined, and won; then the winner didn't sign."]
+    : ["stopped", "Award ended", "Examined, and won; then the lot was cancelled."];
 }
 
 /** A priced tender that never won. A lot is decided only when each of these was examined, and goes to the best of those that were found responsive; so one
  * that was better than a winner, or stands in a lot that nobody won, was found not responsive. */
 function ofOther(lot, awards, byPrice, wasBetter) {
   if (lot.status === "unsuccessful" || (byPrice && wasBetter)) {
-    return "Examined, and found not responsive.";
+    return ["stopped", "Not responsive", "Examined. It doesn't meet what was asked."];
   }
   if (awards.length === 0) {
-    return lot.status === "cancelled" ? "The lot was cancelled before a decision." : "Waits for the decision.";
+    return lot.status === "cancelled" ? ["stopped", "Not decided", "The lot was cancelled before a decision."] : ["running", "Waits", "The lot isn't decided yet."];
   }
-  return byPrice ? "Examined. Its price was not the lowest." : "Examined. Not the best by points, or not responsive; which is not published.";
+  const again = lot.status === "active" && awards.every(({ status }) => status !== "active") ? " The lot is decided again." : "";
+  return ["open", "Examined", (byPrice ? "Its price wasn't the lowest." : "Not the best by points, or not responsive; which isn't published.") + again];
 }
 
 /** How the best tender is found, as a sentence. */

@@ -1,5 +1,5 @@
 // The budget: a bar for each line, of what is paid, contracted, reserved and free of its appropriation.
-import { bar, element, key, number } from "./draw.js";
+import { bar, count, element, given, key, number } from "./draw.js";
 import { title } from "./office.js";
 
 const AT_ONCE = 20;
@@ -20,7 +20,8 @@ function sumOf(lines) {
 
 function card(line) {
   const heading = element("h3", {}, `Line ${line.line}`);
-  title(line.line).then((text) => heading.append(`: ${text}`), () => {});
+  // Where it can't be had, the line goes by its identifier alone.
+  title(line.line).then((text) => heading.append(": ", given(text)), () => {});
   return element("li", { class: "card" }, heading, ...pots(`Line ${line.line}`, line));
 }
 
@@ -54,9 +55,9 @@ export function drawLedger(lines) {
   }
   const sum = sumOf(lines);
   const all = Number.isSafeInteger(sum.appropriation) ? [element("section", { class: "card", "aria-labelledby": "all" },
-    element("h2", { id: "all" }, lines.length === 1 ? "The one line" : `All ${number(lines.length)} lines`), ...pots("All lines", sum))] : [];
-  const words = "Each line's appropriation is what was paid, what is contracted and not paid yet, what is reserved for notices that aren't contracted yet, and what is free.";
-  return [heading, element("p", {}, words), ...all,
+    element("h2", { id: "all" }, lines.length === 1 ? "The one line" : `All ${count(lines.length, "line")}`), ...pots("All lines", sum))] : [];
+  const words = "What a line may spend, its appropriation, is paid already, contracted and still to pay, reserved for notices that have no contract yet, or free.";
+  return [heading, element("p", { class: "intro" }, words), ...all,
     element("section", { "aria-labelledby": "each" }, element("h2", { id: "each" }, "Line by line"), ...cards(lines)),
     element("p", {}, "Drawn from ", element("a", { href: "/ledger" }, "/ledger"))];
 }

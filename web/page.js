@@ -1,5 +1,5 @@
 // Which view is shown: that of a notice at #notice/NUMBER, that of the budget at #ledger, and else where to begin.
-import { element } from "./draw.js";
+import { count, element } from "./draw.js";
 import { drawLedger } from "./ledger.js";
 import { Refused, ledger, minutes, record, releases } from "./office.js";
 import { drawProcess, stateText } from "./process.js";
@@ -20,17 +20,19 @@ async function noticeView(notice) {
     throw new Refused("", "That is no number of a notice. A number has 1 to 32 letters, digits, _ . or -");
   }
   const [compiled, all, opened] = await Promise.all([record(notice), releases(notice), minutes(notice)]);
-  return { title: compiled.tender.title, told: `${compiled.tender.title}: ${stateText(compiled)}.`, content: drawProcess(notice, compiled, all, opened) };
+  return { title: compiled.tender.title, told: `${stateText(compiled)}.`, content: drawProcess(notice, compiled, all, opened) };
 }
 
 async function ledgerView() {
   const lines = await ledger();
-  return { title: "Budget", told: `Budget: ${lines.length} ${lines.length === 1 ? "line" : "lines"}.`, content: drawLedger(lines) };
+  return { title: "Budget", told: `Budget: ${count(lines.length, "line")}.`, content: drawLedger(lines) };
 }
 
 async function homeView() {
-  const words = "Type the number of a notice to see what is bought, who tendered, who won and why, and what was paid. Or look at the budget, line by line.";
-  return { title: "", told: "", content: [element("h1", { tabindex: "-1" }, SITE), element("p", {}, words)] };
+  const seen = ["what is bought, and what it was estimated to cost", "who tendered, who won, at what price and why", "what was contracted, changed and paid"];
+  return { title: "", told: "", content: [element("h1", { tabindex: "-1" }, "What is bought, from whom, and for how much"),
+    element("p", {}, "With the number of a notice you see:"), element("ul", {}, seen.map((text) => element("li", {}, text))),
+    element("p", {}, "Where the money comes from and what is left of it stands in the ", element("a", { href: "#ledger" }, "budget, line by line"), ".")] };
 }
 
 function refusedView(fault) {
@@ -72,6 +74,7 @@ async function show(takesFocus) {
   const { page, notice } = place();
   markPage(page, notice);
   status.textContent = "The office is asked …";
+  status.classList.remove("unseen");
   main.setAttribute("aria-busy", "true");
   const view = await (notice !== null ? noticeView(notice) : page === "ledger" ? ledgerView() : homeView()).catch(refusedView);
   if (turn !== asked) {
@@ -80,7 +83,9 @@ async function show(takesFocus) {
   main.replaceChildren(...view.content);
   main.setAttribute("aria-busy", "false");
   document.title = view.title ? `${view.title} – ${SITE}` : SITE;
+  // What came of it is seen below, and so is only read out here.
   status.textContent = view.told;
+  status.classList.add("unseen");
   if (takesFocus) {
     main.querySelector("h1").focus();
   }

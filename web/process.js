@@ -1,5 +1,5 @@
 // A procurement, from its record, its releases and its minutes.
-import { badge, bar, element, facts, key, moment, money, number } from "./draw.js";
+import { badge, bar, change, count, element, facts, given, key, listed, moment, money, number } from "./draw.js";
 import { awardsOf, contractOf, criteria, findings, paidOf, passedOver, stateOf, stateOfLot } from "./findings.js";
 import { timeline } from "./timeline.js";
 
@@ -10,102 +10,100 @@ function section(id, heading, ...content) {
 
 function items(compiled, lot) {
   const own = (compiled.tender.items ?? []).filter(({ relatedLot }) => relatedLot === lot.id);
-  return element("ul", { class: "items" }, own.map((item) => element("li", {}, `${number(item.quantity)} × ${item.description}`)));
+  return listed(4, "What is bought", own.map((item) => [`${number(item.quantity)} × `, given(item.description)]));
 }
 
 function priceOf(tender, currency) {
   if (tender.reading !== "priced") {
-    return "none";
+    return "No price";
   }
-  const corrections = `${tender.corrections} ${tender.corrections === 1 ? "correction" : "corrections"}`;
-  const why = tender.corrections > 0 ? ` (stated ${number(tender.stated)}; ${corrections} by the unit prices)` : "";
-  return `${number(tender.corrected)} ${currency}${why}`;
+  const stated = `Stated as ${number(tender.stated)}; ${count(tender.corrections, "correction")} by the unit prices`;
+  return [`${number(tender.corrected)} ${currency}`, tender.corrections > 0 ? element("span", { class: "quiet below" }, stated) : null];
 }
 
-/** The opened tenders of a lot, the lowest price first, each with what was found. It can be scrolled by keyboard where it is too wide. */
-function tenderTable(found, lot, currency) {
-  const sorted = found.toSorted(([one], [other]) => (one.reading === "priced" ? one.corrected : Infinity) - (other.reading === "priced" ? other.corrected : Infinity)
-    || one.receipt - other.receipt);
-  const rows = sorted.map(([tender, finding]) => element("tr", {}, element("th", { scope: "row" }, tender.name),
-    element("td", { class: "amount" }, priceOf(tender, currency)), element("td", {}, finding)));
-  const head = ["Tenderer", "Price", "What was found"].map((text) => element("th", { scope: "col" }, text));
-  const table = element("table", {}, element("caption", {}, `Tenders for lot ${lot.id}`), element("thead", {}, element("tr", {}, head)), element("tbody", {}, rows));
-  return element("div", { class: "scroll", role: "region", "aria-label": `Tenders for lot ${lot.id}`, tabindex: "0" }, table);
+/** The opened tenders of a lot, the lowest price first, each with what was found. A narrow window shows each row as a block, so the roles are said here: a browser
+ * drops them where a table isn't laid out as one. */
+function tenderTable(found, lot) {
+  const price = ([tender]) => (tender.reading === "priced" ? tender.corrected : Infinity);
+  const sorted = [...found].sort((one, other) => (price(one) === price(other) ? one[0].receipt - other[0].receipt : price(one) - price(other)));
+  const rows = sorted.map(([tender, kind, word, sentence]) => element("tr", { role: "row" },
+    element("th", { scope: "row", role: "rowheader" }, given(tender.name), element("span", { class: "quiet below" }, given(tender.address))),
+    element("td", { role: "cell" }, priceOf(tender, lot.value.currency)),
+    element("td", { role: "cell" }, badge(kind, word), element("span", { class: "below" }, sentence))));
+  const head = ["Tenderer", "Price", "What was found"].map((text) => element("th", { scope: "col", role: "columnheader" }, text));
+  return element("table", { role: "table" }, element("caption", {}, `${count(rows.length, "tender")} for lot ${lot.id}, the lowest price first`),
+    element("thead", { role: "rowgroup" }, element("tr", { role: "row" }, head)), element("tbody", { role: "rowgroup" }, rows));
 }
 
 function why(compiled, lot, minutes, passed) {
-  const heading = element("h4", {}, "How it is decided");
-  const rule = element("p", {}, criteria(compiled));
-  if (minutes.refused) {
-    return [heading, rule, element("p", { class: "refusal" }, minutes.refused.message)];
-  }
   const tenders = minutes.lots.get(lot.id) ?? [];
-  if (tenders.length === 0) {
-    return [heading, rule, element("p", {}, "No tender for this lot was opened.")];
-  }
-  return [heading, rule, tenderTable(findings(compiled, lot, tenders, passed), lot, lot.value.currency)];
+  const shown = minutes.refused ? element("p", { class: "note" }, minutes.refused.message)
+    : tenders.length === 0 ? element("p", {}, "No tender for this lot was opened.")
+      : tenderTable(findings(compiled, lot, tenders, passed), lot);
+  return [element("h4", {}, "How it is decided"), element("p", {}, criteria(compiled)), shown];
 }
 
-function award(compiled, one, passed) {
-  const ended = passed.has(one.id) ? "Passed over: the winner didn't sign" : "Ended: the lot was cancelled";
+/** A price beside the estimate. */
+function against(price, estimate) {
+  const less = estimate.amount - price.amount;
+  return less === 0 ? "As estimated" : `${number(Math.abs(less))} ${price.currency} ${less > 0 ? "below" : "above"} the estimate`;
+}
+
+function award(compiled, lot, one, passed) {
+  const ended = passed.has(one.id) ? "Passed over" : "Ended, the lot was cancelled";
   const [kind, state] = one.status === "active" ? (contractOf(compiled, one) ? ["done", "Signed"] : ["running", "Not signed yet"]) : ["stopped", ended];
-  return element("li", {}, element("p", { class: "headline" }, element("b", {}, one.suppliers[0].name), " for ", element("b", {}, money(one.value)), " ", badge(kind, state)),
-    element("p", { class: "when" }, "Awarded on ", moment(one.date)));
-}
-
-function awards(compiled, lot, passed) {
-  const made = awardsOf(compiled, lot);
-  return made.length === 0 ? [] : [element("h4", {}, made.length === 1 ? "Award" : "Awards"),
-    element("ol", { class: "awards" }, made.map((one) => award(compiled, one, passed)))];
+  return [element("b", {}, given(one.suppliers[0].name), ` for ${money(one.value)} `), badge(kind, state),
+    element("span", { class: "below" }, against(one.value, lot.value)), element("span", { class: "quiet below" }, "Awarded on ", moment(one.date))];
 }
 
 /** A contract: its worth, and how much of it was paid, as a bar. */
-function contract(one, lot) {
+function contract(one) {
   const paid = paidOf(one);
   const left = Math.max(one.value.amount - paid, 0);
   const ended = one.status === "terminated";
-  const parts = [{ kind: "paid", name: "Paid", amount: paid }, { kind: ended ? "free" : "contracted", name: ended ? "Released unpaid" : "Outstanding", amount: left }];
-  const changes = (one.amendments ?? []).map(({ date, description, rationale }) => element("li", {}, moment(date), `: ${description}. ${rationale}`));
-  const payments = (one.implementation?.transactions ?? []).map(({ date, value }) => element("li", {}, moment(date), `: ${money(value)}`));
+  const parts = [{ kind: "paid", name: "Paid", amount: paid }, { kind: ended ? "free" : "contracted", name: ended ? "Not paid, free again" : "Still to pay", amount: left }];
+  const changes = (one.amendments ?? []).map((it) => [moment(it.date), ": ", change(it, one.value.currency), ". ", given(it.rationale)]);
+  const payments = (one.implementation?.transactions ?? []).map(({ date, value }) => [moment(date), `: ${money(value)}`]);
   return element("section", { class: "contract", "aria-label": `Contract ${one.id}` },
     element("h4", {}, `Contract ${one.id} `, ended ? badge("done", "Ended") : badge("running", "Runs")),
-    facts([["Worth", money(one.value)], ["Signed", moment(one.dateSigned)], ["Estimate of the lot", money(lot.value)]]),
+    facts([["Worth", money(one.value)], ["Signed", moment(one.dateSigned)]]),
     bar(`Contract ${one.id}`, parts), key(parts, ` ${one.value.currency}`),
-    listed("Changes", changes), listed("Payments", payments));
-}
-
-function listed(name, entries) {
-  return entries.length === 0 ? null : element("div", {}, element("h5", {}, name), element("ul", {}, entries));
+    listed(5, "Changes", changes), listed(5, "Payments", payments));
 }
 
 function lotPart(compiled, lot, minutes, passed) {
-  const contracts = awardsOf(compiled, lot).map((one) => contractOf(compiled, one)).filter(Boolean);
-  const [kind, state] = stateOfLot(compiled, lot);
+  const made = awardsOf(compiled, lot);
   return element("article", { class: "card", "aria-label": `Lot ${lot.id}` },
-    element("h3", {}, `Lot ${lot.id}: ${lot.title} `, badge(kind, state)),
-    facts([["Estimate", money(lot.value)]]), element("h4", {}, "What is bought"), items(compiled, lot),
-    ...awards(compiled, lot, passed), ...why(compiled, lot, minutes, passed), ...contracts.map((one) => contract(one, lot)));
+    element("h3", {}, `Lot ${lot.id}: `, given(lot.title), " ", badge(...stateOfLot(compiled, lot))),
+    facts([["Estimate", money(lot.value)]]), items(compiled, lot),
+    listed(4, made.length === 1 ? "Award" : "Awards", made.map((one) => award(compiled, lot, one, passed)), { class: "awards" }),
+    why(compiled, lot, minutes, passed), made.map((one) => contractOf(compiled, one)).filter(Boolean).map(contract));
 }
 
 /** How a number of tenderers is told: it is known from the opening on. */
-function tenderers(tender) {
-  return tender.numberOfTenderers === undefined ? "not known before the opening" : number(tender.numberOfTenderers);
+function tenderers({ numberOfTenderers, status }) {
+  return numberOfTenderers !== undefined ? number(numberOfTenderers) : status === "cancelled" ? "Not known, none was opened" : "Not known before the opening";
 }
 
 /** The whole of a notice. */
 export function drawProcess(notice, compiled, releases, minutes) {
   const { tender, buyer } = compiled;
   const passed = passedOver(releases);
-  const raw = ["record", "releases", "minutes"].map((name) => element("li", {}, element("a", { href: `/notices/${notice}/${name}` }, `/notices/${notice}/${name}`)));
-  return [
-    element("h1", { tabindex: "-1" }, tender.title),
-    element("p", { class: "headline" }, badge(...stateOf(compiled))),
-    facts([["Notice", notice], ["Buyer", buyer.name], ["Estimate", money(tender.value)], ["Deadline", moment(tender.tenderPeriod.endDate)],
+  const raw = ["record", "releases", ...(minutes.refused ? [] : ["minutes"])].map((name) => element("li", {}, element("a", { href: `/notices/${notice}/${name}` }, `/notices/${notice}/${name}`)));
+  const drawn = [
+    element("h1", { tabindex: "-1" }, given(tender.title)),
+    element("p", {}, badge(...stateOf(compiled))),
+    facts([["Notice", notice], ["Buyer", given(buyer.name)], ["Estimate", money(tender.value)], ["Deadline", moment(tender.tenderPeriod.endDate)],
       ["Tenderers", tenderers(tender)]]),
-    section("happened", "What happened", timeline(releases, compiled)),
-    section("lots", "Lots, awards and contracts", ...tender.lots.map((lot) => lotPart(compiled, lot, minutes, passed))),
+    element("div", { class: "process" },
+      section("lots", "Lots, awards and contracts", tender.lots.map((lot) => lotPart(compiled, lot, minutes, passed))),
+      section("happened", "What happened", timeline(releases, compiled))),
     section("raw", "What this page was drawn from", element("ul", {}, raw)),
   ];
+  for (const text of drawn.flatMap((part) => [...part.querySelectorAll("bdi")])) {
+    text.lang = compiled.language;
+  }
+  return drawn;
 }
 
 /** The state of a process as a text, for the live region. */
