@@ -2,7 +2,6 @@
 #![tactic(auto)]
 
 mod faults;
-pub mod file_shelf;
 pub mod found;
 mod joined_rows;
 pub mod ledger_rows;

@@ -2,7 +2,7 @@
 use crate::config::no_memory;
 use crate::kept::{print_seen, serve_office};
 use office_acts::queries::Query;
-use office_store::file_shelf::FileShelf;
+use office_file::file_shelf::FileShelf;
 use office_store::found::OpenFault;
 use office_values::settings::Settings;
 use procure_config::fault::ProgramFault;

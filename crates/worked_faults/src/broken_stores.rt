@@ -1,11 +1,12 @@
 //! A store that breaks once: what was asked then is answered `Unavailable`, nothing has changed, and the same request is answered as ever when
 //! it is sent again.
-use crate::broken_shelf::BrokenShelf;
-use crate::published::PUBLISHED;
-use crate::setup::{MONEY, NOTICE, TENDERERS};
+use broken_shelf::shelf::BrokenShelf;
+use office_base::shelf::Lookups;
 use std::alloc::Global;
 use std::test::Fail;
+use transcripts::published::PUBLISHED;
 use transcripts::session::{Wrong, played};
+use transcripts::setup::{MONEY, NOTICE, TENDERERS};
 
 // Every kind of command and of look, but those that end a notice, and looks at what is published. Behind PUBLISHED.
 static TO_THE_END: &str = r#"
@@ -145,8 +146,8 @@ at 2026-01-05T09:00:00Z clerk POST /budget/B1
 
 // Whether the store that breaks behind so many calls broke while the transcripts were played.
 fn is_broken(alloc: Global, left: u64, transcripts: &[&str]) -> Result<bool, Wrong> {
-    let shelf = BrokenShelf::new(alloc, left);
-    Ok(played(alloc, shelf, 1, transcripts)?.faults > 0)
+    let mut shelf = played(alloc, BrokenShelf::new(alloc, left), 1, transcripts)?;
+    Ok(shelf.faults() > 0)
 }
 
 // The same, at the second try where the first fails: one allocation of a test may be refused.

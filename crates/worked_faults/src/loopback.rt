@@ -1,5 +1,4 @@
 //! One request over a connection of TCP: a client connects and writes it, and the office answers.
-use crate::setup::MONEY;
 use office_base::shelf::Shelf;
 use office_http::office::{Office, serve_one};
 use office_memory::memory::MemoryShelf;
@@ -13,6 +12,7 @@ use std::net::{Ipv4Addr, Shutdown, TcpListener, TcpStream};
 use std::test::Fail;
 use transcripts::blocks::read;
 use transcripts::session::desk_over;
+use transcripts::setup::MONEY;
 
 fn listener(rt: &HostRuntime) -> io::Result<TcpListener> {
     TcpListener::bind(rt, (Ipv4Addr::LOCALHOST, 0))

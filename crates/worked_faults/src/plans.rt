@@ -1,5 +1,4 @@
 //! Commands planned before they are done: the changes and the reply are known, and nothing is done until the plan is.
-use crate::setup::{MONEY, TENDERERS};
 use office_acts::command::Caller;
 use office_base::shelf::Shelf;
 use office_http::{Asked, command_of};
@@ -11,6 +10,7 @@ use std::alloc::Global;
 use std::test::Fail;
 use transcripts::blocks::{Block, read};
 use transcripts::session::{Session, Wrong};
+use transcripts::setup::{MONEY, TENDERERS};
 
 // Nothing is there. Then MONEY is planned: it puts a line, the batch and the clock.
 static NO_LINE: &str = r#"

@@ -1,11 +1,11 @@
 //! The stores that transcripts are played over: an office in memory, one in SQL in memory, and one in a file.
 use office_base::shelf::Shelf;
+use office_file::file_shelf::FileShelf;
+use office_in_sql::office::in_sql;
 use office_memory::memory::MemoryShelf;
-use office_store::file_shelf::FileShelf;
 use std::alloc::Global;
 use std::fs;
 use transcripts::session::{Session, Wrong};
-use transcripts::sql_office::in_sql;
 
 /// What an office is held in.
 #[derive(Clone, Copy)]

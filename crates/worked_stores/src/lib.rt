@@ -6,8 +6,6 @@ mod changes;
 #[cfg(test)]
 mod no_offices;
 #[cfg(test)]
-mod setup;
-#[cfg(test)]
 mod stops;
 #[cfg(test)]
 mod stores;

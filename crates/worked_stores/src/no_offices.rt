@@ -1,12 +1,12 @@
 //! Files in which no office is opened, and those in which one is made beside what stands there.
 use crate::changes::changes_of;
-use crate::setup::MONEY;
 use crate::stores::all_changed;
 use office_on_disks::database::Database;
 use office_on_disks::disks::Disks;
 use office_on_disks::office::{OfficeOnDisks, Unopened};
 use std::alloc::Global;
 use std::test::Fail;
+use transcripts::setup::MONEY;
 
 // The files behind these statements; None where one can't be run.
 fn changed(alloc: Global, disks: Disks, statements: &str) -> Option<Disks> {

@@ -1,13 +1,13 @@
 //! Stops: a disk takes so many calls, and fails at every one behind them. Whatever that number is, the office that is then opened again has the rows that it
 //! had before the command, or all that the command changes; and nothing less where the changes were made.
 use crate::changes::{changes_of, copied};
-use crate::setup::{MONEY, NOTICE, TENDERERS};
 use crate::stores::{all_changed, opened, tables_in};
 use office_base::puts::Put;
 use office_on_disks::disks::Disks;
 use std::alloc::Global;
 use std::test::Fail;
 use transcripts::session::Wrong;
+use transcripts::setup::{MONEY, NOTICE, TENDERERS};
 
 // A command's changes, and all rows of the office before it and behind it.
 #[derive(Drop)]

@@ -2,7 +2,7 @@
 
 /// A notice's first release tells of its planning and its tender, in a package that is published at its date. Its record is what its
 /// releases compile to, which one alone is already but for its head, and the releases. Anybody may look. Behind NOTICE.
-pub(crate) static PUBLISHED: &str = r#"
+pub static PUBLISHED: &str = r#"
 at 2026-02-01T09:00:00Z public GET /notices/N1/releases
 = 200 {"publishedDate":"2026-02-01T09:00:00Z","publisher":{"name":"City Office"},"releases":[
 > {"buyer":{"id":"B-city","name":"City Office"},"date":"2026-02-01T09:00:00Z","id":"ocds-a1b2c3-N1-0001","initiationType":"tender",
@@ -37,7 +37,7 @@ at 2026-02-01T09:00:00Z T1 GET /notices/N1/record
 
 /// The deadline is moved: a second release, which tells the new deadline and why, and a record whose tender has the amendment and the new
 /// end of its period beside all else. Behind NOTICE.
-pub(crate) static AMENDED: &str = r#"
+pub static AMENDED: &str = r#"
 at 2026-02-10T09:00:00Z clerk POST /notices/N1/amend
 > {"deadline":"2026-03-02T12:00:00Z","rationale":"More time"}
 = 200 {"moment":"2026-02-10T09:00:00Z","notice":"N1","release":2}

@@ -1,12 +1,12 @@
 //! The rows of the ledger, one at a time: each line, lot, contract and entry in the order of the keys, and the ledger that they add up to.
-use crate::setup::{MONEY, TENDERERS};
+use office_in_sql::office::in_sql;
 use office_ledger::joined::JoinedRow;
 use office_store::shelf::SqlShelf;
 use sqlite::Alter;
 use std::alloc::Global;
 use std::test::Fail;
 use transcripts::session::{Wrong, played};
-use transcripts::sql_office::in_sql;
+use transcripts::setup::{MONEY, TENDERERS};
 
 // Three lots on line 1000: A gets a contract of 100, B one of 50, and C reserves 30. Line 2000 has none.
 static LOTS: &str = r#"

@@ -31,17 +31,26 @@ macro_rules! passed {
 }
 
 /// An office in memory whose store breaks at one call. Every other call is passed to the office.
-#[derive(Drop)]
-pub(crate) struct BrokenShelf {
-    pub(crate) shelf: MemoryShelf,
+pub struct BrokenShelf {
+    shelf: MemoryShelf,
     // How many calls are still passed on before that one.
-    pub(crate) left: u64,
-    pub(crate) faults: u64,
+    left: u64,
+    faults: u64,
+}
+
+impl Drop for BrokenShelf {
+    fn drop(self) {
+        let BrokenShelf {
+            shelf: _,
+            left: _,
+            faults: _,
+        } = self;
+    }
 }
 
 impl BrokenShelf {
     /// An empty office that breaks after so many calls.
-    pub(crate) fn new(alloc: Global, left: u64) -> BrokenShelf {
+    pub fn new(alloc: Global, left: u64) -> BrokenShelf {
         BrokenShelf {
             shelf: MemoryShelf::new(alloc),
             left,
@@ -50,8 +59,13 @@ impl BrokenShelf {
     }
 
     /// The office, whose store never breaks.
-    pub(crate) fn into_memory(self) -> MemoryShelf {
-        self.shelf
+    pub fn into_memory(self) -> MemoryShelf {
+        let BrokenShelf {
+            shelf,
+            left: _,
+            faults: _,
+        } = self;
+        shelf
     }
 
     // Whether the store breaks at this call.

@@ -1,15 +1,15 @@
 //! An office that keeps no merge of a notice's releases: its record is the same, and the next publication keeps a merge.
-use crate::published::{AMENDED, PUBLISHED};
-use crate::setup::{MONEY, NOTICE, TENDERERS};
 use office_base::puts::Put;
 use office_base::shelf::Shelf;
+use office_in_sql::office::in_sql;
 use office_memory::memory::MemoryShelf;
 use office_values::id::Id;
 use office_values::refusal::Refusal;
 use std::alloc::Global;
 use std::test::Fail;
+use transcripts::published::{AMENDED, PUBLISHED};
 use transcripts::session::{Wrong, played};
-use transcripts::sql_office::in_sql;
+use transcripts::setup::{MONEY, NOTICE, TENDERERS};
 
 // The budget line, the notice, its lots and releases, and the clock: all of a publication but the merge of its releases.
 fn rows_without_merge<H: Shelf>(

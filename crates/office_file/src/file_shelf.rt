@@ -5,8 +5,6 @@ ghost use Rattle.sqlite.specs.State.{HasCleanDisk};
 ghost use Rattle.office_store.specs.Reopening.{EntersOpened};
 ghost use Rattle.office_store.specs.SqlMeaning.{sql_meaning, inside};
 
-use crate::found::OpenFault;
-use crate::shelf::SqlShelf;
 use office_base::counts::Sequence;
 use office_base::ledger::{ContractSums, LedgerRow};
 use office_base::puts::Put;
@@ -15,6 +13,8 @@ use office_base::records::{
     NoticeRow, ReleaseRow, SealRow, SecurityRow, TendererRow,
 };
 use office_base::shelf::{Lookups, Shelf, ShelfFault};
+use office_store::found::OpenFault;
+use office_store::shelf::SqlShelf;
 use office_values::given::AskedNumber;
 use office_values::id::Id;
 use office_values::money::Amount;

@@ -1,4 +1,4 @@
-use Rattle.worked_faults.proofs.broken_shelf.BrokenShelfLookups.ledger.Goals as goal
+use Rattle.broken_shelf.proofs.shelf.BrokenShelfLookups.ledger.Goals as goal
 
 -- the office's own answer, over the office as it was before the call was let through
 pub returns-in-Ok : goal.returns-in-Ok
