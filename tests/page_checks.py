@@ -37,6 +37,12 @@ TURNING = """(() => {
   return found;
 })()"""
 
+# How the parts of bars are told apart without their colours: kind, picture and whether the part is filled, each once.
+PATTERNS = """[...new Set([...document.querySelectorAll(".part, .swatch")].map((at) => {
+  const style = getComputedStyle(at), empty = getComputedStyle(document.documentElement).backgroundColor;
+  return `${at.classList[1]} ${style.backgroundImage.split("(")[0]} ${style.backgroundColor === empty}`;
+}))].sort()"""
+
 
 def page_of(scene, place, width=1280):
     page = Page(scene.browser, width)
@@ -50,8 +56,7 @@ def views(scene):
     for name, place in VIEWS.items():
         page.shape(WIDTHS["wide"])
         page.go(scene.front.address(place))
-        if name == "budget":
-            page.wait("[...document.querySelectorAll('main h3')].every((heading) => heading.textContent.includes(':'))")
+        page.wait("[...document.querySelectorAll('.lines h3')].every((heading) => heading.textContent.includes(':'))")
         differences += difference(scene, name, page)
         for width, shape in WIDTHS.items():
             for dark in (False, True):
@@ -93,6 +98,8 @@ def is_read_out(name, page):
     bars = [text for role, text, _ in tree if role == "image"]
     check(f"{name} has bars that tell {bars}", len(bars) == page.run("document.querySelectorAll('.bar').length") and all(re.search(r"\d", text) for text in bars))
     check(f"{name} has a table without headers", "table" not in roles or {"columnheader", "rowheader"} <= set(roles))
+    patterns = [pattern.split(" ", 1) for pattern in page.run(PATTERNS)]
+    check(f"{name} has bars that colour alone tells apart: {patterns}", len(patterns) == len({kind for kind, _ in patterns}) == len({how for _, how in patterns}))
 
 
 def keeps_nothing(scene, page):
@@ -181,6 +188,9 @@ def sentence(page, notice, *answers):
 def each_refusal(scene):
     """Each refusal of the office is shown as a sentence of its own, what the front or the net says as one too; so is what is no number of a notice."""
     page = page_of(scene, "")
+    page.answer_for({})
+    page.run("location.hash = '#notice/R'")
+    page.wait("document.getElementById('status').textContent === 'The office is asked …' && document.getElementById('status').offsetHeight > 10")
     told = [sentence(page, f"R{at}", *[answer] * 3) for at, answer in enumerate(refusals())]
     check(f"two refusals have one sentence: {told}", len(set(told)) == len(told))
     for at, status in enumerate((403, 404, 413, 429, 502, 503, 504)):
