@@ -76,8 +76,8 @@ export function findings(compiled, lot, tenders, passed) {
   const byPrice = compiled.tender.awardCriteria === "priceOnly";
   return tenders.map((tender) => {
     const award = awardTo(tender);
-    const found = award ? ofWinner(award, passed, byPrice) : UNPRICED[tender.reading] ?? ofOther(lot, awards, byPrice, winners.some((winner) => isBetter(tender, winner)));
-    return [tender, ...found];
+    const wasBetter = winners.some((winner) => isBetter(tender, winner));
+    return [tender, ...(award ? ofWinner(award, passed, byPrice) : UNPRICED[tender.reading] ?? ofOther(lot, awards, byPrice, wasBetter))];
   });
 }
 
