@@ -8,7 +8,8 @@ from page_office import SCRIPT
 
 SITE = "Public procurement"
 # The views, each with its place in the address.
-VIEWS = {"begin": "", "open": "#notice/N3", "awarded": "#notice/N2", "paid": "#notice/N1", "cancelled": "#notice/N4", "budget": "#ledger", "missing": "#notice/N99"}
+VIEWS = {"begin": "", "open": "#notice/N3", "awarded": "#notice/N2", "paid": "#notice/N1", "cancelled": "#notice/N4", "stopped": "#notice/N5",
+         "running": "#notice/N6", "budget": "#ledger", "missing": "#notice/N99"}
 WIDTHS, NARROWEST = {"narrow": 375, "wide": 1280}, 320
 MOMENT = re.compile(r"\d{1,2} [A-Z][a-z]+ \d{4}, \d\d:\d\d:\d\d UTC")
 # Texts whose contrast is below 4.5 to 1 (WCAG 2.2, 1.4.3), and edges of bars and fields below 3 to 1 (1.4.11).

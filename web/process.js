@@ -31,7 +31,8 @@ function tenderTable(found, lot) {
     element("td", { role: "cell" }, priceOf(tender, lot.value.currency)),
     element("td", { role: "cell" }, badge(kind, word), element("span", { class: "below" }, sentence))));
   const head = ["Tenderer", "Price", "What was found"].map((text) => element("th", { scope: "col", role: "columnheader" }, text));
-  return element("table", { role: "table" }, element("caption", {}, `${count(rows.length, "tender")} for lot ${lot.id}, the lowest price first`),
+  const order = rows.length > 1 ? ", the lowest price first" : "";
+  return element("table", { role: "table" }, element("caption", {}, `${count(rows.length, "tender")} for lot ${lot.id}${order}`),
     element("thead", { role: "rowgroup" }, element("tr", { role: "row" }, head)), element("tbody", { role: "rowgroup" }, rows));
 }
 
