@@ -145,10 +145,16 @@ class Page:
         self.ask("Input.insertText", text=text)
 
     def tree(self):
-        """What a screen reader is told: pairs of a role and a name, with the level of a heading."""
-        nodes = [node for node in self.ask("Accessibility.getFullAXTree")["nodes"] if not node.get("ignored")]
-        return [(node["role"]["value"], node.get("name", {}).get("value", ""), {it["name"]: it["value"].get("value") for it in node.get("properties", [])})
-                for node in nodes]
+        """What a screen reader is told, in its order: each thing's role, its name, and its other properties."""
+        nodes = {node["nodeId"]: node for node in self.ask("Accessibility.getFullAXTree")["nodes"]}
+        told, left = [], [name for name, node in nodes.items() if "parentId" not in node]
+        while left:
+            node = nodes[left.pop()]
+            left += [child for child in reversed(node.get("childIds", [])) if child in nodes]
+            if not node.get("ignored"):
+                more = {it["name"]: it["value"].get("value") for it in node.get("properties", [])}
+                told.append((node["role"]["value"], node.get("name", {}).get("value", ""), more))
+        return told
 
     def picture(self, path):
         """A picture of the whole page, also of what one would have to scroll to."""
