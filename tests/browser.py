@@ -98,12 +98,18 @@ class Page:
 
     def wait(self, script):
         """Waits until an expression of the page holds."""
+        self.expect(script, lambda: self.run(f"Boolean({script})"))
+
+    def expect(self, what, holds):
+        """Waits until something holds, and lets the page be answered meanwhile."""
         end = time.monotonic() + PATIENCE
-        while not self.run(f"Boolean({script})"):
+        while not holds():
             self.answer()
             if time.monotonic() > end:
-                fail(f"the page: {script}: doesn't come to hold; it shows {self.text()!r}")
+                fail(f"the page: {what}: doesn't come to hold; it shows {self.text()!r}")
             time.sleep(0.01)
+            # Events come with the answer to a command.
+            self.run("0")
 
     def answer(self):
         """Answers what the page has asked, where `answers` has it."""

@@ -246,11 +246,21 @@ def injected(scene):
     """What would be done to the page by a fault of it: no markup is made of texts, no script within the page runs, and nothing is asked of another server."""
     page = page_of(scene, "")
     elsewhere = f"https://{OUTSIDE}:{scene.front.port}/ledger"
-    harms = ["document.body.innerHTML = '<img src=x onerror=hurt()>'", "document.body.append(Object.assign(document.createElement('script'), {textContent: 'hurt()'}))",
-             f"await fetch('{elsewhere}')", f"await new Promise((yes, no) => Object.assign(new Image(), {{onload: yes, onerror: no}}).src = '{elsewhere}')"]
-    for harm in harms:
+    harms = {"document.body.innerHTML = '<img src=x onerror=hurt()>'": "require-trusted-types-for",
+             "document.body.append(Object.assign(document.createElement('script'), {textContent: 'hurt()'}))": "require-trusted-types-for",
+             "await new Promise((yes, no) => document.body.append(Object.assign(document.createElement('style'), {onload: yes, onerror: no, textContent: '*{}'})))":
+             "style-src-elem", f"await fetch('{elsewhere}')": "connect-src",
+             f"await new Promise((yes, no) => Object.assign(new Image(), {{onload: yes, onerror: no}}).src = '{elsewhere}')": "img-src"}
+    for harm, directive in harms.items():
         check(f"{harm} is done", page.run(f"(async () => {{ {harm}; }})().then(() => false, () => true)"))
-    check("no breach of the policy is told", page.events("Audits.issueAdded"))
+        page.expect(f"{harm} is refused by {directive}", lambda: directive in breaches(page))
+    check("a script of a text ran", page.run("typeof hurt === 'undefined' && document.scripts.length === 1"))
+
+
+def breaches(page):
+    """What of the policy was broken, as the browser tells it."""
+    told = [event["issue"]["details"].get("contentSecurityPolicyIssueDetails", {}) for event in page.events("Audits.issueAdded")]
+    return [details.get("violatedDirective") for details in told]
 
 
 def office_away(scene):
