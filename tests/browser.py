@@ -98,12 +98,18 @@ class Page:
 
     def wait(self, script):
         """Waits until an expression of the page holds."""
+        self.expect(script, lambda: self.run(f"Boolean({script})"))
+
+    def expect(self, what, holds):
+        """Waits until something holds, and lets the page be answered meanwhile."""
         end = time.monotonic() + PATIENCE
-        while not self.run(f"Boolean({script})"):
+        while not holds():
             self.answer()
             if time.monotonic() > end:
-                fail(f"the page: {script}: doesn't come to hold; it shows {self.text()!r}")
+                fail(f"the page: {what}: doesn't come to hold; it shows {self.text()!r}")
             time.sleep(0.01)
+            # Events come with the answer to a command.
+            self.run("0")
 
     def answer(self):
         """Answers what the page has asked, where `answers` has it."""
@@ -145,10 +151,16 @@ class Page:
         self.ask("Input.insertText", text=text)
 
     def tree(self):
-        """What a screen reader is told: pairs of a role and a name, with the level of a heading."""
-        nodes = [node for node in self.ask("Accessibility.getFullAXTree")["nodes"] if not node.get("ignored")]
-        return [(node["role"]["value"], node.get("name", {}).get("value", ""), {it["name"]: it["value"].get("value") for it in node.get("properties", [])})
-                for node in nodes]
+        """What a screen reader is told, in its order: each thing's role, its name, and its other properties."""
+        nodes = {node["nodeId"]: node for node in self.ask("Accessibility.getFullAXTree")["nodes"]}
+        told, left = [], [name for name, node in nodes.items() if "parentId" not in node]
+        while left:
+            node = nodes[left.pop()]
+            left += [child for child in reversed(node.get("childIds", [])) if child in nodes]
+            if not node.get("ignored"):
+                more = {it["name"]: it["value"].get("value") for it in node.get("properties", [])}
+                told.append((node["role"]["value"], node.get("name", {}).get("value", ""), more))
+        return told
 
     def picture(self, path):
         """A picture of the whole page, also of what one would have to scroll to."""

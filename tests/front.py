@@ -58,7 +58,7 @@ class Front:
                 ("server 127.0.0.1:8080 ", 1, f"server {HOST}:{office} "), ("127.0.0.0/8 1;", 1, f"{HOST} 1;"),
                 ("/usr/share/procure/web;", 1, f"{ROOT}/web;"), ("/etc/procure/tls/certificate.pem;", 1, f"{self.certificate};"),
                 ("/etc/procure/tls/key.pem;", 1, f"{self.key};"), ("/var/cache/nginx/procure ", 1, f"{self.folder}/answers "),
-                ("/var/log/nginx/procure.log ", 1, f"{self.folder}/access.log ")]
+                ("/var/log/nginx/procure.log ", 2, f"{self.folder}/access.log ")]
 
     def __enter__(self):
         connect(self.port, PATIENCE).close()

@@ -8,7 +8,8 @@ from page_office import SCRIPT
 
 SITE = "Public procurement"
 # The views, each with its place in the address.
-VIEWS = {"begin": "", "open": "#notice/N3", "awarded": "#notice/N2", "paid": "#notice/N1", "cancelled": "#notice/N4", "budget": "#ledger", "missing": "#notice/N99"}
+VIEWS = {"begin": "", "open": "#notice/N3", "awarded": "#notice/N2", "paid": "#notice/N1", "cancelled": "#notice/N4", "stopped": "#notice/N5",
+         "running": "#notice/N6", "budget": "#ledger", "missing": "#notice/N99"}
 WIDTHS, NARROWEST = {"narrow": 375, "wide": 1280}, 320
 MOMENT = re.compile(r"\d{1,2} [A-Z][a-z]+ \d{4}, \d\d:\d\d:\d\d UTC")
 # Texts whose contrast is below 4.5 to 1 (WCAG 2.2, 1.4.3), and edges of bars and fields below 3 to 1 (1.4.11).
@@ -37,6 +38,12 @@ TURNING = """(() => {
   return found;
 })()"""
 
+# How the parts of bars are told apart without their colours: kind, picture and whether the part is filled, each once.
+PATTERNS = """[...new Set([...document.querySelectorAll(".part, .swatch")].map((at) => {
+  const style = getComputedStyle(at), empty = getComputedStyle(document.documentElement).backgroundColor;
+  return `${at.classList[1]} ${style.backgroundImage.split("(")[0]} ${style.backgroundColor === empty}`;
+}))].sort()"""
+
 
 def page_of(scene, place, width=1280):
     page = Page(scene.browser, width)
@@ -50,8 +57,7 @@ def views(scene):
     for name, place in VIEWS.items():
         page.shape(WIDTHS["wide"])
         page.go(scene.front.address(place))
-        if name == "budget":
-            page.wait("[...document.querySelectorAll('main h3')].every((heading) => heading.textContent.includes(':'))")
+        page.wait("[...document.querySelectorAll('.lines h3')].every((heading) => heading.textContent.includes(':'))")
         differences += difference(scene, name, page)
         for width, shape in WIDTHS.items():
             for dark in (False, True):
@@ -93,6 +99,8 @@ def is_read_out(name, page):
     bars = [text for role, text, _ in tree if role == "image"]
     check(f"{name} has bars that tell {bars}", len(bars) == page.run("document.querySelectorAll('.bar').length") and all(re.search(r"\d", text) for text in bars))
     check(f"{name} has a table without headers", "table" not in roles or {"columnheader", "rowheader"} <= set(roles))
+    patterns = [pattern.split(" ", 1) for pattern in page.run(PATTERNS)]
+    check(f"{name} has bars that colour alone tells apart: {patterns}", len(patterns) == len({kind for kind, _ in patterns}) == len({how for _, how in patterns}))
 
 
 def keeps_nothing(scene, page):
@@ -181,6 +189,9 @@ def sentence(page, notice, *answers):
 def each_refusal(scene):
     """Each refusal of the office is shown as a sentence of its own, what the front or the net says as one too; so is what is no number of a notice."""
     page = page_of(scene, "")
+    page.answer_for({})
+    page.run("location.hash = '#notice/R'")
+    page.wait("document.getElementById('status').textContent === 'The office is asked …' && document.getElementById('status').offsetHeight > 10")
     told = [sentence(page, f"R{at}", *[answer] * 3) for at, answer in enumerate(refusals())]
     check(f"two refusals have one sentence: {told}", len(set(told)) == len(told))
     for at, status in enumerate((403, 404, 413, 429, 502, 503, 504)):
@@ -235,11 +246,21 @@ def injected(scene):
     """What would be done to the page by a fault of it: no markup is made of texts, no script within the page runs, and nothing is asked of another server."""
     page = page_of(scene, "")
     elsewhere = f"https://{OUTSIDE}:{scene.front.port}/ledger"
-    harms = ["document.body.innerHTML = '<img src=x onerror=hurt()>'", "document.body.append(Object.assign(document.createElement('script'), {textContent: 'hurt()'}))",
-             f"await fetch('{elsewhere}')", f"await new Promise((yes, no) => Object.assign(new Image(), {{onload: yes, onerror: no}}).src = '{elsewhere}')"]
-    for harm in harms:
+    harms = {"document.body.innerHTML = '<img src=x onerror=hurt()>'": "require-trusted-types-for",
+             "document.body.append(Object.assign(document.createElement('script'), {textContent: 'hurt()'}))": "require-trusted-types-for",
+             "await new Promise((yes, no) => document.body.append(Object.assign(document.createElement('style'), {onload: yes, onerror: no, textContent: '*{}'})))":
+             "style-src-elem", f"await fetch('{elsewhere}')": "connect-src",
+             f"await new Promise((yes, no) => Object.assign(new Image(), {{onload: yes, onerror: no}}).src = '{elsewhere}')": "img-src"}
+    for harm, directive in harms.items():
         check(f"{harm} is done", page.run(f"(async () => {{ {harm}; }})().then(() => false, () => true)"))
-    check("no breach of the policy is told", page.events("Audits.issueAdded"))
+        page.expect(f"{harm} is refused by {directive}", lambda: directive in breaches(page))
+    check("a script of a text ran", page.run("typeof hurt === 'undefined' && document.scripts.length === 1"))
+
+
+def breaches(page):
+    """What of the policy was broken, as the browser tells it."""
+    told = [event["issue"]["details"].get("contentSecurityPolicyIssueDetails", {}) for event in page.events("Audits.issueAdded")]
+    return [details.get("violatedDirective") for details in told]
 
 
 def office_away(scene):

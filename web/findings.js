@@ -36,8 +36,9 @@ export function stateOf(compiled) {
   if (numberOfTenderers === undefined) {
     return Date.now() <= Date.parse(tenderPeriod.endDate) ? ["open", "Open for tenders"] : ["running", "Deadline passed, tenders not opened yet"];
   }
-  const waits = compiled.tender.lots.some((lot) => lot.status === "active" && !awardsOf(compiled, lot).some((award) => award.status === "active"));
-  return ["running", waits ? "Opened, not decided yet" : "Awarded, not signed yet"];
+  const waiting = compiled.tender.lots.filter((lot) => lot.status === "active" && !awardsOf(compiled, lot).some((award) => award.status === "active"));
+  const waits = waiting.length === compiled.tender.lots.length ? "Opened, not decided yet" : "Opened, not all lots decided yet";
+  return ["running", waiting.length > 0 ? waits : "Awarded, not signed yet"];
 }
 
 function stateOfContracts(contracts) {
@@ -76,8 +77,8 @@ export function findings(compiled, lot, tenders, passed) {
   const byPrice = compiled.tender.awardCriteria === "priceOnly";
   return tenders.map((tender) => {
     const award = awardTo(tender);
-    const found = award ? ofWinner(award, passed, byPrice) : UNPRICED[tender.reading] ?? ofOther(lot, awards, byPrice, winners.some((winner) => isBetter(tender, winner)));
-    return [tender, ...found];
+    const wasBetter = winners.some((winner) => isBetter(tender, winner));
+    return [tender, ...(award ? ofWinner(award, passed, byPrice) : UNPRICED[tender.reading] ?? ofOther(lot, awards, byPrice, wasBetter))];
   });
 }
 
@@ -104,7 +105,7 @@ function ofOther(lot, awards, byPrice, wasBetter) {
     return lot.status === "cancelled" ? ["stopped", "Not decided", "The lot was cancelled before a decision."] : ["running", "Waits", "The lot isn't decided yet."];
   }
   const again = lot.status === "active" && awards.every(({ status }) => status !== "active") ? " The lot is decided again." : "";
-  return ["open", "Examined", (byPrice ? "Its price wasn't the lowest." : "Not the best by points, or not responsive; which isn't published.") + again];
+  return ["open", "Examined", (byPrice ? "Its price wasn't the lowest." : "Not the best by points, or not responsive; which of the two isn't published.") + again];
 }
 
 /** How the best tender is found, as a sentence. */

@@ -31,7 +31,8 @@ function tenderTable(found, lot) {
     element("td", { role: "cell" }, priceOf(tender, lot.value.currency)),
     element("td", { role: "cell" }, badge(kind, word), element("span", { class: "below" }, sentence))));
   const head = ["Tenderer", "Price", "What was found"].map((text) => element("th", { scope: "col", role: "columnheader" }, text));
-  return element("table", { role: "table" }, element("caption", {}, `${count(rows.length, "tender")} for lot ${lot.id}, the lowest price first`),
+  const order = rows.length > 1 ? ", the lowest price first" : "";
+  return element("table", { role: "table" }, element("caption", {}, `${count(rows.length, "tender")} for lot ${lot.id}${order}`),
     element("thead", { role: "rowgroup" }, element("tr", { role: "row" }, head)), element("tbody", { role: "rowgroup" }, rows));
 }
 
@@ -61,7 +62,8 @@ function contract(one) {
   const paid = paidOf(one);
   const left = Math.max(one.value.amount - paid, 0);
   const ended = one.status === "terminated";
-  const parts = [{ kind: "paid", name: "Paid", amount: paid }, { kind: ended ? "free" : "contracted", name: ended ? "Not paid, free again" : "Still to pay", amount: left }];
+  const rest = ended ? { kind: "free", name: "Not paid, free again", amount: left } : { kind: "contracted", name: "Still to pay", amount: left };
+  const parts = [{ kind: "paid", name: "Paid", amount: paid }, rest];
   const changes = (one.amendments ?? []).map((it) => [moment(it.date), ": ", change(it, one.value.currency), ". ", given(it.rationale)]);
   const payments = (one.implementation?.transactions ?? []).map(({ date, value }) => [moment(date), `: ${money(value)}`]);
   return element("section", { class: "contract", "aria-label": `Contract ${one.id}` },
@@ -89,7 +91,8 @@ function tenderers({ numberOfTenderers, status }) {
 export function drawProcess(notice, compiled, releases, minutes) {
   const { tender, buyer } = compiled;
   const passed = passedOver(releases);
-  const raw = ["record", "releases", ...(minutes.refused ? [] : ["minutes"])].map((name) => element("li", {}, element("a", { href: `/notices/${notice}/${name}` }, `/notices/${notice}/${name}`)));
+  const paths = ["record", "releases", ...(minutes.refused ? [] : ["minutes"])].map((name) => `/notices/${notice}/${name}`);
+  const raw = paths.map((path) => element("li", {}, element("a", { href: path }, path)));
   const drawn = [
     element("h1", { tabindex: "-1" }, given(tender.title)),
     element("p", {}, badge(...stateOf(compiled))),
