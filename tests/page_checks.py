@@ -68,7 +68,7 @@ def views(scene):
                 check(f"{name}, {width}, {'dark' if dark else 'light'}: too little contrast: {pale}", not pale)
         for width in (*WIDTHS.values(), NARROWEST):
             page.shape(width)
-            check(f"{name} is wider than {width}", page.run("document.documentElement.scrollWidth <= innerWidth"))
+            is_within(name, width, page)
     check("what is said is something else than in page_texts:\n" + differences, not differences)
     keeps_nothing(scene, page)
 
@@ -84,6 +84,12 @@ def difference(scene, name, page):
     check(f"{name} has the title {title}", title.endswith(SITE) and (name != "awarded" or title.startswith(SCRIPT)))
     check(f"{name} has a script or a mark from a text", page.run("document.scripts.length === 1 && !document.querySelector('main :is(script, i, img, style)')"))
     return "".join(difflib.unified_diff(wanted.splitlines(True), text.splitlines(True), f"page_texts/{name}.txt", "the page", n=1))
+
+
+def is_within(name, width, page):
+    """Nothing is wider than the window. (A phone's `innerWidth` grows with what it shows.)"""
+    wide = page.run("document.documentElement.scrollWidth")
+    check(f"{name} is {wide} wide in a window of {width}", wide <= width)
 
 
 def is_read_out(name, page):
@@ -149,7 +155,7 @@ def keyboard(scene):
     page.press("Tab")
     page.press("Enter")
     check(f"the button for more lines leads to {focused(page)}", focused(page)[0].startswith("Line 3100"))
-    check("the other lines are shown, and the button is gone", page.run("document.querySelectorAll('main h3').length === 22 && document.querySelector('.more').hidden"))
+    check("the other lines are shown, and the button is gone", page.run("document.querySelectorAll('main h3').length === 22 && !document.querySelector('.more').checkVisibility()"))
     page.go(scene.front.address())
     page.press("Tab")
     page.press("Enter")
@@ -192,8 +198,10 @@ def each_refusal(scene):
     page.answer_for({})
     page.run("location.hash = '#notice/R'")
     page.wait("document.getElementById('status').textContent === 'The office is asked …' && document.getElementById('status').offsetHeight > 10")
-    told = [sentence(page, f"R{at}", *[answer] * 3) for at, answer in enumerate(refusals())]
-    check(f"two refusals have one sentence: {told}", len(set(told)) == len(told))
+    told = {answer: sentence(page, f"R{at}", *[answer] * 3) for at, answer in enumerate(refusals())}
+    check(f"two refusals have one sentence: {told}", len(set(told.values())) == len(told))
+    nameless = [body for (_, body), said in told.items() if json.loads(body).get("what", "") not in said]
+    check(f"what isn't there has no name: {nameless}", not nameless)
     for at, status in enumerate((403, 404, 413, 429, 502, 503, 504)):
         sentence(page, f"F{at}", *[(status, b'{"front":"no"}')] * 3)
         sentence(page, f"H{at}", *[(status, b"<html><b>no</b></html>")] * 3)
@@ -227,7 +235,7 @@ def long_texts(scene):
             page.shape(width)
             page.answer()
             page.picture(os.path.join(scene.pictures, f"{name}-{width}.png"))
-            check(f"{name} is wider than {width}", page.run("document.documentElement.scrollWidth <= innerWidth"))
+            is_within(name, width, page)
         turning = page.run(TURNING)
         check(f"{name} has texts that turn others round: {turning}", not turning)
     is_quiet(page)
