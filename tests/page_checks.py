@@ -60,9 +60,10 @@ def views(scene):
         page.wait("[...document.querySelectorAll('.lines h3')].every((heading) => heading.textContent.includes(':'))")
         differences += difference(scene, name, page)
         for width, shape in WIDTHS.items():
+            page.shape(shape)
+            is_read_out(name, page)
             for dark in (False, True):
                 page.shape(shape, dark=dark)
-                is_read_out(name, page)
                 page.picture(os.path.join(scene.pictures, f"{name}-{width}-{'dark' if dark else 'light'}.png"))
                 pale = page.run(PALE)
                 check(f"{name}, {width}, {'dark' if dark else 'light'}: too little contrast: {pale}", not pale)
@@ -234,8 +235,8 @@ def long_texts(scene):
         for width in (NARROWEST, *WIDTHS.values()):
             page.shape(width)
             page.answer()
-            page.picture(os.path.join(scene.pictures, f"{name}-{width}.png"))
             is_within(name, width, page)
+        page.picture(os.path.join(scene.pictures, f"{name}-wide-light.png"))
         turning = page.run(TURNING)
         check(f"{name} has texts that turn others round: {turning}", not turning)
     is_quiet(page)
