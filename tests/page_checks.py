@@ -217,6 +217,40 @@ def each_refusal(scene):
         page.wait("document.querySelector('h1').textContent.startsWith('What is bought')")
 
 
+# Of a lot decided by price with three tenders, A for 100, B for 90, C for 100: the lot's state, to whom awards were made and what became of them, what is said of each.
+LOTS = [("active", [], ["Waits", "Waits", "Waits"]),
+        ("cancelled", [], ["Not decided", "Not decided", "Not decided"]),
+        ("unsuccessful", [], ["Not responsive", "Not responsive", "Not responsive"]),
+        ("unsuccessful", [("B", "cancelled")], ["Not responsive", "Passed over", "Not responsive"]),
+        ("active", [("A", "cancelled")], ["Passed over", "Not responsive", "Examined"]),
+        ("active", [("B", "active")], ["Examined", "Won", "Examined"]),
+        ("complete", [("B", "cancelled"), ("C", "active")], ["Not responsive", "Passed over", "Won"])]
+PAID, HALF, NONE = ({"amount": 10}, [4, 6]), ({"amount": 10}, [4]), ({"amount": 10}, [])
+# The state of the tender, whether it was opened, its contracts with what was paid and whether they ended, and what is said of the whole.
+STATES = [("active", False, [], "Deadline passed, tenders not opened yet"), ("unsuccessful", True, [], "Ended without an award"),
+          ("complete", True, [(*NONE, False)], "Contract runs, nothing paid yet"), ("complete", True, [(*HALF, False), (*NONE, True)], "Contracts run, paid in part"),
+          ("complete", True, [(*PAID, False), (*HALF, True)], "Paid in full"), ("complete", True, [(*HALF, True)] * 2, "All contracts ended")]
+
+
+def inferences(scene):
+    """What the page infers where no notice of this office shows it."""
+    page = page_of(scene, "")
+    tenders = [{"receipt": at, "tenderer": name, "reading": "priced", "corrected": price} for at, (name, price) in enumerate((("A", 100), ("B", 90), ("C", 100)), 1)]
+    for status, made, words in LOTS:
+        awards = [{"id": str(at), "relatedLots": ["L1"], "suppliers": [{"id": f"T-{name}"}], "status": state} for at, (name, state) in enumerate(made)]
+        told = [{"awards": awards, "tender": {"awardCriteria": "priceOnly"}}, {"id": "L1", "status": status}, tenders]
+        passed = [award["id"] for award in awards if award["status"] == "cancelled"]
+        said = page.run(f"import('/findings.js').then(({{ findings }}) => findings(...{json.dumps(told)}, new Set({passed})).map(([, , word]) => word))")
+        check(f"of a lot that is {status} with the awards {made} is said {said}, and not {words}", said == words)
+    for status, opened, contracts, words in STATES:
+        made = [{"value": value, "status": "terminated" if ended else "active", "implementation": {"transactions": [{"value": {"amount": it}} for it in paid]}}
+                for value, paid, ended in contracts]
+        tender = {"status": status, "lots": [], "tenderPeriod": {"endDate": "2026-01-05T09:00:00Z"}, **({"numberOfTenderers": 1} if opened else {})}
+        said = page.run(f"import('/findings.js').then(({{ stateOf }}) => stateOf({json.dumps({'tender': tender, 'contracts': made})})[1])")
+        check(f"a process that is {status}, with {contracts}, is called {said}, and not {words}", said == words)
+    is_quiet(page)
+
+
 def long_texts(scene):
     """Texts of the greatest length, without a space and of either direction, and the greatest amounts: nothing is wider than the window."""
     answers = {}
@@ -297,4 +331,4 @@ def too_often(scene):
     check(f"the page says {page.text()!r}", page.text() == "Not shown\nToo many requests came from here. Wait a minute and try again.\n")
 
 
-CHECKS = [views, keyboard, each_refusal, long_texts, without_scripts, injected, office_away, too_often]
+CHECKS = [views, keyboard, each_refusal, inferences, long_texts, without_scripts, injected, office_away, too_often]
