@@ -52,8 +52,8 @@ trap 'exit 143' TERM HUP
 before=$(milliseconds)
 is_stopped=yes
 $stop || fail "the service could not be stopped: $stop" 1
-cp --reflink=auto "$file" "$copy.part"
-[ ! -e "$file-wal" ] || cp --reflink=auto "$file-wal" "$copy.part-wal"
+cp --reflink=auto "$file" "$copy.part" || fail "the copy can't be written: $copy" 1
+[ ! -e "$file-wal" ] || cp --reflink=auto "$file-wal" "$copy.part-wal" || fail "the copy can't be written: $copy" 1
 is_whole=yes
 is_stopped=
 $start || fail "the service could not be started: $start" 1
