@@ -11,6 +11,8 @@ SITE = "Public procurement"
 VIEWS = {"begin": "", "open": "#notice/N3", "awarded": "#notice/N2", "paid": "#notice/N1", "cancelled": "#notice/N4", "stopped": "#notice/N5",
          "running": "#notice/N6", "budget": "#ledger", "missing": "#notice/N99"}
 WIDTHS, NARROWEST = {"narrow": 375, "wide": 1280}, 320
+# How many looks are more than the front takes from one address at a time, whatever the machine.
+MANY = 2000
 MOMENT = re.compile(r"\d{1,2} [A-Z][a-z]+ \d{4}, \d\d:\d\d:\d\d UTC")
 # Texts whose contrast is below 4.5 to 1 (WCAG 2.2, 1.4.3), and edges of bars and fields below 3 to 1 (1.4.11).
 PALE = """(() => {
@@ -321,13 +323,16 @@ def too_often(scene):
     page = page_of(scene, "")
     with contextlib.closing(scene.front.connection()) as connection:
         for attempt in range(5):
-            answers = [exchange(connection, "GET", "/lines/77") for _ in range(120)]
-            # (By now one look may be free again)
+            # (A busy machine asks more slowly, and each second ten looks more are free)
+            for _ in range(MANY):
+                answer = exchange(connection, "GET", "/lines/77")
+                if answer.status == 429:
+                    break
             page.run(f"location.hash = '#notice/T{attempt}'")
             page.wait(f"document.getElementById('notice').value === 'T{attempt}' && document.querySelector('main').getAttribute('aria-busy') === 'false'")
             if "Too many requests came from here." in page.text():
                 break
-    check("many looks in a second are all taken", answers[-1].status == 429 and b"front" in answers[-1].body)
+    check(f"of {MANY} looks at a time all are taken", answer.status == 429 and b"front" in answer.body)
     check(f"the page says {page.text()!r}", page.text() == "Not shown\nToo many requests came from here. Wait a minute and try again.\n")
 
 
