@@ -6,11 +6,14 @@
 #
 # It stops the service, copies FILE and its log FILE-wal, and starts the service; then it checks the copy: sqlite3 finds no fault in it (`PRAGMA integrity_check`),
 # and `procure ledger` reads it as an office. It leaves FOLDER/office-MOMENT.db, one file with the log in it, and its ledger beside it as office-MOMENT.ledger, and
-# says how long nobody served. The service is started again whatever failed. A copy that is not good stays, named office-MOMENT.wrong.
+# says how long the service was stopped; then the service opens the file, and serves from then on. It is started whatever failed, and also where it was stopped
+# before. A copy that is not good stays, named office-MOMENT.wrong.
 # The commands are $STOP, $START and $PROCURE where these are set, else `systemctl stop procure`, `systemctl start procure` and `procure`.
-# Exit status: 0 with a good copy, 1 without one, 2 for wrong arguments or a tool that is missing.
+# Exit status: 0 with a good copy and the service started, 1 without one of them, 2 for wrong arguments or a tool that is missing.
 set -eu
 umask 077
+# cron's PATH is shorter than a shell's.
+PATH=$PATH:/usr/local/bin
 
 if [ $# != 3 ]; then
     sed -n '2,13s/^# \{0,1\}//p' "$0" >&2
@@ -56,8 +59,9 @@ cp --reflink=auto "$file" "$copy.part" || fail "the copy can't be written: $copy
 [ ! -e "$file-wal" ] || cp --reflink=auto "$file-wal" "$copy.part-wal" || fail "the copy can't be written: $copy" 1
 is_whole=yes
 is_stopped=
-$start || fail "the service could not be started: $start" 1
-echo "backup: nobody served for $(($(milliseconds) - before)) ms"
+is_started=yes
+$start || is_started=
+echo "backup: the service was stopped for $(($(milliseconds) - before)) ms"
 
 wrong() {
     mv "$copy.part" "$copy.wrong"
@@ -75,3 +79,4 @@ sync "$copy.part" "$copy.ledger"
 mv "$copy.part" "$copy.db"
 sync "$folder"
 echo "backup: $copy.db, $(stat -c %s "$copy.db") bytes, is good"
+[ -n "$is_started" ] || fail "the service could not be started: $start" 1

@@ -4,7 +4,7 @@ import base64, json, os, socket, subprocess, time
 from common import fail
 
 # Seconds until an answer, or what is waited for, must be there.
-PATIENCE = 20
+PATIENCE = 60
 KEYS = {"Tab": (9, ""), "Enter": (13, "\r")}
 DOMAINS = ("Page", "Runtime", "Log", "Network", "Audits")
 # Without a sandbox, since that isn't to be had by root in a container; the one page that it shows is that of this repository.
@@ -49,7 +49,8 @@ class Browser:
         where = {"sessionId": session} if session else {}
         self.stream.sendall(json.dumps({"id": self.count, "method": method, "params": parameters, **where}).encode() + b"\0")
         while (message := self.receive()).get("id") != self.count:
-            self.events.append(message)
+            # (An answer that came too late for its command is none.)
+            self.events += [message] if "method" in message else []
         if "error" in message:
             fail(f"chromium: {method}: {message['error']['message']}")
         return message["result"]
@@ -167,4 +168,4 @@ class Page:
         size = self.ask("Page.getLayoutMetrics")["cssContentSize"]
         clip = {"x": 0, "y": 0, "width": size["width"], "height": size["height"], "scale": 1}
         with open(path, "wb") as file:
-            file.write(base64.b64decode(self.ask("Page.captureScreenshot", format="png", captureBeyondViewport=True, clip=clip)["data"]))
+            file.write(base64.b64decode(self.ask("Page.captureScreenshot", format="png", captureBeyondViewport=True, optimizeForSpeed=True, clip=clip)["data"]))

@@ -91,7 +91,7 @@ class Procurements:
         self.present("T1", "N5", "L2", tender((12, 300)))
         self.present("T2", "N6", "L1", tender((40, 700)))
         self.present("T4", "N6", "L1", tender((39, 600)))
-        self.poles = self.present("T4", "N6", "L2", tender((40, 500)))
+        self.poles, self.same = [self.present(name, "N6", "L2", tender((40, 500))) for name in ("T4", "T2")]
         self.clerk("/notices/N4/cancel", {"rationale": "The library <i>got</i> them as a gift"})
 
     def publish_all(self):
@@ -111,7 +111,7 @@ class Procurements:
         time.sleep(max(0.0, self.deadline + 1.05 - time.time()))
         for notice in ("N1", "N2", "N5", "N6"):
             self.clerk(f"/notices/{notice}/open")
-        for receipt in (self.cheap, self.dear, self.fails, self.wins, self.poles):
+        for receipt in (self.cheap, self.dear, self.fails, self.wins, self.poles, self.same):
             self.examine(receipt)
         self.examine(self.unfit, responsive=False)
         self.examine(self.good, quality=30)

@@ -1,7 +1,7 @@
 """The rules of `tools/audit` that hold the rows of an office's file against one another. Each is named for what must hold, and says it in a sentence."""
-import re
+import hashlib, re
 
-from audit_office import TABLES, rule
+from audit_office import MADE, TABLES, rule
 
 WORDS = {
     "notices state": "receiving opened cancelled",
@@ -34,6 +34,20 @@ def file_is_sound(office):
     for what, in office.rows("PRAGMA integrity_check"):
         if what != "ok":
             yield "file", what
+
+
+@rule("file")
+def tables_are_as_made(office):
+    """The tables of an office and their indexes are made by the office's SQL, and have no other column, index or trigger. (Other tables may be beside them.)"""
+    there = office.rows("SELECT name, type, sql, lower(tbl_name) FROM sqlite_master WHERE name NOT LIKE 'sqlite!_%' ESCAPE '!' ORDER BY name")
+    there = [(name, kind, sql) for name, kind, sql, table in there if table in TABLES]
+    for name, kind, sql in there:
+        if name not in MADE:
+            yield f"{kind} {name}", "no office has it"
+        elif not hashlib.sha256(sql.encode("utf-8", "surrogateescape")).hexdigest().startswith(MADE[name]):
+            yield f"{kind} {name}", "is made otherwise"
+    for name in sorted(set(MADE) - {name for name, _, _ in there}):
+        yield f"index {name}", "isn't there"
 
 
 @rule("file")

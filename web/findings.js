@@ -42,14 +42,16 @@ export function stateOf(compiled) {
 }
 
 function stateOfContracts(contracts) {
+  const isOne = contracts.length === 1;
   if (contracts.every(({ status }) => status === "terminated")) {
-    return ["done", "Contract ended"];
+    return ["done", isOne ? "Contract ended" : "All contracts ended"];
   }
   const running = contracts.filter(({ status }) => status !== "terminated");
   if (running.every((contract) => paidOf(contract) >= contract.value.amount)) {
     return ["done", "Paid in full"];
   }
-  return ["running", contracts.some((contract) => paidOf(contract) > 0) ? "Contract runs, paid in part" : "Contract runs, nothing paid yet"];
+  const paid = contracts.some((contract) => paidOf(contract) > 0) ? "paid in part" : "nothing paid yet";
+  return ["running", `${isOne ? "Contract runs" : "Contracts run"}, ${paid}`];
 }
 
 /** The state of one lot, likewise. */
@@ -77,9 +79,17 @@ export function findings(compiled, lot, tenders, passed) {
   const byPrice = compiled.tender.awardCriteria === "priceOnly";
   return tenders.map((tender) => {
     const award = awardTo(tender);
-    const wasBetter = winners.some((winner) => isBetter(tender, winner));
-    return [tender, ...(award ? ofWinner(award, passed, byPrice) : UNPRICED[tender.reading] ?? ofOther(lot, awards, byPrice, wasBetter))];
+    const found = award ? ofWinner(award, passed, byPrice) : UNPRICED[tender.reading] ?? ofOther(lot, awards, byPrice ? placeOf(tender, winners) : "unknown");
+    return [tender, ...found];
   });
+}
+
+/** Where a tender stands by its price, as to the winners. By points that can't be told. */
+function placeOf(tender, winners) {
+  if (winners.some((winner) => isBetter(tender, winner))) {
+    return "before";
+  }
+  return winners.some(({ corrected }) => corrected === tender.corrected) ? "beside" : "behind";
 }
 
 const UNPRICED = {
@@ -97,16 +107,22 @@ function ofWinner(award, passed, byPrice) {
 
 /** A priced tender that never won. A lot is decided only when each of these was examined, and goes to the best of those that were found responsive; so one
  * that was better than a winner, or stands in a lot that nobody won, was found not responsive. */
-function ofOther(lot, awards, byPrice, wasBetter) {
-  if (lot.status === "unsuccessful" || (byPrice && wasBetter)) {
+function ofOther(lot, awards, place) {
+  if (lot.status === "unsuccessful" || place === "before") {
     return ["stopped", "Not responsive", "Examined. It doesn't meet what was asked."];
   }
   if (awards.length === 0) {
     return lot.status === "cancelled" ? ["stopped", "Not decided", "The lot was cancelled before a decision."] : ["running", "Waits", "The lot isn't decided yet."];
   }
   const again = lot.status === "active" && awards.every(({ status }) => status !== "active") ? " The lot is decided again." : "";
-  return ["open", "Examined", (byPrice ? "Its price wasn't the lowest." : "Not the best by points, or not responsive; which of the two isn't published.") + again];
+  return ["open", "Examined", BEHIND[place] + again];
 }
+
+const BEHIND = {
+  beside: "As low a price as a winner's, but it came later.",
+  behind: "Its price wasn't the lowest.",
+  unknown: "Not the best by points, or not responsive; which of the two isn't published.",
+};
 
 /** How the best tender is found, as a sentence. */
 export function criteria(compiled) {

@@ -12,7 +12,7 @@ if [ -x "$root/build/procure" ]; then
     exec "$root/build/procure" desk "$root/crates/procure/data/office.toml" < "$root/crates/procure/stdin"
 fi
 echo 'There is no build/procure yet (make build, which proves it first). So the office in memory is compiled from its sources, nothing is proved, and it' >&2
-echo 'answers crates/procure/stdin: one to three minutes with nothing to see, and then at once.' >&2
+echo 'answers crates/procure/stdin: one to three minutes with nothing to see, and then at once. Behind the two answers rt says how its runs ended.' >&2
 folder=$(mktemp -d)
 trap 'rm -rf "$folder"' EXIT
 trap 'exit 130' INT
