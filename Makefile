@@ -1,22 +1,33 @@
 # make run    the first run: an import and a look, in memory, without waiting for proofs
-# make build  the proved program, at build/procure
-# make test   the gate: every proof from nothing, the edits that must fail, the tests and the stored runs
+# make build  the proved program, at build/procure, without the wrong bodies
+# make test   the gate: every proof from nothing, the wrong bodies that must be refused, the tests and the stored runs; it leaves build/procure too
+# make check  what needs build/procure and no proof, in three minutes: the documents, the interface, the public page in a browser, the audit, kills (tools/check --help)
+# make edits  the wrong bodies that the gate leaves out, edits/
+# make soak   what takes too long for the gate, after `make test`: plays, refused memory, kills, the wrong bodies of edits/ (bench/soak --help)
 # make bench  measures build/procure (bench/desk --help)
 RT ?= rt
+export RT
 
-.PHONY: run build test bench
+.PHONY: run build test check edits soak bench
 
 run:
-	@cd crates/procure && $(RT) try -- desk data/office.toml < stdin
+	@sh bench/first_run/run.sh
 
 build:
-	cd crates/procure && $(RT) run -- desk data/office.toml < stdin | cmp - stdout
-	mkdir -p build
-	cp crates/procure/out/procure build/procure
-	@echo "build/procure is the proved program"
+	bench/build
 
 test:
 	$(RT) ci
+	@mkdir -p build && cp crates/procure/out/procure build/procure.new && mv build/procure.new build/procure
+
+check:
+	@tools/check
+
+edits:
+	bench/edits
+
+soak:
+	bench/soak
 
 bench: build
 	bench/desk

@@ -15,8 +15,6 @@ mod places;
 mod release_order;
 mod step;
 mod stored;
-#[cfg(test)]
-mod tests;
 
 pub use compiling::compile;
 pub use examples::{worked_columns, worked_compilations, worked_merges};

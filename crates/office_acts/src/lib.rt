@@ -10,10 +10,6 @@ pub mod identified;
 pub mod item;
 pub mod lot;
 pub mod notice;
-#[cfg(test)]
-mod notice_tests;
 pub mod queries;
 pub mod sealed;
 pub mod tender;
-#[cfg(test)]
-mod tests;

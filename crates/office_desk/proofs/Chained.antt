@@ -11,11 +11,11 @@ use Rattle.office_machine.specs.Machine.{Given, refusal_of}
 use Rattle.office_publications.specs.Events.{event_of}
 use Rattle.office_publisher.specs.Released.{IsReleased, IsReleasedAt}
 use Rattle.office_publisher.specs.declared.released.Released.{Released}
-use Rattle.office_desk.specs.Asking.{given_by}
-use Rattle.office_desk.specs.Effects.{HasEffect, IsEffect}
-use Rattle.office_desk.specs.Plans.{Plan}
+use Rattle.office_plans.specs.Asking.{given_by}
+use Rattle.office_plans.specs.Effects.{HasEffect, IsEffect}
+use Rattle.office_plans.specs.Plans.{Plan}
 use Rattle.office_desk.specs.Steps.{IsPlanned}
-use Rattle.office_desk.specs.declared.asking.Asking.{Asking}
+use Rattle.tender_core.specs.declared.asking.Asking.{Asking}
 
 -- what joins a plan and its release
 abbrev pub Joined : {S : Type 0} → Meaning S → S → S → Released → Plan → Result Plan Refusal → Type 0

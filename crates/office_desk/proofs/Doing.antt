@@ -9,8 +9,8 @@ use Rattle.office_base.specs.Tables.{Tables, after_puts}
 use Rattle.office_base.specs.Shelves.{Meaning, Alters, Keeps}
 use Rattle.office_base.specs.declared.puts.Put.{Put}
 use Rattle.office_publications.specs.Keeping.{KeepsReleases, kept_next}
-use Rattle.office_desk.specs.Asking.{given}
-use Rattle.office_desk.specs.Plans.{Plan}
+use Rattle.office_plans.specs.Asking.{given}
+use Rattle.office_plans.specs.Plans.{Plan}
 use Rattle.office_desk.specs.Steps.{Does, IsPlan}
 
 module _ {S : Type 0} (M : Meaning S) (settings : Settings) (moment : ℕ) (caller : Caller) (command : Command) where

@@ -5,7 +5,7 @@ use Rattle.std.proofs.lemmas.List.{map-append, take_more}
 use Rattle.office_base.specs.declared.records.EnvelopeRow.{EnvelopeRow}
 use Rattle.office_base.specs.declared.records.TendererRow.{TendererRow}
 use Rattle.office_machine.specs.Sights.{minuted}
-use Rattle.office_desk.specs.Replies.{opened_tender}
+use Rattle.office_plans.specs.Replies.{opened_tender}
 use Rattle.tender_papers.specs.declared.minutes.OpenedTender.{OpenedTender}
 
 -- what minutes say of these tenders

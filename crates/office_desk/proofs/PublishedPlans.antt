@@ -17,9 +17,9 @@ use Rattle.office_publications.specs.Replies.{RepliesAreTheSame}
 use Rattle.office_publications.specs.declared.publication.Publication.{Publication}
 use Rattle.office_publisher.specs.Released.{IsKept, IsReleased, as_row}
 use Rattle.office_publisher.specs.declared.released.Released.{Released}
-use Rattle.office_desk.specs.Effects.{HasEffect, IsEffect}
-use Rattle.office_desk.specs.Plans.{Plan}
-use Rattle.office_desk.specs.Replies.{reply_text}
+use Rattle.office_plans.specs.Effects.{HasEffect, IsEffect}
+use Rattle.office_plans.specs.Plans.{Plan}
+use Rattle.office_plans.specs.Replies.{reply_text}
 use Rattle.office_desk.specs.Steps.{IsPlan, IsPlanned, accepted_reply}
 
 -- the laws of what is published that are taken over

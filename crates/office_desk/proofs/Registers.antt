@@ -6,7 +6,7 @@ use Rattle.office_base.specs.declared.records.EnvelopeRow.{EnvelopeRow}
 use Rattle.tender_papers.specs.Lines.{line}
 use Rattle.tender_papers.specs.Register.{register_text}
 use Rattle.office_machine.specs.Sights.{registered}
-use Rattle.office_desk.specs.Replies.{registered_line, registry_text}
+use Rattle.office_plans.specs.Replies.{registered_line, registry_text}
 
 -- the line of what is told of a tender is the line of its row
 pub same_register : (notice : List ℕ) (rows : List EnvelopeRow) → registry_text notice (map registered rows) ≡ register_text notice rows

@@ -19,8 +19,8 @@ use Rattle.office_publications.specs.Keeping.{KeepsReleases, PublicationReadsBac
 use Rattle.office_publications.specs.Packages.{packages}
 use Rattle.office_publications.specs.Publishing.{publishing}
 use Rattle.office_publications.specs.Standing.{Stands}
-use Rattle.office_desk.specs.Plans.{Plan}
-use Rattle.office_desk.specs.Replies.{reply_text, text_of}
+use Rattle.office_plans.specs.Plans.{Plan}
+use Rattle.office_plans.specs.Replies.{reply_text, text_of}
 
 -- a text as the list of its bytes
 abbrev pub read_text : Result (Vec ℕ Global) Refusal → Result (List ℕ) Refusal

@@ -10,13 +10,11 @@ ghost use Rattle.office_publications.specs.Keeping.{KeepsReleases};
 ghost use Rattle.office_publications.specs.Publishing.{publishing};
 ghost use Rattle.office_machine.specs.Machine.{Given, IsRegistered, Reaches};
 ghost use Rattle.office_values.specs.declared.settings.Settings.{Settings as SettingsOf};
-ghost use Rattle.office_desk.specs.Asking.{given};
+ghost use Rattle.office_plans.specs.Asking.{given};
 ghost use Rattle.office_desk.specs.Callers.{caller_of, names_no_tenderer};
 ghost use Rattle.office_desk.specs.Steps.{Does, IsPlan, IsPlanned, IsAnswered, IsSeen, Joins, read_text};
 
-use crate::asking::Asking;
 use crate::callers::{clerk_by, names_clerk, tenderer_named};
-use crate::planned::Planned;
 use crate::published::plan_command;
 use crate::queries::look_at;
 use office_acts::command::{Caller, may, may_look};
@@ -24,23 +22,35 @@ use office_acts::commands::Command;
 use office_acts::queries::Query;
 use office_base::shelf::{Lookups, Shelf};
 use office_machine::{fates, laws};
+use office_plans::planned::Planned;
 use office_publications::laws::keeping;
 use office_values::moment::Moment;
 use office_values::refusal::Refusal;
 use office_values::settings::Settings;
 use std::alloc::Global;
 use std::marker::Model;
+use tender_core::asking::Asking;
 
 /// A desk: it answers commands and queries from what a shelf holds.
-#[derive(Drop)]
 pub struct Desk<H: Shelf + Drop> {
     alloc: Global,
     settings: Settings,
     shelf: H,
 }
 
+// By hand, so that a program that lets a desk go proves no drop of what is in it.
+impl<H: Shelf + Drop> Drop for Desk<H> {
+    fn drop(self) {
+        let Desk {
+            alloc: _,
+            settings: _,
+            shelf: _,
+        } = self;
+    }
+}
+
 impl<H: Shelf + Drop> Model for Desk<H> {
-    ghost use Rattle.office_desk.specs.Plans.{DeskOf};
+    ghost use Rattle.office_desk.specs.Desks.{DeskOf};
 
     ghost Value = { DeskOf H };
 
@@ -63,7 +73,12 @@ impl<H: Shelf + Drop> Desk<H> {
     pub fn into_shelf(self) -> H
         ensures { result ≡ self.shelf }
     {
-        self.shelf
+        let Desk {
+            alloc: _,
+            settings: _,
+            shelf,
+        } = self;
+        shelf
     }
 
     /// Who asks, by the name and the key of a request, each perhaps absent: the public with neither, the clerk with the clerk's key, a

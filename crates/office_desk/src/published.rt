@@ -1,31 +1,35 @@
 //! Commands with what they publish: each is planned by its effect, and its release joins the plan.
-ghost use Rattle.std.specs.Prelude.{◌≡◌, None, true};
+ghost use Rattle.std.specs.Prelude.{◌≡◌, ◌++◌, ◌∷◌, [], None, true, IfOk, IfErr};
 ghost use Rattle.office_acts.specs.Commands.{kind_of};
 ghost use Rattle.office_acts.specs.Rights.{may};
 ghost use Rattle.office_base.specs.Shelves.{Looks};
+ghost use Rattle.office_base.specs.declared.puts.Put.TheVariants as puts;
 ghost use Rattle.office_machine.specs.Machine.{Given};
 ghost use Rattle.office_publications.specs.Events.{event_of};
 ghost use Rattle.office_publisher.specs.Released.{IsReleased};
+ghost use Rattle.office_values.specs.declared.refusal.Refusal.TheVariants.{Unavailable};
 ghost use Rattle.office_values.specs.declared.settings.Settings.{Settings as SettingsOf};
-ghost use Rattle.office_desk.specs.Asking.{given_by};
-ghost use Rattle.office_desk.specs.Effects.{HasEffect, IsEffect};
+ghost use Rattle.office_plans.specs.Asking.{given_by};
+ghost use Rattle.office_plans.specs.Effects.{HasEffect, IsEffect};
 ghost use Rattle.office_desk.specs.Steps.{IsPlanned};
 
 mod awards;
 mod contracts;
 mod notices;
 
-use crate::asking::Asking;
-use crate::commands::{examine, import, modify, present, register, withdraw};
-use crate::planned::Planned;
 use office_acts::commands::Command;
+use office_base::puts::Put;
 use office_base::shelf::Lookups;
 use office_machine::laws as machine;
+use office_plans::commands::{examine, import, modify, present, register, withdraw};
+use office_plans::planned::Planned;
 use office_publications::laws;
+use office_publications::publication::Publication;
 use office_publisher::released::{Released, keep};
 use office_values::refusal::Refusal;
 use office_values::settings::Settings;
 use std::alloc::Global;
+use tender_core::asking::Asking;
 
 // The plan of a command that publishes nothing: its effect.
 fn silent(planned: Result<Planned, Refusal>) -> Result<Planned, Refusal>
@@ -35,6 +39,18 @@ fn silent(planned: Result<Planned, Refusal>) -> Result<Planned, Refusal>
     laws::replies();
     machine::nothing_published();
     planned
+}
+
+// The plan with a release more, and the merge that this joins.
+fn with_publication(planned: Planned, publication: Publication) -> Result<Planned, Refusal>
+    ensures puts { IfOk result (λ p. p.puts ≡ planned.puts ++ (puts.Release publication.release ∷ puts.Compiled publication.merge ∷ [])) }
+    ensures reply { IfOk result (λ p. p.reply ≡ planned.reply) }
+    ensures none { IfErr result (λ why. why ≡ Unavailable) }
+{
+    let (mut puts, reply) = planned.into_parts();
+    puts.push(Put::Release(publication.release))?;
+    puts.push(Put::Compiled(publication.merge))?;
+    Ok(Planned::new(puts, reply))
 }
 
 // The plan of a command that publishes this release: its effect, the release, and the merge that the release joins.
@@ -51,7 +67,7 @@ fn with_release<H: Lookups>(
     laws::replies();
     machine::nothing_published();
     let publication = keep(alloc, shelf, released)?;
-    planned.with_publication(publication)
+    with_publication(planned, publication)
 }
 
 /// Plans a command that the caller may give.

@@ -18,9 +18,9 @@ use Rattle.office_publications.specs.Keeping.{KeptStepsReach, ReleasesStayKept, 
 use Rattle.office_publications.specs.Packages.{packages}
 use Rattle.office_publications.specs.Publishing.{publishing}
 use Rattle.office_publications.specs.Standing.{Stands, office_kept}
-use Rattle.office_desk.specs.Asking.{given}
-use Rattle.office_desk.specs.Plans.{Plan}
-use Rattle.office_desk.specs.Replies.{text_of}
+use Rattle.office_plans.specs.Asking.{given}
+use Rattle.office_plans.specs.Plans.{Plan}
+use Rattle.office_plans.specs.Replies.{text_of}
 use Rattle.office_desk.specs.Steps.{IsPlan, IsPut, IsSeen, Needs}
 use Rattle.office_requests.specs.declared.route.Allow.{Allow}
 use Rattle.office_http.specs.Meaning.{Meant, Gives, Sees}

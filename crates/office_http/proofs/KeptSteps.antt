@@ -11,7 +11,7 @@ use Rattle.office_machine.specs.Requests.{joined_by}
 use Rattle.office_publications.specs.Keeping.{KeptStepsReach}
 use Rattle.office_publications.specs.Publishing.{publishing}
 use Rattle.office_publications.specs.Standing.{office_kept}
-use Rattle.office_desk.specs.Asking.{given}
+use Rattle.office_plans.specs.Asking.{given}
 use Rattle.office_desk.specs.Steps.{IsKept}
 use Rattle.office_wire.specs.Request.{RequestView}
 use Rattle.office_wire.specs.Runs.{Step, AnswersOne, RefusesOne, Serves, office_left}

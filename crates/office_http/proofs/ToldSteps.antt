@@ -32,7 +32,7 @@ use Rattle.office_machine.specs.Replies.{Security, Registry, Minutes, Package, m
 use Rattle.office_machine.specs.Machine.{reply_for}
 use Rattle.office_machine.specs.Sights.{Packages, is_read_envelope, line_told, minuted, minutes_told, package_told, register_told, security_told, shown, tender_told, told}
 use Rattle.office_publications.specs.Publishing.{publishing}
-use Rattle.office_desk.specs.Replies.{reply_text, text_of}
+use Rattle.office_plans.specs.Replies.{reply_text, text_of}
 use Rattle.office_desk.specs.Steps.{accepted_reply}
 use Rattle.office_http.specs.Answering.{told_as, seen_as}
 use Rattle.office_http.specs.declared.reply.Reply as replies

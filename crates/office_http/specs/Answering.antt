@@ -14,9 +14,9 @@ use Rattle.office_machine.specs.Sights.{told}
 use Rattle.office_publications.specs.Packages.{packages}
 use Rattle.office_publications.specs.Publishing.{publishing}
 use Rattle.office_publications.specs.Standing.{Stands, office_kept}
-use Rattle.office_desk.specs.Asking.{given}
-use Rattle.office_desk.specs.Plans.{DeskOf}
-use Rattle.office_desk.specs.Replies.{reply_text}
+use Rattle.office_plans.specs.Asking.{given}
+use Rattle.office_desk.specs.Desks.{DeskOf}
+use Rattle.office_plans.specs.Replies.{reply_text}
 use Rattle.office_wire.specs.Blocks.{Block}
 use Rattle.office_wire.specs.Request.{RequestView, IsRequest, IsRefused}
 use Rattle.office_wire.specs.Runs.{Answers}

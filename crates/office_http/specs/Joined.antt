@@ -7,8 +7,8 @@ use Rattle.office_machine.specs.Machine.{Given, Reaches, refusal_of}
 use Rattle.office_machine.specs.Requests.{joined_by}
 use Rattle.office_publications.specs.Keeping.{KeepsReleases}
 use Rattle.office_publications.specs.Publishing.{publishing}
-use Rattle.office_desk.specs.Asking.{given}
-use Rattle.office_desk.specs.Plans.{DeskOf}
+use Rattle.office_plans.specs.Asking.{given}
+use Rattle.office_desk.specs.Desks.{DeskOf}
 use Rattle.office_desk.specs.Steps.{IsKept}
 use Rattle.office_wire.specs.Request.{RequestView, IsRequest, IsRequestRead, IsRefused}
 use Rattle.office_wire.specs.Runs.{Step, IsOneAtMost, office_left}

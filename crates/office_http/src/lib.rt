@@ -6,11 +6,7 @@ pub mod credentials;
 pub mod laws;
 pub mod office;
 pub mod reply;
-#[cfg(test)]
-mod request_tests;
 pub mod response;
-#[cfg(test)]
-mod response_tests;
 
 pub use office_requests::asked::{Asked, command_of};
 pub use office_requests::route::{Allow, Route};

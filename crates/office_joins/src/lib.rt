@@ -4,5 +4,3 @@
 pub mod adding;
 pub mod reading;
 pub mod select;
-#[cfg(test)]
-mod tests;

@@ -6,5 +6,3 @@ pub mod examples;
 pub mod joined;
 pub mod ledger_sums;
 mod line_sums;
-#[cfg(test)]
-mod tests;

@@ -16,7 +16,7 @@ use Rattle.office_base.specs.Rows.{row_at, row_put, row_drop, IsInOrder}
 use Rattle.office_memory.proofs.KeyLists.{all_found}
 use Rattle.office_base.proofs.Orders.{same_key, equal_from_test}
 use Rattle.office_base.proofs.RowLaws.{all-put}
-use Rattle.office_memory.proofs.RowsDropped.{all-drop}
+use Rattle.keyed_table.proofs.RowDropped.{all-drop}
 
 pub contains_more : (test was : Bool) → was ≡ true → cond test true was ≡ true
 contains_more true was h = refl

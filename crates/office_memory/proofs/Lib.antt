@@ -1,11 +1,8 @@
 pub mod RowsDropped
-pub mod KeyedTrees
-pub mod RowRanges
 pub mod KeyLists
 pub mod IdBounds
 pub mod KeyBounds
 pub mod GroupIndex
-pub mod Undone
 pub mod Undoing
 pub mod SealsDropped
 pub mod Applied

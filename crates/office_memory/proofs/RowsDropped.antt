@@ -1,7 +1,6 @@
 -- Rows that are dropped, and rows that are put after that.
 use Rattle.std.specs.Prelude.{◌≡◌, Bool, true, false, cond, not, List, [], ◌∷◌, ◌++◌, filter}
 use Rattle.std.proofs.Common.{refl, sym, ap, ◌∙◌}
-use Rattle.std.specs.List.{AllByRecursion}
 use Rattle.std.specs.Cmp.{IsTotalOrder}
 use Rattle.std.specs.Ordering.{is_eq, eq_by_cmp, ordering_reverse}
 use Rattle.std.specs.declared.cmp.Ordering.{Ordering}
@@ -10,17 +9,6 @@ use Rattle.office_base.specs.RowLaws.{RowsAreKept}
 use Rattle.office_base.specs.Rows.{by_order, row_put, row_drop, StartsAbove, IsInOrder}
 use Rattle.office_base.proofs.Orders.{alike_right}
 use Rattle.office_memory.specs.Inside.Drops.{rows_drop}
-
-all_step : {X : Type 0} (P : X → Type 0) (x : X) (xs dropped : List X) → P x × AllByRecursion P xs → AllByRecursion P dropped → (c : Ordering) → AllByRecursion P (by_order c (x ∷ xs) xs (x ∷ dropped))
-all_step P x xs dropped h ih Less = h
-all_step P x xs dropped h ih Equal = h.1
-all_step P x xs dropped h ih Greater = (h.0, ih)
-
--- what holds of all rows holds of all when one is dropped
-pub all-drop : {K X : Type 0} (R : K → K → Ordering) (key : X → K) (P : X → Type 0) (xs : List X) (k : K) → AllByRecursion P xs → AllByRecursion P (row_drop R key xs k)
-unfolding row_drop
-all-drop R key P [] k h = tt
-all-drop R key P (x ∷ xs) k h = all_step P x xs (row_drop R key xs k) h (all-drop R key P xs k h.1) (R k (key x))
 
 cons_cond : {X : Type 0} (b : Bool) (x : X) (xs ys : List X) → x ∷ cond b xs ys ≡ cond b (x ∷ xs) (x ∷ ys)
 cons_cond true x xs ys = refl

@@ -1,5 +1,4 @@
 -- Words of private clauses: no public clause speaks of them.
-pub mod Keyed
 pub mod Drops
 pub mod IdBounds
 pub mod GroupIndex

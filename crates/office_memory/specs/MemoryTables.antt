@@ -4,7 +4,7 @@ use Rattle.std.specs.Ordering.{nat_cmp}
 use Rattle.office_values.specs.Ids.{id_cmp}
 use Rattle.office_base.specs.Tables.{Tables, lot_cmp, entry_cmp, release_cmp}
 use Rattle.office_base.specs.Tables.{line_key, batch_key, tenderer_key, notice_key, lot_key, envelope_key, seal_key, security_key, award_key, contract_key, entry_key, release_key, compiled_key}
-use Rattle.office_memory.specs.Replacing.{taken_back, CanTakeBack}
+use Rattle.keyed_table.specs.Replacing.{taken_back, CanTakeBack}
 use Rattle.office_memory.specs.declared.tables.MemoryTables.{MemoryTables}
 use Rattle.office_memory.specs.declared.tables.Undo.{Undo}
 use Rattle.office_memory.specs.declared.tables.Undo.TheVariants as undo

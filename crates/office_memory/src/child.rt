@@ -3,11 +3,11 @@ ghost use Rattle.std.specs.Prelude.{◌≡◌, ◌<◌, ◌^◌, Bool, IfOk, fil
 ghost use Rattle.std.specs.BTreeMap.Range.{IsLeBy};
 ghost use Rattle.std.specs.Map.{values_of};
 ghost use Rattle.std.specs.Map.Iter.{ShowsInOrder, deref_pair};
-ghost use Rattle.office_memory.specs.RowRanges.{is_between};
+ghost use Rattle.keyed_table.specs.RowRanges.{is_between};
 
-use crate::boxed::Boxed;
-use crate::known::Known;
-use crate::table::Table;
+use keyed_table::boxed::Boxed;
+use keyed_table::known::Known;
+use keyed_table::table::Table;
 use office_base::row::{Row, copy_of};
 use std::alloc::{AllocError, Global};
 use std::collections::btree_map::Range;
@@ -29,28 +29,34 @@ where
             → is_between Self.Key.cmp result.0 result.1 (Self.key_of r) ≡ is_of parent.now r };
 }
 
-impl<R: Child + Drop> Table<R>
+/// The rows of a parent, in the order of their keys. Costs the logarithm of the table's rows.
+pub fn rows_of<'a, R: Child + Drop>(
+    table: &'a Table<R>,
+    parent: &R::Parent,
+) -> Range<'a, R::Key, Boxed<R>>
 where
     R::Key: Known,
+    ensures rows { values_of result ≡ filter (R.is_of parent.now) table.now }
+    ensures runs { ShowsInOrder (deref_pair {K = R.Key} {X = R}) }
+    ensures fits { length result < 2 ^ 63 }
 {
-    /// The rows of a parent, in the order of their keys. Costs the logarithm of the rows.
-    pub fn of_parent(&self, parent: &R::Parent) -> Range<'_, R::Key, Boxed<R>>
-        ensures rows { values_of result ≡ filter (R.is_of parent.now) self.now }
-        ensures runs { ShowsInOrder (deref_pair {K = R.Key} {X = R}) }
-        ensures fits { length result < 2 ^ 63 }
-    {
-        let (first, last) = R::key_range(parent);
-        self.range(&first, &last)
-    }
+    let (first, last) = R::key_range(parent);
+    table.range(&first, &last)
+}
 
-    /// The rows of a parent, copied, in the order of their keys. Costs what it copies, and the logarithm of the rows.
-    pub fn copy_of_parent(&self, alloc: Global, parent: &R::Parent) -> Result<Vec<R>, AllocError>
-        ensures { IfOk result (λ rows. rows.items ≡ filter (R.is_of parent.now) self.now) }
-    {
-        let mut copied = Vec::new(alloc);
-        for (_, row) in self.of_parent(parent) {
-            copied.push(copy_of(row.get())?)?;
-        }
-        Ok(copied)
+/// The rows of a parent, copied, in the order of their keys. Costs what it copies, and the logarithm of the table's rows.
+pub fn copy_rows_of<R: Child + Drop>(
+    alloc: Global,
+    table: &Table<R>,
+    parent: &R::Parent,
+) -> Result<Vec<R>, AllocError>
+where
+    R::Key: Known,
+    ensures { IfOk result (λ rows. rows.items ≡ filter (R.is_of parent.now) table.now) }
+{
+    let mut copied = Vec::new(alloc);
+    for (_, row) in rows_of(table, parent) {
+        copied.push(copy_of(row.get())?)?;
     }
+    Ok(copied)
 }

@@ -1,12 +1,12 @@
 //! A table with an index of its rows by their groups.
 ghost use Rattle.std.specs.Prelude.{◌≡◌, IfOk, OnOk, OnErr, [], filter, map};
 ghost use Rattle.office_memory.specs.Inside.GroupIndex.{HasRows};
-ghost use Rattle.office_memory.specs.Replacing.{taken_back, CanTakeBack};
+ghost use Rattle.keyed_table.specs.Replacing.{taken_back, CanTakeBack};
 ghost use Rattle.office_base.specs.Rows.{row_put};
 
 use crate::group_index::GroupIndex;
-use crate::known::Known;
-use crate::table::{Replaced, Table};
+use keyed_table::known::Known;
+use keyed_table::table::{Replaced, Table};
 use office_base::row::{Row, copy_of};
 use std::alloc::{AllocError, Global};
 use std::marker::Model;

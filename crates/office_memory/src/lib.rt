@@ -2,13 +2,10 @@
 #![tactic(auto)]
 
 mod belonging;
-pub mod boxed;
 pub mod child;
 mod group_index;
 mod id_bounds;
 pub mod indexed_table;
-pub mod known;
 pub mod memory;
 mod sums;
-pub mod table;
 pub mod tables;

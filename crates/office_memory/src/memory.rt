@@ -5,6 +5,7 @@ ghost use Rattle.office_base.specs.Tables.{no_tables};
 ghost use Rattle.office_memory.specs.MemoryMeaning.{memory_meaning};
 ghost use Rattle.office_base.specs.declared.shelf.ShelfFault.TheVariants.{NoMemory};
 
+use crate::child::copy_rows_of;
 use crate::tables::MemoryTables;
 use crate::{sums, tables};
 use office_base::counts::Sequence;
@@ -24,11 +25,21 @@ use std::marker::Model;
 
 /// An office in memory: its tables, and how many faults it answered. Want of memory is a fault, and a sum of the ledger that is out of
 /// its range.
-#[derive(Drop)]
 pub struct MemoryShelf {
     alloc: Global,
     tables: MemoryTables,
     faults: u64,
+}
+
+// By hand, so that a program that lets an office go proves no drop of what is in it.
+impl Drop for MemoryShelf {
+    fn drop(self) {
+        let MemoryShelf {
+            alloc: _,
+            tables: _,
+            faults: _,
+        } = self;
+    }
 }
 
 impl Model for MemoryShelf {
@@ -190,7 +201,7 @@ impl Lookups for MemoryShelf {
     }
 
     fn list_lots_of_notice(&mut self, notice: &Id) -> Result<Vec<LotRow>, ShelfFault> {
-        match self.tables.lots.rows().copy_of_parent(self.alloc, notice) {
+        match copy_rows_of(self.alloc, self.tables.lots.rows(), notice) {
             Ok(rows) => Ok(rows),
             Err(_) => Err(self.refused()),
         }
@@ -235,18 +246,14 @@ impl Lookups for MemoryShelf {
         &mut self,
         contract: AskedNumber,
     ) -> Result<Vec<EntryRow>, ShelfFault> {
-        match self
-            .tables
-            .entries
-            .copy_of_parent(self.alloc, &contract.get())
-        {
+        match copy_rows_of(self.alloc, &self.tables.entries, &contract.get()) {
             Ok(rows) => Ok(rows),
             Err(_) => Err(self.refused()),
         }
     }
 
     fn list_releases_of_notice(&mut self, notice: &Id) -> Result<Vec<ReleaseRow>, ShelfFault> {
-        match self.tables.releases.copy_of_parent(self.alloc, notice) {
+        match copy_rows_of(self.alloc, &self.tables.releases, notice) {
             Ok(rows) => Ok(rows),
             Err(_) => Err(self.refused()),
         }

@@ -5,8 +5,9 @@ ghost use Rattle.office_base.specs.Tables.{IsSorted, contracts_of_lot, lot_key};
 ghost use Rattle.office_memory.specs.Inside.Adding.{with_entry, HasRoom, IsLedgerRow, IsLedger};
 ghost use Rattle.office_memory.specs.MemoryTables.{tables_of};
 
-use crate::table::Table;
+use crate::child::rows_of;
 use crate::tables::MemoryTables;
+use keyed_table::table::Table;
 use office_base::ledger::{ContractSums, LedgerRow};
 use office_base::pots::{joined_sums, pots_over};
 use office_base::records::{ContractRow, EntryKind, EntryRow, LineRow, LotRow};
@@ -69,7 +70,7 @@ fn sums_of(entries: &Table<EntryRow>, contract: &ContractRow) -> ContractSums
         lost: contract.released.units() as u128,
         paid: 0,
     };
-    for (_, entry) in entries.of_parent(&contract.contract.get()) {
+    for (_, entry) in rows_of(entries, &contract.contract.get()) {
         sums = with_entry(sums, entry.get());
     }
     sums

@@ -6,7 +6,7 @@ ghost use Rattle.office_memory.specs.Inside.Drops.{without_seals};
 ghost use Rattle.office_memory.specs.MemoryTables.{tables_of, after_undo, after_undos, CanUndo, CanUndoAll};
 
 use crate::indexed_table::IndexedTable;
-use crate::table::{Replaced, Table};
+use keyed_table::table::{Replaced, Table};
 use office_base::laws::rows_are_kept;
 use office_base::puts::Put;
 use office_base::records::{

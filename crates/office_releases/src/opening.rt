@@ -11,13 +11,13 @@ ghost use Rattle.office_values.specs.declared.refusal.Refusal.TheVariants.{Unava
 ghost use Rattle.tender_core.specs.Rules.Open.{is_sealed_envelope};
 
 use crate::released::release_by;
+use keyed_table::table::Table;
 use ocds_release::borrowed::Tenderers;
 use ocds_release::event::{Event, Opened};
 use office_base::counts::Sequence;
 use office_base::records::{EnvelopeRow, EnvelopeState, TendererRow};
 use office_base::rows::Rows;
 use office_base::shelf::{Lookups, ShelfFault};
-use office_memory::table::Table;
 use office_values::id::Id;
 use office_values::moment::Moment;
 use office_values::refusal::Refusal;

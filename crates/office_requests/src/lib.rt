@@ -11,5 +11,3 @@ mod path;
 mod publication;
 pub mod route;
 pub mod routes;
-#[cfg(test)]
-mod tests;

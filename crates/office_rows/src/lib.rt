@@ -6,7 +6,5 @@ pub mod items;
 pub mod laws;
 mod readings;
 pub mod stored;
-#[cfg(test)]
-mod tests;
 pub mod values;
 mod words;

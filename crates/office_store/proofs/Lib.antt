@@ -1,4 +1,3 @@
-mod Steps
 mod Once
 mod Shelves
 mod Founding

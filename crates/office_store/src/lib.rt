@@ -1,9 +1,7 @@
 //! An office in SQL, in memory or in files: the shelf over its tables, and how it is made, opened and closed.
 #![tactic(auto)]
 
-mod apply;
 mod faults;
-pub mod file_shelf;
 pub mod found;
 mod joined_rows;
 pub mod ledger_rows;

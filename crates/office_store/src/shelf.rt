@@ -3,7 +3,6 @@ ghost use Rattle.std.specs.Prelude.{◌≡◌, ⊤};
 ghost use Rattle.office_base.specs.Faults.{one_fault_more, IsFaultOf};
 ghost use Rattle.office_store.specs.SqlMeaning.{sql_meaning};
 
-use crate::apply::apply_all;
 use crate::faults::fault;
 use crate::sums;
 use office_base::counts::Sequence;
@@ -15,6 +14,7 @@ use office_base::records::{
     NoticeRow, ReleaseRow, SealRow, SecurityRow, TendererRow,
 };
 use office_base::shelf::{Lookups, Shelf, ShelfFault};
+use office_changes::apply::apply_all;
 use office_sql::laws::trees_tell_one_office;
 use office_sql::{lists, lookups};
 use office_values::given::AskedNumber;

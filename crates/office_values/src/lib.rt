@@ -9,6 +9,4 @@ pub mod money;
 pub mod number;
 pub mod refusal;
 pub mod settings;
-#[cfg(test)]
-mod tests;
 pub mod text;

@@ -4,8 +4,6 @@
 pub mod answer;
 pub mod blocks;
 pub mod counted;
-#[cfg(test)]
-mod fakes;
 pub mod fault;
 pub mod fields;
 mod framing;
@@ -13,10 +11,6 @@ mod head;
 mod lines;
 mod reading;
 pub mod request;
-#[cfg(test)]
-mod run_tests;
 pub mod runs;
 pub mod sending;
-#[cfg(test)]
-mod tests;
 pub mod watched;

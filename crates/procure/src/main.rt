@@ -1,20 +1,16 @@
 //! `procure`: a public procurement office at the command line.
 #![tactic(auto)]
 
-mod config;
-mod desk;
-mod kept;
-mod store;
-
-use config::{no_memory, settings_at};
 use office_acts::queries::Query;
 use procure_config::fault::{ProgramFault, exit_code};
 use procure_config::job::{Job, job_of};
 use procure_config::notice::notice_named;
+use procure_programs::config::{no_memory, settings_at};
+use procure_programs::desk::run_desk;
+use procure_programs::store::{print_file, serve_file};
 use std::io::ErrorKind;
 use std::process::ExitCode;
 use std::{env, io};
-use store::{print_file, serve_file};
 
 // The words of the command line. Words that are no UTF-8 name no job.
 fn words_of(rt: &HostRuntime) -> Result<Vec<String>, ProgramFault> {
@@ -39,7 +35,7 @@ fn words_of(rt: &HostRuntime) -> Result<Vec<String>, ProgramFault> {
 fn work(rt: &HostRuntime) -> Result<(), ProgramFault> {
     let words = words_of(rt)?;
     match job_of(rt.alloc(), words.as_slice())? {
-        Job::Desk { config } => desk::run_desk(rt, config),
+        Job::Desk { config } => run_desk(rt, config),
         Job::Serve {
             config,
             store,

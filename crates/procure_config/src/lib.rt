@@ -4,8 +4,6 @@
 mod command_line;
 pub mod fault;
 pub mod job;
-#[cfg(test)]
-mod job_tests;
 pub mod notice;
 pub mod settings;
 pub mod worked_words;

@@ -1,7 +1,7 @@
 -- One connection more.
 use Rattle.std.proofs.Common.{◌≡◌, ℕ, ◌+◌, ◌≤◌, List, [], ◌∷◌, ◌++◌, length, refl, sym, subst, arith, length-append}
 use Rattle.office_base.specs.Shelves.{Meaning}
-use Rattle.office_desk.specs.Plans.{DeskOf}
+use Rattle.office_desk.specs.Desks.{DeskOf}
 use Rattle.office_wire.specs.Runs.{Answers, IsOneAtMost, Step, office_left}
 use Rattle.office_http.specs.Answering.{Held, StandsAs, office_answers}
 use Rattle.office_http.specs.Joined.{IsServedOnce, StepsAreKept}

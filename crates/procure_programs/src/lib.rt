@@ -1,8 +1,10 @@
-//! What the programs do with an office that is kept: they serve it over connections, and show what the public may see of it.
+//! What the programs do: they answer the standard input, serve an office that is kept over connections, and show what the public may see of it.
 #![tactic(auto)]
 
 pub mod clock;
+pub mod config;
+pub mod desk;
+mod kept;
 pub mod serving;
 pub mod showing;
-#[cfg(test)]
-mod showing_tests;
+pub mod store;

@@ -11,6 +11,7 @@ ghost use Rattle.tender_core.specs.Rules.Cancel.{is_open_lot, cancelled_notice, 
 use crate::ended::{
     is_open, push_awards, push_drops, push_envelopes, push_lines, push_lots, push_securities,
 };
+use keyed_table::table::Table;
 use office_base::counts::ReleaseCount;
 use office_base::parts::{at_moment, has_all_releases};
 use office_base::puts::Put;
@@ -19,7 +20,6 @@ use office_base::records::{
 };
 use office_base::row::copy_of;
 use office_base::rows::Rows;
-use office_memory::table::Table;
 use office_values::moment::Moment;
 use office_values::refusal::{Refusal, Thing};
 use std::alloc::Global;

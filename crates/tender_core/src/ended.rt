@@ -4,13 +4,13 @@ ghost use Rattle.office_values.specs.declared.refusal.Refusal.TheVariants.{Unava
 ghost use Rattle.office_base.specs.RuleParts.{security_returned};
 ghost use Rattle.tender_core.specs.Rules.Cancel.{is_open_lot, ends, freed, line_put, cancelled_lot, lot_put, is_ended_award, cancelled_award, award_put, is_ended_envelope, returned_envelope, envelope_put, drop_put, is_ended_security};
 
+use keyed_table::table::Table;
 use office_base::puts::Put;
 use office_base::records::{
     AwardRow, AwardState, EnvelopeRow, EnvelopeState, LineRow, LotRow, LotState, SecurityRow,
     SecurityState,
 };
 use office_base::row::copy_of;
-use office_memory::table::Table;
 use office_values::id::Id;
 use office_values::money::{Amount, Total};
 use office_values::refusal::Refusal;

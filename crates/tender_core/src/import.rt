@@ -9,6 +9,7 @@ ghost use Rattle.tender_core.specs.Rules.Import.{is_cut, columns_after, after_ro
 ghost use Rattle.tender_core.specs.Walks.{AreNamed, IsAtMost, AreAtMost};
 
 use crate::budget_file::BudgetFile;
+use keyed_table::table::Table;
 use office_acts::budget::{BudgetKind, BudgetRow};
 use office_base::counts::RowCount;
 use office_base::laws::rows_are_kept;
@@ -16,7 +17,6 @@ use office_base::parts::at_moment;
 use office_base::puts::Put;
 use office_base::records::{BatchRow, ClockRow, LineRow};
 use office_base::standing::{Columns, Standing};
-use office_memory::table::Table;
 use office_values::id::Id;
 use office_values::moment::Moment;
 use office_values::money::{TOTAL_LIMIT, Total};

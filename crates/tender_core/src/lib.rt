@@ -2,6 +2,7 @@
 #![tactic(auto)]
 
 pub mod amend_notice;
+pub mod asking;
 pub mod budget_file;
 pub mod cancel;
 mod ended;

@@ -9,6 +9,7 @@ ghost use Rattle.office_base.specs.Rules.{first_of};
 ghost use Rattle.office_base.specs.RuleParts.{clock_put};
 ghost use Rattle.tender_core.specs.Rules.Publish.{wanted, is_on_no_line, is_short, has_too_many_items, publish_tests, publish_puts, line_put, lot_put, notice_put, publish_conditions};
 
+use keyed_table::table::Table;
 use office_acts::amounts::amount_of;
 use office_acts::lot::NewLot;
 use office_acts::notice::NewNotice;
@@ -16,7 +17,6 @@ use office_base::counts::{AmendmentCount, ReleaseCount};
 use office_base::parts::at_moment;
 use office_base::puts::Put;
 use office_base::records::{ClockRow, LineRow, LotRow, LotState, NoticeRow, NoticeState};
-use office_memory::table::Table;
 use office_values::id::Id;
 use office_values::moment::Moment;
 use office_values::money::Total;

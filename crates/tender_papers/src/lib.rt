@@ -6,10 +6,6 @@ pub mod examples;
 pub mod ledger;
 mod lines;
 pub mod minutes;
-#[cfg(test)]
-mod paper_tests;
 mod records;
 pub mod register;
 pub mod tender;
-#[cfg(test)]
-mod tests;

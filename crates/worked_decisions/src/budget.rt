@@ -6,11 +6,11 @@ ghost use Rattle.tender_core.specs.Walks.{IsAtMost, AreAtMost};
 
 use crate::answers::{Case, answers};
 use crate::rows;
+use keyed_table::table::Table;
 use office_acts::budget::{BudgetKind, BudgetRow, BudgetRows};
 use office_base::laws::rows_are_kept;
 use office_base::puts::Put;
 use office_base::standing::{Columns, Standing};
-use office_memory::table::Table;
 use office_values::id::Id;
 use office_values::money::Total;
 use office_values::refusal::Refusal;

@@ -1,6 +1,7 @@
 //! Notices that are cancelled.
 use crate::answers::{Case, answers};
 use crate::rows;
+use keyed_table::table::Table;
 use office_base::puts::Put;
 use office_base::reading::Reading;
 use office_base::records::{
@@ -8,7 +9,6 @@ use office_base::records::{
     SecurityState,
 };
 use office_base::rows::Rows;
-use office_memory::table::Table;
 use office_values::refusal::Refusal;
 use std::alloc::Global;
 use tender_core::cancel::{CancelRows, decide_cancel};

@@ -1,12 +1,12 @@
 //! Registrations, and notices that are published and amended.
 use crate::answers::{Case, answers};
 use crate::rows;
+use keyed_table::table::Table;
 use office_acts::amounts::Estimate;
 use office_acts::lot::{NewLot, NewLots};
 use office_acts::notice::{Criteria, NewNotice, Standstill, Validity};
 use office_base::puts::Put;
 use office_base::records::{LineRow, NoticeState};
-use office_memory::table::Table;
 use office_values::money::Amount;
 use office_values::refusal::Refusal;
 use std::alloc::Global;

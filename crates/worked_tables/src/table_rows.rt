@@ -1,11 +1,11 @@
 //! A table takes rows of each type.
 use crate::rows;
+use keyed_table::known::Known;
+use keyed_table::table::Table;
 use office_base::reading::Reading;
 use office_base::records::EntryKind;
 use office_base::row::{Row, copy_of};
 use office_base::standing::Standing;
-use office_memory::known::Known;
-use office_memory::table::Table;
 use std::alloc::{AllocError, Global};
 use std::process::Abort;
 

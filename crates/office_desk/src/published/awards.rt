@@ -4,21 +4,21 @@ ghost use Rattle.office_acts.specs.Rights.{may};
 ghost use Rattle.office_acts.specs.declared.command.CommandKind.TheVariants as kinds;
 ghost use Rattle.office_acts.specs.declared.commands.Command.TheVariants.{Award, Fail, Sign};
 ghost use Rattle.office_base.specs.Shelves.{Looks};
-ghost use Rattle.office_desk.specs.Asking.{given_by};
+ghost use Rattle.office_plans.specs.Asking.{given_by};
 ghost use Rattle.office_desk.specs.Steps.{IsPlanned};
 
 use super::with_release;
-use crate::asking::Asking;
-use crate::commands::{award, fail, sign};
-use crate::planned::Planned;
 use office_base::laws::looks_follow;
 use office_base::shelf::Lookups;
+use office_plans::commands::{award, fail, sign};
+use office_plans::planned::Planned;
 use office_publisher::awards;
 use office_values::given::AskedNumber;
 use office_values::id::Id;
 use office_values::refusal::Refusal;
 use office_values::settings::Settings;
 use std::alloc::Global;
+use tender_core::asking::Asking;
 
 /// Plans the award of a lot.
 pub(crate) fn award<H: Lookups>(

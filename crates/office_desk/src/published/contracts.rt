@@ -4,16 +4,15 @@ ghost use Rattle.office_acts.specs.Rights.{may};
 ghost use Rattle.office_acts.specs.declared.command.CommandKind.TheVariants as kinds;
 ghost use Rattle.office_acts.specs.declared.commands.Command.TheVariants.{AmendContract, Pay, End};
 ghost use Rattle.office_base.specs.Shelves.{Looks};
-ghost use Rattle.office_desk.specs.Asking.{given_by};
+ghost use Rattle.office_plans.specs.Asking.{given_by};
 ghost use Rattle.office_desk.specs.Steps.{IsPlanned};
 
 use super::with_release;
-use crate::asking::Asking;
-use crate::commands::{amend_contract, end, pay};
-use crate::planned::Planned;
 use office_acts::amounts::EntryAmount;
 use office_acts::contract::{ChangeKind, How};
 use office_base::shelf::Lookups;
+use office_plans::commands::{amend_contract, end, pay};
+use office_plans::planned::Planned;
 use office_publisher::contracts;
 use office_values::given::AskedNumber;
 use office_values::id::Id;
@@ -21,6 +20,7 @@ use office_values::refusal::Refusal;
 use office_values::settings::Settings;
 use office_values::text::TextLine;
 use std::alloc::Global;
+use tender_core::asking::Asking;
 
 /// Plans the amendment of a contract. The release is made first, since the plan takes the rationale; but a refusal comes first.
 pub(crate) fn amend<H: Lookups>(

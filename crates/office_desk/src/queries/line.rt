@@ -5,16 +5,16 @@ ghost use Rattle.office_acts.specs.declared.command.QueryKind.TheVariants as kin
 ghost use Rattle.office_acts.specs.declared.queries.Query.TheVariants.{Line};
 ghost use Rattle.office_base.specs.Shelves.{Looks};
 ghost use Rattle.office_machine.specs.Replies.{LineSeen};
-ghost use Rattle.office_desk.specs.Replies.{reply_text};
+ghost use Rattle.office_plans.specs.Replies.{reply_text};
 ghost use Rattle.office_desk.specs.Steps.{IsShown, read_text};
 
-use crate::json::{Plain, object_text};
 use office_acts::command::Caller;
 use office_base::laws;
 use office_base::ledger::Pots;
 use office_base::pots::pots_of_line;
 use office_base::records::LineRow;
 use office_base::shelf::Lookups;
+use office_plans::json::{Plain, object_text};
 use office_values::id::Id;
 use office_values::refusal::{Refusal, Thing};
 use std::alloc::{AllocError, Global};

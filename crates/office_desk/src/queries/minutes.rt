@@ -6,7 +6,7 @@ ghost use Rattle.office_acts.specs.declared.queries.Query.TheVariants.{Minutes};
 ghost use Rattle.office_values.specs.declared.refusal.Refusal.TheVariants.{Unavailable};
 ghost use Rattle.office_base.specs.Shelves.{Looks};
 ghost use Rattle.office_machine.specs.Sights.{is_read_envelope, minuted};
-ghost use Rattle.office_desk.specs.Replies.{opened_tender};
+ghost use Rattle.office_plans.specs.Replies.{opened_tender};
 ghost use Rattle.office_desk.specs.Steps.{IsShown, read_text};
 ghost use Rattle.tender_papers.specs.Minutes.{minutes_text};
 

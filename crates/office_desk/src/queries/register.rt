@@ -6,7 +6,7 @@ ghost use Rattle.office_acts.specs.declared.queries.Query.TheVariants.{Register}
 ghost use Rattle.office_base.specs.Shelves.{Looks};
 ghost use Rattle.office_machine.specs.Replies.{Registry};
 ghost use Rattle.office_machine.specs.Sights.{registered};
-ghost use Rattle.office_desk.specs.Replies.{reply_text};
+ghost use Rattle.office_plans.specs.Replies.{reply_text};
 ghost use Rattle.office_desk.specs.Steps.{IsShown, read_text};
 
 use office_acts::command::Caller;

@@ -6,14 +6,14 @@ ghost use Rattle.office_acts.specs.declared.command.QueryKind.TheVariants as kin
 ghost use Rattle.office_acts.specs.declared.queries.Query.TheVariants.{Security};
 ghost use Rattle.office_base.specs.Shelves.{Looks};
 ghost use Rattle.office_machine.specs.Replies.{Security as SecuritySeen};
-ghost use Rattle.office_desk.specs.Replies.{reply_text};
+ghost use Rattle.office_plans.specs.Replies.{reply_text};
 ghost use Rattle.office_desk.specs.Steps.{IsShown, read_text};
 
-use crate::json::{Plain, object_text};
-use crate::reply::security_word;
 use office_acts::command::Caller;
 use office_base::records::SecurityRow;
 use office_base::shelf::Lookups;
+use office_plans::json::{Plain, object_text};
+use office_plans::reply::security_word;
 use office_values::given::AskedNumber;
 use office_values::id::Id;
 use office_values::refusal::{Refusal, Thing};

@@ -5,7 +5,7 @@ use Rattle.sqlite.proofs.StateLemmas.{survives_then}
 use Rattle.sqlite.proofs.Callers.{survives_begin}
 use Rattle.office_sql.specs.Steps.{Refused}
 use Rattle.office_store.specs.Founding.{Founded, LeavesNew}
-use Rattle.office_store.proofs.Steps.{rolled, on_err, on_ok_with, begun_refused}
+use Rattle.office_changes.proofs.Steps.{rolled, on_err, on_ok_with, begun_refused}
 use Rattle.office_store.proofs.Founding.{founds, found_leaves}
 use Rattle.office_store.proofs.found.found.Goals as goal
 

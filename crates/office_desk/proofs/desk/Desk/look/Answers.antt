@@ -1,6 +1,6 @@
 use Rattle.std.proofs.Common.{subst}
 use Rattle.office_base.specs.Shelves.{Looks}
-use Rattle.office_desk.specs.Plans.{DeskOf}
+use Rattle.office_desk.specs.Desks.{DeskOf}
 use Rattle.office_desk.specs.Steps.{IsSeen, read_text}
 use Rattle.office_desk.proofs.desk.Desk.look.Goals as goal
 

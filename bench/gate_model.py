@@ -1,0 +1,204 @@
+#!/usr/bin/env python3
+"""Tells how long the gate takes on so many processors, from the minutes of a run on any number of them.
+
+    bench/gate_model.py TABLE           TABLE is what `bench/gate --save TABLE` left; for 4 and 2 processors
+    bench/gate_model.py TABLE 8         for 8
+
+It plays the schedule of `rt ci` on paper: proofs and tests first, those with most lines behind them in front; the check that a crate's wrong bodies begin with
+and then these fill the lanes that are free; a proof gets the lanes that no other proof waits for, four at most, fixed for its life; and what rt reckons that
+a check takes of memory holds it back where the others' leave too little, a proof the wrong bodies behind it too. Not in it: other work on the machine.
+Printed are the wall minutes for each number, and the longest chain of crates. `bench/gate` prints them too, beside the minutes that the run took.
+"""
+import json, os, shutil, sys
+
+ROOT = os.path.dirname(os.path.dirname(os.path.abspath(__file__)))
+# What a check takes of processor time where so many run side by side, to one that runs alone.
+SLOWER = {1: 1.0, 2: 1.12, 3: 1.19, 4: 1.25}
+# The part of a check that only one of its jobs can do, where the table doesn't tell it.
+ALONE = 0.35
+PROOFS, FILLS = ("proof", "tests"), ("seed", "edits")
+# What rt reckons that a check takes of memory, in bytes: of itself, for each line of the crate, of its specs and proofs, and of the crates below; and for the
+# kit's libraries that it names so many times what these are, with a bound. Each further job takes a part of it more, a wrong body over the first check less.
+ITSELF, LINE, PROOF_LINE, LINE_BELOW, LIBRARY, LIBRARIES = 1e9, 1e6, 2e5, 8e4, 5, 2.5e9
+JOB, OVER = 0.6, 0.7
+# The memory that it shares out, in bytes, where the table doesn't tell it.
+MEMORY = 0.85 * 24e9
+
+
+def crates_of(root):
+    """The crates of crates.txt, each with those that it names and all that stand below it."""
+    with open(os.path.join(root, "crates.txt")) as file:
+        lines = [line.split("#")[0].partition(":") for line in file]
+    named = {name.strip(): rest.split() for name, colon, rest in lines if colon}
+    below = {}
+
+    def walk(crate):
+        if crate not in below:
+            own = [it for it in named[crate] if it in named]
+            below[crate] = set(own).union(*(walk(it) for it in own))
+        return below[crate]
+
+    for crate in named:
+        walk(crate)
+    return below
+
+
+def lines_of(root, crate, ending=".rt"):
+    """How many lines of Rattle a crate has, by which rt puts its tasks in order; or of its files with another ending."""
+    found = 0
+    for at, folders, names in os.walk(os.path.join(root, "crates", crate)):
+        folders[:] = [it for it in folders if it != "out"]
+        for name in names:
+            if name.endswith(ending):
+                with open(os.path.join(at, name), "rb") as file:
+                    found += file.read().count(b"\n")
+    return found
+
+
+def libraries_of(root):
+    """The libraries of the kit that each crate of crates.txt names, itself or by a crate below it."""
+    with open(os.path.join(root, "crates.txt")) as file:
+        lines = [line.split("#")[0].partition(":") for line in file]
+    named = {name.strip(): rest.split() for name, colon, rest in lines if colon}
+    return {crate: {it for of in {crate, *below} for it in named[of] if it not in named} for crate, below in crates_of(root).items()}
+
+
+def needs_of(root):
+    """What rt reckons that a check of each crate takes of memory, in bytes."""
+    below, libraries = crates_of(root), libraries_of(root)
+    kit = os.path.join(os.path.dirname(os.path.dirname(os.path.realpath(shutil.which(os.environ.get("RT", "rt")) or ""))), "rlibs")
+    size = lambda it: os.path.getsize(it) if os.path.exists(it) else 0
+    own, proofs = {it: lines_of(root, it) for it in below}, {it: lines_of(root, it, ".antt") for it in below}
+    return {it: ITSELF + LINE * own[it] + PROOF_LINE * proofs[it] + LINE_BELOW * sum(own[low] for low in below[it])
+            + min(LIBRARY * sum(size(f"{kit}/{of}.rlib/toolchain/checked.a") for of in libraries[it]), LIBRARIES) for it in below}
+
+
+def alone_in(row):
+    """The part of a crate's proof that was one job's alone, where several jobs proved it: from its wall and its processor minutes."""
+    if row["jobs"] < 2 or not row["proof"]:
+        return ALONE
+    wall = row["wall"] - row["builds"]
+    return min(1.0, max(0.1, (wall / row["proof"] - 1 / row["jobs"]) / (1 - 1 / row["jobs"])))
+
+
+class Task:
+    """What it waits for, its processor minutes, its memory, its lines, the minutes behind it that take one lane, and which part of it is one job's alone."""
+
+    def __init__(self, waits, minutes, needs, lines=0, alone=1.0, then=0.0):
+        self.waits, self.minutes, self.needs, self.lines, self.alone, self.then = waits, minutes, needs, lines, alone, then
+
+    def memory(self, jobs):
+        return self.needs * (1 + JOB * (jobs - 1))
+
+
+def tasks_of(root, table, below):
+    """All tasks of a gate, by crate and kind, a crate's after those of the crates below it."""
+    tasks, memory = {}, needs_of(root)
+    for crate in sorted(below, key=lambda it: len(below[it])):
+        row = table["crates"].get(crate)
+        if not row:
+            continue
+        waits, lines, needs = [(it, "proof") for it in below[crate]], lines_of(root, crate), memory[crate]
+        tasks[crate, "proof"] = Task(waits, row["proof"], needs, lines, alone_in(row), row["builds"])
+        own = [(crate, "proof")]
+        if row["tests"]:
+            tasks[crate, "tests"] = Task(waits, row["tests"], needs, lines, ALONE)
+            own.append((crate, "tests"))
+        if row["seed"]:
+            tasks[crate, "seed"] = Task(waits, row["seed"], needs, 0, ALONE)
+            own.append((crate, "seed"))
+        edits = [(crate, "edits", number) for number in range(len(row["edits"]))]
+        for key, minutes in zip(edits, row["edits"]):
+            tasks[key] = Task(own, minutes, OVER * needs if row["seed"] else needs, lines)
+        if row["last"]:
+            tasks[crate, "last"] = Task(edits, row["last"], OVER * needs)
+    for it in tasks.values():
+        it.waits = [wait for wait in it.waits if wait in tasks]
+    return tasks
+
+
+def in_order(tasks):
+    """The tasks in the order in which rt takes those that are ready."""
+    behind = dict.fromkeys(tasks, 0)
+    for key in reversed([*tasks]):
+        behind[key] += tasks[key].lines
+        for it in tasks[key].waits:
+            behind[it] = max(behind[it], behind[key])
+    return sorted(tasks, key=lambda it: (it[1] in FILLS, -behind[it]))
+
+
+def jobs_for(key, ready, idle, room, needs):
+    """How many jobs a task gets that begins while so many lanes are idle and so much memory is free."""
+    proofs = [it for it in ready if it[1] in PROOFS]
+    if key not in proofs and key[1] != "seed":
+        return 1
+    others = len(proofs) - proofs.index(key) if key in proofs else len(ready) - ready.index(key)
+    return max(1, min(4, idle // others, 1 + int((room / needs - 1) / JOB)))
+
+
+def begin(tasks, left, running, ended, lanes, memory):
+    """The tasks that begin now, each with its jobs: those that are ready, in order, where a lane and memory are free."""
+    ready, begun, lacks = [key for key in left if ended.issuperset(tasks[key].waits)], {}, False
+    for key in ready:
+        if lacks and key[1] in FILLS:
+            break
+        held = {**running, **begun}
+        idle = lanes - sum(held.values())
+        room = memory - sum(tasks[it].memory(jobs) for it, jobs in held.items())
+        if idle > 0 and (not held or tasks[key].needs <= room):
+            begun[key] = jobs_for(key, ready, idle, room, tasks[key].needs)
+        else:
+            lacks = lacks or idle > 0 and key[1] in PROOFS
+    return begun
+
+
+def wall_of(tasks, lanes, slower, memory):
+    """The minutes until all tasks have ended."""
+    left, running, ends, ended, now = in_order(tasks), {}, {}, set(), 0.0
+    while left or running:
+        for key, jobs in begin(tasks, left, running, ended, lanes, memory).items():
+            it = tasks[key]
+            left.remove(key)
+            running[key] = jobs
+            ends[key] = now + slower * (it.minutes * (it.alone + (1 - it.alone) / jobs) + it.then)
+        key = min(running, key=ends.get)
+        now = ends[key]
+        del running[key]
+        ended.add(key)
+    return now
+
+
+def minutes_on(root, table, lanes):
+    """The wall minutes of a gate on so many processors. Programs and tests run one after another, once nothing is left to prove."""
+    slower = SLOWER.get(lanes, SLOWER[4]) / SLOWER.get(table["lanes"], SLOWER[4])
+    runs = sum(row["runs"] for row in table["crates"].values())
+    return wall_of(tasks_of(root, table, crates_of(root)), lanes, slower, table.get("memory", MEMORY)) + runs
+
+
+def longest_chain(root, table):
+    """The chain of crates, each on the one before it, whose proofs took the most wall minutes, and these minutes."""
+    below, found = crates_of(root), {}
+    for crate in sorted(below, key=lambda it: len(below[it])):
+        minutes, chain = max((found[it] for it in below[crate]), default=(0.0, []))
+        own = table["crates"].get(crate, {"wall": 0.0})["wall"]
+        found[crate] = minutes + own, [*chain, crate] if own else chain
+    return max(found.values())
+
+
+def tell(root, table, numbers):
+    minutes, chain = longest_chain(root, table)
+    print(f"the longest chain of crates, in wall minutes of their proofs: {minutes:.1f}: {' > '.join(chain)}")
+    for lanes in numbers:
+        print(f"by the model, on {lanes} processors that nothing else uses: {minutes_on(root, table, lanes):.0f} minutes")
+
+
+def main():
+    if len(sys.argv) < 2 or sys.argv[1].startswith("-"):
+        sys.exit(__doc__)
+    with open(sys.argv[1]) as file:
+        table = json.load(file)
+    tell(ROOT, table, [int(it) for it in sys.argv[2:]] or [4, 2])
+
+
+if __name__ == "__main__":
+    main()

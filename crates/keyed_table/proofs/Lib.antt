@@ -1,0 +1,4 @@
+pub mod RowDropped
+pub mod KeyedTrees
+pub mod RowRanges
+pub mod Undone

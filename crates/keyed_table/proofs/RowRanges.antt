@@ -1,0 +1,64 @@
+-- Rows between two keys, and the order of the rows of a tree.
+use Rattle.std.specs.Prelude.{◌≡◌, Bool, true, false, cond, not, ◌&&◌, List, [], ◌∷◌, filter}
+use Rattle.std.proofs.Common.{refl, sym, ap, ◌∙◌}
+use Rattle.std.specs.Cmp.{IsTotalOrder}
+use Rattle.std.specs.List.{list_all, AllByRecursion}
+use Rattle.std.specs.List.Sorted.{IsStrictlySortedBy}
+use Rattle.std.specs.Map.{keys_of, values_of}
+use Rattle.std.specs.Ordering.{is_eq, is_le, is_lt}
+use Rattle.std.specs.declared.cmp.Ordering.{Ordering}
+use Rattle.std.specs.declared.cmp.Ordering.TheVariants.{Less, Equal}
+use Rattle.std.proofs.lemmas.Bool.{and_parts}
+use Rattle.std.proofs.lemmas.Map.Keys.{sorted_head, sorted_tail}
+use Rattle.office_base.specs.Rows.{StartsAbove, IsInOrder}
+use Rattle.keyed_table.specs.Inside.Keyed.{stands_at_its_key}
+use Rattle.keyed_table.specs.RowRanges.{is_between, rows_between}
+use Rattle.office_base.proofs.Orders.{alike_right, equal_from_test}
+
+values_cond : {K X : Type 0} (c : Bool) (e : K × X) (es : List (K × X)) → values_of (cond c (e ∷ es) es) ≡ cond c (e.1 ∷ values_of es) (values_of es)
+values_cond true e es = refl
+values_cond false e es = refl
+
+module _ {K X : Type 0} {R : K → K → Ordering} (o : IsTotalOrder R) (key : X → K) where
+  -- keys that compare as equal are between the same keys
+  pub is_between-alike : (a b k q : K) → R k q ≡ Equal → is_between R a b k ≡ is_between R a b q
+  is_between-alike a b k q e =
+      ap (λ c. is_le c && not (is_lt (R b k))) (alike_right o a k q e)
+      ∙ ap (λ c. is_le (R a q) && not (is_lt c)) (alike_right o b k q e)
+
+  -- what a tree has between two keys
+  pub values-between : (a b : K) (es : List (K × X)) → list_all (stands_at_its_key R key) es ≡ true
+      → values_of (filter (λ e. is_between R a b e.0) es) ≡ rows_between R key a b (values_of es)
+  values-between a b [] own = refl
+  values-between a b (e ∷ es) own =
+      let parts : (is_eq (R e.0 (key e.1)) ≡ true) × (list_all (stands_at_its_key R key) es ≡ true) = and_parts _ _ own in
+      let among = filter (λ (f : K × X). is_between R a b f.0) es in
+      values_cond (is_between R a b e.0) e among
+      ∙ ap (λ c. cond c (e.1 ∷ values_of among) (values_of among)) (is_between-alike a b e.0 (key e.1) (equal_from_test _ parts.0))
+      ∙ ap (λ rows. cond (is_between R a b (key e.1)) (e.1 ∷ rows) rows) (values-between a b es parts.1)
+
+  starts_above : (e : K × X) (es : List (K × X)) → AllByRecursion (λ k. R e.0 k ≡ Less) (keys_of es) → list_all (stands_at_its_key R key) (e ∷ es) ≡ true
+      → StartsAbove R key (key e.1) (values_of es)
+  starts_above e [] below own = tt
+  starts_above e (f ∷ fs) below own =
+      let parts : (is_eq (R e.0 (key e.1)) ≡ true) × (list_all (stands_at_its_key R key) (f ∷ fs) ≡ true) = and_parts _ _ own in
+      let next : (is_eq (R f.0 (key f.1)) ≡ true) × (list_all (stands_at_its_key R key) fs ≡ true) = and_parts _ _ parts.1 in
+      sym (o.congr e.0 (key e.1) (key f.1) (equal_from_test _ parts.0))
+      ∙ sym (alike_right o e.0 f.0 (key f.1) (equal_from_test _ next.0))
+      ∙ below.0
+
+  -- the rows of a tree are in order
+  pub in_order-values : (es : List (K × X)) → IsStrictlySortedBy R (keys_of es) → list_all (stands_at_its_key R key) es ≡ true → IsInOrder R key (values_of es)
+  in_order-values [] rising own = tt
+  in_order-values (e ∷ es) rising own = (
+    starts_above e es (sorted_head R e.0 (keys_of es) rising) own,
+    in_order-values es (sorted_tail R e.0 (keys_of es) rising) (and_parts _ _ own).1,
+  )
+
+-- where a test tells what lies between two keys of all that is known, the rows between them are those that pass it
+pub between_is : {K X : Type 0} (R : K → K → Ordering) (key : X → K) (IsKnown : K → Type 0) (a b : K) (test : X → Bool) (rows : List X)
+    → AllByRecursion (λ r. IsKnown (key r)) rows → ((r : X) → IsKnown (key r) → is_between R a b (key r) ≡ test r) → rows_between R key a b rows ≡ filter test rows
+between_is R key IsKnown a b test [] known tells = refl
+between_is R key IsKnown a b test (r ∷ rows) known tells =
+    ap (λ c. cond c (r ∷ rows_between R key a b rows) (rows_between R key a b rows)) (tells r known.0)
+    ∙ ap (λ kept. cond (test r) (r ∷ kept) kept) (between_is R key IsKnown a b test rows known.1 tells)

@@ -1,0 +1,78 @@
+//! Changes of an office: all of them in one transaction.
+ghost use Rattle.std.specs.Prelude.{◌≡◌, false, [], ◌∷◌, IsTrue, OnOk, OnErr};
+ghost use Rattle.sqlite.specs.Held.{state};
+ghost use Rattle.sqlite.specs.State.{HasCleanDisk, Survives};
+ghost use Rattle.office_sql.specs.Steps.{Puts, Applied, Refused, LeavesPuts};
+
+use office_base::puts::Put;
+use office_sql::puts;
+use sqlite::{Alter, Connection, Error, Transaction};
+use std::alloc::Global;
+
+// Ready for changes: the store is open, whatever stands there.
+fn begin<S: Alter>(tx: &mut Transaction<'_, S>) -> Result<(), Error>
+    ensures same_reference { tx.new.conn.ghost_name ≡ tx.old.conn.ghost_name }
+    ensures puts { HasCleanDisk (state S.Store tx.new.conn.now) → IsTrue (state S.Store tx.old.conn.now).in_transaction → OnOk result (Puts (state S.Store tx.old.conn.now) (state S.Store tx.new.conn.now) []) }
+    ensures refused { HasCleanDisk (state S.Store tx.new.conn.now) → OnErr result (Refused (state S.Store tx.old.conn.now) (state S.Store tx.new.conn.now)) }
+    ensures survives { Survives (state S.Store tx.old.conn.now) (state S.Store tx.new.conn.now) (λ _. ⊥) }
+{
+    let _ready = tx.prepare("SELECT version FROM office")?;
+    Ok(())
+}
+
+fn put_one<S: Alter>(alloc: Global, tx: &mut Transaction<'_, S>, put: &Put) -> Result<(), Error>
+    ensures same_reference { tx.new.conn.ghost_name ≡ tx.old.conn.ghost_name }
+    ensures puts { HasCleanDisk (state S.Store tx.new.conn.now) → IsTrue (state S.Store tx.old.conn.now).in_transaction → OnOk result (Puts (state S.Store tx.old.conn.now) (state S.Store tx.new.conn.now) (put.now ∷ [])) }
+    ensures refused { HasCleanDisk (state S.Store tx.new.conn.now) → IsTrue (state S.Store tx.old.conn.now).in_transaction → OnErr result (Refused (state S.Store tx.old.conn.now) (state S.Store tx.new.conn.now)) }
+    ensures survives { Survives (state S.Store tx.old.conn.now) (state S.Store tx.new.conn.now) (λ _. ⊥) }
+{
+    match put {
+        Put::Line(row) => puts::put_line(tx, row),
+        Put::Batch(row) => puts::put_batch(tx, row),
+        Put::Tenderer(row) => puts::put_tenderer(tx, row),
+        Put::Notice(row) => puts::put_notice(tx, row),
+        Put::Lot(row) => puts::put_lot(alloc, tx, row),
+        Put::Envelope(row) => puts::put_envelope(tx, row),
+        Put::Seal(row) => puts::put_seal(tx, row),
+        Put::DropSeal(receipt) => puts::drop_seal(tx, *receipt),
+        Put::Security(row) => puts::put_security(tx, row),
+        Put::Award(row) => puts::put_award(tx, row),
+        Put::Contract(row) => puts::put_contract(tx, row),
+        Put::Entry(row) => puts::put_entry(tx, row),
+        Put::Release(row) => puts::put_release(tx, row),
+        Put::Compiled(row) => puts::put_compiled(tx, row),
+        Put::Clock(row) => puts::put_clock(tx, row),
+    }
+}
+
+fn put_all<S: Alter>(alloc: Global, tx: &mut Transaction<'_, S>, puts: &[Put]) -> Result<(), Error>
+    requires inside { IsTrue (state S.Store tx.old.conn.now).in_transaction }
+    ensures same_reference { tx.new.conn.ghost_name ≡ tx.old.conn.ghost_name }
+    ensures puts { HasCleanDisk (state S.Store tx.new.conn.now) → OnOk result (Puts (state S.Store tx.old.conn.now) (state S.Store tx.new.conn.now) puts.now) }
+    ensures refused { HasCleanDisk (state S.Store tx.new.conn.now) → OnErr result (Refused (state S.Store tx.old.conn.now) (state S.Store tx.new.conn.now)) }
+    ensures survives { Survives (state S.Store tx.old.conn.now) (state S.Store tx.new.conn.now) (λ _. ⊥) }
+{
+    begin(tx)?;
+    'puts: for put in puts {
+        put_one(alloc, tx, put)?;
+    }
+    Ok(())
+}
+
+/// All changes in turn in one transaction, or none. No changes are a transaction too.
+pub fn apply_all<S: Alter>(
+    alloc: Global,
+    conn: &mut Connection<S>,
+    puts: &[Put],
+) -> Result<(), Error>
+    ensures applied { HasCleanDisk (state S.Store conn.new) → OnOk result (Applied (state S.Store conn.old) (state S.Store conn.new) puts.now) }
+    ensures refused { HasCleanDisk (state S.Store conn.new) → OnErr result (Refused (state S.Store conn.old) (state S.Store conn.new)) }
+    ensures survives { Survives (state S.Store conn.old) (state S.Store conn.new) (LeavesPuts (state S.Store conn.old) puts.now) }
+{
+    if !conn.is_autocommit() {
+        return Err(Error::InvalidQuery);
+    }
+    let mut tx = conn.transaction();
+    put_all(alloc, &mut tx, puts)?;
+    tx.commit()
+}

@@ -1,8 +1,0 @@
-use Rattle.std.proofs.Common.{◌≡◌, map, drop}
-use Rattle.office_base.specs.Shelves.{Looks}
-use Rattle.office_desk.specs.Named.{line_of_new, with_lines, lines_named}
-use Rattle.office_desk.proofs.commands.publish.load_lines.Given as goal
-
-abbrev pub invariant-loop-lot : goal.invariant-loop-lot
-invariant-loop-lot g l =
-    Looks g.H.Lookups.meaning l.fn.shelf l.shelf (λ s. with_lines s l.lines (map line_of_new (drop l.lot-index l.lots)) ≡ lines_named s (map line_of_new l.lots))

@@ -1,0 +1,178 @@
+//! An office in a file of the host.
+ghost use Rattle.std.specs.Prelude.{◌≡◌, IfOk};
+ghost use Rattle.sqlite.specs.Files.{file_state, over_files};
+ghost use Rattle.sqlite.specs.State.{HasCleanDisk};
+ghost use Rattle.office_store.specs.Reopening.{EntersOpened};
+ghost use Rattle.office_store.specs.SqlMeaning.{sql_meaning, inside};
+
+use office_base::counts::Sequence;
+use office_base::ledger::{ContractSums, LedgerRow};
+use office_base::puts::Put;
+use office_base::records::{
+    AwardRow, BatchRow, ClockRow, CompiledRow, ContractRow, EntryRow, EnvelopeRow, LineRow, LotRow,
+    NoticeRow, ReleaseRow, SealRow, SecurityRow, TendererRow,
+};
+use office_base::shelf::{Lookups, Shelf, ShelfFault};
+use office_store::found::OpenFault;
+use office_store::shelf::SqlShelf;
+use office_values::given::AskedNumber;
+use office_values::id::Id;
+use office_values::money::Amount;
+use sqlite::{File, FileStore};
+use std::rt::HostRuntime;
+
+/// An office in a file of the host: the shelf over its tables. It is a type of its own, without parameters, so that what stands over any
+/// shelf can be proved to stand over this one.
+pub struct FileShelf {
+    shelf: SqlShelf<FileStore<File>>,
+}
+
+impl Drop for FileShelf {
+    fn drop(self) {
+        let FileShelf { shelf: _ } = self;
+    }
+}
+
+impl FileShelf {
+    /// The office in this file, or a new one where no name of the office's is taken there. No clause can tie it to the path.
+    pub fn open(rt: &HostRuntime, path: &str) -> Result<FileShelf, OpenFault>
+        ensures enters { IfOk result (λ shelf. HasCleanDisk (file_state shelf.shelf.0) → EntersOpened shelf.shelf.0) }
+        ensures count { IfOk result (λ shelf. shelf.shelf.1 ≡ 0) }
+    {
+        match SqlShelf::open(rt, path) {
+            Ok(shelf) => Ok(FileShelf { shelf }),
+            Err(fault) => Err(fault),
+        }
+    }
+}
+
+impl Lookups for FileShelf {
+    ghost meaning = { inside (λ s. s.shelf) (sql_meaning over_files) };
+
+    ghost held_sorted = { λ shelf t held. held.0 };
+
+    fn get_line(&mut self, line: &Id) -> Result<Option<LineRow>, ShelfFault> {
+        self.shelf.get_line(line)
+    }
+
+    fn get_batch(&mut self, batch: &Id) -> Result<Option<BatchRow>, ShelfFault> {
+        self.shelf.get_batch(batch)
+    }
+
+    fn get_tenderer(&mut self, tenderer: &Id) -> Result<Option<TendererRow>, ShelfFault> {
+        self.shelf.get_tenderer(tenderer)
+    }
+
+    fn get_notice(&mut self, notice: &Id) -> Result<Option<NoticeRow>, ShelfFault> {
+        self.shelf.get_notice(notice)
+    }
+
+    fn get_lot(&mut self, notice: &Id, lot: &Id) -> Result<Option<LotRow>, ShelfFault> {
+        self.shelf.get_lot(notice, lot)
+    }
+
+    fn get_envelope(&mut self, receipt: AskedNumber) -> Result<Option<EnvelopeRow>, ShelfFault> {
+        self.shelf.get_envelope(receipt)
+    }
+
+    fn get_seal(&mut self, receipt: AskedNumber) -> Result<Option<SealRow>, ShelfFault> {
+        self.shelf.get_seal(receipt)
+    }
+
+    fn get_security(&mut self, security: AskedNumber) -> Result<Option<SecurityRow>, ShelfFault> {
+        self.shelf.get_security(security)
+    }
+
+    fn get_award(&mut self, award: AskedNumber) -> Result<Option<AwardRow>, ShelfFault> {
+        self.shelf.get_award(award)
+    }
+
+    fn get_contract(&mut self, contract: AskedNumber) -> Result<Option<ContractRow>, ShelfFault> {
+        self.shelf.get_contract(contract)
+    }
+
+    fn get_entry(
+        &mut self,
+        contract: AskedNumber,
+        entry: &Id,
+    ) -> Result<Option<EntryRow>, ShelfFault> {
+        self.shelf.get_entry(contract, entry)
+    }
+
+    fn get_release(
+        &mut self,
+        notice: &Id,
+        seq: Sequence,
+    ) -> Result<Option<ReleaseRow>, ShelfFault> {
+        self.shelf.get_release(notice, seq)
+    }
+
+    fn get_compiled(&mut self, notice: &Id) -> Result<Option<CompiledRow>, ShelfFault> {
+        self.shelf.get_compiled(notice)
+    }
+
+    fn get_clock(&mut self) -> Result<ClockRow, ShelfFault> {
+        self.shelf.get_clock()
+    }
+
+    fn list_lines(&mut self) -> Result<Vec<LineRow>, ShelfFault> {
+        self.shelf.list_lines()
+    }
+
+    fn list_lots_of_notice(&mut self, notice: &Id) -> Result<Vec<LotRow>, ShelfFault> {
+        self.shelf.list_lots_of_notice(notice)
+    }
+
+    fn list_lots_of_line(&mut self, line: &Id) -> Result<Vec<LotRow>, ShelfFault> {
+        self.shelf.list_lots_of_line(line)
+    }
+
+    fn list_envelopes_of_notice(&mut self, notice: &Id) -> Result<Vec<EnvelopeRow>, ShelfFault> {
+        self.shelf.list_envelopes_of_notice(notice)
+    }
+
+    fn list_securities_of_notice(&mut self, notice: &Id) -> Result<Vec<SecurityRow>, ShelfFault> {
+        self.shelf.list_securities_of_notice(notice)
+    }
+
+    fn list_awards_of_notice(&mut self, notice: &Id) -> Result<Vec<AwardRow>, ShelfFault> {
+        self.shelf.list_awards_of_notice(notice)
+    }
+
+    fn list_contracts_of_notice(&mut self, notice: &Id) -> Result<Vec<ContractRow>, ShelfFault> {
+        self.shelf.list_contracts_of_notice(notice)
+    }
+
+    fn list_entries_of_contract(
+        &mut self,
+        contract: AskedNumber,
+    ) -> Result<Vec<EntryRow>, ShelfFault> {
+        self.shelf.list_entries_of_contract(contract)
+    }
+
+    fn list_releases_of_notice(&mut self, notice: &Id) -> Result<Vec<ReleaseRow>, ShelfFault> {
+        self.shelf.list_releases_of_notice(notice)
+    }
+
+    fn list_reservations_of_line(&mut self, line: &Id) -> Result<Vec<Amount>, ShelfFault> {
+        self.shelf.list_reservations_of_line(line)
+    }
+
+    fn list_contract_sums_of_line(&mut self, line: &Id) -> Result<Vec<ContractSums>, ShelfFault> {
+        self.shelf.list_contract_sums_of_line(line)
+    }
+
+    fn ledger(&mut self) -> Result<Vec<LedgerRow>, ShelfFault> {
+        self.shelf.ledger()
+    }
+
+    fn faults(&mut self) -> u64 {
+        self.shelf.faults()
+    }
+}
+
+impl Shelf for FileShelf {
+    fn apply(&mut self, puts: Vec<Put>) -> Result<(), ShelfFault> {
+        self.shelf.apply(puts)
+    }
+}

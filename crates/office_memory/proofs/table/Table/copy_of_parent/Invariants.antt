@@ -1,7 +1,0 @@
-use Rattle.std.proofs.Common.{◌≡◌, ◌++◌, filter}
-use Rattle.std.specs.Map.{values_of}
-use Rattle.office_memory.proofs.table.Table.copy_of_parent.Given as goal
-
--- what is copied and what the range has left are the rows of the parent
-abbrev pub invariant-loop-row : goal.invariant-loop-row
-invariant-loop-row g l = l.copied.items ++ values_of l.row-iterator ≡ filter (g.R.Child.is_of l.parent) l.self

@@ -1,0 +1,75 @@
+//! An office in two files on disks in memory: opened, changed and put down.
+use crate::disks::Disks;
+use office_base::puts::Put;
+use office_base::shelf::Shelf;
+use office_store::open::OpenRefusal;
+use office_store::shelf::SqlShelf;
+use sqlite::{FileStore, Options};
+use sqlite_disk::{Fuse, Memory};
+use std::alloc::Global;
+
+/// An office in two files, which is open.
+pub struct OfficeOnDisks {
+    shelf: SqlShelf<FileStore<Fuse<Memory>>>,
+}
+
+impl Drop for OfficeOnDisks {
+    fn drop(self) {
+        let OfficeOnDisks { shelf: _shelf } = self;
+    }
+}
+
+/// Why no office is opened.
+#[derive(Drop)]
+pub enum Unopened {
+    /// What stands in the files is none; they come back.
+    NotAnOffice(Disks),
+    /// The files can't be used, or read.
+    Unusable,
+}
+
+impl OfficeOnDisks {
+    /// The office in these files, or a new one.
+    pub fn open(alloc: Global, disks: Disks) -> Result<OfficeOnDisks, Unopened> {
+        let files = disks.into_files();
+        if !files.may_be_used() {
+            return Err(Unopened::Unusable);
+        }
+        match SqlShelf::open_files(alloc, files, Options::new(7)) {
+            Ok(shelf) => Ok(OfficeOnDisks { shelf }),
+            Err(OpenRefusal::NotAnOffice(files)) => Err(Unopened::NotAnOffice(Disks { files })),
+            Err(_) => Err(Unopened::Unusable),
+        }
+    }
+
+    /// Makes the changes of a command. Whether they are made.
+    pub fn apply(&mut self, puts: Vec<Put>) -> bool {
+        self.shelf.apply(puts).is_ok()
+    }
+
+    fn into_shelf(self) -> SqlShelf<FileStore<Fuse<Memory>>> {
+        let OfficeOnDisks { shelf } = self;
+        shelf
+    }
+
+    /// Its files, once it is closed; None where it can't be.
+    pub fn close(self) -> Option<Disks> {
+        match self.into_shelf().close_files() {
+            Ok(files) => Some(Disks { files }),
+            Err(_) => None,
+        }
+    }
+
+    /// Whether it could be closed, and its files, whether or not it could.
+    pub fn put_down(self) -> (bool, Disks) {
+        match self.into_shelf().into_connection().close_files() {
+            Ok(files) => (true, Disks { files }),
+            Err((_, store)) => (
+                false,
+                Disks {
+                    files: store.close(),
+                },
+            ),
+        }
+    }
+}

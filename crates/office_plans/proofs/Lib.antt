@@ -1,0 +1,7 @@
+pub mod DecidedAlike
+pub mod LookedUp
+pub mod NamedLines
+pub mod NamedStandings
+pub mod Objects
+pub mod OnContracts
+pub mod ReadTenders

@@ -1,0 +1,29 @@
+-- Tenders that were read.
+use Rattle.std.specs.Prelude.{◌≡◌, ℕ, List, [], ◌∷◌, ◌++◌, map}
+use Rattle.std.proofs.Common.{refl, sym, ap, ◌∙◌}
+use Rattle.std.proofs.lemmas.List.{append_assoc}
+use Rattle.office_base.specs.Tables.{Tables}
+use Rattle.office_base.specs.declared.records.EnvelopeRow.{EnvelopeRow}
+use Rattle.tender_core.specs.Rules.Open.{with_reading}
+use Rattle.tender_core.specs.declared.opening.OpenedTender.{OpenedTender}
+use Rattle.office_machine.specs.Rule.{sealed_tender, sealed_tenders}
+use Rattle.office_machine.specs.OfficeMeans.{unpublished_means}
+use Rattle.office_plans.specs.Opening.{tender_read, sealed_of_notice, tenders_read}
+
+each_read : (s : Tables) (es : List EnvelopeRow) → map (tender_read s) es ≡ map (with_reading unpublished_means.read) (map (sealed_tender s) es)
+each_read s [] = refl
+each_read s (e ∷ es) = ap (λ (rest : List OpenedTender). tender_read s e ∷ rest) (each_read s es)
+
+-- they are the sealed tenders, each with its reading
+pub tenders_are : (notice : List ℕ) (s : Tables) → tenders_read notice s ≡ map (with_reading unpublished_means.read) (sealed_tenders notice s)
+tenders_are notice s = each_read s (sealed_of_notice notice s)
+
+-- one tender more
+pub next_read : (read : EnvelopeRow → OpenedTender) (old new : List OpenedTender) (tender : OpenedTender) (e : EnvelopeRow) (left rest : List EnvelopeRow) (all : List OpenedTender)
+    → new ≡ old ++ tender ∷ [] → tender ≡ read e → left ≡ e ∷ rest → old ++ map read left ≡ all → new ++ map read rest ≡ all
+next_read read old new tender e left rest all pushed is taken before =
+    ap (λ (ts : List OpenedTender). ts ++ map read rest) pushed
+    ∙ append_assoc old (tender ∷ []) (map read rest)
+    ∙ ap (λ (t : OpenedTender). old ++ t ∷ map read rest) is
+    ∙ ap (λ (es : List EnvelopeRow). old ++ map read es) (sym taken)
+    ∙ before

@@ -1,0 +1,131 @@
+-- The texts of replies: JSON objects, and the texts of the ledger, registers and minutes.
+use Rattle.std.specs.Prelude.{ℕ, ◌++◌, List, [], ◌∷◌, map, Option, Some, None, Result, Ok, Err, codes, decimal, option_map, unwrap_or}
+use Rattle.std.specs.List.{flat_map}
+use Rattle.hex.specs.Hex.{encode_lower}
+use Rattle.serde_json.specs.Data.{boolean}
+use Rattle.office_values.specs.Moments.{moment_text}
+use Rattle.office_values.specs.declared.refusal.Refusal.{Refusal}
+use Rattle.office_base.specs.declared.reading.Reading.TheVariants.{Unreadable}
+use Rattle.office_base.specs.declared.records.EnvelopeState.{EnvelopeState}
+use Rattle.office_base.specs.declared.records.EnvelopeState.TheVariants as envelopes
+use Rattle.office_base.specs.declared.records.SecurityState.{SecurityState}
+use Rattle.office_base.specs.declared.records.SecurityState.TheVariants as securities
+use Rattle.office_base.specs.declared.records.TendererRow.{TendererRow}
+use Rattle.tender_papers.specs.Ledger.{ledger_text}
+use Rattle.tender_papers.specs.Lines.{line}
+use Rattle.tender_papers.specs.Minutes.{minutes_text}
+use Rattle.tender_papers.specs.Register.{state_word}
+use Rattle.tender_papers.specs.declared.minutes.OpenedTender.{OpenedTender}
+use Rattle.office_machine.specs.Replies.{Reply, Winning, Registered, Minuted, Refused, Imported, Enrolled, OfNotice, OpenedAll, Received, Withdrew}
+use Rattle.office_machine.specs.Replies.{Examined, Awarded, Failed, Signed, OfContract, LineSeen, LedgerSeen, Tender, Security, Registry, Minutes, Package}
+use Rattle.office_plans.specs.declared.reply.Reply as replies
+use Rattle.office_plans.specs.declared.reply.Reply.TheVariants as variants
+use Rattle.office_plans.specs.declared.reply.Winner.{Winner}
+use Rattle.office_plans.specs.Json.{Entry, text_entry, number_entry, count_entry, object_text}
+
+-- where a security is
+abbrev pub security_word : SecurityState → List ℕ
+security_word securities.Held = codes "held"
+security_word securities.Returned = codes "returned"
+security_word securities.Forfeited = codes "forfeited"
+
+-- members that several replies have
+abbrev pub moment_entry : ℕ → Entry
+moment_entry moment = text_entry (codes "moment") (moment_text moment)
+
+abbrev pub release_entry : ℕ → Entry
+release_entry release = number_entry (codes "release") release
+
+abbrev pub digest_entry : List ℕ → Entry
+digest_entry digest = text_entry (codes "digest") (encode_lower digest)
+
+abbrev pub state_entry : EnvelopeState → Entry
+state_entry state = text_entry (codes "state") (state_word state)
+
+-- of a winner: the award, the price and the tender; null where nobody wins
+abbrev pub award_number : Winning → ℕ
+award_number w = w.award
+
+abbrev pub award_price : Winning → ℕ
+award_price w = w.price
+
+abbrev pub award_tender : Winning → ℕ
+award_tender w = w.tender
+
+-- the members of a reply in JSON
+abbrev pub reply_entries : Reply → List Entry
+reply_entries (Imported batch rows moment) = text_entry (codes "batch") batch ∷ moment_entry moment ∷ number_entry (codes "rows") rows ∷ []
+reply_entries (Enrolled tenderer moment) = moment_entry moment ∷ text_entry (codes "tenderer") tenderer ∷ []
+reply_entries (OfNotice notice release moment) = moment_entry moment ∷ text_entry (codes "notice") notice ∷ release_entry release ∷ []
+reply_entries (OpenedAll notice count release moment) =
+    moment_entry moment ∷ text_entry (codes "notice") notice ∷ number_entry (codes "opened") count ∷ release_entry release ∷ []
+reply_entries (Received digest receipt security state moment) =
+    digest_entry digest ∷ moment_entry moment ∷ number_entry (codes "receipt") receipt ∷ count_entry (codes "security") security ∷ state_entry state ∷ []
+reply_entries (Withdrew receipt moment) = moment_entry moment ∷ number_entry (codes "receipt") receipt ∷ state_entry envelopes.Withdrawn ∷ []
+reply_entries (Examined receipt responsive moment) = moment_entry moment ∷ (codes "responsive", boolean responsive) ∷ number_entry (codes "tender") receipt ∷ []
+reply_entries (Awarded lot best release moment) =
+    count_entry (codes "award") (option_map award_number best) ∷ text_entry (codes "lot") lot ∷ moment_entry moment
+    ∷ count_entry (codes "price") (option_map award_price best) ∷ release_entry release ∷ count_entry (codes "tender") (option_map award_tender best) ∷ []
+reply_entries (Failed award release moment) = number_entry (codes "award") award ∷ moment_entry moment ∷ release_entry release ∷ []
+reply_entries (Signed contract release moment) = number_entry (codes "contract") contract ∷ moment_entry moment ∷ release_entry release ∷ []
+reply_entries (OfContract contract left release moment) =
+    number_entry (codes "contract") contract ∷ moment_entry moment ∷ number_entry (codes "outstanding") left ∷ release_entry release ∷ []
+reply_entries (LineSeen line title pots) =
+    number_entry (codes "appropriation") pots.appropriation ∷ number_entry (codes "contracted") pots.contracted ∷ number_entry (codes "free") pots.free
+    ∷ text_entry (codes "line") line ∷ number_entry (codes "paid") pots.paid ∷ number_entry (codes "reserved") pots.reserved
+    ∷ text_entry (codes "title") title ∷ []
+reply_entries (Tender digest length notice lot moment receipt security state) =
+    digest_entry digest ∷ number_entry (codes "length") length ∷ text_entry (codes "lot") lot ∷ moment_entry moment ∷ text_entry (codes "notice") notice
+    ∷ number_entry (codes "receipt") receipt ∷ count_entry (codes "security") security ∷ state_entry state ∷ []
+reply_entries (Security amount reference security state tenderer) =
+    number_entry (codes "amount") amount ∷ text_entry (codes "reference") reference ∷ number_entry (codes "security") security
+    ∷ text_entry (codes "state") (security_word state) ∷ text_entry (codes "tenderer") tenderer ∷ []
+reply_entries _ = []
+
+-- the line of a tender in a register, and the register's text: it shows no digest and no tenderer
+abbrev pub registered_line : Registered → List ℕ
+registered_line row = line (decimal row.receipt ∷ row.lot ∷ moment_text row.moment ∷ decimal row.length ∷ state_word row.state ∷ [])
+
+abbrev pub registry_text : List ℕ → List Registered → List ℕ
+registry_text notice rows = line (codes "REGISTER" ∷ notice ∷ []) ++ flat_map registered_line rows
+
+-- who presented a tender; in an office that commands lead to, the tenderer is there
+abbrev pub party_of : List ℕ → Option TendererRow → TendererRow
+party_of tenderer None = record { tenderer = tenderer; name = []; address = []; key = [] }
+party_of tenderer (Some row) = row
+
+-- a tender of the minutes; each that was opened was read
+abbrev pub opened_tender : Minuted → OpenedTender
+opened_tender m = record { lot = m.lot; receipt = m.receipt; tenderer = party_of m.tenderer m.party; reading = unwrap_or m.reading Unreadable }
+
+-- the text of a reply; a refusal has a response of its own
+abbrev pub reply_text : Reply → List ℕ
+reply_text (Refused why) = []
+reply_text (LedgerSeen rows) = ledger_text rows
+reply_text (Registry notice rows) = registry_text notice rows
+reply_text (Minutes notice lots rows) = minutes_text notice (unwrap_or notice.opened 0) lots (map opened_tender rows)
+reply_text (Package text) = text
+reply_text reply = object_text (reply_entries reply)
+
+-- the reply that plain values say
+abbrev pub winning : Winner → Winning
+winning w = record { award = w.award; price = w.price; tender = w.tender }
+
+abbrev pub said : replies.Reply → Reply
+said (variants.Refused why) = Refused why
+said (variants.Imported batch rows moment) = Imported batch rows moment
+said (variants.Enrolled tenderer moment) = Enrolled tenderer moment
+said (variants.OfNotice notice release moment) = OfNotice notice release moment
+said (variants.OpenedAll notice count release moment) = OpenedAll notice count release moment
+said (variants.Received digest receipt security state moment) = Received digest receipt security state moment
+said (variants.Withdrew receipt moment) = Withdrew receipt moment
+said (variants.Examined receipt responsive moment) = Examined receipt responsive moment
+said (variants.Awarded lot best release moment) = Awarded lot (option_map winning best) release moment
+said (variants.Failed award release moment) = Failed award release moment
+said (variants.Signed contract release moment) = Signed contract release moment
+said (variants.OfContract contract left release moment) = OfContract contract left release moment
+
+-- the refusal, or the text
+abbrev pub text_of : Reply → Result (List ℕ) Refusal
+text_of (Refused why) = Err why
+text_of reply = Ok (reply_text reply)

@@ -1,0 +1,87 @@
+//! A payment, planned.
+ghost use Rattle.std.specs.Prelude.{◌≡◌, ℕ, List, true, IfErr, IfOk, None};
+ghost use Rattle.office_acts.specs.Rights.{may};
+ghost use Rattle.office_acts.specs.declared.command.CommandKind.TheVariants as kinds;
+ghost use Rattle.office_acts.specs.declared.commands.Command.TheVariants.{Pay};
+ghost use Rattle.office_base.specs.Shelves.{Looks, LooksUp};
+ghost use Rattle.office_base.specs.Tables.{Tables};
+ghost use Rattle.office_machine.specs.Machine.{refusal_of};
+ghost use Rattle.office_values.specs.declared.refusal.Refusal.TheVariants.{Unavailable};
+ghost use Rattle.office_plans.specs.Asking.{given_by};
+ghost use Rattle.office_plans.specs.Replies.{said};
+ghost use Rattle.office_plans.specs.Effects.{HasEffect, effect_reply};
+ghost use Rattle.award_core.specs.Rules.Pay.{pay_rows};
+
+use crate::contract_release::contract_release;
+use crate::decided::planned;
+use crate::outstanding::left_by_payment;
+use crate::parents::notice_of_contract;
+use crate::planned::Planned;
+use crate::reply::Reply;
+use award_core::pay::{PayRows, decide_pay};
+use office_acts::amounts::EntryAmount;
+use office_base::rows::Rows;
+use office_base::shelf::{Lookups, ShelfFault};
+use office_machine::laws;
+use office_values::given::AskedNumber;
+use office_values::id::Id;
+use office_values::refusal::Refusal;
+use std::alloc::Global;
+use tender_core::asking::Asking;
+
+// The rows that it is decided on.
+fn load<H: Lookups>(shelf: &mut H, contract: AskedNumber) -> Result<PayRows, ShelfFault>
+    ensures { LooksUp H.meaning shelf.old shelf.new result (λ s rows. rows ≡ pay_rows s contract) }
+{
+    let clock = shelf.get_clock()?;
+    let row = shelf.get_contract(contract)?;
+    let notice = notice_of_contract(shelf, &row)?;
+    let entries = Rows::from_vec(shelf.list_entries_of_contract(contract)?);
+    Ok(PayRows {
+        contract: row,
+        entries,
+        notice,
+        clock,
+    })
+}
+
+// The reply, should the payment be accepted.
+fn reply_to(
+    asking: &Asking,
+    rows: &PayRows,
+    contract: AskedNumber,
+    amount: EntryAmount,
+) -> Result<Reply, Refusal>
+    ensures said { IfOk result (λ reply. (s : Tables) (entry : List ℕ) → rows.now ≡ pay_rows s contract
+        → refusal_of (given_by asking.now s (Pay contract entry amount)) ≡ None
+        → said reply ≡ effect_reply (given_by asking.now s (Pay contract entry amount))) }
+    ensures none { IfErr result (λ why. why ≡ Unavailable) }
+{
+    laws::outstanding();
+    let left = left_by_payment(rows, amount)?;
+    Ok(Reply::OfContract {
+        contract,
+        left,
+        release: contract_release(&rows.contract, &rows.notice),
+        moment: asking.time(&rows.clock),
+    })
+}
+
+/// Plans a payment under a contract.
+pub fn plan<H: Lookups>(
+    alloc: Global,
+    shelf: &mut H,
+    asking: &Asking,
+    contract: AskedNumber,
+    entry: Id,
+    amount: EntryAmount,
+) -> Result<Planned, Refusal>
+    requires { may asking.now.caller.now kinds.Pay ≡ true }
+    ensures { Looks H.meaning shelf.old shelf.new (λ s. HasEffect (given_by asking.now s (Pay contract entry amount)) result) }
+{
+    let rows = load(shelf, contract)?;
+    let t = asking.time(&rows.clock);
+    let reply = reply_to(asking, &rows, contract, amount)?;
+    let decided = decide_pay(alloc, t, rows, entry, amount);
+    planned(alloc, decided, &reply)
+}

@@ -1,0 +1,17 @@
+//! Commands of an office, planned over any shelf: each loads its rows, is decided on them, and gets its reply.
+#![tactic(auto)]
+
+pub mod commands;
+pub mod contract_release;
+pub mod decided;
+pub mod json;
+mod lines;
+mod looked_up;
+mod of_lot;
+pub mod opened;
+mod outstanding;
+pub mod parents;
+pub mod planned;
+pub mod releases;
+pub mod reply;
+mod standings;

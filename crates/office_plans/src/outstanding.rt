@@ -1,0 +1,91 @@
+//! What is outstanding of a contract after a command on it. `Unavailable` from 2^64 on: in an office that commands reach, what is
+//! outstanding is at most 10^15.
+ghost use Rattle.std.specs.Prelude.{◌≡◌, IfOk, IfErr};
+ghost use Rattle.office_machine.specs.Outstanding.{left_by_change, left_by_end, left_by_payment, left_changed};
+ghost use Rattle.office_machine.specs.Replies.{left_of};
+ghost use Rattle.office_values.specs.declared.refusal.Refusal.TheVariants.{Unavailable};
+
+use award_core::amend_contract::AmendContractRows;
+use award_core::end::EndRows;
+use award_core::entries::{left_with, outstanding};
+use award_core::pay::PayRows;
+use office_acts::amounts::EntryAmount;
+use office_acts::contract::ChangeKind;
+use office_base::records::{ContractRow, EntryRow};
+use office_values::refusal::Refusal;
+
+// The sum in 64 bits.
+fn within(left: u128) -> Result<u64, Refusal>
+    ensures sum { IfOk result (λ sum. sum ≡ left) }
+    ensures none { IfErr result (λ why. why ≡ Unavailable) }
+{
+    u64::try_from(left).ok().ok_or(Refusal::Unavailable)
+}
+
+// What is outstanding where the command puts nothing.
+fn left_of(contract: &Option<ContractRow>, entries: &[EntryRow]) -> u128
+    ensures { result ≡ left_of contract.now entries.now }
+{
+    match contract {
+        Some(contract) => outstanding(entries, contract),
+        None => 0,
+    }
+}
+
+/// After the end of the contract: what was outstanding is released.
+pub fn left_by_end(rows: &EndRows) -> Result<u64, Refusal>
+    ensures left { IfOk result (λ left. left ≡ left_by_end rows.now.contract rows.now.entries rows.now.notice rows.now.line) }
+    ensures none { IfErr result (λ why. why ≡ Unavailable) }
+{
+    let entries = rows.entries.as_slice();
+    match (&rows.contract, &rows.notice, &rows.line) {
+        (Some(contract), Some(_), Some(_)) => {
+            let released = outstanding(entries, contract);
+            within(left_with(entries, contract, contract.released.units(), released))
+        }
+        _ => within(left_of(&rows.contract, entries)),
+    }
+}
+
+/// After a payment of this amount.
+pub fn left_by_payment(rows: &PayRows, amount: EntryAmount) -> Result<u64, Refusal>
+    ensures left { IfOk result (λ left. left ≡ left_by_payment rows.now.contract rows.now.entries rows.now.notice amount) }
+    ensures none { IfErr result (λ why. why ≡ Unavailable) }
+{
+    let entries = rows.entries.as_slice();
+    match (&rows.contract, &rows.notice) {
+        (Some(contract), Some(_)) => within(left_with(entries, contract, 0, amount.get() as u128)),
+        _ => within(left_of(&rows.contract, entries)),
+    }
+}
+
+// After a raise or a cut of this amount, where the notice and the line are there.
+fn left_changed(
+    entries: &[EntryRow],
+    contract: &ContractRow,
+    kind: ChangeKind,
+    amount: EntryAmount,
+) -> u128
+    ensures { result ≡ left_changed kind entries.now contract.now amount }
+{
+    match kind {
+        ChangeKind::Raise => left_with(entries, contract, amount.get(), 0),
+        ChangeKind::Cut => left_with(entries, contract, 0, amount.get() as u128),
+    }
+}
+
+/// After a raise or a cut of this amount.
+pub fn left_by_change(
+    rows: &AmendContractRows,
+    kind: ChangeKind,
+    amount: EntryAmount,
+) -> Result<u64, Refusal>
+    ensures left { IfOk result (λ left. left ≡ left_by_change kind rows.now.contract rows.now.entries rows.now.notice rows.now.line amount) }
+    ensures none { IfErr result (λ why. why ≡ Unavailable) }
+{
+    let entries = rows.entries.as_slice();
+    match (&rows.contract, &rows.notice, &rows.line) {
+        (Some(contract), Some(_), Some(_)) => within(left_changed(entries, contract, kind, amount)),
+        _ => within(left_of(&rows.contract, entries)),
+    }
+}

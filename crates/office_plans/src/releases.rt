@@ -1,0 +1,28 @@
+//! The numbers of releases.
+ghost use Rattle.std.specs.Prelude.{◌≡◌, ◌+◌};
+ghost use Rattle.office_base.specs.Parents.{notice_of_award};
+ghost use Rattle.office_base.specs.Tables.{Tables};
+ghost use Rattle.office_machine.specs.Counted.{releases_in};
+ghost use Rattle.office_machine.specs.Replies.{award_release};
+
+use office_base::records::{AwardRow, NoticeRow};
+
+/// The number of the next release of a notice: 1 where it isn't there.
+pub fn next_release(notice: &Option<NoticeRow>) -> u64
+    ensures { result ≡ releases_in notice.now + 1 }
+{
+    match notice {
+        Some(row) => row.releases.get() + 1,
+        None => 1,
+    }
+}
+
+/// The number of the next release of an award's notice: 0 where the award isn't there.
+pub fn award_release(award: &Option<AwardRow>, notice: &Option<NoticeRow>) -> u64
+    ensures { (s : Tables) → notice.now ≡ notice_of_award award.now s → result ≡ award_release award.now s.notices }
+{
+    match award {
+        Some(_) => next_release(notice),
+        None => 0,
+    }
+}

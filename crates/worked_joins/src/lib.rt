@@ -1,0 +1,9 @@
+//! Tests of records as rows of SQL values, of the ledger's joined rows, and of the selects that show these.
+#![tactic(auto)]
+
+#[cfg(test)]
+mod joined_ledgers;
+#[cfg(test)]
+mod joins;
+#[cfg(test)]
+mod rows;

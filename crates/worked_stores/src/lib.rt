@@ -1,0 +1,11 @@
+//! What an office in files does where a transcript can't say it: its disk stops at each of its writes, and files that are no office.
+#![tactic(auto)]
+
+#[cfg(test)]
+mod changes;
+#[cfg(test)]
+mod no_offices;
+#[cfg(test)]
+mod stops;
+#[cfg(test)]
+mod stores;

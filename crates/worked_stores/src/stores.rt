@@ -1,0 +1,72 @@
+//! Offices on disks in memory, and what stands in their files.
+use crate::changes::copied;
+use office_base::puts::Put;
+use office_on_disks::database::Database;
+use office_on_disks::disks::Disks;
+use office_on_disks::office::{OfficeOnDisks, Unopened};
+use std::alloc::Global;
+use transcripts::session::Wrong;
+
+/// The office in these files, or a new one.
+pub(crate) fn opened(alloc: Global, disks: Disks) -> Result<OfficeOnDisks, Wrong> {
+    match OfficeOnDisks::open(alloc, disks) {
+        Ok(office) => Ok(office),
+        Err(Unopened::NotAnOffice(_)) => Err(Wrong::NotAnOffice),
+        Err(Unopened::Unusable) => Err(Wrong::Unopened),
+    }
+}
+
+// The files of this office behind a command's changes.
+fn changed(alloc: Global, disks: Disks, puts: &[Put]) -> Result<Disks, Wrong> {
+    let mut office = opened(alloc, disks)?;
+    if !office.apply(copied(alloc, puts)?) {
+        return Err(Wrong::Unopened);
+    }
+    office.close().ok_or(Wrong::Unopened)
+}
+
+/// The files of an office behind the changes of these commands. It is closed and opened between them.
+pub(crate) fn all_changed(
+    alloc: Global,
+    mut disks: Disks,
+    changes: &[Vec<Put>],
+) -> Result<Disks, Wrong> {
+    for puts in changes {
+        disks = changed(alloc, disks, puts)?;
+    }
+    Ok(disks)
+}
+
+// Each of an office's tables, in the order of its keys.
+const TABLES: [&str; 14] = [
+    "SELECT * FROM office ORDER BY version",
+    "SELECT * FROM lines ORDER BY line",
+    "SELECT * FROM batches ORDER BY batch",
+    "SELECT * FROM tenderers ORDER BY tenderer",
+    "SELECT * FROM notices ORDER BY notice",
+    "SELECT * FROM lots ORDER BY notice, lot",
+    "SELECT * FROM envelopes ORDER BY receipt",
+    "SELECT * FROM seals ORDER BY receipt",
+    "SELECT * FROM securities ORDER BY security",
+    "SELECT * FROM awards ORDER BY award",
+    "SELECT * FROM contracts ORDER BY contract",
+    "SELECT * FROM entries ORDER BY contract, entry",
+    "SELECT * FROM releases ORDER BY notice, seq",
+    "SELECT * FROM compiled ORDER BY notice",
+];
+
+/// All rows of the office in these files.
+pub(crate) fn tables_in(alloc: Global, disks: Disks) -> Result<Vec<u8>, Wrong> {
+    let mut database = Database::open(
+        alloc,
+        opened(alloc, disks)?.close().ok_or(Wrong::Unopened)?,
+    ).ok_or(Wrong::Unopened)?;
+    let mut bytes = Vec::new(alloc);
+    for table in TABLES {
+        bytes.extend_from_slice(table.as_bytes())?;
+        database
+            .append_all(&mut bytes, table)
+            .ok_or(Wrong::Unopened)?;
+    }
+    Ok(bytes)
+}

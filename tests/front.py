@@ -1,0 +1,92 @@
+"""The front of deploy/nginx.conf over an office, for tests: of the file only what its head names is adapted, and nginx runs in a folder as who runs the test."""
+import collections, contextlib, http.client, os, ssl, subprocess
+
+from common import HOST, ROOT, connect, fail, free_port, place_of
+
+# An address of this machine from which, by the adapted file, no clerk asks.
+OUTSIDE = "127.0.0.2"
+PATIENCE = 20
+MAIN = """
+daemon off;
+worker_processes 2;
+pid {folder}/nginx.pid;
+error_log {folder}/errors.log warn;
+events {{ }}
+http {{
+    include /etc/nginx/mime.types;
+    access_log off;
+    client_body_temp_path {folder}/body;
+    proxy_temp_path {folder}/proxy;
+    fastcgi_temp_path {folder}/fastcgi;
+    uwsgi_temp_path {folder}/uwsgi;
+    scgi_temp_path {folder}/scgi;
+    include {folder}/procure.conf;
+}}
+"""
+Answer = collections.namedtuple("Answer", "status head body")
+
+
+def adapted(text, changes):
+    """The text with each old part replaced by a new one; it must stand there as often as is said."""
+    for old, count, new in changes:
+        if text.count(old) != count:
+            fail(f"deploy/nginx.conf: {old!r} stands there {text.count(old)} times, and not {count}")
+        text = text.replace(old, new)
+    return text
+
+
+class Front:
+    """nginx over the office at a port, with a certificate that it signed itself; ended behind a `with`."""
+
+    def __init__(self, folder, office):
+        self.folder, self.port, self.plain_port = folder, free_port(), free_port()
+        self.key, self.certificate = os.path.join(folder, "key.pem"), os.path.join(folder, "certificate.pem")
+        subprocess.run([place_of("openssl"), "req", "-x509", "-newkey", "ec", "-pkeyopt", "ec_paramgen_curve:prime256v1", "-nodes", "-days", "2", "-subj", "/CN=office",
+                        "-addext", f"subjectAltName=IP:{HOST}", "-keyout", self.key, "-out", self.certificate], check=True, capture_output=True)
+        self.context = ssl.create_default_context(cafile=self.certificate)
+        with open(os.path.join(ROOT, "deploy", "nginx.conf")) as file:
+            text = adapted(file.read(), self.changes(office))
+        for name, content in (("procure.conf", text), ("nginx.conf", MAIN.format(folder=folder) + ("user root;\n" if os.geteuid() == 0 else ""))):
+            with open(os.path.join(folder, name), "w") as file:
+                file.write(content)
+        self.process = subprocess.Popen([place_of("nginx"), "-p", folder, "-e", f"{folder}/errors.log", "-c", f"{folder}/nginx.conf"], stdin=subprocess.DEVNULL)
+
+    def changes(self, office):
+        """What of the file is adapted. (Of IPv6 not every machine has something.)"""
+        return [("listen [::]:80;", 1, ""), ("listen [::]:443 ssl;", 1, ""), ("listen 80;", 1, f"listen {HOST}:{self.plain_port};"),
+                ("listen 443 ssl;", 1, f"listen {HOST}:{self.port} ssl;"), ("server_name office.example;", 2, f"server_name {HOST};"),
+                ("server 127.0.0.1:8080 ", 1, f"server {HOST}:{office} "), ("127.0.0.0/8 1;", 1, f"{HOST} 1;"),
+                ("/usr/share/procure/web;", 1, f"{ROOT}/web;"), ("/etc/procure/tls/certificate.pem;", 1, f"{self.certificate};"),
+                ("/etc/procure/tls/key.pem;", 1, f"{self.key};"), ("/var/cache/nginx/procure ", 1, f"{self.folder}/answers "),
+                ("/var/log/nginx/procure.log ", 2, f"{self.folder}/access.log ")]
+
+    def __enter__(self):
+        connect(self.port, PATIENCE).close()
+        return self
+
+    def __exit__(self, *_):
+        # Told to end, it ends its workers; killed, it would leave them.
+        self.process.terminate()
+        self.process.wait()
+
+    def address(self, rest=""):
+        return f"https://{HOST}:{self.port}/{rest}"
+
+    def connection(self, source=HOST):
+        return http.client.HTTPSConnection(HOST, self.port, context=self.context, source_address=(source, 0), timeout=PATIENCE)
+
+    def ask(self, method, target, body=b"", caller=None, source=HOST):
+        """The answer to a request by TLS. A caller is a name and a key."""
+        with contextlib.closing(self.connection(source)) as connection:
+            return exchange(connection, method, target, body, caller)
+
+    def logged(self, name):
+        with open(os.path.join(self.folder, name), encoding="utf-8", errors="replace") as file:
+            return file.read()
+
+
+def exchange(connection, method, target, body=b"", caller=None):
+    """The answer to a request on a connection, which may stay open."""
+    connection.request(method, target, body, dict(zip(("Office-Caller", "Office-Key"), caller or ())))
+    answer = connection.getresponse()
+    return Answer(answer.status, answer.headers, answer.read())

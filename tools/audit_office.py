@@ -1,0 +1,192 @@
+"""What `tools/audit` reads: a copy of an office's file, and answers of an office."""
+import datetime, glob, hashlib, http.client, json, os, shutil, sqlite3, urllib.parse
+
+# The tables of an office: the columns of the key, and the others.
+TABLES = {
+    "lines": ("line", "title appropriation free"),
+    "batches": ("batch", "moment rows"),
+    "tenderers": ("tenderer", "name address key"),
+    "notices": ("notice", "title published deadline validity standstill weight state opened amendments releases"),
+    "lots": ("notice lot", "title line estimate security items state reserved"),
+    "envelopes": ("receipt", "notice lot tenderer moment length digest security state reading stated corrected corrections responsive quality failed"),
+    "seals": ("receipt", "bytes"),
+    "securities": ("security", "tenderer notice lot reference amount state"),
+    "awards": ("award", "notice lot receipt price moment state"),
+    "contracts": ("contract", "notice lot tenderer signed moment ended how released"),
+    "entries": ("contract entry", "kind amount moment rationale"),
+    "releases": ("notice seq", "moment text"),
+    "compiled": ("notice", "text"),
+    "office": ("version", "moment receipts awards"),
+}
+
+# Each table and index of version 1, with the first digits of the SHA-256 of the SQL that makes it.
+MADE = dict(it.split(":") for it in (
+    "lines:e4f278d6871f batches:f823b56fb3f0 tenderers:e429681bbc78 notices:d1f8ce1fb5a8 lots:72143f3de381 envelopes:29da61b418f7 "
+    "seals:3179c4e7e5c5 securities:e15e5b50bcb1 awards:a21edc8c9f2a contracts:ab7519203bd4 entries:8a6a7428858f releases:0a28d41b2c20 "
+    "compiled:f27d2fca5cdd office:ee0c848e0e81 lots_of_line:37f74644bf24 envelopes_of_notice:6275c73a902e securities_of_notice:b04554dff328 "
+    "awards_of_notice:daec4a3a20b9 contracts_of_notice:e57713968ea5").split())
+
+# What each contract gained and lost; the four pots of each line, summed from joined rows; the tenders that may win.
+SUMS = """
+CREATE TEMP TABLE sums AS
+    SELECT c.contract, c.notice, c.lot, c.signed, c.released, c.ended,
+        coalesce(sum(e.amount) FILTER (WHERE e.kind = 'raise'), 0) AS raised,
+        coalesce(sum(e.amount) FILTER (WHERE e.kind = 'cut'), 0) AS cut,
+        coalesce(sum(e.amount) FILTER (WHERE e.kind = 'payment'), 0) AS paid
+    FROM contracts AS c LEFT JOIN entries AS e ON e.contract = c.contract GROUP BY c.contract;
+CREATE INDEX temp.sums_of_notice ON sums (notice);
+CREATE TEMP TABLE pots AS
+    WITH r AS (SELECT line, sum(reserved) AS reserved FROM lots GROUP BY line),
+        c AS (SELECT line, sum(signed + raised - cut - paid - released) AS contracted, sum(paid) AS paid
+            FROM sums AS s JOIN lots AS l ON l.notice = s.notice AND l.lot = s.lot GROUP BY line)
+    SELECT l.line, appropriation, free, coalesce(reserved, 0) AS reserved, coalesce(contracted, 0) AS contracted, coalesce(paid, 0) AS paid
+    FROM lines AS l LEFT JOIN r ON r.line = l.line LEFT JOIN c ON c.line = l.line;
+CREATE TEMP VIEW offers AS SELECT * FROM envelopes WHERE state = 'opened' AND reading = 'priced' AND responsive = 1;
+"""
+
+# The rules, by what they are put to: the file; the releases of a notice; those that the file keeps; an office's answers on a notice; its ledger.
+RULES = {"file": [], "releases": [], "kept": [], "answers": [], "ledger": []}
+
+
+class Unreadable(Exception):
+    """What can't be read, and why."""
+
+
+def rule(of):
+    """Makes a function a rule. It gives a row, as its table and key, and what is wrong with it, for each finding."""
+    def add(check):
+        RULES[of].append(check)
+        return check
+    return add
+
+
+def text_of(moment):
+    """The text of a second since 1970, as releases have it; None for none."""
+    if not isinstance(moment, int) or not 0 <= moment < 1 << 36:
+        return None if moment is None else str(moment)
+    return (datetime.datetime(1970, 1, 1) + datetime.timedelta(seconds=moment)).strftime("%Y-%m-%dT%H:%M:%SZ")
+
+
+def once(pairs):
+    """An object none of whose members comes twice."""
+    if len(dict(pairs)) != len(pairs):
+        raise ValueError("a member twice")
+    return dict(pairs)
+
+
+def json_object(text):
+    """The JSON object that a text is, or None."""
+    try:
+        value = json.loads(text, object_pairs_hook=once)
+    except (ValueError, RecursionError):
+        return None
+    return value if isinstance(value, dict) else None
+
+
+def stamp(path):
+    """The file, its log and its journal, as far as they are there, with size and time of the last change."""
+    parts = [path + end for end in ("", "-wal", "-journal") if not end or os.path.exists(path + end)]
+    return [(part, os.stat(part).st_size, os.stat(part).st_mtime_ns) for part in parts]
+
+
+def copied(path, folder):
+    """The stamp of the file, which was copied into the folder while nobody wrote to it."""
+    for _ in range(5):
+        for old in glob.glob(os.path.join(glob.escape(folder), "office.db*")):
+            os.remove(old)
+        before = stamp(path)
+        for part, _, _ in before:
+            shutil.copyfile(part, os.path.join(folder, "office.db" + part[len(path):]))
+        if stamp(path) == before:
+            return before
+    raise Unreadable(f"{path}: it was written to while it was copied, five times over")
+
+
+class Office:
+    """A copy of an office's file, which is only read. (SQLite tests no checks of tables in a file that is opened as read-only.)"""
+
+    def __init__(self, path, folder):
+        self.path, self.stamp, self.unread = path, copied(path, folder), 0
+        self.base = sqlite3.connect(os.path.join(folder, "office.db"))
+        self.base.execute("PRAGMA trusted_schema = OFF")
+        self.base.text_factory = lambda text: text.decode("utf-8", "surrogateescape")
+        self.base.create_function("sha256", 1, lambda data: hashlib.sha256(data).digest() if isinstance(data, bytes) else b"", deterministic=True)
+        self.base.create_function("text_of", 1, text_of, deterministic=True)
+        for table, (key, others) in TABLES.items():
+            there = {row[1] for row in self.rows(f"PRAGMA table_info({table})")}
+            if not there >= set((key + " " + others).split()):
+                raise Unreadable(f"{path}: it is no office: the table {table} isn't there, or lacks a column")
+        if self.rows("SELECT version FROM office") != [(1,)]:
+            raise Unreadable(f"{path}: it is no office of version 1")
+        self.base.executescript(SUMS + "PRAGMA query_only = ON")
+
+    def rows(self, sql, *values):
+        return self.base.execute(sql, values).fetchall()
+
+    def find(self, table, sql, *values):
+        """A finding for each row that is asked for: the key of a row of the table, and what is wrong with it."""
+        for *key, what in self.rows(sql, *values):
+            yield f"{table} {'/'.join(map(str, key))}", what
+
+    def notices(self):
+        return [notice for notice, in self.rows("SELECT notice FROM notices ORDER BY notice")]
+
+    def releases(self, notice):
+        """The releases of a notice that the file keeps and that are JSON objects, in sequence."""
+        values = [json_object(text) for text, in self.rows("SELECT text FROM releases WHERE notice = ? ORDER BY seq", notice)]
+        return [value for value in values if value is not None]
+
+    def has_changed(self):
+        """Whether somebody wrote to the file since it was copied."""
+        return stamp(self.path) != self.stamp
+
+
+class Answers:
+    """What an office answers to anybody: the files of a folder, or what a base address is asked for."""
+
+    def __init__(self, folder, base):
+        self.folder, self.base, self.place = folder, base, folder or base
+
+    def notices(self):
+        """The notices of which the folder has releases."""
+        names = [os.path.basename(path) for path in glob.glob(os.path.join(glob.escape(self.folder), "releases-*.json"))]
+        return sorted(name[len("releases-"):-len(".json")] for name in names)
+
+    def perhaps(self, path, name):
+        """The text that is answered, or None where there is none."""
+        if self.base:
+            return self.asked(path)
+        if not os.path.exists(os.path.join(self.folder, name)):
+            return None
+        with open(os.path.join(self.folder, name), encoding="utf-8", newline="") as file:
+            return file.read()
+
+    def text(self, path, name):
+        """The text that is answered, which must be there."""
+        text = self.perhaps(path, name)
+        if text is None:
+            raise Unreadable(f"{os.path.join(self.folder, name) if self.folder else self.base + path}: it isn't there")
+        return text
+
+    def package(self, notice, kind):
+        """A package of a notice, which must be a JSON object."""
+        package = json_object(self.text(f"/notices/{notice}/{kind}", f"{kind}-{notice}.json"))
+        if package is None:
+            raise Unreadable(f"{self.place}: the {kind} of {notice}: no JSON object")
+        return package
+
+    def asked(self, path):
+        """The body of the office's answer, or None where the office refuses it as not there or not yet there."""
+        parts = urllib.parse.urlsplit(self.base)
+        kind = http.client.HTTPSConnection if parts.scheme == "https" else http.client.HTTPConnection
+        try:
+            connection = kind(parts.hostname, parts.port, timeout=30)
+            connection.request("GET", parts.path.rstrip("/") + path)
+            response = connection.getresponse()
+            body = response.read().decode("utf-8")
+            connection.close()
+        except (OSError, http.client.HTTPException, ValueError) as why:
+            raise Unreadable(f"{self.base + path}: {why}")
+        if response.status not in (200, 404, 409):
+            raise Unreadable(f"{self.base + path}: status {response.status}: {body[:100]}")
+        return body if response.status == 200 else None

@@ -1,0 +1,379 @@
+"""The rules of `tools/audit` that hold the rows of an office's file against one another. Each is named for what must hold, and says it in a sentence."""
+import hashlib, re
+
+from audit_office import MADE, TABLES, rule
+
+WORDS = {
+    "notices state": "receiving opened cancelled",
+    "lots state": "undecided awarded contracted unsuccessful cancelled",
+    "envelopes state": "sealed withdrawn returned opened",
+    "envelopes reading": "unreadable nonconforming priced",
+    "securities state": "held returned forfeited",
+    "awards state": "active failed cancelled signed",
+    "contracts how": "regular default",
+    "entries kind": "raise cut payment",
+}
+PARENTS = (
+    "lots notice notices, lots line lines, envelopes notice|lot lots, envelopes tenderer tenderers, envelopes security securities, seals receipt envelopes, "
+    "securities notice|lot lots, securities tenderer tenderers, awards notice|lot lots, awards receipt envelopes, contracts notice|lot lots, "
+    "contracts tenderer tenderers, entries contract contracts, releases notice notices, compiled notice notices")
+MOMENTS = ("batches moment, notices published, notices opened, envelopes moment, awards moment, contracts moment, contracts ended, entries moment, "
+           "releases moment")
+
+
+def key_of(table, before=""):
+    """The columns of a table's key, for a select."""
+    return ", ".join(before + column for column in TABLES[table][0].split())
+
+
+# ---- The tables.
+
+@rule("file")
+def file_is_sound(office):
+    """SQLite finds the file whole, each value of its column's type, and each check of the tables kept."""
+    for what, in office.rows("PRAGMA integrity_check"):
+        if what != "ok":
+            yield "file", what
+
+
+@rule("file")
+def tables_are_as_made(office):
+    """The tables of an office and their indexes are made by the office's SQL, and have no other column, index or trigger. (Other tables may be beside them.)"""
+    there = office.rows("SELECT name, type, sql, lower(tbl_name) FROM sqlite_master WHERE name NOT LIKE 'sqlite!_%' ESCAPE '!' ORDER BY name")
+    there = [(name, kind, sql) for name, kind, sql, table in there if table in TABLES]
+    for name, kind, sql in there:
+        if name not in MADE:
+            yield f"{kind} {name}", "no office has it"
+        elif not hashlib.sha256(sql.encode("utf-8", "surrogateescape")).hexdigest().startswith(MADE[name]):
+            yield f"{kind} {name}", "is made otherwise"
+    for name in sorted(set(MADE) - {name for name, _, _ in there}):
+        yield f"index {name}", "isn't there"
+
+
+@rule("file")
+def keys_come_once(office):
+    """No two rows of a table have the same key."""
+    for table in TABLES:
+        key = key_of(table)
+        yield from office.find(table, f"SELECT {key}, 'stands there ' || count(*) || ' times' FROM {table} GROUP BY {key} HAVING count(*) > 1")
+
+
+@rule("file")
+def words_are_known(office):
+    """Each state, kind and reading is one of its words."""
+    for place, words in WORDS.items():
+        table, column = place.split()
+        yield from office.find(table, f"SELECT {key_of(table)}, '{column} is ' || {column} FROM {table} WHERE instr(' {words} ', ' ' || {column} || ' ') = 0")
+
+
+@rule("file")
+def parents_are_there(office):
+    """Each row that a row speaks of is there, and each notice has a lot."""
+    for place in PARENTS.split(", "):
+        child, columns, parent = place.split()
+        here = ["c." + column for column in columns.split("|")]
+        same = " AND ".join(f"p.{there} = {column}" for there, column in zip(TABLES[parent][0].split(), here))
+        named = " || '/' || ".join(here)
+        yield from office.find(child, f"""SELECT {key_of(child, 'c.')}, '{parent} ' || {named} || ' isn''t there' FROM {child} AS c
+            WHERE {here[0]} IS NOT NULL AND NOT EXISTS (SELECT 1 FROM {parent} AS p WHERE {same})""")
+    yield from office.find("notices", "SELECT notice, 'has no lot' FROM notices WHERE notice NOT IN (SELECT notice FROM lots)")
+
+
+@rule("file")
+def nothing_is_after_the_clock(office):
+    """No row is of a later moment than the last accepted command, whose moment the table office has."""
+    for place in MOMENTS.split(", "):
+        table, column = place.split()
+        yield from office.find(table, f"""SELECT {key_of(table)}, '{column} is ' || text_of({column}) || ', after the clock' FROM {table}
+            WHERE {column} > (SELECT moment FROM office)""")
+
+
+@rule("file")
+def numbers_are_given_in_turn(office):
+    """Each receipt, and each number of an award, from 1 to the last that was given out, is there, and no other."""
+    for table, key, last in (("envelopes", "receipt", "receipts"), ("awards", "award", "awards")):
+        yield from office.find(table, f"""
+            WITH RECURSIVE number(n) AS (SELECT 1 UNION ALL SELECT n + 1 FROM number WHERE n < (SELECT {last} FROM office))
+            SELECT n, 'was given out, and isn''t there' FROM number WHERE n <= (SELECT {last} FROM office) AND n NOT IN (SELECT {key} FROM {table})
+            UNION ALL SELECT {key}, 'wasn''t given out' FROM {table} WHERE {key} > (SELECT {last} FROM office) OR {key} < 1""")
+
+
+@rule("file")
+def numbers_follow_time(office):
+    """Along the numbers of tenders, of awards and of each notice's releases, moments never fall."""
+    for table, group in (("envelopes", "1"), ("awards", "1"), ("releases", "notice")):
+        key = key_of(table)
+        yield from office.find(table, f"""SELECT {key}, 'is earlier than the one before it' FROM
+            (SELECT {key}, moment, lag(moment) OVER (PARTITION BY {group} ORDER BY {key}) AS earlier FROM {table}) WHERE moment < earlier""")
+
+
+# ---- Money.
+
+@rule("file")
+def pots_add_up(office):
+    """What is free, reserved, contracted and paid of a line, summed from joined rows, is its appropriation."""
+    yield from office.find("lines", """
+        SELECT line, printf('free %d, reserved %d, contracted %d and paid %d add up to %d, and its appropriation is %d',
+            free, reserved, contracted, paid, free + reserved + contracted + paid, appropriation)
+        FROM pots WHERE free + reserved + contracted + paid <> appropriation""")
+
+
+@rule("file")
+def contracts_are_not_overdrawn(office):
+    """No more was cut, paid and released of a contract than was signed and raised."""
+    yield from office.find("contracts", """
+        SELECT contract, printf('signed %d and raised %d, but cut %d, paid %d and released %d', signed, raised, cut, paid, released)
+        FROM sums WHERE cut + paid + released > signed + raised""")
+
+
+@rule("file")
+def contracts_end_settled(office):
+    """A contract that runs has released nothing; of one that ended nothing is outstanding, and how it ended is told."""
+    yield from office.find("contracts", """
+        SELECT contract, 'when and how it ended don''t go together' FROM contracts WHERE (ended IS NULL) <> (how IS NULL)
+        UNION ALL SELECT contract, printf('it runs, and has released %d', released) FROM contracts WHERE ended IS NULL AND released <> 0
+        UNION ALL SELECT contract, printf('it ended, and %d is outstanding', signed + raised - cut - paid - released)
+        FROM sums WHERE ended IS NOT NULL AND signed + raised - cut - paid - released <> 0""")
+
+
+@rule("file")
+def reservations_fit_their_lots(office):
+    """An undecided or awarded lot reserves the price of its last award, or else its estimate; any other lot reserves nothing."""
+    yield from office.find("lots", """
+        WITH due AS (SELECT notice, lot, CASE WHEN state IN ('undecided', 'awarded') THEN coalesce((SELECT price FROM awards AS a
+            WHERE a.notice = l.notice AND a.lot = l.lot ORDER BY award DESC LIMIT 1), estimate) ELSE 0 END AS due FROM lots AS l)
+        SELECT notice, lot, printf('reserves %d in place of %d', reserved, due) FROM lots JOIN due USING (notice, lot) WHERE reserved <> due""")
+
+
+# ---- Notices, lots, awards and contracts.
+
+@rule("file")
+def notices_keep_their_time(office):
+    """A notice is published before its deadline; it has a moment of opening, not before the deadline, where it is opened and nowhere else."""
+    yield from office.find("notices", """
+        SELECT notice, 'published when its deadline had come' FROM notices WHERE published >= deadline
+        UNION ALL SELECT notice, 'opened before its deadline' FROM notices WHERE opened < deadline
+        UNION ALL SELECT notice, printf('is %s, and its moment of opening is %s', state, coalesce(text_of(opened), 'none'))
+        FROM notices WHERE (state = 'opened') <> (opened IS NOT NULL)""")
+
+
+@rule("file")
+def lots_fit_their_notices(office):
+    """All lots of a notice that receives tenders are undecided, and all of a cancelled one are cancelled."""
+    yield from office.find("lots", """
+        SELECT l.notice, lot, printf('is %s, and its notice %s', l.state, n.state) FROM lots AS l JOIN notices AS n ON n.notice = l.notice
+        WHERE (n.state = 'receiving' AND l.state <> 'undecided') OR (n.state = 'cancelled' AND l.state <> 'cancelled')""")
+
+
+@rule("file")
+def lots_fit_their_awards(office):
+    """The last award of an awarded lot is active, of a contracted one signed, of any other failed, or cancelled with the lot; earlier awards have failed."""
+    yield from office.find("lots", """
+        SELECT l.notice, l.lot, printf('is %s, and its last award is %s', l.state, coalesce(a.state, 'none')) FROM lots AS l
+        LEFT JOIN awards AS a ON a.award = (SELECT max(award) FROM awards WHERE notice = l.notice AND lot = l.lot)
+        WHERE instr(CASE l.state WHEN 'awarded' THEN 'active' WHEN 'contracted' THEN 'signed' WHEN 'cancelled' THEN 'none failed cancelled'
+            ELSE 'none failed' END, coalesce(a.state, 'none')) = 0""")
+    yield from office.find("awards", """
+        SELECT award, 'is ' || state || ', and its lot has a later award' FROM awards AS a
+        WHERE state <> 'failed' AND EXISTS (SELECT 1 FROM awards AS b WHERE b.notice = a.notice AND b.lot = a.lot AND b.award > a.award)""")
+
+
+@rule("file")
+def contracts_are_signed_awards(office):
+    """Each signed award, and no other, has a contract of its number, for its lot, at its price and with its tender's tenderer."""
+    yield from office.find("awards", """
+        SELECT award, 'is ' || state || ', and a contract of its number ' || iif(contract IS NULL, 'isn''t', 'is') || ' there'
+        FROM awards LEFT JOIN contracts ON contract = award WHERE (state = 'signed') <> (contract IS NOT NULL)""")
+    yield from office.find("contracts", """
+        SELECT contract, 'isn''t what its award says' FROM contracts AS c LEFT JOIN awards AS a ON award = contract
+        LEFT JOIN envelopes AS e ON e.receipt = a.receipt WHERE (c.notice, c.lot, c.signed, c.tenderer) IS NOT (a.notice, a.lot, a.price, e.tenderer)""")
+
+
+@rule("file")
+def awards_keep_their_time(office):
+    """A lot is awarded once its notice is opened, and while tenders are in effect."""
+    yield from office.find("awards", """
+        SELECT award, 'awarded before the opening, or when tenders were no longer in effect' FROM awards AS a JOIN notices AS n ON n.notice = a.notice
+        WHERE n.opened IS NULL OR a.moment < n.opened OR a.moment >= n.deadline + 86400 * n.validity""")
+
+
+@rule("file")
+def contracts_keep_their_time(office):
+    """A contract is signed behind the standstill and while tenders are in effect; its entries lie between its signing and its end."""
+    yield from office.find("contracts", """
+        SELECT contract, 'signed in the standstill, or when tenders were no longer in effect' FROM contracts AS c JOIN awards AS a ON award = contract
+        JOIN notices AS n ON n.notice = c.notice WHERE c.moment < a.moment + 86400 * n.standstill OR c.moment >= n.deadline + 86400 * n.validity
+        UNION ALL SELECT contract, 'ended before it was signed' FROM contracts WHERE ended < moment""")
+    yield from office.find("entries", """
+        SELECT e.contract, entry, 'isn''t between the signing and the end' FROM entries AS e JOIN contracts AS c ON c.contract = e.contract
+        WHERE e.moment < c.moment OR e.moment > c.ended""")
+
+
+@rule("file")
+def awards_go_to_the_best(office):
+    """An award is of the best tender of its lot that may win and hasn't failed before, at that tender's corrected price."""
+    for award, notice, lot, receipt, price, weight in office.rows(
+            "SELECT award, a.notice, lot, receipt, price, weight FROM awards AS a JOIN notices AS n ON n.notice = a.notice ORDER BY award"):
+        offers = office.rows("""SELECT corrected, receipt, coalesce(quality, 0) FROM offers WHERE notice = ? AND lot = ? AND receipt NOT IN
+            (SELECT receipt FROM awards WHERE notice = offers.notice AND award < ? AND state = 'failed')""", notice, lot, award)
+        best = best_of(offers, weight)
+        if best is None or best[:2] != (price, receipt):
+            yield f"awards {award}", f"went to tender {receipt} at {price}, and the best " + (f"is {best[1]} at {best[0]}" if best else "isn't there")
+
+
+def best_of(offers, weight):
+    """The best of offers (price, receipt, quality): where the weight isn't 0 that of most thousandths of points, then the lower price and receipt."""
+    lowest = min((price for price, _, _ in offers), default=0)
+
+    def standing(offer):
+        price, receipt, quality = offer
+        points = (weight * 1000 * lowest // price if price else weight * 1000) + 1000 * quality
+        return (-points if weight else 0, price, receipt)
+    return min(offers, key=standing, default=None)
+
+
+@rule("file")
+def lots_without_a_winner_have_no_offer(office):
+    """An unsuccessful lot has no tender that may win."""
+    yield from office.find("lots", """
+        SELECT l.notice, l.lot, 'is unsuccessful, and tender ' || receipt || ' may win' FROM lots AS l
+        JOIN offers AS o ON o.notice = l.notice AND o.lot = l.lot WHERE l.state = 'unsuccessful' AND o.failed = 0""")
+
+
+# ---- Tenders and their securities.
+
+@rule("file")
+def late_tenders_stay_shut(office):
+    """A tender that came behind the deadline was given back: it isn't sealed, and wasn't opened."""
+    yield from office.find("envelopes", """
+        SELECT receipt, printf('is %s, and came at %s, after the deadline %s', e.state, text_of(moment), text_of(deadline))
+        FROM envelopes AS e JOIN notices AS n ON n.notice = e.notice WHERE e.state IN ('sealed', 'opened') AND moment > deadline""")
+
+
+@rule("file")
+def tenders_have_their_fate(office):
+    """A tender is sealed while its notice receives, opened where that is, withdrawn if it came before the deadline, and returned if late or cancelled."""
+    yield from office.find("envelopes", """
+        SELECT receipt, printf('is %s, and its notice %s', e.state, n.state) FROM envelopes AS e JOIN notices AS n ON n.notice = e.notice
+        WHERE NOT CASE e.state WHEN 'sealed' THEN n.state = 'receiving' WHEN 'opened' THEN n.state = 'opened' AND moment <= n.opened
+            WHEN 'withdrawn' THEN moment < deadline ELSE n.state = 'cancelled' OR moment > deadline OR coalesce(moment >= n.opened, 0) END
+        UNION ALL SELECT receipt, 'came before its notice was published' FROM envelopes AS e JOIN notices AS n ON n.notice = e.notice
+        WHERE moment < published""")
+
+
+@rule("file")
+def tenderers_have_one_tender_a_lot(office):
+    """A tenderer has at most one tender for a lot that is sealed or opened."""
+    yield from office.find("envelopes", """
+        SELECT max(receipt), printf('%s has %d tenders for %s/%s that are sealed or opened', tenderer, count(*), notice, lot)
+        FROM envelopes WHERE state IN ('sealed', 'opened') GROUP BY notice, lot, tenderer HAVING count(*) > 1""")
+
+
+@rule("file")
+def seals_fit_their_tenders(office):
+    """The bytes of a tender are kept where it is sealed or opened, and of no other."""
+    yield from office.find("envelopes", """
+        SELECT e.receipt, printf('is %s, and its bytes are %s', state, iif(bytes IS NULL, 'not kept', 'kept'))
+        FROM envelopes AS e LEFT JOIN seals AS s ON s.receipt = e.receipt WHERE (state IN ('sealed', 'opened')) <> (bytes IS NOT NULL)""")
+
+
+@rule("file")
+def digests_are_of_the_bytes(office):
+    """The digest of a tender is the SHA-256 of the bytes that are kept (FIPS 180-4), and its length is theirs."""
+    yield from office.find("seals", """
+        SELECT s.receipt, 'the bytes aren''t of the digest, or not of the length, that the receipt has'
+        FROM seals AS s JOIN envelopes AS e ON e.receipt = s.receipt WHERE sha256(bytes) <> digest OR length(bytes) <> length""")
+
+
+@rule("file")
+def readings_are_of_the_bytes(office):
+    """A tender was read where it was opened, and as its bytes are read here; one with quotation marks is left out, and the last line counts it."""
+    yield from office.find("envelopes", """
+        SELECT receipt, 'is ' || state || ', and was read: ' || coalesce(reading, 'not') FROM envelopes WHERE (state = 'opened') <> (reading IS NOT NULL)""")
+    for receipt, data, items, *reading in office.rows("""
+            SELECT e.receipt, bytes, items, reading, stated, corrected, corrections FROM envelopes AS e JOIN seals AS s ON s.receipt = e.receipt
+            JOIN lots AS l ON l.notice = e.notice AND l.lot = e.lot WHERE e.state = 'opened' ORDER BY e.receipt"""):
+        if b'"' in data:
+            office.unread += 1
+        elif tuple(reading) != (again := reading_of(data, items)):
+            yield f"envelopes {receipt}", f"was read as {reading}, and its bytes say {list(again)}"
+
+
+def number_of(field):
+    """The number that 1 to 16 digits write, up to 10^15, or None."""
+    return int(field) if re.fullmatch(rb"[0-9]{1,16}", field) and int(field) <= 10 ** 15 else None
+
+
+def reading_of(data, items):
+    """What a tender's file says for a lot of these items: a word, the price as stated, as corrected, and how many figures were corrected (RFC 4180)."""
+    records = [line.split(b",") for line in re.split(rb"[\r\n]+", data.removeprefix(b"\xef\xbb\xbf")) if line]
+    if len(records) < 2 or records[0] != [b"item", b"quantity", b"unit", b"total"] or any(len(record) != 4 for record in records):
+        return "unreadable", None, None, None
+    rows = [(name, number_of(quantity), number_of(unit), number_of(total)) for name, quantity, unit, total in records[1:-1]]
+    stated = number_of(records[-1][3])
+    if records[-1][:3] != [b"TOTAL", b"", b""] or stated is None or any(None in row for row in rows):
+        return "unreadable", None, None, None
+    wanted = [tuple(item.split("\t")[:2]) for item in items.split("\n")[:-1]]
+    offered = [(name.decode("latin-1"), str(quantity)) for name, quantity, _, _ in rows]
+    corrected = sum(quantity * unit for _, quantity, unit, _ in rows)
+    if offered != wanted or any(unit > 10 ** 9 for _, _, unit, _ in rows) or corrected > 10 ** 12:
+        return "nonconforming", None, None, None
+    return "priced", stated, corrected, sum(total != quantity * unit for _, quantity, unit, total in rows) + (stated != corrected)
+
+
+@rule("file")
+def examinations_fit_their_tenders(office):
+    """Priced tenders alone are examined, all of a lot before it is decided; quality is given where points decide, within what the price leaves."""
+    yield from office.find("envelopes", """
+        SELECT receipt, 'was examined, and has no price' FROM envelopes WHERE responsive IS NOT NULL AND reading IS NOT 'priced'
+        UNION ALL SELECT receipt, 'its quality isn''t what its notice asks for' FROM envelopes AS e JOIN notices AS n ON n.notice = e.notice
+        WHERE (quality IS NOT NULL) <> (weight > 0 AND responsive IS 1) OR weight + quality > 100
+        UNION ALL SELECT receipt, 'wasn''t examined, and its lot is decided' FROM envelopes AS e JOIN lots AS l ON l.notice = e.notice AND l.lot = e.lot
+        WHERE reading = 'priced' AND responsive IS NULL AND (l.state IN ('awarded', 'contracted', 'unsuccessful')
+            OR EXISTS (SELECT 1 FROM awards AS a WHERE a.notice = e.notice AND a.lot = e.lot))""")
+
+
+@rule("file")
+def failures_are_of_awards(office):
+    """A tender has failed where an award of it has, and nowhere else; an award is of a tender for its lot."""
+    yield from office.find("envelopes", """
+        SELECT receipt, iif(failed, 'has failed, and no award of it has', 'hasn''t failed, and an award of it has') FROM envelopes
+        WHERE failed <> (receipt IN (SELECT receipt FROM awards WHERE state = 'failed'))""")
+    yield from office.find("awards", """
+        SELECT award, 'its tender is for another lot' FROM awards AS a JOIN envelopes AS e ON e.receipt = a.receipt
+        WHERE (a.notice, a.lot) <> (e.notice, e.lot)""")
+
+
+@rule("file")
+def securities_come_with_tenders(office):
+    """A security has the number of the receipt that it came with; the tenders that carry it are of its tenderer and lot, all but the last withdrawn."""
+    yield from office.find("securities", """
+        SELECT s.security, 'the tender of its number doesn''t carry it' FROM securities AS s LEFT JOIN envelopes AS e ON e.receipt = s.security
+        WHERE e.security IS NOT s.security""")
+    yield from office.find("envelopes", """
+        SELECT receipt, 'carries the security of another tenderer or lot' FROM envelopes AS e JOIN securities AS s ON s.security = e.security
+        WHERE (e.tenderer, e.notice, e.lot) <> (s.tenderer, s.notice, s.lot)
+        UNION ALL SELECT receipt, 'is ' || state || ', and a later tender carries its security' FROM
+            (SELECT receipt, state, lead(receipt) OVER (PARTITION BY security ORDER BY receipt) AS later FROM envelopes WHERE security IS NOT NULL)
+        WHERE later IS NOT NULL AND state <> 'withdrawn'""")
+
+
+@rule("file")
+def securities_are_as_asked(office):
+    """A tender in time has a security of at least what its lot asks for, and none where that asks for none."""
+    yield from office.find("envelopes", """
+        SELECT receipt, printf('its lot asks for a security of %d, and it carries one of %d', l.security, coalesce(amount, 0)) FROM envelopes AS e
+        JOIN lots AS l ON l.notice = e.notice AND l.lot = e.lot JOIN notices AS n ON n.notice = e.notice LEFT JOIN securities AS s ON s.security = e.security
+        WHERE (e.state <> 'returned' OR (n.state = 'cancelled' AND moment <= deadline))
+            AND (coalesce(amount, 0) < l.security OR (l.security = 0 AND e.security IS NOT NULL))""")
+
+
+@rule("file")
+def securities_have_their_fate(office):
+    """A security is forfeited where its tender failed, held while that is sealed or its lot undecided or awarded, and else returned."""
+    yield from office.find("securities", """
+        WITH last AS (SELECT security, max(receipt) AS receipt FROM envelopes WHERE security IS NOT NULL GROUP BY security),
+            fate AS (SELECT last.security, CASE WHEN e.failed THEN 'forfeited' WHEN e.state = 'sealed' OR (e.state = 'opened'
+                AND l.state IN ('undecided', 'awarded')) THEN 'held' ELSE 'returned' END AS due
+                FROM last JOIN envelopes AS e ON e.receipt = last.receipt JOIN lots AS l ON l.notice = e.notice AND l.lot = e.lot)
+        SELECT security, printf('is %s in place of %s', state, due) FROM securities JOIN fate USING (security) WHERE state <> due""")

@@ -1,0 +1,88 @@
+// Elements and texts. Texts become text nodes and never markup, whatever stands in them.
+
+/** An element with attributes and with children: elements, texts, lists of them, or nothing. */
+export function element(name, attributes, ...children) {
+  const made = document.createElement(name);
+  for (const [key, value] of Object.entries(attributes ?? {})) {
+    made.setAttribute(key, value);
+  }
+  made.append(...children.flat(Infinity).filter((child) => child !== null && child !== undefined));
+  return made;
+}
+
+/** A text that somebody gave, as a title or a name: whatever its direction, what stands beside it keeps its own. */
+export function given(text) {
+  return element("bdi", {}, text);
+}
+
+/** Whole units with groups of three, as `12,500`. */
+export function number(amount) {
+  return new Intl.NumberFormat("en").format(amount);
+}
+
+/** A count with its word, as `1 lot` and `2 lots`. */
+export function count(amount, word) {
+  return `${number(amount)} ${word}${amount === 1 ? "" : "s"}`;
+}
+
+/** An OCDS value, as `12,500 EUR`. */
+export function money(value) {
+  return value ? `${number(value.amount)} ${value.currency}` : "an amount that isn't told";
+}
+
+/** A moment of the office, as `2 March 2026, 12:00:00 UTC`. */
+export function moment(text) {
+  const format = new Intl.DateTimeFormat("en-GB", {
+    day: "numeric", month: "long", year: "numeric", hour: "2-digit", minute: "2-digit", second: "2-digit", timeZone: "UTC", hourCycle: "h23",
+  });
+  const date = new Date(text);
+  const part = Object.fromEntries(Number.isNaN(date.getTime()) ? [] : format.formatToParts(date).map(({ type, value }) => [type, value]));
+  const shown = part.year ? `${part.day} ${part.month} ${part.year}, ${part.hour}:${part.minute}:${part.second} UTC` : text;
+  return element("time", { datetime: text }, shown);
+}
+
+/** What a change of a contract did, as `Raised by 12,000 EUR`: the office tells it without groups and currency. */
+export function change({ description }, currency) {
+  return given(description.replace(/\d+/g, (digits) => `${number(Number(digits))} ${currency}`));
+}
+
+/** A list of names with what each is: pairs of texts or elements. */
+export function facts(pairs) {
+  return element("dl", { class: "facts" }, pairs.map(([name, value]) => element("div", {}, element("dt", {}, name), element("dd", {}, value))));
+}
+
+/** A text in a frame, with a sign that isn't read out. */
+export function badge(kind, text) {
+  const signs = { open: "○", running: "◐", done: "●", stopped: "✕" };
+  return element("span", { class: `badge ${kind}` }, element("span", { "aria-hidden": "true" }, signs[kind] ?? "", " "), text);
+}
+
+/** A bar of parts, each with a kind (its pattern), a name and an amount. What it shows is told by its label, and by the key below it. */
+export function bar(label, parts) {
+  const whole = parts.reduce((sum, part) => sum + part.amount, 0);
+  const told = parts.map((part) => `${part.name} ${number(part.amount)}`).join(", ");
+  const made = element("div", { class: "bar", role: "img", "aria-label": `${label}: ${told}` });
+  for (const part of parts.filter(({ amount }) => amount > 0)) {
+    const piece = element("span", { class: `part ${part.kind}` });
+    piece.style.flexGrow = String(part.amount / whole);
+    made.append(piece);
+  }
+  return made;
+}
+
+/** The names and amounts of a bar's parts, each behind its pattern. */
+export function key(parts, unit) {
+  return element("ul", { class: "key" }, parts.map((part) => element(
+    "li", {}, element("span", { class: `swatch ${part.kind}`, "aria-hidden": "true" }), `${part.name} `, element("b", {}, `${number(part.amount)}${unit}`))));
+}
+
+/** A list below a heading of this level; a long one is folded. */
+export function listed(level, heading, entries, attributes = {}) {
+  if (entries.length === 0) {
+    return null;
+  }
+  const list = element("ul", attributes, entries.map((entry) => element("li", {}, entry)));
+  return entries.length <= 10
+    ? [element(`h${level}`, {}, heading), list]
+    : element("details", {}, element("summary", {}, `${heading} (${number(entries.length)})`), list);
+}
