@@ -5,245 +5,385 @@ use office_values::money::{Amount, Total};
 use office_values::refusal::{BadPart, Field, Refusal, Thing, What};
 use office_values::text::{Bytes, TextLine};
 use std::alloc::{AllocError, Global};
-use std::test::Fail;
 
-// The name that a refusal is about.
-fn named(refusal: Refusal) -> Option<&'static str> {
-    match refusal.what() {
-        Some(What::Name(name)) => Some(name),
-        _ => None,
+// Each refusal, with its number, its name and its status.
+const REFUSALS: &[(Refusal, u8, &str, u16)] = &[
+    (Refusal::BadHead, 1, "BadHead", 400),
+    (Refusal::TooLong, 2, "TooLong", 413),
+    (Refusal::Coding, 3, "Coding", 501),
+    (Refusal::NoRoute, 4, "NoRoute", 404),
+    (Refusal::WrongMethod, 5, "WrongMethod", 405),
+    (Refusal::BadKey, 6, "BadKey", 401),
+    (Refusal::Forbidden, 7, "Forbidden", 403),
+    (Refusal::BadBody(BadPart::Body), 8, "BadBody", 400),
+    (Refusal::NoSuch(Thing::Line), 9, "NoSuch", 404),
+    (Refusal::Exists, 10, "Exists", 409),
+    (Refusal::NotYourTender, 11, "NotYourTender", 403),
+    (Refusal::DeadlinePassed, 12, "DeadlinePassed", 409),
+    (Refusal::DeadlineEarlier, 13, "DeadlineEarlier", 409),
+    (Refusal::NotOpenForTenders, 14, "NotOpenForTenders", 409),
+    (Refusal::AlreadyPresented, 15, "AlreadyPresented", 409),
+    (Refusal::SecurityMissing, 16, "SecurityMissing", 409),
+    (Refusal::SecurityTooSmall, 17, "SecurityTooSmall", 409),
+    (Refusal::SecurityNotAsked, 18, "SecurityNotAsked", 409),
+    (Refusal::NotSealed, 19, "NotSealed", 409),
+    (Refusal::TooEarlyToOpen, 20, "TooEarlyToOpen", 409),
+    (Refusal::AlreadyOpened, 21, "AlreadyOpened", 409),
+    (Refusal::NotOpened, 22, "NotOpened", 409),
+    (Refusal::AlreadyDecided, 23, "AlreadyDecided", 409),
+    (Refusal::NotAllExamined, 24, "NotAllExamined", 409),
+    (Refusal::Expired, 25, "Expired", 409),
+    (Refusal::Standstill, 26, "Standstill", 409),
+    (Refusal::InsufficientFunds, 27, "InsufficientFunds", 409),
+    (Refusal::MoreThanOutstanding, 28, "MoreThanOutstanding", 409),
+    (Refusal::ContractEnded, 29, "ContractEnded", 409),
+    (Refusal::NothingToCancel, 30, "NothingToCancel", 409),
+    (Refusal::LimitReached, 31, "LimitReached", 409),
+    (Refusal::Unavailable, 32, "Unavailable", 503),
+];
+
+// Each field, and its name.
+const FIELDS: &[(Field, &str)] = &[
+    (Field::Name, "name"),
+    (Field::Address, "address"),
+    (Field::Key, "key"),
+    (Field::Title, "title"),
+    (Field::Deadline, "deadline"),
+    (Field::ValidityDays, "validity_days"),
+    (Field::StandstillDays, "standstill_days"),
+    (Field::Criteria, "criteria"),
+    (Field::PriceWeight, "price_weight"),
+    (Field::Lots, "lots"),
+    (Field::Rationale, "rationale"),
+    (Field::Security, "security"),
+    (Field::Amount, "amount"),
+    (Field::Responsive, "responsive"),
+    (Field::Quality, "quality"),
+    (Field::Id, "id"),
+    (Field::Kind, "kind"),
+    (Field::How, "how"),
+];
+
+// Each thing, and its name.
+const THINGS: &[(Thing, &str)] = &[
+    (Thing::Line, "line"),
+    (Thing::Notice, "notice"),
+    (Thing::Lot, "lot"),
+    (Thing::Tender, "tender"),
+    (Thing::Award, "award"),
+    (Thing::Contract, "contract"),
+    (Thing::Security, "security"),
+];
+
+// Texts that are identifiers.
+const IDENTIFIERS: &[&str] = &["a", "B-1_x.Y", "00000000000000000000000000000032"];
+
+// Texts that are no identifiers.
+const NO_IDENTIFIERS: &[&str] = &[
+    "",
+    "000000000000000000000000000000033",
+    "a b",
+    "a/b",
+    "a%20b",
+    "\u{e9}",
+    "a\u{7f}",
+];
+
+// Pairs of identifiers, the lower one first.
+const IN_ORDER: &[(&str, &str)] = &[
+    ("10", "9"),
+    ("N1", "N10"),
+    ("A", "a"),
+    ("-", "."),
+    ("9", "A"),
+    ("prefixed", "prefixed-2"),
+    ("tender-of-1999-2", "tender-of-2000-1"),
+    (
+        "abcdefghijklmnopqrstuvwxyz-01234",
+        "abcdefghijklmnopqrstuvwxyz-01235",
+    ),
+];
+
+// Texts that are lines.
+const LINES: &[&str] = &["x", " \"\\,", "Stra\u{df}e \u{1f6a7}"];
+
+// A line of 200 letters, the most that one has.
+const LONGEST: &[u8] = &[b'x'; 200];
+
+// A text of one letter more.
+const TOO_LONG: &[u8] = &[b'x'; 201];
+
+// Bytes that are no lines.
+const NO_LINES: &[&[u8]] = &[
+    b"",
+    b"a\nb",
+    b"a\tb",
+    b"a\x00",
+    b"\x1f",
+    b"a\x7f",
+    b"\xff",
+    b"\xc3",
+    b"\xc0\x80",
+    b"\xed\xa0\x80",
+    TOO_LONG,
+];
+
+// Bytes that are no text.
+const RAW: &[u8] = b"a\x00\xff";
+
+// Units of money, whether they are an amount, and whether they are a sum.
+const MONEY: &[(u64, bool, bool)] = &[
+    (0, true, true),
+    (1_000_000_000_000, true, true),
+    (1_000_000_000_001, false, true),
+    (1_000_000_000_000_000, false, true),
+    (1_000_000_000_000_001, false, false),
+    (u64::MAX, false, false),
+];
+
+// Whether every refusal has its number, name and status, and the eighth and the ninth alone tell what they are about.
+fn refusals_are_told() -> bool {
+    for (refusal, number, name, status) in REFUSALS {
+        let (number, about) = (*number, refusal.what().is_some());
+        if refusal.number() != number || refusal.name() != *name || refusal.status() != *status {
+            return false;
+        }
+        if about != (number == 8 || number == 9) {
+            return false;
+        }
     }
-}
-
-// Whether the refusal has this number, name and status.
-fn is_told(refusal: Refusal, number: u8, name: &str, status: u16) -> bool {
-    refusal.number() == number && refusal.name() == name && refusal.status() == status
+    true
 }
 
 #[test]
 fn refusals_have_their_numbers_names_and_statuses(rt: HostRuntime) {
-    for (refusal, number, name, status) in [
-        (Refusal::BadHead, 1, "BadHead", 400),
-        (Refusal::TooLong, 2, "TooLong", 413),
-        (Refusal::Coding, 3, "Coding", 501),
-        (Refusal::NoRoute, 4, "NoRoute", 404),
-        (Refusal::WrongMethod, 5, "WrongMethod", 405),
-        (Refusal::BadKey, 6, "BadKey", 401),
-        (Refusal::Forbidden, 7, "Forbidden", 403),
-        (Refusal::BadBody(BadPart::Body), 8, "BadBody", 400),
-        (Refusal::NoSuch(Thing::Line), 9, "NoSuch", 404),
-        (Refusal::Exists, 10, "Exists", 409),
-        (Refusal::NotYourTender, 11, "NotYourTender", 403),
-        (Refusal::DeadlinePassed, 12, "DeadlinePassed", 409),
-        (Refusal::DeadlineEarlier, 13, "DeadlineEarlier", 409),
-        (Refusal::NotOpenForTenders, 14, "NotOpenForTenders", 409),
-        (Refusal::AlreadyPresented, 15, "AlreadyPresented", 409),
-        (Refusal::SecurityMissing, 16, "SecurityMissing", 409),
-        (Refusal::SecurityTooSmall, 17, "SecurityTooSmall", 409),
-        (Refusal::SecurityNotAsked, 18, "SecurityNotAsked", 409),
-        (Refusal::NotSealed, 19, "NotSealed", 409),
-        (Refusal::TooEarlyToOpen, 20, "TooEarlyToOpen", 409),
-        (Refusal::AlreadyOpened, 21, "AlreadyOpened", 409),
-        (Refusal::NotOpened, 22, "NotOpened", 409),
-        (Refusal::AlreadyDecided, 23, "AlreadyDecided", 409),
-        (Refusal::NotAllExamined, 24, "NotAllExamined", 409),
-        (Refusal::Expired, 25, "Expired", 409),
-        (Refusal::Standstill, 26, "Standstill", 409),
-        (Refusal::InsufficientFunds, 27, "InsufficientFunds", 409),
-        (Refusal::MoreThanOutstanding, 28, "MoreThanOutstanding", 409),
-        (Refusal::ContractEnded, 29, "ContractEnded", 409),
-        (Refusal::NothingToCancel, 30, "NothingToCancel", 409),
-        (Refusal::LimitReached, 31, "LimitReached", 409),
-        (Refusal::Unavailable, 32, "Unavailable", 503),
-    ] {
-        assert!(rt; is_told(refusal, number, name, status), "{number}");
-        assert_eq!(rt;
-            refusal.what().is_some(),
-            number == 8 || number == 9,
-            "{number}"
-        );
+    assert!(rt; refusals_are_told());
+}
+
+// Whether the refusal is about this name.
+fn is_about(refusal: Refusal, name: &str) -> bool {
+    match refusal.what() {
+        Some(What::Name(told)) => told == name,
+        _ => false,
     }
+}
+
+fn fields_are_told() -> bool {
+    for (field, name) in FIELDS {
+        if !is_about(Refusal::BadBody(BadPart::Field(*field)), name) {
+            return false;
+        }
+    }
+    true
+}
+
+fn things_are_told() -> bool {
+    for (thing, name) in THINGS {
+        if !is_about(Refusal::NoSuch(*thing), name) {
+            return false;
+        }
+    }
+    true
+}
+
+fn rows_are_told() -> bool {
+    matches!(Refusal::BadBody(BadPart::Row(4)).what(), Some(What::Row(4)))
 }
 
 #[test]
 fn refusals_tell_what_they_are_about(rt: HostRuntime) {
-    for (field, name) in [
-        (Field::Name, "name"),
-        (Field::Address, "address"),
-        (Field::Key, "key"),
-        (Field::Title, "title"),
-        (Field::Deadline, "deadline"),
-        (Field::ValidityDays, "validity_days"),
-        (Field::StandstillDays, "standstill_days"),
-        (Field::Criteria, "criteria"),
-        (Field::PriceWeight, "price_weight"),
-        (Field::Lots, "lots"),
-        (Field::Rationale, "rationale"),
-        (Field::Security, "security"),
-        (Field::Amount, "amount"),
-        (Field::Responsive, "responsive"),
-        (Field::Quality, "quality"),
-        (Field::Id, "id"),
-        (Field::Kind, "kind"),
-        (Field::How, "how"),
-    ] {
-        assert_eq!(rt; named(Refusal::BadBody(BadPart::Field(field))), Some(name));
+    assert!(rt; fields_are_told());
+    assert!(rt; things_are_told());
+    assert!(rt; is_about(Refusal::BadBody(BadPart::Body), "body"));
+    assert!(rt; rows_are_told());
+}
+
+// Whether the text is an identifier, kept as it is.
+fn is_identifier(text: &str) -> bool {
+    match Id::read(text.as_bytes()) {
+        Some(id) => id.as_str() == text,
+        None => false,
     }
-    for (thing, name) in [
-        (Thing::Line, "line"),
-        (Thing::Notice, "notice"),
-        (Thing::Lot, "lot"),
-        (Thing::Tender, "tender"),
-        (Thing::Award, "award"),
-        (Thing::Contract, "contract"),
-        (Thing::Security, "security"),
-    ] {
-        assert_eq!(rt; named(Refusal::NoSuch(thing)), Some(name));
+}
+
+fn identifiers_are_read() -> bool {
+    for text in IDENTIFIERS {
+        if !is_identifier(text) {
+            return false;
+        }
     }
-    assert_eq!(rt; named(Refusal::BadBody(BadPart::Body)), Some("body"));
-    let row = Refusal::BadBody(BadPart::Row(4)).what();
-    assert!(rt; matches!(row, Some(What::Row(4))));
+    true
+}
+
+fn others_are_refused() -> bool {
+    for text in NO_IDENTIFIERS {
+        if Id::read(text.as_bytes()).is_some() {
+            return false;
+        }
+    }
+    true
 }
 
 #[test]
 fn reads_identifiers(rt: HostRuntime) {
-    for text in ["a", "B-1_x.Y", "00000000000000000000000000000032"] {
-        let id = Id::read(text.as_bytes()).expect(&rt, "an identifier");
-        assert_eq!(rt; id.as_str(), text);
+    assert!(rt; identifiers_are_read());
+    assert!(rt; others_are_refused());
+}
+
+// Whether both texts are identifiers, and the first is the lower one by each comparison.
+fn is_before(low: &str, high: &str) -> bool {
+    match (Id::read(low.as_bytes()), Id::read(high.as_bytes())) {
+        (Some(low), Some(high)) => low < high && high > low && low != high && low == low,
+        _ => false,
     }
-    for text in [
-        "",
-        "000000000000000000000000000000033",
-        "a b",
-        "a/b",
-        "a%20b",
-        "\u{e9}",
-        "a\u{7f}",
-    ] {
-        assert!(rt; Id::read(text.as_bytes()).is_none(), "{text}");
+}
+
+fn identifiers_are_in_order() -> bool {
+    for (low, high) in IN_ORDER {
+        if !is_before(low, high) {
+            return false;
+        }
     }
+    true
 }
 
 #[test]
 fn identifiers_are_in_the_order_of_their_bytes(rt: HostRuntime) {
-    for (low, high) in [
-        ("10", "9"),
-        ("N1", "N10"),
-        ("A", "a"),
-        ("-", "."),
-        ("9", "A"),
-        ("prefixed", "prefixed-2"),
-        ("tender-of-1999-2", "tender-of-2000-1"),
-        (
-            "abcdefghijklmnopqrstuvwxyz-01234",
-            "abcdefghijklmnopqrstuvwxyz-01235",
-        ),
-    ] {
-        let low = Id::read(low.as_bytes()).expect(&rt, "an identifier");
-        let high = Id::read(high.as_bytes()).expect(&rt, "an identifier");
-        assert!(rt; low < high && high > low && low != high);
-        assert!(rt; low == low);
+    assert!(rt; identifiers_are_in_order());
+}
+
+// Whether the text is a line, kept and copied as it is.
+fn is_line(alloc: Global, text: &str) -> bool {
+    let Ok(Some(line)) = TextLine::read(alloc, text.as_bytes()) else {
+        return false;
+    };
+    match line.clone() {
+        Ok(copy) => line.as_str() == text && copy.as_str() == text,
+        Err(_) => false,
     }
 }
 
-// A text of so many letters.
-fn letters(alloc: Global, count: usize) -> Result<Vec<u8>, AllocError> {
-    let mut text = Vec::new(alloc);
-    for _ in 0..count {
-        text.push(b'x')?;
+fn lines_are_read(alloc: Global) -> bool {
+    for text in LINES {
+        if !is_line(alloc, text) {
+            return false;
+        }
     }
-    Ok(text)
+    true
+}
+
+fn other_bytes_are_refused(alloc: Global) -> bool {
+    for bytes in NO_LINES {
+        if !matches!(TextLine::read(alloc, bytes), Ok(None)) {
+            return false;
+        }
+    }
+    true
 }
 
 #[test]
-fn reads_lines_of_text(rt: HostRuntime) -> Result<(), Fail> {
+fn reads_lines_of_text(rt: HostRuntime) {
     let alloc = rt.alloc();
-    for text in ["x", " \"\\,", "Stra\u{df}e \u{1f6a7}"] {
-        let line = TextLine::read(alloc, text.as_bytes())?.ok_or("a line")?;
-        assert_eq!(rt; line.as_str(), text);
-        assert_eq!(rt; line.clone()?.as_str(), text);
+    assert!(rt; lines_are_read(alloc));
+    assert!(rt; matches!(TextLine::read(alloc, LONGEST), Ok(Some(_))));
+    assert!(rt; other_bytes_are_refused(alloc));
+}
+
+// Whether bytes that are no text are kept and copied as they are.
+fn are_kept(alloc: Global) -> bool {
+    let Ok(raw) = Vec::from_slice(alloc, RAW) else {
+        return false;
+    };
+    let bytes = Bytes::from_vec(raw);
+    match bytes.clone() {
+        Ok(copy) => bytes.as_slice() == RAW && copy.into_vec().as_slice() == RAW,
+        Err(_) => false,
     }
-    for text in [
-        b"".as_slice(),
-        b"a\nb".as_slice(),
-        b"a\tb".as_slice(),
-        b"a\x00".as_slice(),
-        b"\x1f".as_slice(),
-        b"a\x7f".as_slice(),
-        b"\xff".as_slice(),
-        b"\xc3".as_slice(),
-        b"\xc0\x80".as_slice(),
-        b"\xed\xa0\x80".as_slice(),
-    ] {
-        assert!(rt; TextLine::read(alloc, text)?.is_none());
-    }
-    for (count, taken) in [(200, true), (201, false)] {
-        let text = letters(alloc, count)?;
-        assert_eq!(rt; TextLine::read(alloc, &text)?.is_some(), taken);
-    }
-    Ok(())
 }
 
 #[test]
-fn bytes_are_kept_and_copied(rt: HostRuntime) -> Result<(), Fail> {
-    let bytes = Bytes::from_vec(Vec::from_slice(rt.alloc(), b"a\x00\xff")?);
-    let copy = bytes.clone()?;
-    assert_eq!(rt; bytes.as_slice(), b"a\x00\xff".as_slice());
-    assert_eq!(rt; copy.into_vec().as_slice(), b"a\x00\xff".as_slice());
-    Ok(())
+fn bytes_are_kept_and_copied(rt: HostRuntime) {
+    assert!(rt; are_kept(rt.alloc()));
+}
+
+// Whether so many units are an amount, kept as they are, or none, as they should.
+fn is_amount(units: u64, taken: bool) -> bool {
+    match Amount::read(units) {
+        Some(amount) => taken && amount.units() == units,
+        None => !taken,
+    }
+}
+
+// Whether so many units gave a sum of as many, or none, as they should.
+fn is_total(total: Option<Total>, units: u64, taken: bool) -> bool {
+    match total {
+        Some(total) => taken && total.units() == units,
+        None => !taken,
+    }
+}
+
+fn money_is_bounded() -> bool {
+    for (units, amount, total) in MONEY {
+        let (units, total) = (*units, *total);
+        let read = is_total(Total::read(units), units, total);
+        let summed = is_total(Total::of_sum(units as u128), units, total);
+        if !(read && summed && is_amount(units, *amount)) {
+            return false;
+        }
+    }
+    true
 }
 
 #[test]
 fn money_has_its_bounds(rt: HostRuntime) {
-    assert_eq!(rt; Total::ZERO.units(), 0);
-    for (units, is_amount, is_total) in [
-        (0, true, true),
-        (1_000_000_000_000, true, true),
-        (1_000_000_000_001, false, true),
-        (1_000_000_000_000_000, false, true),
-        (1_000_000_000_000_001, false, false),
-        (u64::MAX, false, false),
-    ] {
-        let amount = Amount::read(units).map(Amount::units);
-        let total = Total::read(units).map(Total::units);
-        let sum = Total::of_sum(units as u128).map(Total::units);
-        assert_eq!(rt; amount, if is_amount { Some(units) } else { None });
-        assert_eq!(rt; total, if is_total { Some(units) } else { None });
-        assert_eq!(rt; sum, total);
-    }
+    assert!(rt; Total::ZERO.units() == 0);
+    assert!(rt; money_is_bounded());
     assert!(rt; Total::of_sum(1 << 64).is_none());
 }
 
 #[test]
-fn want_of_memory_is_unavailable(rt: HostRuntime) -> Result<(), Fail> {
-    assert_eq!(rt; Refusal::from(AllocError).number(), 32);
-    Ok(())
+fn want_of_memory_is_unavailable(rt: HostRuntime) {
+    assert!(rt; Refusal::from(AllocError).number() == 32);
+}
+
+// Whether the number is taken, and kept as it is.
+fn is_taken<const LOW: u64, const HIGH: u64>(number: u64) -> bool {
+    match Bounded::<LOW, HIGH>::read(number) {
+        Some(taken) => taken.get() == number,
+        None => false,
+    }
 }
 
 // Whether a number is taken at both bounds and refused beyond them.
 fn keeps_bounds<const LOW: u64, const HIGH: u64>(beyond: &[u64]) -> bool {
-    let least = Bounded::<LOW, HIGH>::read(LOW).map(Bounded::get);
-    let most = Bounded::<LOW, HIGH>::read(HIGH).map(Bounded::get);
-    let taken = least == Some(LOW) && most == Some(HIGH);
-    taken
-        && beyond
-            .iter()
-            .all(|number| Bounded::<LOW, HIGH>::read(*number).is_none())
+    for number in beyond {
+        if Bounded::<LOW, HIGH>::read(*number).is_some() {
+            return false;
+        }
+    }
+    is_taken::<LOW, HIGH>(LOW) && is_taken::<LOW, HIGH>(HIGH)
+}
+
+fn bounds_are_kept() -> bool {
+    keeps_bounds::<1, 1_000_000>(&[0, 1_000_001])
+        && keeps_bounds::<1, 1_000_000_000_000>(&[0, 1_000_000_000_001, u64::MAX])
+        && keeps_bounds::<1, 365>(&[0, 366])
+        && keeps_bounds::<0, 90>(&[91])
+        && keeps_bounds::<1, 100>(&[0, 101])
 }
 
 #[test]
 fn numbers_have_their_bounds(rt: HostRuntime) {
-    assert!(rt; keeps_bounds::<1, 1_000_000>(&[0, 1_000_001]));
-    assert!(rt; keeps_bounds::<1, 1_000_000_000_000>(&[0, 1_000_000_000_001, u64::MAX]));
-    assert!(rt; keeps_bounds::<1, 365>(&[0, 366]));
-    assert!(rt; keeps_bounds::<0, 90>(&[91]));
-    assert!(rt; keeps_bounds::<1, 100>(&[0, 101]));
+    assert!(rt; bounds_are_kept());
+}
+
+// What is left of a sum of 1000 without so many.
+fn left(units: u128) -> Option<u64> {
+    Some(Total::read(1000)?.less(units).units())
 }
 
 #[test]
-fn sums_are_lessened(rt: HostRuntime) -> Result<(), Fail> {
-    let total = Total::read(1000).ok_or("a sum")?;
-    assert_eq!(rt; total.less(600).units(), 400);
-    assert_eq!(rt; total.less(1001).units(), 0);
-    Ok(())
+fn sums_are_lessened(rt: HostRuntime) {
+    assert!(rt; matches!(left(600), Some(400)));
+    assert!(rt; matches!(left(1001), Some(0)));
 }
