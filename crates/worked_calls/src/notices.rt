@@ -10,15 +10,21 @@ use office_values::moment::Moment;
 use office_values::money::Amount;
 use office_values::text::TextLine;
 use std::alloc::Global;
-use std::test::Fail;
 
 // An item of this identifier; None where that is none, or memory is wanting.
 fn item(alloc: Global, id: &str) -> Option<Item> {
     Some(Item {
         id: Id::read(id.as_bytes())?,
-        title: TextLine::read(alloc, b"Paving").ok()??,
         quantity: Quantity::read(3)?,
+        title: line(alloc, b"Paving")?,
     })
+}
+
+fn line(alloc: Global, text: &[u8]) -> Option<TextLine> {
+    match TextLine::read(alloc, text) {
+        Ok(line) => line,
+        Err(_) => None,
+    }
 }
 
 fn items(alloc: Global, ids: &[&str]) -> Option<Items> {
@@ -32,10 +38,10 @@ fn items(alloc: Global, ids: &[&str]) -> Option<Items> {
 fn lot(alloc: Global, id: &str) -> Option<NewLot> {
     Some(NewLot {
         id: Id::read(id.as_bytes())?,
-        title: TextLine::read(alloc, b"North").ok()??,
         line: Id::read(b"1000")?,
         estimate: Estimate::read(600)?,
         security: Amount::read(50)?,
+        title: line(alloc, b"North")?,
         items: items(alloc, &["I1"])?,
     })
 }
@@ -50,13 +56,24 @@ fn lots(alloc: Global, ids: &[&str]) -> Option<NewLots> {
 
 fn notice(alloc: Global, ids: &[&str]) -> Option<NewNotice> {
     Some(NewNotice {
-        title: TextLine::read(alloc, b"Road repair").ok()??,
         deadline: Moment::read(b"2026-03-01T12:00:00Z")?,
         validity: Validity::read(90)?,
         standstill: Standstill::read(10)?,
         criteria: Criteria::Price,
+        title: line(alloc, b"Road repair")?,
         lots: lots(alloc, ids)?,
     })
+}
+
+// Whether two items are taken, and copied.
+fn items_are_copied(alloc: Global) -> bool {
+    let Some(all) = items(alloc, &["I2", "I1"]) else {
+        return false;
+    };
+    match all.clone() {
+        Ok(copy) => copy.as_slice().len() == 2,
+        Err(_) => false,
+    }
 }
 
 #[test]
@@ -64,9 +81,15 @@ fn lots_have_items_of_their_own(rt: HostRuntime) {
     let alloc = rt.alloc();
     assert!(rt; items(alloc, &[]).is_none());
     assert!(rt; items(alloc, &["I1", "I2", "I1"]).is_none());
-    let all = items(alloc, &["I2", "I1"]);
-    let copy = all.as_ref().and_then(|all| all.clone().ok());
-    assert_eq!(rt; copy.map(|all| all.as_slice().len()), Some(2));
+    assert!(rt; items_are_copied(alloc));
+}
+
+// Whether two lots are taken, and given back.
+fn lots_are_kept(alloc: Global) -> bool {
+    match lots(alloc, &["L2", "L1"]) {
+        Some(all) => all.as_slice().len() == 2 && all.into_vec().len() == 2,
+        None => false,
+    }
 }
 
 #[test]
@@ -74,30 +97,38 @@ fn notices_have_lots_of_their_own(rt: HostRuntime) {
     let alloc = rt.alloc();
     assert!(rt; lots(alloc, &[]).is_none());
     assert!(rt; lots(alloc, &["L1", "L2", "L2"]).is_none());
-    let all = lots(alloc, &["L2", "L1"]);
-    assert_eq!(rt; all.as_ref().map(|all| all.as_slice().len()), Some(2));
-    assert_eq!(rt; all.map(|all| all.into_vec().len()), Some(2));
+    assert!(rt; lots_are_kept(alloc));
+}
+
+// The kind of the command that publishes a notice.
+fn kind_of_publication(alloc: Global) -> Option<CommandKind> {
+    let command = Command::Publish {
+        notice: Id::read(b"N1")?,
+        content: notice(alloc, &["L1"])?,
+    };
+    Some(command.kind())
 }
 
 #[test]
-fn a_notice_is_published(rt: HostRuntime) -> Result<(), Fail> {
-    let content = notice(rt.alloc(), &["L1"]).ok_or("a notice")?;
-    let notice = Id::read(b"N1").ok_or("an identifier")?;
-    let command = Command::Publish { notice, content };
-    assert_eq!(rt; command.kind(), CommandKind::Publish);
-    Ok(())
+fn a_notice_is_published(rt: HostRuntime) {
+    assert!(rt; matches!(kind_of_publication(rt.alloc()), Some(CommandKind::Publish)));
+}
+
+fn weight_of_points(points: u64) -> Option<u64> {
+    Some(Criteria::Points(PriceWeight::read(points)?).weight().get())
 }
 
 #[test]
 fn prices_weigh_nothing_where_they_decide_alone(rt: HostRuntime) {
-    assert_eq!(rt; Criteria::Price.weight().get(), 0);
-    let sixty = PriceWeight::read(60).map(|weight| Criteria::Points(weight).weight().get());
-    assert_eq!(rt; sixty, Some(60));
+    assert!(rt; Criteria::Price.weight().get() == 0);
+    assert!(rt; matches!(weight_of_points(60), Some(60)));
+}
+
+fn amount_of_estimate(units: u64) -> Option<u64> {
+    Some(amount_of(Estimate::read(units)?).units())
 }
 
 #[test]
-fn estimates_are_amounts(rt: HostRuntime) -> Result<(), Fail> {
-    let estimate = Estimate::read(600).ok_or("an estimate")?;
-    assert_eq!(rt; amount_of(estimate).units(), 600);
-    Ok(())
+fn estimates_are_amounts(rt: HostRuntime) {
+    assert!(rt; matches!(amount_of_estimate(600), Some(600)));
 }
