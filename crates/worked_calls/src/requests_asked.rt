@@ -10,19 +10,18 @@ use office_values::refusal::{Refusal, What};
 use office_wire::counted::CountedReader;
 use office_wire::request::{Request, read_request};
 use std::alloc::Global;
-use std::test::Fail;
 
 // The request of this line and this body.
-fn request_of(alloc: Global, line: &str, body: &[u8]) -> Result<Request, Fail> {
-    let head = format!(in alloc; "{line} HTTP/1.1\r\nContent-Length: {}\r\n\r\n", body.len())?;
-    let mut bytes = head.as_bytes().to_vec(alloc)?;
-    bytes.extend_from_slice(body)?;
+fn request_of(alloc: Global, line: &str, body: &[u8]) -> Option<Request> {
+    let head = format!(in alloc; "{line} HTTP/1.1\r\nContent-Length: {}\r\n\r\n", body.len()).ok()?;
+    let mut bytes = head.as_bytes().to_vec(alloc).ok()?;
+    bytes.extend_from_slice(body).ok()?;
     let mut reader = CountedReader::new(bytes.as_slice());
-    Ok(read_request(alloc, &mut reader)?)
+    read_request(alloc, &mut reader).ok()
 }
 
-fn tenderer() -> Result<Caller, Fail> {
-    Ok(Caller::Tenderer(Id::read(b"T1").ok_or("no identifier")?))
+fn tenderer() -> Option<Caller> {
+    Some(Caller::Tenderer(Id::read(b"T1")?))
 }
 
 // What a request asks, or its refusal.
@@ -46,33 +45,33 @@ fn kind_of(asked: &Asked<'_>) -> Endpoint {
     }
 }
 
-// The kind of what a request asks; None where it is refused.
-fn asked_kind(
+// Whether a request of this line and this body asks for this.
+fn asks_for(
     alloc: Global,
     routes: &Routes,
     caller: &Caller,
-    request: &Request,
-) -> Option<Endpoint> {
-    match asked_of(alloc, routes, caller, request) {
-        Ok(asked) => Some(kind_of(&asked)),
-        Err(_) => None,
+    row: &(&str, &[u8], Endpoint),
+) -> bool {
+    let (line, body, kind) = *row;
+    let Some(request) = request_of(alloc, line, body) else {
+        return false;
+    };
+    match asked_of(alloc, routes, caller, &request) {
+        Ok(asked) => kind_of(&asked) == kind,
+        Err(_) => false,
     }
 }
 
-// The first row whose request doesn't ask what it should.
-fn first_missed(
-    alloc: Global,
-    caller: &Caller,
-    rows: &[(&str, &[u8], Endpoint)],
-) -> Result<Option<usize>, Fail> {
-    let routes = Routes::new(alloc)?;
-    for (place, (line, body, kind)) in rows.iter().enumerate() {
-        let request = request_of(alloc, line, body)?;
-        if asked_kind(alloc, &routes, caller, &request) != Some(*kind) {
-            return Ok(Some(place));
+fn asks_for_each(alloc: Global, caller: &Caller, rows: &[(&str, &[u8], Endpoint)]) -> bool {
+    let Ok(routes) = Routes::new(alloc) else {
+        return false;
+    };
+    for row in rows {
+        if !asks_for(alloc, &routes, caller, row) {
+            return false;
         }
     }
-    Ok(None)
+    true
 }
 
 const PUBLICATION: &[u8] = br#"{
@@ -185,31 +184,29 @@ const OF_TENDERERS: [(&str, &[u8], Endpoint); 4] = [
     ("GET /tenders/17", b"", Queries(QueryKind::Tender)),
 ];
 
+fn tenderers_ask(alloc: Global) -> bool {
+    match tenderer() {
+        Some(caller) => asks_for_each(alloc, &caller, &OF_TENDERERS),
+        None => false,
+    }
+}
+
 #[test]
-fn takes_each_route(rt: HostRuntime) -> Result<(), Fail> {
-    let alloc = rt.alloc();
-    let clerks = first_missed(alloc, &Caller::Clerk, &OF_CLERKS)?;
-    let tenderers = first_missed(alloc, &tenderer()?, &OF_TENDERERS)?;
-    assert_eq!(rt; (clerks, tenderers), (None, None));
-    Ok(())
+fn takes_each_route(rt: HostRuntime) {
+    assert!(rt; asks_for_each(rt.alloc(), &Caller::Clerk, &OF_CLERKS));
+    assert!(rt; tenderers_ask(rt.alloc()));
 }
 
-// What is refused, by its number and what it is about.
-fn told(why: Refusal) -> (u8, &'static str) {
-    match why.what() {
-        Some(What::Name(name)) => (why.number(), name),
-        _ => (why.number(), ""),
-    }
+// Whether a refusal has this number and is about this name, or none.
+fn is_about(why: &Refusal, number: u8, name: &str) -> bool {
+    let told = match why.what() {
+        Some(What::Name(told)) => told,
+        _ => "",
+    };
+    why.number() == number && told == name
 }
 
-// The refusal of a request of the clerk's; the number 0 where it is none.
-fn refusal_of(alloc: Global, routes: &Routes, request: &Request) -> (u8, &'static str) {
-    match asked_of(alloc, routes, &Caller::Clerk, request) {
-        Ok(_) => (0, ""),
-        Err(why) => told(why),
-    }
-}
-
+// Requests of the clerk's with the number and the name of their refusal; the number 0 where there is none.
 const REFUSED: [(&str, &[u8], (u8, &str)); 14] = [
     ("GET /lines/1000/", b"", (4, "")),
     ("GET /tenders/01", b"", (4, "")),
@@ -235,27 +232,38 @@ const REFUSED: [(&str, &[u8], (u8, &str)); 14] = [
     ("POST /awards/1/sign", b"{", (0, "")),
 ];
 
-// The first row whose request isn't refused as it should be.
-fn first_otherwise(alloc: Global) -> Result<Option<usize>, Fail> {
-    let routes = Routes::new(alloc)?;
-    for (place, (line, body, wanted)) in REFUSED.iter().enumerate() {
-        let request = request_of(alloc, line, body)?;
-        if refusal_of(alloc, &routes, &request) != *wanted {
-            return Ok(Some(place));
+fn is_refused(alloc: Global, routes: &Routes, row: &(&str, &[u8], (u8, &str))) -> bool {
+    let (line, body, (number, name)) = *row;
+    let Some(request) = request_of(alloc, line, body) else {
+        return false;
+    };
+    match asked_of(alloc, routes, &Caller::Clerk, &request) {
+        Ok(_) => number == 0,
+        Err(why) => is_about(&why, number, name),
+    }
+}
+
+fn refuses_each(alloc: Global) -> bool {
+    let Ok(routes) = Routes::new(alloc) else {
+        return false;
+    };
+    for row in &REFUSED {
+        if !is_refused(alloc, &routes, row) {
+            return false;
         }
     }
-    Ok(None)
+    true
 }
 
 #[test]
-fn refuses(rt: HostRuntime) -> Result<(), Fail> {
-    let otherwise = first_otherwise(rt.alloc())?;
-    assert_eq!(rt; otherwise, None);
-    Ok(())
+fn refuses(rt: HostRuntime) {
+    assert!(rt; refuses_each(rt.alloc()));
 }
 
-// Of a tender that is presented: whether its security's reference is G1, its amount, and how many bytes are sealed.
-fn tender_facts(asked: &Asked<'_>) -> Option<(bool, u64, usize)> {
+const TENDER: &str = "POST /notices/N1/lots/L1/tenders?security=%47%31&x=1&amount=050";
+
+// Whether a tender is presented whose security has the reference G1 and the amount 50, with three sealed bytes.
+fn is_tender(asked: &Asked<'_>) -> bool {
     match asked {
         Asked::Does(
             Command::Present {
@@ -263,54 +271,71 @@ fn tender_facts(asked: &Asked<'_>) -> Option<(bool, u64, usize)> {
                 sealed,
                 ..
             },
-        ) => Some((
-            named.reference.as_bytes() == b"G1".as_slice(),
-            named.amount.get(),
-            sealed.as_slice().len(),
-        )),
-        _ => None,
-    }
-}
-
-// Of a publication: its deadline, its weight, and of its first lot the estimate and the number of items.
-fn publication_facts(asked: &Asked<'_>) -> Option<([u8; 20], u64, u64, usize)> {
-    match asked {
-        Asked::Does(Command::Publish { content, .. }) => {
-            let lot = content.lots.as_slice().first()?;
-            Some((
-                content.deadline.text(),
-                content.criteria.weight().get(),
-                lot.estimate.get(),
-                lot.items.as_slice().len(),
-            ))
+        ) => {
+            named.reference.as_bytes() == b"G1".as_slice()
+                && named.amount.get() == 50
+                && sealed.as_slice().len() == 3
         }
-        _ => None,
+        _ => false,
+    }
+}
+
+fn asks_tender(alloc: Global, caller: &Caller, request: &Request) -> bool {
+    let Ok(routes) = Routes::new(alloc) else {
+        return false;
+    };
+    match asked_of(alloc, &routes, caller, request) {
+        Ok(asked) => is_tender(&asked),
+        Err(_) => false,
+    }
+}
+
+fn reads_tender(alloc: Global) -> bool {
+    match (tenderer(), request_of(alloc, TENDER, b"abc")) {
+        (Some(caller), Some(request)) => asks_tender(alloc, &caller, &request),
+        _ => false,
     }
 }
 
 #[test]
-fn reads_tenders(rt: HostRuntime) -> Result<(), Fail> {
-    let alloc = rt.alloc();
-    let line = "POST /notices/N1/lots/L1/tenders?security=%47%31&x=1&amount=050";
-    let request = request_of(alloc, line, b"abc")?;
-    let routes = Routes::new(alloc)?;
-    let facts = match asked_of(alloc, &routes, &tenderer()?, &request) {
-        Ok(asked) => tender_facts(&asked),
-        Err(_) => None,
+fn reads_tenders(rt: HostRuntime) {
+    assert!(rt; reads_tender(rt.alloc()));
+}
+
+// Whether what PUBLICATION says is published: its deadline, its weight, and of its first lot the estimate and the number of items.
+fn is_publication(asked: &Asked<'_>) -> bool {
+    match asked {
+        Asked::Does(Command::Publish { content, .. }) => match content.lots.as_slice().first() {
+            Some(lot) => {
+                content.deadline.text() == *b"2026-03-01T12:00:00Z"
+                    && content.criteria.weight().get() == 60
+                    && lot.estimate.get() == 600
+                    && lot.items.as_slice().len() == 1
+            }
+            None => false,
+        },
+        _ => false,
+    }
+}
+
+fn asks_publication(alloc: Global, request: &Request) -> bool {
+    let Ok(routes) = Routes::new(alloc) else {
+        return false;
     };
-    assert_eq!(rt; facts, Some((true, 50, 3)));
-    Ok(())
+    match asked_of(alloc, &routes, &Caller::Clerk, request) {
+        Ok(asked) => is_publication(&asked),
+        Err(_) => false,
+    }
+}
+
+fn reads_publication(alloc: Global) -> bool {
+    match request_of(alloc, "POST /notices/N1", PUBLICATION) {
+        Some(request) => asks_publication(alloc, &request),
+        None => false,
+    }
 }
 
 #[test]
-fn reads_publications(rt: HostRuntime) -> Result<(), Fail> {
-    let alloc = rt.alloc();
-    let request = request_of(alloc, "POST /notices/N1", PUBLICATION)?;
-    let routes = Routes::new(alloc)?;
-    let facts = match asked_of(alloc, &routes, &Caller::Clerk, &request) {
-        Ok(asked) => publication_facts(&asked),
-        Err(_) => None,
-    };
-    assert_eq!(rt; facts, Some((*b"2026-03-01T12:00:00Z", 60, 600, 1)));
-    Ok(())
+fn reads_publications(rt: HostRuntime) {
+    assert!(rt; reads_publication(rt.alloc()));
 }

@@ -7,9 +7,8 @@ use office_wire::fault::{ReadFault, RunFault};
 use office_wire::request::Request;
 use office_wire::runs::{Responder, run, serve_one};
 use office_wire::watched::WatchedWriter;
-use std::alloc::Global;
+use std::alloc::{AllocError, Global};
 use std::io::{BufRead, BufReader, ErrorKind};
-use std::test::Fail;
 
 /// Answers each request with its body, and counts them. What is refused for want of memory is told otherwise than the rest.
 #[derive(Drop)]
@@ -70,203 +69,266 @@ fn run_over<R: BufRead + Drop>(alloc: Global, reader: R, reads: u32) -> Outcome 
     }
 }
 
+/// Whether a run over all that a reader gives ends so, with this text, and neither side fails.
+fn runs_to<R: BufRead + Drop>(
+    alloc: Global,
+    reader: R,
+    wanted: Result<u64, RunFault>,
+    text: &[u8],
+) -> bool {
+    let outcome = run_over(alloc, reader, u32::MAX);
+    outcome.end == wanted
+        && outcome.text.as_slice() == text
+        && !outcome.is_read_failed
+        && !outcome.is_write_failed
+}
+
+/// How a run over so many of the input's bytes ends, and what it writes.
+fn end_at(end: usize) -> (Result<u64, RunFault>, &'static [u8]) {
+    if end == 0 {
+        (Ok(0), b"".as_slice())
+    } else if end < 24 {
+        (Err(RunFault::BadBlock), b"".as_slice())
+    } else if end < FIRST {
+        (Err(RunFault::LostPlace), b"refused".as_slice())
+    } else if end == FIRST {
+        (Ok(1), b"hello".as_slice())
+    } else if end < FIRST + 24 {
+        (Err(RunFault::BadBlock), b"hello".as_slice())
+    } else if end < INPUT.len() {
+        (Err(RunFault::LostPlace), b"hellorefused".as_slice())
+    } else {
+        (Ok(2), b"hello!".as_slice())
+    }
+}
+
 #[test]
-fn answers_what_comes_before_the_end(rt: HostRuntime) -> Result<(), Fail> {
+fn answers_what_comes_before_the_end(rt: HostRuntime) {
     for end in 0..INPUT.len() + 1 {
-        let outcome = run_over(rt.alloc(), &INPUT[..end], u32::MAX);
-        let (wanted, text) = if end == 0 {
-            (Ok(0), b"".as_slice())
-        } else if end < 24 {
-            (Err(RunFault::BadBlock), b"".as_slice())
-        } else if end < FIRST {
-            (Err(RunFault::LostPlace), b"refused".as_slice())
-        } else if end == FIRST {
-            (Ok(1), b"hello".as_slice())
-        } else if end < FIRST + 24 {
-            (Err(RunFault::BadBlock), b"hello".as_slice())
-        } else if end < INPUT.len() {
-            (Err(RunFault::LostPlace), b"hellorefused".as_slice())
-        } else {
-            (Ok(2), b"hello!".as_slice())
-        };
-        assert!(rt; outcome.end == wanted);
-        assert_eq!(rt; outcome.text.as_slice(), text);
+        let (wanted, text) = end_at(end);
+        assert!(rt; runs_to(rt.alloc(), &INPUT[..end], wanted, text));
     }
-    Ok(())
 }
 
-#[test]
-fn refuses_wrong_lines(rt: HostRuntime) -> Result<(), Fail> {
-    let wrong = [
-        b"At 2026-01-05T09:00:00Z\n".as_slice(),
-        b"at 2026-13-05T09:00:00Z\n".as_slice(),
-        b"at 2026-01-05T09:00:00Z\r\n".as_slice(),
-        b"at 2026-01-05T09:00:00 \n".as_slice(),
-        b"at  026-01-05T09:00:00Z\n".as_slice(),
-    ];
-    for line in wrong {
-        let outcome = run_over(rt.alloc(), line, u32::MAX);
-        assert!(rt; outcome.end == Err(RunFault::BadBlock));
-        assert!(rt; outcome.text.is_empty());
-    }
-    Ok(())
-}
+/// Lines that begin no block.
+const WRONG: [&[u8]; 5] = [
+    b"At 2026-01-05T09:00:00Z\n",
+    b"at 2026-13-05T09:00:00Z\n",
+    b"at 2026-01-05T09:00:00Z\r\n",
+    b"at 2026-01-05T09:00:00 \n",
+    b"at  026-01-05T09:00:00Z\n",
+];
 
-#[test]
-fn ends_where_a_stream_breaks(rt: HostRuntime) -> Result<(), Fail> {
-    for reads in 0..INPUT.len() {
-        let mut reader = Drip::over(INPUT, 1);
-        reader.reads = reads as u32;
-        let outcome = run_over(rt.alloc(), reader, u32::MAX);
-        assert!(rt; outcome.end == Err(RunFault::Read));
-        assert!(rt; outcome.is_read_failed);
-        assert_eq!(rt; outcome.text.len(), if reads < FIRST { 0 } else { 5 });
-    }
-    Ok(())
-}
-
-#[test]
-fn counts_the_reads_of_all_blocks(rt: HostRuntime) -> Result<(), Fail> {
-    // A byte at a time, and one read more at the end.
-    let all = INPUT.len() as u32 + 1;
-    for reads in 0..all + 2 {
-        let outcome = run_over(rt.alloc(), Drip::over(INPUT, 1), reads);
-        assert!(rt; !outcome.is_read_failed);
-        assert!(rt; !outcome.is_write_failed);
-        if reads < all {
-            assert!(rt; outcome.end == Err(RunFault::Read));
-            assert_eq!(rt; outcome.left, 0);
-            assert_eq!(rt;
-                outcome.text.len(),
-                if reads < FIRST as u32 {
-                    0
-                } else if reads < INPUT.len() as u32 {
-                    5
-                } else {
-                    6
-                }
-            );
-        } else {
-            assert!(rt; outcome.end == Ok(2));
-            assert_eq!(rt; outcome.left, reads - all);
+fn refuses_each_line(alloc: Global) -> bool {
+    for line in WRONG {
+        if !runs_to(alloc, line, Err(RunFault::BadBlock), b"") {
+            return false;
         }
     }
-    Ok(())
+    true
 }
 
 #[test]
-fn runs_over_interrupted_reads(rt: HostRuntime) -> Result<(), Fail> {
+fn refuses_wrong_lines(rt: HostRuntime) {
+    assert!(rt; refuses_each_line(rt.alloc()));
+}
+
+/// Whether a run ends where its stream breaks, after so many reads of a byte, with so many bytes written.
+fn breaks_after(alloc: Global, reads: u32, written: usize) -> bool {
+    let mut reader = Drip::over(INPUT, 1);
+    reader.reads = reads;
+    let outcome = run_over(alloc, reader, u32::MAX);
+    outcome.end == Err(RunFault::Read) && outcome.is_read_failed && outcome.text.len() == written
+}
+
+#[test]
+fn ends_where_a_stream_breaks(rt: HostRuntime) {
+    for reads in 0..INPUT.len() {
+        let written = if reads < FIRST { 0 } else { 5 };
+        assert!(rt; breaks_after(rt.alloc(), reads as u32, written));
+    }
+}
+
+/// Whether a run of so many reads of a byte, and one more at the end, reads all or gives out.
+fn counts_to(alloc: Global, reads: u32) -> bool {
+    let all = INPUT.len() as u32 + 1;
+    let outcome = run_over(alloc, Drip::over(INPUT, 1), reads);
+    let written = outcome.text.len();
+    let is_right = if reads < FIRST as u32 {
+        outcome.end == Err(RunFault::Read) && outcome.left == 0 && written == 0
+    } else if reads < INPUT.len() as u32 {
+        outcome.end == Err(RunFault::Read) && outcome.left == 0 && written == 5
+    } else if reads < all {
+        outcome.end == Err(RunFault::Read) && outcome.left == 0 && written == 6
+    } else {
+        outcome.end == Ok(2) && outcome.left == reads - all
+    };
+    is_right && !outcome.is_read_failed && !outcome.is_write_failed
+}
+
+#[test]
+fn counts_the_reads_of_all_blocks(rt: HostRuntime) {
+    for reads in 0..INPUT.len() as u32 + 3 {
+        assert!(rt; counts_to(rt.alloc(), reads));
+    }
+}
+
+fn runs_over_interrupted(alloc: Global, most: usize) -> bool {
+    let mut reader = Drip::over(INPUT, most);
+    reader.is_interrupted = true;
+    runs_to(alloc, reader, Ok(2), b"hello!")
+}
+
+#[test]
+fn runs_over_interrupted_reads(rt: HostRuntime) {
     for most in 1..9usize {
-        let mut reader = Drip::over(INPUT, most);
-        reader.is_interrupted = true;
-        let outcome = run_over(rt.alloc(), reader, u32::MAX);
-        assert!(rt; outcome.end == Ok(2));
-        assert!(rt; !outcome.is_read_failed);
-        assert_eq!(rt; outcome.text.as_slice(), b"hello!".as_slice());
+        assert!(rt; runs_over_interrupted(rt.alloc(), most));
     }
-    Ok(())
+}
+
+fn runs_over_buffer(alloc: Global, size: usize) -> bool {
+    match BufReader::with_capacity(alloc, size, INPUT) {
+        Ok(reader) => runs_to(alloc, reader, Ok(2), b"hello!"),
+        Err(_) => false,
+    }
 }
 
 #[test]
-fn runs_over_small_buffers(rt: HostRuntime) -> Result<(), Fail> {
+fn runs_over_small_buffers(rt: HostRuntime) {
     for size in 1..40usize {
-        let reader = BufReader::with_capacity(rt.alloc(), size, INPUT)?;
-        let outcome = run_over(rt.alloc(), reader, u32::MAX);
-        assert!(rt; outcome.end == Ok(2));
-        assert_eq!(rt; outcome.text.as_slice(), b"hello!".as_slice());
+        assert!(rt; runs_over_buffer(rt.alloc(), size));
     }
-    Ok(())
 }
 
-#[test]
-fn ends_where_a_writer_fails(rt: HostRuntime) -> Result<(), Fail> {
-    let alloc = rt.alloc();
+fn ends_at_a_failed_write(alloc: Global) -> bool {
     let mut desk = Echo { total: 0 };
     let mut reader = CountedReader::new(INPUT);
     let mut writer = WatchedWriter::new(make_narrow(alloc, 2, 2, ErrorKind::BrokenPipe));
-    let outcome = run(alloc, &mut desk, &mut reader, &mut writer);
-    assert!(rt; outcome == Err(RunFault::Write));
-    assert!(rt; writer.has_failed());
-    assert_eq!(rt; writer.into_inner().bytes.as_slice(), b"hell".as_slice());
-    assert_eq!(rt; desk.total, 1);
-    Ok(())
+    let end = run(alloc, &mut desk, &mut reader, &mut writer);
+    let has_failed = writer.has_failed();
+    let narrow = writer.into_inner();
+    end == Err(RunFault::Write)
+        && has_failed
+        && narrow.bytes.as_slice() == b"hell".as_slice()
+        && desk.total == 1
 }
 
-/// Requests that are refused, each with the length of its head.
-const REFUSED: [(&[u8], usize); 3] = [
-    (b"nonsense\nmore", 9),
-    (b"POST / HTTP/1.1\r\nContent-Length: 65537\r\n\r\nmore", 42),
-    (
-        b"POST / HTTP/1.1\r\nTransfer-Encoding: chunked\r\n\r\nmore",
-        47,
-    ),
+#[test]
+fn ends_where_a_writer_fails(rt: HostRuntime) {
+    assert!(rt; ends_at_a_failed_write(rt.alloc()));
+}
+
+/// Requests that are refused, each with `more` behind its head.
+const REFUSED: [&[u8]; 3] = [
+    b"nonsense\nmore",
+    b"POST / HTTP/1.1\r\nContent-Length: 65537\r\n\r\nmore",
+    b"POST / HTTP/1.1\r\nTransfer-Encoding: chunked\r\n\r\nmore",
 ];
 
-#[test]
-fn tells_the_refusal_of_the_fault(rt: HostRuntime) -> Result<(), Fail> {
-    let alloc = rt.alloc();
-    for (request, head) in REFUSED {
-        let mut input = INPUT[..FIRST].to_vec(alloc)?;
-        input.extend_from_slice(&INPUT[..24])?;
-        input.extend_from_slice(request)?;
-        let outcome = run_over(alloc, input.as_slice(), u32::MAX);
-        assert!(rt; outcome.end == Err(RunFault::LostPlace));
-        assert_eq!(rt; outcome.text.as_slice(), b"hellorefused".as_slice());
-        let mut desk = Echo { total: 0 };
-        let mut reader = CountedReader::new(request);
-        let mut writer = WatchedWriter::new(Vec::new(alloc));
-        let served = serve_one(alloc, &mut desk, Moment::EPOCH, &mut reader, &mut writer);
-        assert!(rt; served == Ok(()));
-        assert_eq!(rt; writer.into_inner().as_slice(), b"refused".as_slice());
-        assert_eq!(rt; reader.into_inner().len(), request.len() - head);
+/// The first block, and a block of this request.
+fn blocks_with(alloc: Global, request: &[u8]) -> Result<Vec<u8>, AllocError> {
+    let mut input = INPUT[..FIRST].to_vec(alloc)?;
+    input.extend_from_slice(&INPUT[..24])?;
+    input.extend_from_slice(request)?;
+    Ok(input)
+}
+
+fn refuses_in_a_run(alloc: Global, request: &[u8]) -> bool {
+    match blocks_with(alloc, request) {
+        Ok(input) => runs_to(
+            alloc,
+            input.as_slice(),
+            Err(RunFault::LostPlace),
+            b"hellorefused",
+        ),
+        Err(_) => false,
     }
-    Ok(())
+}
+
+fn refuses_alone(alloc: Global, request: &[u8]) -> bool {
+    let mut desk = Echo { total: 0 };
+    let mut reader = CountedReader::new(request);
+    let mut writer = WatchedWriter::new(Vec::new(alloc));
+    let served = serve_one(alloc, &mut desk, Moment::EPOCH, &mut reader, &mut writer);
+    let rest = reader.into_inner();
+    let text = writer.into_inner();
+    served == Ok(()) && text.as_slice() == b"refused".as_slice() && rest == b"more".as_slice()
+}
+
+fn tells_each_refusal(alloc: Global) -> bool {
+    for request in REFUSED {
+        if !refuses_in_a_run(alloc, request) || !refuses_alone(alloc, request) {
+            return false;
+        }
+    }
+    true
 }
 
 #[test]
-fn serves_one_request(rt: HostRuntime) -> Result<(), Fail> {
-    let alloc = rt.alloc();
+fn tells_the_refusal_of_the_fault(rt: HostRuntime) {
+    assert!(rt; tells_each_refusal(rt.alloc()));
+}
+
+fn serves_a_request_and_refuses_the_next(alloc: Global) -> bool {
     let moment = Moment::EPOCH;
     let mut desk = Echo { total: 0 };
     let mut reader = CountedReader::new(&INPUT[24..]);
     let mut writer = WatchedWriter::new(Vec::new(alloc));
-    let outcome = serve_one(alloc, &mut desk, moment, &mut reader, &mut writer);
-    assert!(rt; outcome == Ok(()));
-    let refused = serve_one(alloc, &mut desk, moment, &mut reader, &mut writer);
-    assert!(rt; refused == Ok(()));
-    assert_eq!(rt; writer.into_inner().as_slice(), b"hellorefused".as_slice());
-    assert_eq!(rt; desk.total, 1);
+    let first = serve_one(alloc, &mut desk, moment, &mut reader, &mut writer);
+    let second = serve_one(alloc, &mut desk, moment, &mut reader, &mut writer);
+    let text = writer.into_inner();
+    first == Ok(())
+        && second == Ok(())
+        && text.as_slice() == b"hellorefused".as_slice()
+        && desk.total == 1
+}
+
+fn serves_no_more_than_one(alloc: Global) -> bool {
+    let mut desk = Echo { total: 1 };
     let mut rest = &INPUT[24..];
-    let mut one = CountedReader::new(&mut rest);
-    let mut out = WatchedWriter::new(Vec::new(alloc));
-    assert!(rt; serve_one(alloc, &mut desk, moment, &mut one, &mut out) == Ok(()));
-    drop(one);
-    assert_eq!(rt; rest.len(), INPUT.len() - FIRST);
-    Ok(())
+    let mut reader = CountedReader::new(&mut rest);
+    let mut writer = WatchedWriter::new(Vec::new(alloc));
+    let served = serve_one(alloc, &mut desk, Moment::EPOCH, &mut reader, &mut writer);
+    drop(reader);
+    served == Ok(()) && rest.len() == INPUT.len() - FIRST
 }
 
 #[test]
-fn serves_nothing_where_a_stream_breaks(rt: HostRuntime) -> Result<(), Fail> {
-    let alloc = rt.alloc();
+fn serves_one_request(rt: HostRuntime) {
+    assert!(rt; serves_a_request_and_refuses_the_next(rt.alloc()));
+    assert!(rt; serves_no_more_than_one(rt.alloc()));
+}
+
+/// Whether neither a reader that fails nor one of too few reads has a request answered.
+fn serves_no_cut_request(alloc: Global) -> bool {
     let mut desk = Echo { total: 0 };
     let mut broken = Drip::over(INPUT, 1);
     broken.reads = 9;
     let mut failing = CountedReader::new(broken);
-    let mut out = WatchedWriter::new(Vec::new(alloc));
-    let outcome = serve_one(alloc, &mut desk, Moment::EPOCH, &mut failing, &mut out);
-    assert!(rt; outcome == Err(RunFault::Read));
-    assert!(rt; failing.has_failed());
     let mut few = CountedReader::within(Drip::over(&INPUT[24..], 1), 9);
-    let short = serve_one(alloc, &mut desk, Moment::EPOCH, &mut few, &mut out);
-    assert!(rt; short == Err(RunFault::Read));
-    assert!(rt; !few.has_failed());
-    assert_eq!(rt; few.left(), 0);
-    assert!(rt; out.into_inner().is_empty());
-    assert_eq!(rt; desk.total, 0);
+    let mut writer = WatchedWriter::new(Vec::new(alloc));
+    let cut = serve_one(alloc, &mut desk, Moment::EPOCH, &mut failing, &mut writer);
+    let short = serve_one(alloc, &mut desk, Moment::EPOCH, &mut few, &mut writer);
+    let text = writer.into_inner();
+    cut == Err(RunFault::Read)
+        && failing.has_failed()
+        && short == Err(RunFault::Read)
+        && !few.has_failed()
+        && few.left() == 0
+        && text.is_empty()
+        && desk.total == 0
+}
+
+fn tells_a_failed_write(alloc: Global) -> bool {
+    let mut desk = Echo { total: 0 };
     let mut reader = CountedReader::new(&INPUT[24..]);
     let mut writer = WatchedWriter::new(make_narrow(alloc, 2, 2, ErrorKind::Interrupted));
-    let cut = serve_one(alloc, &mut desk, Moment::EPOCH, &mut reader, &mut writer);
-    assert!(rt; cut == Err(RunFault::Write));
-    assert!(rt; writer.has_failed());
-    Ok(())
+    let served = serve_one(alloc, &mut desk, Moment::EPOCH, &mut reader, &mut writer);
+    served == Err(RunFault::Write) && writer.has_failed()
+}
+
+#[test]
+fn serves_nothing_where_a_stream_breaks(rt: HostRuntime) {
+    assert!(rt; serves_no_cut_request(rt.alloc()));
+    assert!(rt; tells_a_failed_write(rt.alloc()));
 }
