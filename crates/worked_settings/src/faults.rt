@@ -2,43 +2,49 @@
 use office_values::refusal::Refusal;
 use procure_config::fault::{ProgramFault, exit_code};
 use procure_config::settings::{SettingName, SettingsFault};
-use std::test::Fail;
+use std::alloc::Global;
 
-#[test]
-fn tells_each_fault(rt: HostRuntime) -> Result<(), Fail> {
-    let faults = [
-        (ProgramFault::Settings(None), "procure: settings"),
-        (
-            ProgramFault::Settings(Some(SettingName::BuyerId)),
-            "procure: settings buyer.id",
-        ),
-        (ProgramFault::Store, "procure: store"),
-        (ProgramFault::Input, "procure: input"),
-        (ProgramFault::Output, "procure: output"),
-        (
-            ProgramFault::Refused(Refusal::NotOpened),
-            "procure: NotOpened",
-        ),
-    ];
-    for (fault, line) in faults {
-        assert_eq!(rt; format!(in rt.alloc(); "{fault}")?.as_str(), line);
-        assert_eq!(rt; exit_code(&fault), 1);
+// Faults of settings, and their lines.
+const SETTINGS_FAULTS: &[(SettingsFault, &str)] = &[
+    (
+        SettingsFault::Member(SettingName::ClerkKey),
+        "procure: settings clerk_key",
+    ),
+    (SettingsFault::NotToml, "procure: settings"),
+    (SettingsFault::NoMemory, "procure: Unavailable"),
+];
+
+/// Whether a fault is told in this line, with status 1.
+pub(crate) fn is_told(alloc: Global, fault: &ProgramFault, line: &str) -> bool {
+    match format!(in alloc; "{fault}") {
+        Ok(text) => text.as_str() == line && exit_code(fault) == 1,
+        Err(_) => false,
     }
-    Ok(())
 }
 
 #[test]
-fn tells_the_settings_faults(rt: HostRuntime) -> Result<(), Fail> {
-    for (fault, line) in [
-        (
-            SettingsFault::Member(SettingName::ClerkKey),
-            "procure: settings clerk_key",
-        ),
-        (SettingsFault::NotToml, "procure: settings"),
-        (SettingsFault::NoMemory, "procure: Unavailable"),
-    ] {
-        let told = ProgramFault::from(fault);
-        assert_eq!(rt; format!(in rt.alloc(); "{told}")?.as_str(), line);
+fn tells_each_fault(rt: HostRuntime) {
+    let alloc = rt.alloc();
+    let member = ProgramFault::Settings(Some(SettingName::BuyerId));
+    let refused = ProgramFault::Refused(Refusal::NotOpened);
+    assert!(rt; is_told(alloc, &ProgramFault::Settings(None), "procure: settings"));
+    assert!(rt; is_told(alloc, &member, "procure: settings buyer.id"));
+    assert!(rt; is_told(alloc, &ProgramFault::Store, "procure: store"));
+    assert!(rt; is_told(alloc, &ProgramFault::Input, "procure: input"));
+    assert!(rt; is_told(alloc, &ProgramFault::Output, "procure: output"));
+    assert!(rt; is_told(alloc, &refused, "procure: NotOpened"));
+}
+
+fn settings_faults_are_told(alloc: Global) -> bool {
+    for (fault, line) in SETTINGS_FAULTS {
+        if !is_told(alloc, &ProgramFault::from(*fault), line) {
+            return false;
+        }
     }
-    Ok(())
+    true
+}
+
+#[test]
+fn tells_the_settings_faults(rt: HostRuntime) {
+    assert!(rt; settings_faults_are_told(rt.alloc()));
 }

@@ -1,146 +1,231 @@
 //! Words on the command line, and what the program makes of them.
 use procure_config::fault::exit_code;
 use procure_config::job::{Job, job_of};
-use std::alloc::{AllocError, Global};
-use std::test::Fail;
+use std::alloc::Global;
+
+// Words, and the job that they ask for.
+type Asked<'a> = (&'a [&'a str], Job<'a>);
+
+// Words that ask for a desk.
+const DESKS: &[Asked<'_>] = &[(
+    &["procure", "desk", "office.toml"],
+    Job::Desk {
+        config: "office.toml",
+    },
+)];
+
+// Words that ask to serve.
+const SERVED: &[Asked<'_>] = &[
+    (
+        &["procure", "serve", "office.toml", "office.db", "1", "1"],
+        Job::Serve {
+            config: "office.toml",
+            store: "office.db",
+            port: 1,
+            count: 1,
+        },
+    ),
+    (
+        &[
+            "procure",
+            "serve",
+            "office.toml",
+            "office.db",
+            "65535",
+            "1000000",
+        ],
+        Job::Serve {
+            config: "office.toml",
+            store: "office.db",
+            port: 65535,
+            count: 1_000_000,
+        },
+    ),
+    (
+        &[
+            "procure",
+            "serve",
+            "office.toml",
+            "office.db",
+            "+8080",
+            "007",
+        ],
+        Job::Serve {
+            config: "office.toml",
+            store: "office.db",
+            port: 8080,
+            count: 7,
+        },
+    ),
+];
+
+// Words that ask for a ledger.
+const LEDGERS: &[Asked<'_>] = &[(
+    &["procure", "ledger", "office.toml", "office.db"],
+    Job::Ledger {
+        config: "office.toml",
+        store: "office.db",
+    },
+)];
+
+// Words that ask for the papers of a notice.
+const PAPERS: &[Asked<'_>] = &[
+    (
+        &["procure", "minutes", "office.toml", "office.db", "N1"],
+        Job::Minutes {
+            config: "office.toml",
+            store: "office.db",
+            notice: "N1",
+        },
+    ),
+    (
+        &["procure", "record", "office.toml", "office.db", "no id"],
+        Job::Record {
+            config: "office.toml",
+            store: "office.db",
+            notice: "no id",
+        },
+    ),
+];
+
+// Words that ask for no job, and a part of what is told of them.
+const NO_JOBS: &[(&[&str], &str)] = &[
+    (&[], "Usage: procure <COMMAND>"),
+    (&["procure"], "Usage: procure <COMMAND>"),
+    (&["procure", "--help"], "A public procurement office"),
+    (&["procure", "help"], "A public procurement office"),
+    (&["procure", "desk"], "<CONFIG>"),
+    (&["procure", "desk", "--help"], "a TOML file"),
+    (&["procure", "shop", "a"], "unrecognized subcommand 'shop'"),
+    (&["procure", "desk", "a", "b"], "unexpected argument 'b'"),
+    (&["procure", "-x", "desk", "a"], "unexpected argument '-x'"),
+    (&["procure", "ledger"], "<DB>"),
+    (&["procure", "ledger", "a"], "<DB>"),
+    (&["procure", "minutes", "a", "b"], "<NOTICE>"),
+    (&["procure", "record", "a", "b"], "<NOTICE>"),
+];
+
+// Words that ask to serve with a port or a count out of bounds, and a part of what is told of them.
+const OUT_OF_BOUNDS: &[(&[&str], &str)] = &[
+    (
+        &["procure", "serve", "a", "b", "0", "1"],
+        "0 is not in 1..=65535",
+    ),
+    (
+        &["procure", "serve", "a", "b", "65536", "1"],
+        "65536 is not in 1..=65535",
+    ),
+    (
+        &["procure", "serve", "a", "b", "80", "0"],
+        "0 is not in 1..=1000000",
+    ),
+    (
+        &["procure", "serve", "a", "b", "80", "1000001"],
+        "1000001 is not in 1..=1000000",
+    ),
+    (
+        &["procure", "serve", "a", "b", "http", "1"],
+        "invalid digit",
+    ),
+    (&["procure", "serve", "a", "b", "80", ""], "empty string"),
+    (
+        &["procure", "serve", "a", "b", "99999999999999999999", "1"],
+        "too large",
+    ),
+];
+
+// The words that a job keeps: the settings, the store or "", the notice or "".
+fn words_of<'a>(job: &Job<'a>) -> (&'a str, &'a str, &'a str) {
+    match *job {
+        Job::Desk { config } => (config, "", ""),
+        Job::Serve { config, store, .. } => (config, store, ""),
+        Job::Ledger { config, store } => (config, store, ""),
+        Job::Minutes {
+            config,
+            store,
+            notice,
+        } => (config, store, notice),
+        Job::Record {
+            config,
+            store,
+            notice,
+        } => (config, store, notice),
+    }
+}
+
+// Its kind, and the port and the count, or 0.
+fn numbers_of(job: &Job<'_>) -> (u8, u16, u32) {
+    match *job {
+        Job::Desk { .. } => (0, 0, 0),
+        Job::Serve { port, count, .. } => (1, port, count),
+        Job::Ledger { .. } => (2, 0, 0),
+        Job::Minutes { .. } => (3, 0, 0),
+        Job::Record { .. } => (4, 0, 0),
+    }
+}
+
+fn is_asked(alloc: Global, words: &[&str], wanted: &Job<'_>) -> bool {
+    match job_of(alloc, words) {
+        Ok(job) => words_of(&job) == words_of(wanted) && numbers_of(&job) == numbers_of(wanted),
+        Err(_) => false,
+    }
+}
+
+fn are_asked(alloc: Global, rows: &[Asked<'_>]) -> bool {
+    for (words, wanted) in rows {
+        if !is_asked(alloc, words, wanted) {
+            return false;
+        }
+    }
+    true
+}
 
 #[test]
 fn asks_for_a_desk(rt: HostRuntime) {
-    match job_of(rt.alloc(), &["procure", "desk", "office.toml"]) {
-        Ok(Job::Desk { config }) => assert_eq!(rt; config, "office.toml"),
-        _ => panic!(rt; "another job"),
-    }
+    assert!(rt; are_asked(rt.alloc(), DESKS));
 }
 
 #[test]
 fn asks_to_serve(rt: HostRuntime) {
-    for (port, count) in [("1", "1"), ("65535", "1000000"), ("+8080", "007")] {
-        let words = ["procure", "serve", "office.toml", "office.db", port, count];
-        match job_of(rt.alloc(), &words) {
-            Ok(
-                Job::Serve {
-                    config,
-                    store,
-                    port: read_port,
-                    count: read_count,
-                },
-            ) => {
-                assert_eq!(rt; config, "office.toml");
-                assert_eq!(rt; store, "office.db");
-                assert_eq!(rt; port.parse::<u16>(), Ok(read_port));
-                assert_eq!(rt; count.parse::<u32>(), Ok(read_count));
-            }
-            _ => panic!(rt; "another job"),
-        }
-    }
+    assert!(rt; are_asked(rt.alloc(), SERVED));
 }
 
 #[test]
 fn asks_for_a_ledger(rt: HostRuntime) {
-    match job_of(
-        rt.alloc(),
-        &["procure", "ledger", "office.toml", "office.db"],
-    ) {
-        Ok(Job::Ledger { config, store }) => {
-            assert_eq!(rt; config, "office.toml");
-            assert_eq!(rt; store, "office.db");
-        }
-        _ => panic!(rt; "another job"),
-    }
+    assert!(rt; are_asked(rt.alloc(), LEDGERS));
 }
 
 #[test]
 fn asks_for_minutes_and_a_record(rt: HostRuntime) {
-    match job_of(
-        rt.alloc(),
-        &["procure", "minutes", "office.toml", "office.db", "N1"],
-    ) {
-        Ok(
-            Job::Minutes {
-                config,
-                store,
-                notice,
-            },
-        ) => {
-            assert_eq!(rt; config, "office.toml");
-            assert_eq!(rt; store, "office.db");
-            assert_eq!(rt; notice, "N1");
-        }
-        _ => panic!(rt; "another job"),
-    }
-    match job_of(
-        rt.alloc(),
-        &["procure", "record", "office.toml", "office.db", "no id"],
-    ) {
-        Ok(
-            Job::Record {
-                config,
-                store,
-                notice,
-            },
-        ) => {
-            assert_eq!(rt; config, "office.toml");
-            assert_eq!(rt; store, "office.db");
-            assert_eq!(rt; notice, "no id");
-        }
-        _ => panic!(rt; "another job"),
+    assert!(rt; are_asked(rt.alloc(), PAPERS));
+}
+
+// Whether the words name no job, and this is a part of what is told. Status 2 is that of `Arguments`, so it isn't want of memory.
+fn is_told(alloc: Global, words: &[&str], part: &str) -> bool {
+    let Err(fault) = job_of(alloc, words) else {
+        return false;
+    };
+    match format!(in alloc; "{fault}") {
+        Ok(text) => exit_code(&fault) == 2 && text.as_str().contains(part),
+        Err(_) => false,
     }
 }
 
-// The status and the text where words name no job.
-fn told(alloc: Global, words: &[&str]) -> Result<Option<(u8, String)>, AllocError> {
-    match job_of(alloc, words) {
-        Ok(_) => Ok(None),
-        Err(fault) => Ok(Some((exit_code(&fault), format!(in alloc; "{fault}")?))),
+fn are_told(alloc: Global, rows: &[(&[&str], &str)]) -> bool {
+    for (words, part) in rows {
+        if !is_told(alloc, words, part) {
+            return false;
+        }
     }
-}
-
-// Status 2 is that of `Arguments`, so none of these is told as want of memory.
-#[test]
-fn asks_for_no_job(rt: HostRuntime) -> Result<(), Fail> {
-    let cases: [(&[&str], &str); 13] = [
-        (&[], "Usage: procure <COMMAND>"),
-        (&["procure"], "Usage: procure <COMMAND>"),
-        (&["procure", "--help"], "A public procurement office"),
-        (&["procure", "help"], "A public procurement office"),
-        (&["procure", "desk"], "<CONFIG>"),
-        (&["procure", "desk", "--help"], "a TOML file"),
-        (&["procure", "shop", "a"], "unrecognized subcommand 'shop'"),
-        (&["procure", "desk", "a", "b"], "unexpected argument 'b'"),
-        (&["procure", "-x", "desk", "a"], "unexpected argument '-x'"),
-        (&["procure", "ledger"], "<DB>"),
-        (&["procure", "ledger", "a"], "<DB>"),
-        (&["procure", "minutes", "a", "b"], "<NOTICE>"),
-        (&["procure", "record", "a", "b"], "<NOTICE>"),
-    ];
-    for (words, part) in cases {
-        let Some((status, text)) = told(rt.alloc(), words)? else {
-            panic!(rt; "a job with {part}");
-        };
-        assert_eq!(rt; status, 2);
-        assert!(rt; text.as_str().contains(part), "{part} isn't in: {text}");
-    }
-    Ok(())
+    true
 }
 
 #[test]
-fn serves_within_bounds(rt: HostRuntime) -> Result<(), Fail> {
-    let cases = [
-        ("0", "1", "0 is not in 1..=65535"),
-        ("65536", "1", "65536 is not in 1..=65535"),
-        ("80", "0", "0 is not in 1..=1000000"),
-        ("80", "1000001", "1000001 is not in 1..=1000000"),
-        ("http", "1", "invalid digit"),
-        ("80", "", "empty string"),
-        ("99999999999999999999", "1", "too large"),
-    ];
-    for (port, count, part) in cases {
-        let words = ["procure", "serve", "a", "b", port, count];
-        let Some((status, text)) = told(rt.alloc(), words.as_slice())? else {
-            panic!(rt; "serves port {port}, {count} connections");
-        };
-        assert_eq!(rt; status, 2);
-        assert!(rt; text.as_str().contains(part), "{part} isn't in: {text}");
-    }
-    Ok(())
+fn asks_for_no_job(rt: HostRuntime) {
+    assert!(rt; are_told(rt.alloc(), NO_JOBS));
+}
+
+#[test]
+fn serves_within_bounds(rt: HostRuntime) {
+    assert!(rt; are_told(rt.alloc(), OUT_OF_BOUNDS));
 }

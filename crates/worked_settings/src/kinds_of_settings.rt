@@ -1,55 +1,90 @@
 //! Settings whose texts are known.
 use office_values::settings::{Currency, Extensions, Language, Prefix};
 use office_values::text::TextLine;
-use std::test::Fail;
+use std::alloc::{AllocError, Global};
+
+// Texts that are no prefix.
+const NO_PREFIXES: &[&str] = &[
+    "",
+    "ocds-a1b2c",
+    "ocds-a1b2c3d",
+    "ocds_a1b2c3",
+    "OCDS-a1b2c3",
+    "ocds-a1b2c-",
+    "ocds-a1b2\u{e9}",
+];
+
+// Texts that are no currency.
+const NO_CURRENCIES: &[&str] = &["", "EU", "EURO", "eur", "EU1", "EU "];
+
+// Texts that are no language.
+const NO_LANGUAGES: &[&str] = &["", "e", "eng", "EN", "e1"];
+
+fn none_is_a_prefix() -> bool {
+    for text in NO_PREFIXES {
+        if Prefix::read(text.as_bytes()).is_some() {
+            return false;
+        }
+    }
+    true
+}
 
 #[test]
 fn reads_a_prefix(rt: HostRuntime) {
-    let prefix = Prefix::read(b"ocds-a1B2c3").expect(&rt, "a prefix");
-    assert_eq!(rt; prefix.as_str(), "ocds-a1B2c3");
-    for text in [
-        "",
-        "ocds-a1b2c",
-        "ocds-a1b2c3d",
-        "ocds_a1b2c3",
-        "OCDS-a1b2c3",
-        "ocds-a1b2c-",
-        "ocds-a1b2\u{e9}",
-    ] {
-        assert!(rt; Prefix::read(text.as_bytes()).is_none(), "{text}");
+    assert!(rt;
+        matches!(Prefix::read(b"ocds-a1B2c3"), Some(prefix) if prefix.as_str() == "ocds-a1B2c3")
+    );
+    assert!(rt; none_is_a_prefix());
+}
+
+fn none_is_a_currency() -> bool {
+    for text in NO_CURRENCIES {
+        if Currency::read(text.as_bytes()).is_some() {
+            return false;
+        }
     }
+    true
 }
 
 #[test]
 fn reads_a_currency(rt: HostRuntime) {
-    let currency = Currency::read(b"EUR").expect(&rt, "a currency");
-    assert_eq!(rt; currency.as_str(), "EUR");
-    for text in ["", "EU", "EURO", "eur", "EU1", "EU "] {
-        assert!(rt; Currency::read(text.as_bytes()).is_none(), "{text}");
+    assert!(rt; matches!(Currency::read(b"EUR"), Some(currency) if currency.as_str() == "EUR"));
+    assert!(rt; none_is_a_currency());
+}
+
+fn none_is_a_language() -> bool {
+    for text in NO_LANGUAGES {
+        if Language::read(text.as_bytes()).is_some() {
+            return false;
+        }
     }
+    true
 }
 
 #[test]
 fn reads_a_language(rt: HostRuntime) {
-    let language = Language::read(b"en").expect(&rt, "a language");
-    assert_eq!(rt; language.as_str(), "en");
-    for text in ["", "e", "eng", "EN", "e1"] {
-        assert!(rt; Language::read(text.as_bytes()).is_none(), "{text}");
+    assert!(rt; matches!(Language::read(b"en"), Some(language) if language.as_str() == "en"));
+    assert!(rt; none_is_a_language());
+}
+
+// How many extensions so many lines are; None where they are too many.
+fn taken(alloc: Global, count: usize) -> Result<Option<usize>, AllocError> {
+    let mut lines = Vec::new(alloc);
+    for _ in 0..count {
+        if let Some(line) = TextLine::read(alloc, b"lots")? {
+            lines.push(line)?;
+        }
+    }
+    match Extensions::from_vec(lines) {
+        Some(extensions) => Ok(Some(extensions.as_slice().len())),
+        None => Ok(None),
     }
 }
 
 #[test]
-fn takes_ten_extensions(rt: HostRuntime) -> Result<(), Fail> {
-    for (count, taken) in [(0, true), (10, true), (11, false)] {
-        let mut lines = Vec::new(rt.alloc());
-        for _ in 0..count {
-            lines.push(TextLine::read(rt.alloc(), b"lots")?.ok_or("a line")?)?;
-        }
-        let extensions = Extensions::from_vec(lines);
-        assert_eq!(rt;
-            extensions.as_ref().map(|e| e.as_slice().len()),
-            if taken { Some(count) } else { None }
-        );
-    }
-    Ok(())
+fn takes_ten_extensions(rt: HostRuntime) {
+    let alloc = rt.alloc();
+    assert!(rt; matches!(taken(alloc, 0), Ok(Some(0))));
+    assert!(rt; matches!(taken(alloc, 10), Ok(Some(10))));
+    assert!(rt; matches!(taken(alloc, 11), Ok(None)));
 }

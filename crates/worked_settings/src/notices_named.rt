@@ -1,33 +1,41 @@
 //! Notices that are named on the command line.
-use procure_config::fault::exit_code;
+use crate::faults::is_told;
 use procure_config::notice::notice_named;
-use std::test::Fail;
+use std::alloc::Global;
+
+// Texts that name no notice.
+const NO_NOTICES: &[&str] = &[
+    "",
+    "N 1",
+    "N/1",
+    "\u{e9}",
+    "a23456789012345678901234567890123",
+];
 
 #[test]
 fn names_a_notice(rt: HostRuntime) {
-    match notice_named("N-1_a.b") {
-        Ok(notice) => assert!(rt; notice.as_bytes() == b"N-1_a.b".as_slice()),
-        Err(_) => panic!(rt; "no notice"),
+    assert!(rt;
+        matches!(notice_named("N-1_a.b"), Ok(notice) if notice.as_bytes() == b"N-1_a.b".as_slice())
+    );
+}
+
+fn is_no_notice(alloc: Global, text: &str) -> bool {
+    match notice_named(text) {
+        Ok(_) => false,
+        Err(fault) => is_told(alloc, &fault, "procure: NoRoute"),
     }
 }
 
-#[test]
-fn names_no_notice(rt: HostRuntime) -> Result<(), Fail> {
-    for text in [
-        "",
-        "N 1",
-        "N/1",
-        "\u{e9}",
-        "a23456789012345678901234567890123",
-    ] {
-        let Err(fault) = notice_named(text) else {
-            panic!(rt; "a notice: {text}");
-        };
-        assert_eq!(rt;
-            format!(in rt.alloc(); "{fault}")?.as_str(),
-            "procure: NoRoute"
-        );
-        assert_eq!(rt; exit_code(&fault), 1);
+fn none_is_a_notice(alloc: Global) -> bool {
+    for text in NO_NOTICES {
+        if !is_no_notice(alloc, text) {
+            return false;
+        }
     }
-    Ok(())
+    true
+}
+
+#[test]
+fn names_no_notice(rt: HostRuntime) {
+    assert!(rt; none_is_a_notice(rt.alloc()));
 }
