@@ -1,81 +1,150 @@
 //! Changes made in an office in memory.
-use crate::looks::{Look, tells};
+use crate::looks::{Told, tells_all};
+use crate::rows;
 use office_base::puts::Put;
+use office_base::reading::Reading;
+use office_base::records::EntryKind;
 use office_base::shelf::{Lookups, Shelf, ShelfFault};
 use office_memory::memory::MemoryShelf;
+use office_values::given::GivenNumber;
 use std::alloc::Global;
-use std::process::Abort;
 
-/// A list of changes.
-pub trait Changes {
-    /// Adds them to a list; None where memory is wanting.
-    fn add_to(&self, alloc: Global, puts: &mut Vec<Put>) -> Option<()>;
-}
-
-/// What an office tells before changes and after them.
+/// A change of one record, of the parts that its function in `rows` takes.
 #[derive(Clone, Copy)]
-pub struct Told<'a> {
-    pub looks: &'a [Look],
-    pub before: &'a str,
-    pub after: &'a str,
+pub enum Change {
+    Line(&'static str, &'static str, (u64, u64)),
+    Batch(&'static str, u64, u64),
+    Clock(u64, u64, u64),
+    Tenderer(&'static str, u8),
+    Notice(&'static str, u64),
+    Lot(&'static str, &'static str, &'static str, u64),
+    /// A tender that is sealed.
+    Sealed(u64, &'static str),
+    /// One that was opened, with its price as stated and as corrected.
+    Priced(u64, &'static str, (u64, u64)),
+    /// One that was opened and couldn't be read.
+    Unreadable(u64, &'static str),
+    Seal(u64, u8),
+    DropSeal(u64),
+    Security(u64, &'static str, u64),
+    Award(u64, &'static str, u64, u64),
+    Contract(u64, &'static str, &'static str, u64),
+    Entry(u64, &'static str, EntryKind, u64),
+    Release(&'static str, u64, &'static str),
+    Compiled(&'static str, &'static str),
 }
 
-/// Runs this over a new office in memory. The tests share one owner of an office, since each owner is dear to prove.
-pub fn in_memory<F: FnOnce(&mut MemoryShelf)>(alloc: Global, run: F)
-    requires { F.IsAlwaysCallable run }
-{
-    run(&mut MemoryShelf::new(alloc));
+/// Changes that are made at once, and what the office tells before them and after.
+#[derive(Clone, Copy)]
+pub struct Step {
+    pub before: &'static [Told],
+    pub changes: &'static [Change],
+    pub after: &'static [Told],
 }
 
-/// Adds a change; None where memory is wanting.
-pub fn add(puts: &mut Vec<Put>, put: Put) -> Option<()> {
-    puts.push(put).ok()
-}
-
-// Makes the changes; false where memory is wanting. Where the shelf finds none, that alone is counted as a fault.
-fn is_made<C: Changes>(
-    rt: &impl Abort,
-    alloc: Global,
-    shelf: &mut MemoryShelf,
-    changes: &C,
-) -> bool {
-    let mut puts = Vec::new(alloc);
-    if changes.add_to(alloc, &mut puts).is_none() {
-        return false;
+// The change; None where memory is wanting.
+fn put_of(alloc: Global, change: Change) -> Option<Put> {
+    match change {
+        Change::Line(line, title, sums) => Some(Put::Line(rows::line(alloc, line, title, sums)?)),
+        Change::Batch(batch, second, rows) => Some(Put::Batch(rows::batch(batch, second, rows)?)),
+        Change::Clock(second, receipts, awards) => {
+            Some(Put::Clock(rows::clock(second, receipts, awards)?))
+        }
+        Change::Tenderer(tenderer, key) => {
+            Some(Put::Tenderer(rows::tenderer(alloc, tenderer, key)?))
+        }
+        Change::Notice(notice, releases) => {
+            Some(Put::Notice(rows::notice(alloc, notice, releases)?))
+        }
+        Change::Lot(notice, lot, line, reserved) => {
+            Some(Put::Lot(rows::lot(alloc, (notice, lot), line, reserved)?))
+        }
+        Change::Release(notice, seq, text) => {
+            Some(Put::Release(rows::release(alloc, notice, seq, text)?))
+        }
+        Change::Compiled(notice, text) => Some(Put::Compiled(rows::compiled(alloc, notice, text)?)),
+        Change::Seal(receipt, byte) => Some(Put::Seal(rows::seal(alloc, receipt, byte)?)),
+        other => put_of_numbers(other),
     }
-    is_applied(rt, shelf, puts)
 }
 
-fn is_applied(rt: &impl Abort, shelf: &mut MemoryShelf, puts: Vec<Put>) -> bool {
+// The same of a change that takes no memory, and is none of those above.
+fn put_of_numbers(change: Change) -> Option<Put> {
+    match change {
+        Change::Sealed(receipt, notice) => {
+            Some(Put::Envelope(rows::envelope(receipt, notice, None)?))
+        }
+        Change::Priced(receipt, notice, price) => {
+            let reading = Some(rows::price(price.0, price.1)?);
+            Some(Put::Envelope(rows::envelope(receipt, notice, reading)?))
+        }
+        Change::Unreadable(receipt, notice) => {
+            let reading = Some(Reading::Unreadable);
+            Some(Put::Envelope(rows::envelope(receipt, notice, reading)?))
+        }
+        Change::DropSeal(receipt) => Some(Put::DropSeal(GivenNumber::read(receipt)?)),
+        Change::Security(security, notice, amount) => {
+            Some(Put::Security(rows::security(security, notice, amount)?))
+        }
+        Change::Award(award, notice, receipt, price) => {
+            Some(Put::Award(rows::award(award, notice, receipt, price)?))
+        }
+        Change::Contract(contract, notice, lot, signed) => {
+            Some(Put::Contract(rows::contract(contract, (notice, lot), signed)?))
+        }
+        Change::Entry(contract, entry, kind, amount) => {
+            Some(Put::Entry(rows::entry(contract, entry, kind, amount)?))
+        }
+        _ => None,
+    }
+}
+
+fn add_all(alloc: Global, puts: &mut Vec<Put>, changes: &[Change]) -> Option<()> {
+    for change in changes {
+        puts.push(put_of(alloc, *change)?).ok()?;
+    }
+    Some(())
+}
+
+// The changes are made; None where memory is wanting. Where the shelf finds none, that alone is counted as a fault.
+fn are_made(alloc: Global, shelf: &mut MemoryShelf, changes: &[Change]) -> Option<bool> {
+    let mut puts = Vec::new(alloc);
+    add_all(alloc, &mut puts, changes)?;
+    are_applied(shelf, puts)
+}
+
+fn are_applied(shelf: &mut MemoryShelf, puts: Vec<Put>) -> Option<bool> {
     let before = shelf.faults();
     let fault = shelf.apply(puts).err();
-    let (wanted, risen) = match fault {
-        Some(_) => (Some(ShelfFault::NoMemory), 1),
-        None => (None, 0),
-    };
-    assert_eq!(rt; fault, wanted);
-    assert_eq!(rt; shelf.faults().checked_sub(before), Some(risen));
-    fault.is_none()
-}
-
-/// Makes the changes, at the second try where the first finds no memory.
-pub fn make<C: Changes>(rt: &impl Abort, alloc: Global, shelf: &mut MemoryShelf, changes: &C) {
-    let made = is_made(rt, alloc, shelf, changes) || is_made(rt, alloc, shelf, changes);
-    assert!(rt; made);
-}
-
-/// Makes the changes, and then all of them are told; where the first try finds no memory, none is.
-pub fn change<C: Changes>(
-    rt: &impl Abort,
-    alloc: Global,
-    shelf: &mut MemoryShelf,
-    changes: &C,
-    told: &Told,
-) {
-    if !is_made(rt, alloc, shelf, changes) {
-        tells(rt, alloc, shelf, told.looks, told.before);
-        let made = is_made(rt, alloc, shelf, changes);
-        assert!(rt; made);
+    match (fault, shelf.faults().checked_sub(before)) {
+        (None, Some(0)) => Some(true),
+        (Some(ShelfFault::NoMemory), Some(1)) => None,
+        _ => Some(false),
     }
-    tells(rt, alloc, shelf, told.looks, told.after);
+}
+
+// The changes of a step are made, and then all of them are told; where the first try finds no memory, none is.
+fn is_taken(alloc: Global, shelf: &mut MemoryShelf, step: &Step) -> bool {
+    let made = match are_made(alloc, shelf, step.changes) {
+        Some(made) => made,
+        None => {
+            tells_all(shelf, step.before) && are_made(alloc, shelf, step.changes) == Some(true)
+        }
+    };
+    made && tells_all(shelf, step.after)
+}
+
+fn are_taken(alloc: Global, shelf: &mut MemoryShelf, steps: &[Step]) -> bool {
+    for step in steps {
+        if !is_taken(alloc, shelf, step) {
+            return false;
+        }
+    }
+    true
+}
+
+/// A new office tells this, and takes these steps. The tests share one owner of an office, since each owner is dear to prove.
+pub fn holds(alloc: Global, at_first: &[Told], steps: &[Step]) -> bool {
+    let mut shelf = MemoryShelf::new(alloc);
+    tells_all(&mut shelf, at_first) && are_taken(alloc, &mut shelf, steps)
 }

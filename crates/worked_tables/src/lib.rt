@@ -14,8 +14,10 @@ mod looks;
 #[cfg(test)]
 mod rows;
 #[cfg(test)]
+mod shown;
+#[cfg(test)]
 mod sums;
 #[cfg(test)]
 mod table_rows;
 #[cfg(test)]
-mod tell;
+mod unsummed;

@@ -1,13 +1,12 @@
 //! What an office in memory is asked, and what it tells.
 use crate::rows::id;
-use crate::tell::{Tell, tell_all, tell_found};
+use crate::shown::{Shown, Shows, all_show};
+use crate::unsummed::fails_to_add_up;
 use office_base::counts::Sequence;
 use office_base::pots::pots;
-use office_base::shelf::Lookups;
+use office_base::shelf::{Lookups, ShelfFault};
 use office_memory::memory::MemoryShelf;
 use office_values::given::AskedNumber;
-use std::alloc::Global;
-use std::process::Abort;
 
 /// What can be asked.
 #[derive(Clone, Copy)]
@@ -15,6 +14,8 @@ pub enum Look {
     At(Key),
     All(List),
     Sum(Sum),
+    /// The sums of the line 1000 and of the ledger, which are out of their range.
+    Unsummed,
 }
 
 /// The key of one record.
@@ -59,118 +60,138 @@ pub enum Sum {
     Ledger,
 }
 
-// A tender, and what its opening read in it.
-fn tell_envelope(text: &mut String, shelf: &mut MemoryShelf, number: u64) -> Option<()> {
+/// What is asked, and what each record of the answer shows.
+pub type Told = (Look, &'static [Shown]);
+
+// A record is found that shows this, or none where none is wanted; None where memory is wanting.
+fn is_found<R: Shows + Drop>(
+    found: Result<Option<R>, ShelfFault>,
+    wanted: &[Shown],
+) -> Option<bool> {
+    match (&found, wanted) {
+        (Ok(Some(row)), [one]) => Some(row.shows(one)),
+        (Ok(found), _) => Some(found.is_none() && wanted.is_empty()),
+        (Err(_), _) => None,
+    }
+}
+
+// Records are listed that show this; None where memory is wanting.
+fn are_listed<R: Shows + Drop>(rows: Result<Vec<R>, ShelfFault>, wanted: &[Shown]) -> Option<bool> {
+    match &rows {
+        Ok(rows) => Some(all_show(rows.as_slice(), wanted)),
+        Err(_) => None,
+    }
+}
+
+// A tender is found that shows this, and what its opening read in it; or none is. None where memory is wanting.
+fn is_tender(shelf: &mut MemoryShelf, number: u64, wanted: &[Shown]) -> Option<bool> {
     let Some(row) = shelf.get_envelope(AskedNumber::read(number)?).ok()? else {
-        return Some(());
+        return Some(wanted.is_empty());
     };
-    row.tell(text)?;
-    match row.reading {
-        Some(reading) => reading.tell(text),
-        None => Some(()),
+    match (wanted, row.reading) {
+        ([tender, read], Some(reading)) => Some(row.shows(tender) && reading.shows(read)),
+        ([tender], None) => Some(row.shows(tender)),
+        _ => Some(false),
     }
 }
 
-fn tell_record(text: &mut String, shelf: &mut MemoryShelf, key: Key) -> Option<()> {
+fn is_record(shelf: &mut MemoryShelf, key: Key, wanted: &[Shown]) -> Option<bool> {
     match key {
-        Key::Line(line) => tell_found(text, shelf.get_line(&id(line)?)),
-        Key::Batch(batch) => tell_found(text, shelf.get_batch(&id(batch)?)),
-        Key::Tenderer(tenderer) => tell_found(text, shelf.get_tenderer(&id(tenderer)?)),
-        Key::Notice(notice) => tell_found(text, shelf.get_notice(&id(notice)?)),
-        Key::Lot(notice, lot) => tell_found(text, shelf.get_lot(&id(notice)?, &id(lot)?)),
-        Key::Envelope(number) => tell_envelope(text, shelf, number),
-        Key::Seal(number) => tell_found(text, shelf.get_seal(AskedNumber::read(number)?)),
-        Key::Security(number) => tell_found(text, shelf.get_security(AskedNumber::read(number)?)),
-        Key::Award(number) => tell_found(text, shelf.get_award(AskedNumber::read(number)?)),
-        Key::Contract(number) => tell_found(text, shelf.get_contract(AskedNumber::read(number)?)),
-        Key::Entry(number, entry) => tell_found(
-            text,
+        Key::Line(line) => is_found(shelf.get_line(&id(line)?), wanted),
+        Key::Batch(batch) => is_found(shelf.get_batch(&id(batch)?), wanted),
+        Key::Tenderer(tenderer) => is_found(shelf.get_tenderer(&id(tenderer)?), wanted),
+        Key::Notice(notice) => is_found(shelf.get_notice(&id(notice)?), wanted),
+        Key::Lot(notice, lot) => is_found(shelf.get_lot(&id(notice)?, &id(lot)?), wanted),
+        Key::Release(notice, seq) => is_found(
+            shelf.get_release(&id(notice)?, Sequence::read(seq)?),
+            wanted,
+        ),
+        Key::Compiled(notice) => is_found(shelf.get_compiled(&id(notice)?), wanted),
+        Key::Clock => Some(all_show(&[shelf.get_clock().ok()?], wanted)),
+        Key::Entry(number, entry) => is_found(
             shelf.get_entry(AskedNumber::read(number)?, &id(entry)?),
+            wanted,
         ),
-        Key::Release(notice, seq) => {
-            tell_found(text, shelf.get_release(&id(notice)?, Sequence::read(seq)?))
-        }
-        Key::Compiled(notice) => tell_found(text, shelf.get_compiled(&id(notice)?)),
-        Key::Clock => shelf.get_clock().ok()?.tell(text),
+        Key::Envelope(number) => is_tender(shelf, number, wanted),
+        Key::Seal(number) => is_found(shelf.get_seal(AskedNumber::read(number)?), wanted),
+        Key::Security(number) => is_found(shelf.get_security(AskedNumber::read(number)?), wanted),
+        Key::Award(number) => is_found(shelf.get_award(AskedNumber::read(number)?), wanted),
+        Key::Contract(number) => is_found(shelf.get_contract(AskedNumber::read(number)?), wanted),
     }
 }
 
-fn tell_list(text: &mut String, shelf: &mut MemoryShelf, list: List) -> Option<()> {
+fn is_list(shelf: &mut MemoryShelf, list: List, wanted: &[Shown]) -> Option<bool> {
     match list {
-        List::Lines => tell_all(text, shelf.list_lines()),
-        List::Lots(notice) => tell_all(text, shelf.list_lots_of_notice(&id(notice)?)),
-        List::LotsOfLine(line) => tell_all(text, shelf.list_lots_of_line(&id(line)?)),
-        List::Envelopes(notice) => tell_all(text, shelf.list_envelopes_of_notice(&id(notice)?)),
-        List::Securities(notice) => tell_all(text, shelf.list_securities_of_notice(&id(notice)?)),
-        List::Awards(notice) => tell_all(text, shelf.list_awards_of_notice(&id(notice)?)),
-        List::Contracts(notice) => tell_all(text, shelf.list_contracts_of_notice(&id(notice)?)),
-        List::Entries(number) => tell_all(
-            text,
+        List::Lines => are_listed(shelf.list_lines(), wanted),
+        List::Lots(notice) => are_listed(shelf.list_lots_of_notice(&id(notice)?), wanted),
+        List::LotsOfLine(line) => are_listed(shelf.list_lots_of_line(&id(line)?), wanted),
+        List::Envelopes(notice) => are_listed(shelf.list_envelopes_of_notice(&id(notice)?), wanted),
+        List::Securities(notice) => {
+            are_listed(shelf.list_securities_of_notice(&id(notice)?), wanted)
+        }
+        List::Awards(notice) => are_listed(shelf.list_awards_of_notice(&id(notice)?), wanted),
+        List::Contracts(notice) => are_listed(shelf.list_contracts_of_notice(&id(notice)?), wanted),
+        List::Entries(number) => are_listed(
             shelf.list_entries_of_contract(AskedNumber::read(number)?),
+            wanted,
         ),
-        List::Releases(notice) => tell_all(text, shelf.list_releases_of_notice(&id(notice)?)),
+        List::Releases(notice) => are_listed(shelf.list_releases_of_notice(&id(notice)?), wanted),
     }
 }
 
-fn tell_sum(text: &mut String, shelf: &mut MemoryShelf, sum: Sum) -> Option<()> {
+fn is_sum(shelf: &mut MemoryShelf, sum: Sum, wanted: &[Shown]) -> Option<bool> {
     match sum {
-        Sum::Reservations(line) => tell_all(text, shelf.list_reservations_of_line(&id(line)?)),
-        Sum::ContractSums(line) => tell_all(text, shelf.list_contract_sums_of_line(&id(line)?)),
-        Sum::Pots(line) => tell_found(text, pots(shelf, &id(line)?)),
-        Sum::Ledger => tell_all(text, shelf.ledger()),
+        Sum::Reservations(line) => {
+            are_listed(shelf.list_reservations_of_line(&id(line)?), wanted)
+        }
+        Sum::ContractSums(line) => {
+            are_listed(shelf.list_contract_sums_of_line(&id(line)?), wanted)
+        }
+        Sum::Pots(line) => is_found(pots(shelf, &id(line)?), wanted),
+        Sum::Ledger => are_listed(shelf.ledger(), wanted),
     }
 }
 
-// Adds the answer to a text that has room for it; None where the shelf finds no memory.
-fn tell(text: &mut String, shelf: &mut MemoryShelf, look: Look) -> Option<()> {
-    match look {
-        Look::At(key) => tell_record(text, shelf, key),
-        Look::All(list) => tell_list(text, shelf, list),
-        Look::Sum(sum) => tell_sum(text, shelf, sum),
-    }
-}
-
-// The same; an answer is no fault, and want of memory is one more.
-fn tell_counted(
-    rt: &impl Abort,
-    text: &mut String,
-    shelf: &mut MemoryShelf,
-    look: Look,
-) -> Option<()> {
+// An answer is no fault, and want of memory is one more; None where memory is wanting.
+fn is_answered(shelf: &mut MemoryShelf, told: &Told) -> Option<bool> {
     let before = shelf.faults();
-    let told = tell(text, shelf, look);
-    let risen = if told.is_some() { 0 } else { 1 };
-    assert_eq!(rt; shelf.faults().checked_sub(before), Some(risen));
-    told
-}
-
-// More bytes than are told.
-const ROOM: usize = 4096;
-
-// What an office answers, as one text; None where memory is wanting.
-fn told(rt: &impl Abort, alloc: Global, shelf: &mut MemoryShelf, looks: &[Look]) -> Option<String> {
-    let mut text = String::with_capacity(alloc, ROOM).ok()?;
-    for look in looks {
-        tell_counted(rt, &mut text, shelf, *look)?;
+    let (right, risen) = match is_told(shelf, told) {
+        Some(right) => (Some(right), 0),
+        None => (None, 1),
+    };
+    if shelf.faults().checked_sub(before) == Some(risen) {
+        right
+    } else {
+        Some(false)
     }
-    Some(text)
 }
 
-/// The office answers this text, at the second try where the first finds no memory.
-pub fn tells(
-    rt: &impl Abort,
-    alloc: Global,
-    shelf: &mut MemoryShelf,
-    looks: &[Look],
-    wanted: &str,
-) {
-    let text = told(rt, alloc, shelf, looks).or_else(|| told(rt, alloc, shelf, looks));
-    assert_eq!(rt; text.as_deref(), Some(wanted));
-}
-
-/// The office answers each of these.
-pub fn tells_each(rt: &impl Abort, alloc: Global, shelf: &mut MemoryShelf, rows: &[(Look, &str)]) {
-    for (look, wanted) in rows {
-        tells(rt, alloc, shelf, &[*look], wanted);
+fn is_told(shelf: &mut MemoryShelf, told: &Told) -> Option<bool> {
+    match told.0 {
+        Look::At(key) => is_record(shelf, key, told.1),
+        Look::All(list) => is_list(shelf, list, told.1),
+        Look::Sum(sum) => is_sum(shelf, sum, told.1),
+        Look::Unsummed => None,
     }
+}
+
+// The office tells this, at the second try where the first finds no memory.
+fn tells(shelf: &mut MemoryShelf, told: &Told) -> bool {
+    if matches!(told.0, Look::Unsummed) {
+        return fails_to_add_up(shelf);
+    }
+    match is_answered(shelf, told) {
+        Some(right) => right,
+        None => is_answered(shelf, told) == Some(true),
+    }
+}
+
+/// The office tells all of this.
+pub fn tells_all(shelf: &mut MemoryShelf, all: &[Told]) -> bool {
+    for told in all {
+        if !tells(shelf, told) {
+            return false;
+        }
+    }
+    true
 }
