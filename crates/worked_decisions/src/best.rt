@@ -42,18 +42,13 @@ fn row_of(offer: &Offer) -> Option<EnvelopeRow> {
     })
 }
 
-fn add_offers(rows: &mut Vec<EnvelopeRow>, offers: &[Offer]) -> Option<()> {
+// The receipt of the best offer, if one may win; None where memory is wanting.
+fn best_of(alloc: Global, weight: u64, offers: &[Offer]) -> Option<Option<u64>> {
+    let weight: Weight = Weight::read(weight)?;
+    let mut rows: Vec<EnvelopeRow> = Vec::new(alloc);
     for offer in offers {
         rows.push(row_of(offer)?).ok()?;
     }
-    Some(())
-}
-
-// The receipt of the best offer, if one may win; None where memory is wanting.
-fn best_of(alloc: Global, weight: u64, offers: &[Offer]) -> Option<Option<u64>> {
-    let weight = Weight::read(weight)?;
-    let mut rows = Vec::new(alloc);
-    add_offers(&mut rows, offers)?;
     match best(weight, rows.as_slice()) {
         Some(receipt) => Some(Some(receipt.get())),
         None => Some(None),

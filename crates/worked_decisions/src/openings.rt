@@ -14,19 +14,20 @@ pub struct Opening {
     pub state: NoticeState,
 }
 
-fn opened(reading: Reading) -> Option<OpenedTender> {
+fn opened(envelope: EnvelopeRow, reading: Reading) -> OpenedTender {
     let envelope = EnvelopeRow {
         failed: false,
-        ..rows::tender(1, None)?
+        ..envelope
     };
-    Some(OpenedTender { envelope, reading })
+    OpenedTender { envelope, reading }
 }
 
 impl Opening {
     pub fn decide(&self, alloc: Global) -> Option<Decided> {
         let (t, clock) = (rows::at(self.second)?, rows::clock(1, 0)?);
         let reading: Reading = rows::price(500)?;
-        let tenders = rows::of(alloc, opened(reading));
+        let envelope: EnvelopeRow = rows::tender(1, None)?;
+        let tenders = rows::of(alloc, Some(opened(envelope, reading)));
         let rows = OpenRows {
             notice: rows::notice(alloc, self.state, 0, 1),
             clock,
