@@ -6,46 +6,46 @@ use office_acts::tender::Quality;
 use office_base::reading::Reading;
 use office_base::records::{EnvelopeRow, EnvelopeState};
 use std::alloc::Global;
-use std::process::Abort;
 
-// A priced tender: its receipt, price and quality, its state, what its examination found, and whether its tenderer failed to sign.
+// How a tender stands: it may win; or its tenderer failed to sign, it wasn't examined, wasn't responsive, or came late.
 #[derive(Clone, Copy)]
-struct Offer {
-    receipt: u64,
-    price: u64,
-    quality: u64,
-    state: EnvelopeState,
-    responsive: Option<bool>,
-    failed: bool,
+enum Stand {
+    Admissible,
+    Failed,
+    Unexamined,
+    Unresponsive,
+    Late,
 }
 
-// One that may win.
-const fn admissible(receipt: u64, price: u64, quality: u64) -> Offer {
-    Offer {
-        receipt,
-        price,
-        quality,
-        state: EnvelopeState::Opened,
-        responsive: Some(true),
-        failed: false,
-    }
-}
+// A priced tender: its receipt, price and quality, and how it stands.
+type Offer = ([u64; 3], Stand);
+
+// What the price weighs, the offers, and the receipt of the best one, if one may win.
+type Choice = (u64, &'static [Offer], Option<u64>);
 
 fn row_of(offer: &Offer) -> Option<EnvelopeRow> {
-    let reading: Option<Reading> = rows::price(offer.price);
+    let ([receipt, price, quality], stand) = *offer;
+    let (state, responsive, failed) = match stand {
+        Stand::Admissible => (EnvelopeState::Opened, Some(true), false),
+        Stand::Failed => (EnvelopeState::Opened, Some(true), true),
+        Stand::Unexamined => (EnvelopeState::Opened, None, false),
+        Stand::Unresponsive => (EnvelopeState::Opened, Some(false), false),
+        Stand::Late => (EnvelopeState::Returned, Some(true), false),
+    };
+    let reading: Option<Reading> = rows::price(price);
     Some(EnvelopeRow {
-        state: offer.state,
-        responsive: offer.responsive,
-        quality: Quality::read(offer.quality),
-        failed: offer.failed,
-        ..rows::tender(offer.receipt, reading)?
+        state,
+        responsive,
+        quality: Quality::read(quality),
+        failed,
+        ..rows::tender(receipt, reading)?
     })
 }
 
 // The receipt of the best offer, if one may win; None where memory is wanting.
 fn best_of(alloc: Global, weight: u64, offers: &[Offer]) -> Option<Option<u64>> {
-    let weight = Weight::read(weight)?;
-    let mut rows = Vec::new(alloc);
+    let weight: Weight = Weight::read(weight)?;
+    let mut rows: Vec<EnvelopeRow> = Vec::new(alloc);
     for offer in offers {
         rows.push(row_of(offer)?).ok()?;
     }
@@ -55,87 +55,112 @@ fn best_of(alloc: Global, weight: u64, offers: &[Offer]) -> Option<Option<u64>> 
     }
 }
 
-// The best offer is the one of this receipt, at the second try where the first finds no memory.
-fn best_is(rt: &impl Abort, alloc: Global, weight: u64, offers: &[Offer], wanted: Option<u64>) {
-    let found = best_of(alloc, weight, offers).or_else(|| best_of(alloc, weight, offers));
-    assert_eq!(rt; found, Some(wanted));
+// The best offers are these, at the second try where the first finds no memory.
+fn are_best(alloc: Global, choices: &[Choice]) -> bool {
+    for (weight, offers, wanted) in choices {
+        let found = match best_of(alloc, *weight, offers) {
+            Some(found) => Some(found),
+            None => best_of(alloc, *weight, offers),
+        };
+        if found != Some(*wanted) {
+            return false;
+        }
+    }
+    true
 }
+
+static BY_PRICE: [Choice; 1] = [(
+    0,
+    &[
+        ([1, 700, 40], Stand::Admissible),
+        ([2, 500, 0], Stand::Admissible),
+        ([3, 600, 40], Stand::Admissible),
+    ],
+    Some(2),
+)];
 
 #[test]
 fn the_lowest_price_wins(rt: HostRuntime) {
-    let alloc = rt.alloc();
-    let offers = [
-        admissible(1, 700, 40),
-        admissible(2, 500, 0),
-        admissible(3, 600, 40),
-    ];
-    best_is(&rt, alloc, 0, &offers, Some(2));
+    assert!(rt; are_best(rt.alloc(), &BY_PRICE));
 }
+
+static BY_RECEIPT: [Choice; 1] = [(
+    0,
+    &[
+        ([1, 600, 0], Stand::Admissible),
+        ([3, 500, 0], Stand::Admissible),
+        ([2, 500, 0], Stand::Admissible),
+    ],
+    Some(2),
+)];
 
 #[test]
 fn of_equal_prices_the_earlier_receipt_wins(rt: HostRuntime) {
-    let alloc = rt.alloc();
-    let offers = [
-        admissible(1, 600, 0),
-        admissible(3, 500, 0),
-        admissible(2, 500, 0),
-    ];
-    best_is(&rt, alloc, 0, &offers, Some(2));
+    assert!(rt; are_best(rt.alloc(), &BY_RECEIPT));
 }
+
+// Of 60 points for the price, 500 has 60 and 600 has 50.
+const TWO: &[Offer] = &[
+    ([1, 500, 10], Stand::Admissible),
+    ([2, 600, 40], Stand::Admissible),
+];
+
+// Of equal points the lower price wins, and of equal prices the earlier receipt.
+static BY_POINTS: [Choice; 3] = [
+    (60, TWO, Some(2)),
+    (0, TWO, Some(1)),
+    (
+        60,
+        &[
+            ([1, 600, 40], Stand::Admissible),
+            ([2, 500, 30], Stand::Admissible),
+            ([3, 500, 30], Stand::Admissible),
+        ],
+        Some(2),
+    ),
+];
 
 #[test]
 fn quality_adds_to_the_points_for_the_price(rt: HostRuntime) {
-    let alloc = rt.alloc();
-    // Of 60 points for the price, 500 has 60 and 600 has 50.
-    let offers = [admissible(1, 500, 10), admissible(2, 600, 40)];
-    best_is(&rt, alloc, 60, &offers, Some(2));
-    best_is(&rt, alloc, 0, &offers, Some(1));
-    // Of equal points the lower price wins, and of equal prices the earlier receipt.
-    let offers = [
-        admissible(1, 600, 40),
-        admissible(2, 500, 30),
-        admissible(3, 500, 30),
-    ];
-    best_is(&rt, alloc, 60, &offers, Some(2));
+    assert!(rt; are_best(rt.alloc(), &BY_POINTS));
 }
+
+const FOR_NOTHING: &[Offer] = &[
+    ([1, 10, 1], Stand::Admissible),
+    ([2, 0, 0], Stand::Admissible),
+];
+
+static BY_NOTHING: [Choice; 2] = [(2, FOR_NOTHING, Some(2)), (1, FOR_NOTHING, Some(2))];
 
 #[test]
 fn nothing_is_the_best_price(rt: HostRuntime) {
-    let alloc = rt.alloc();
-    let offers = [admissible(1, 10, 1), admissible(2, 0, 0)];
-    best_is(&rt, alloc, 2, &offers, Some(2));
-    best_is(&rt, alloc, 1, &offers, Some(2));
+    assert!(rt; are_best(rt.alloc(), &BY_NOTHING));
 }
 
-// The same offer but for one thing: it failed, wasn't examined, wasn't responsive, or came late.
-fn inadmissible() -> [Offer; 4] {
-    let offer = admissible(1, 100, 0);
-    [
-        Offer {
-            failed: true,
-            ..offer
-        },
-        Offer {
-            responsive: None,
-            ..offer
-        },
-        Offer {
-            responsive: Some(false),
-            ..offer
-        },
-        Offer {
-            state: EnvelopeState::Returned,
-            ..offer
-        },
-    ]
-}
+const FAILED: Offer = ([1, 100, 0], Stand::Failed);
+
+const UNEXAMINED: Offer = ([1, 100, 0], Stand::Unexamined);
+
+const UNRESPONSIVE: Offer = ([1, 100, 0], Stand::Unresponsive);
+
+const LATE: Offer = ([1, 100, 0], Stand::Late);
+
+const DEARER: Offer = ([2, 900, 0], Stand::Admissible);
+
+// Each alone, and beside a dearer one that may win; and no offer.
+static INADMISSIBLE: [Choice; 9] = [
+    (0, &[FAILED], None),
+    (0, &[FAILED, DEARER], Some(2)),
+    (0, &[UNEXAMINED], None),
+    (0, &[UNEXAMINED, DEARER], Some(2)),
+    (0, &[UNRESPONSIVE], None),
+    (0, &[UNRESPONSIVE, DEARER], Some(2)),
+    (0, &[LATE], None),
+    (0, &[LATE, DEARER], Some(2)),
+    (0, &[], None),
+];
 
 #[test]
 fn inadmissible_tenders_never_win(rt: HostRuntime) {
-    let alloc = rt.alloc();
-    for other in inadmissible() {
-        best_is(&rt, alloc, 0, &[other], None);
-        best_is(&rt, alloc, 0, &[other, admissible(2, 900, 0)], Some(2));
-    }
-    best_is(&rt, alloc, 0, &[], None);
+    assert!(rt; are_best(rt.alloc(), &INADMISSIBLE));
 }

@@ -4,16 +4,15 @@ ghost use Rattle.office_values.specs.Money.{total_limit};
 ghost use Rattle.office_base.specs.Standings.{find_standing};
 ghost use Rattle.tender_core.specs.Walks.{IsAtMost, AreAtMost};
 
-use crate::answers::{Case, answers};
+use crate::answers::{Case, Decided, Wanted, are_decided};
+use crate::made::Made;
 use crate::rows;
 use keyed_table::table::Table;
 use office_acts::budget::{BudgetKind, BudgetRow, BudgetRows};
 use office_base::laws::rows_are_kept;
-use office_base::puts::Put;
 use office_base::standing::{Columns, Standing};
 use office_values::id::Id;
 use office_values::money::Total;
-use office_values::refusal::Refusal;
 use std::alloc::Global;
 use tender_core::budget_file::BudgetFile;
 use tender_core::import::{ImportRows, decide_import};
@@ -83,56 +82,78 @@ fn file(alloc: Global, import: &Import) -> Option<BudgetFile> {
 
 // The import of two rows of a line with this sum, appropriated and free, where it is held.
 #[derive(Clone, Copy)]
-struct Import {
-    held: Option<u64>,
-    first: (BudgetKind, u64),
-    second: (BudgetKind, u64),
+pub struct Import {
+    pub held: Option<u64>,
+    pub first: (BudgetKind, u64),
+    pub second: (BudgetKind, u64),
 }
 
-impl Case for Import {
-    fn decide(&self, alloc: Global) -> Option<Result<Vec<Put>, Refusal>> {
+impl Import {
+    pub fn decide(&self, alloc: Global) -> Option<Decided> {
         let (t, batch, clock) = (rows::at(8)?, rows::id("B1")?, rows::clock(1, 0)?);
         let rows = ImportRows {
             batch: None,
             file: file(alloc, self)?,
             clock,
         };
-        Some(decide_import(alloc, t, rows, batch))
+        Some((true, decide_import(alloc, t, rows, batch)))
     }
 }
 
+static IN_ORDER: [(Case, Wanted); 2] = [
+    (
+        Case::Import(Import {
+            held: Some(900),
+            first: (BudgetKind::Add, 100),
+            second: (BudgetKind::Cut, 1000),
+        }),
+        Wanted::Puts(&[
+            Made::Line([0, 0]),
+            Made::Line([0, 0]),
+            Made::Batch,
+            Made::Clock([8, 1, 0]),
+        ]),
+    ),
+    (
+        Case::Import(Import {
+            held: Some(900),
+            first: (BudgetKind::Cut, 901),
+            second: (BudgetKind::Add, 100),
+        }),
+        Wanted::Refused("InsufficientFunds"),
+    ),
+];
+
 #[test]
 fn rows_of_a_file_are_taken_in_order(rt: HostRuntime) {
-    let alloc = rt.alloc();
-    let case = Import {
-        held: Some(900),
-        first: (BudgetKind::Add, 100),
-        second: (BudgetKind::Cut, 1000),
-    };
-    let wanted = "line 1000 Roads 0 0;line 1000 Roads 0 0;batch B1 8 2;clock 8 1 0;";
-    answers(&rt, alloc, &case, wanted);
-    let case = Import {
-        held: Some(900),
-        first: (BudgetKind::Cut, 901),
-        second: (BudgetKind::Add, 100),
-    };
-    answers(&rt, alloc, &case, "InsufficientFunds");
+    assert!(rt; are_decided(rt.alloc(), &IN_ORDER));
 }
+
+static COME_TO_BE_HELD: [(Case, Wanted); 2] = [
+    (
+        Case::Import(Import {
+            held: None,
+            first: (BudgetKind::Add, 100),
+            second: (BudgetKind::Cut, 40),
+        }),
+        Wanted::Puts(&[
+            Made::Line([60, 60]),
+            Made::Line([60, 60]),
+            Made::Batch,
+            Made::Clock([8, 1, 0]),
+        ]),
+    ),
+    (
+        Case::Import(Import {
+            held: None,
+            first: (BudgetKind::Cut, 40),
+            second: (BudgetKind::Add, 100),
+        }),
+        Wanted::RefusedOf("NoSuch", "line"),
+    ),
+];
 
 #[test]
 fn lines_come_to_be_held_by_a_file(rt: HostRuntime) {
-    let alloc = rt.alloc();
-    let case = Import {
-        held: None,
-        first: (BudgetKind::Add, 100),
-        second: (BudgetKind::Cut, 40),
-    };
-    let wanted = "line 1000 Roads 60 60;line 1000 Roads 60 60;batch B1 8 2;clock 8 1 0;";
-    answers(&rt, alloc, &case, wanted);
-    let case = Import {
-        held: None,
-        first: (BudgetKind::Cut, 40),
-        second: (BudgetKind::Add, 100),
-    };
-    answers(&rt, alloc, &case, "NoSuch line");
+    assert!(rt; are_decided(rt.alloc(), &COME_TO_BE_HELD));
 }

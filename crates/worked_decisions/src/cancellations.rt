@@ -1,33 +1,20 @@
 //! Notices that are cancelled.
-use crate::answers::{Case, answers};
+use crate::answers::{Case, Decided, Wanted, are_decided};
+use crate::made::{Made, MadeNotice, MadeTender};
 use crate::rows;
 use keyed_table::table::Table;
-use office_base::puts::Put;
 use office_base::reading::Reading;
 use office_base::records::{
-    AwardRow, AwardState, EnvelopeRow, LineRow, LotRow, LotState, NoticeState, SecurityRow,
-    SecurityState,
+    AwardRow, AwardState, EnvelopeRow, EnvelopeState, LineRow, LotState, NoticeState, SecurityState,
 };
 use office_base::rows::Rows;
-use office_values::refusal::Refusal;
 use std::alloc::Global;
 use tender_core::cancel::{CancelRows, decide_cancel};
 
 // The cancellation of a notice with one lot in this state, for which 600 is reserved, and 300 more free on its line.
 #[derive(Clone, Copy)]
-struct Cancellation {
-    lot: LotState,
-}
-
-impl Cancellation {
-    // The notice was opened where something was decided.
-    fn state(&self) -> NoticeState {
-        if self.lot == LotState::Undecided {
-            NoticeState::Receiving
-        } else {
-            NoticeState::Opened
-        }
-    }
+pub struct Cancellation {
+    pub lot: LotState,
 }
 
 fn lines(alloc: Global) -> Option<Table<LineRow>> {
@@ -36,16 +23,13 @@ fn lines(alloc: Global) -> Option<Table<LineRow>> {
     Some(lines)
 }
 
-fn lots(alloc: Global, state: LotState) -> Option<Rows<LotRow>> {
-    rows::one(alloc, rows::lot(alloc, "L1", state, 600)?)
-}
-
 // An award, where the lot is awarded.
-fn awards(alloc: Global, lot: LotState) -> Option<Rows<AwardRow>> {
-    if lot != LotState::Awarded {
-        return Some(rows::none(alloc));
+fn award(lot: LotState) -> Option<AwardRow> {
+    if lot == LotState::Awarded {
+        rows::award(AwardState::Active)
+    } else {
+        None
     }
-    rows::one(alloc, rows::award(AwardState::Active)?)
 }
 
 // A tender, sealed where nothing was read in it.
@@ -54,67 +38,104 @@ fn tenders(alloc: Global, reading: Option<Reading>) -> Option<Rows<EnvelopeRow>>
         failed: false,
         ..rows::tender(1, reading)?
     };
-    rows::one(alloc, row)
+    Some(rows::of(alloc, Some(row)))
 }
 
-fn securities(alloc: Global) -> Option<Rows<SecurityRow>> {
-    rows::one(alloc, rows::security(1, SecurityState::Held)?)
+// There is one row of each kind, and one award where the lot is awarded.
+fn are_whole(rows: &CancelRows, lot: LotState) -> bool {
+    rows.notice.is_some()
+        && rows::is_one(&rows.lots)
+        && rows::is_one(&rows.awards) == (lot == LotState::Awarded)
+        && rows::is_one(&rows.envelopes)
+        && rows::is_one(&rows.securities)
 }
 
-impl Case for Cancellation {
-    fn decide(&self, alloc: Global) -> Option<Result<Vec<Put>, Refusal>> {
-        let (t, clock) = (rows::at(50)?, rows::clock(1, 1)?);
-        let reading: Option<Reading> = if self.state() == NoticeState::Opened {
-            rows::price(500)
+impl Cancellation {
+    // The notice was opened where something was decided, and then a price was read in the tender.
+    fn opened(&self) -> (NoticeState, Option<Reading>) {
+        if self.lot == LotState::Undecided {
+            (NoticeState::Receiving, None)
         } else {
-            None
-        };
+            (NoticeState::Opened, rows::price(500))
+        }
+    }
+
+    pub fn decide(&self, alloc: Global) -> Option<Decided> {
+        let (t, clock) = (rows::at(50)?, rows::clock(1, 1)?);
+        let (state, reading) = self.opened();
+        let envelopes = tenders(alloc, reading)?;
         let rows = CancelRows {
-            notice: Some(rows::notice(alloc, self.state(), 0, 7)?),
             lines: lines(alloc)?,
-            lots: lots(alloc, self.lot)?,
-            awards: awards(alloc, self.lot)?,
-            envelopes: tenders(alloc, reading)?,
-            securities: securities(alloc)?,
+            notice: rows::notice(alloc, state, 0, 7),
+            lots: rows::of(alloc, rows::lot(alloc, "L1", self.lot, 600)),
+            awards: rows::of(alloc, award(self.lot)),
+            envelopes,
+            securities: rows::of(alloc, rows::security(1, SecurityState::Held)),
             clock,
         };
-        Some(decide_cancel(alloc, t, rows))
+        let whole = are_whole(&rows, self.lot);
+        Some((whole, decide_cancel(alloc, t, rows)))
     }
 }
 
+static BEFORE_THE_OPENING: [(Case, Wanted); 1] = [(
+    Case::Cancellation(Cancellation {
+        lot: LotState::Undecided,
+    }),
+    Wanted::Puts(&[
+        Made::Line([900, 900]),
+        Made::Lot(LotState::Cancelled, [600, 0]),
+        Made::Tender(MadeTender {
+            numbers: [1, 6, 1, 7, 1],
+            state: EnvelopeState::Returned,
+            price: None,
+            responsive: None,
+            quality: None,
+            failed: false,
+        }),
+        Made::NoSeal(1),
+        Made::Security(1, SecurityState::Returned),
+        Made::Notice(MadeNotice {
+            numbers: [9, 0, 8],
+            state: NoticeState::Cancelled,
+            opened: None,
+        }),
+        Made::Clock([50, 1, 1]),
+    ]),
+)];
+
 #[test]
 fn notices_are_cancelled_before_the_opening(rt: HostRuntime) {
-    let alloc = rt.alloc();
-    answers(
-        &rt,
-        alloc,
-        &Cancellation {
-            lot: LotState::Undecided,
-        },
-        "line 1000 Roads 900 900;lot N1/L1 North 1000 600 50 1 Cancelled 0;\
-         tender 1 N1/L1 T1 6 1 7 Some(1) Returned - None None false;no seal 1;security 1 T1 S1 50 Returned;\
-         notice N1 Road repair 5 9 90 10 0 Cancelled - 0 8;clock 50 1 1;",
-    );
+    assert!(rt; are_decided(rt.alloc(), &BEFORE_THE_OPENING));
 }
+
+static AWARDED: [(Case, Wanted); 2] = [
+    (
+        Case::Cancellation(Cancellation {
+            lot: LotState::Awarded,
+        }),
+        Wanted::Puts(&[
+            Made::Line([900, 900]),
+            Made::Lot(LotState::Cancelled, [600, 0]),
+            Made::Award(AwardState::Cancelled, [500, 20]),
+            Made::Security(1, SecurityState::Returned),
+            Made::Notice(MadeNotice {
+                numbers: [9, 0, 8],
+                state: NoticeState::Opened,
+                opened: None,
+            }),
+            Made::Clock([50, 1, 1]),
+        ]),
+    ),
+    (
+        Case::Cancellation(Cancellation {
+            lot: LotState::Contracted,
+        }),
+        Wanted::Refused("NothingToCancel"),
+    ),
+];
 
 #[test]
 fn awarded_lots_are_cancelled(rt: HostRuntime) {
-    let alloc = rt.alloc();
-    answers(
-        &rt,
-        alloc,
-        &Cancellation {
-            lot: LotState::Awarded,
-        },
-        "line 1000 Roads 900 900;lot N1/L1 North 1000 600 50 1 Cancelled 0;award 1 1 500 20 Cancelled;\
-         security 1 T1 S1 50 Returned;notice N1 Road repair 5 9 90 10 0 Opened - 0 8;clock 50 1 1;",
-    );
-    answers(
-        &rt,
-        alloc,
-        &Cancellation {
-            lot: LotState::Contracted,
-        },
-        "NothingToCancel",
-    );
+    assert!(rt; are_decided(rt.alloc(), &AWARDED));
 }

@@ -16,6 +16,8 @@ mod contracts;
 #[cfg(test)]
 mod lots;
 #[cfg(test)]
+mod made;
+#[cfg(test)]
 mod notices;
 #[cfg(test)]
 mod openings;
@@ -23,7 +25,5 @@ mod openings;
 mod presented;
 #[cfg(test)]
 mod rows;
-#[cfg(test)]
-mod tell;
 #[cfg(test)]
 mod tenders;

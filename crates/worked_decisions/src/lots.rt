@@ -1,23 +1,12 @@
 //! Awards of lots.
-use crate::answers::{Case, answers};
+use crate::answers::{Case, Decided, Wanted, are_decided};
+use crate::made::{Made, MadeNotice};
 use crate::rows;
 use award_core::award::{AwardRows, decide_award};
-use office_base::puts::Put;
 use office_base::reading::Reading;
-use office_base::records::{
-    EnvelopeRow, LotRow, LotState, NoticeRow, NoticeState, SecurityRow, SecurityState,
-};
+use office_base::records::{AwardState, EnvelopeRow, LotState, NoticeState, SecurityState};
 use office_base::rows::Rows;
-use office_values::refusal::Refusal;
 use std::alloc::Global;
-
-fn notice(alloc: Global) -> Option<NoticeRow> {
-    rows::notice(alloc, NoticeState::Opened, 0, 7)
-}
-
-fn undecided(alloc: Global) -> Option<LotRow> {
-    rows::lot(alloc, "L1", LotState::Undecided, 600)
-}
 
 // One tender, with what its examination found.
 fn tenders(
@@ -29,74 +18,100 @@ fn tenders(
         responsive,
         ..rows::tender(1, reading)?
     };
-    rows::one(alloc, row)
+    Some(rows::of(alloc, Some(row)))
 }
 
-fn held(alloc: Global) -> Option<Rows<SecurityRow>> {
-    rows::one(alloc, rows::security(1, SecurityState::Held)?)
+// There is one row of each kind.
+fn are_whole(rows: &AwardRows) -> bool {
+    rows.notice.is_some()
+        && rows.lot.is_some()
+        && rows.line.is_some()
+        && rows::is_one(&rows.envelopes)
+        && rows::is_one(&rows.securities)
 }
 
 // The award of a lot that has 600 reserved, 300 more free on its line, and one tender.
 #[derive(Clone, Copy)]
-struct Award {
-    price: u64,
-    responsive: Option<bool>,
+pub struct Award {
+    pub price: u64,
+    pub responsive: Option<bool>,
 }
 
-impl Case for Award {
-    fn decide(&self, alloc: Global) -> Option<Result<Vec<Put>, Refusal>> {
+impl Award {
+    pub fn decide(&self, alloc: Global) -> Option<Decided> {
         let (t, clock) = (rows::at(50)?, rows::clock(1, 0)?);
         let reading: Option<Reading> = rows::price(self.price);
+        let envelopes = tenders(alloc, reading, self.responsive)?;
         let rows = AwardRows {
-            notice: Some(notice(alloc)?),
-            lot: Some(undecided(alloc)?),
-            line: Some(rows::line(alloc, 300)?),
-            envelopes: tenders(alloc, reading, self.responsive)?,
-            securities: held(alloc)?,
+            notice: rows::notice(alloc, NoticeState::Opened, 0, 7),
+            lot: rows::lot(alloc, "L1", LotState::Undecided, 600),
+            line: rows::line(alloc, 300),
+            envelopes,
+            securities: rows::of(alloc, rows::security(1, SecurityState::Held)),
             clock,
         };
-        Some(decide_award(alloc, t, rows))
+        let whole = are_whole(&rows);
+        Some((whole, decide_award(alloc, t, rows)))
     }
 }
 
+// The notice after a command that changes nothing else of it.
+const NOTICE: Made = Made::Notice(MadeNotice {
+    numbers: [9, 0, 8],
+    state: NoticeState::Opened,
+    opened: None,
+});
+
+static AWARDED: [(Case, Wanted); 3] = [
+    (
+        Case::Award(Award {
+            price: 700,
+            responsive: Some(true),
+        }),
+        Wanted::Puts(&[
+            Made::Award(AwardState::Active, [700, 50]),
+            Made::Lot(LotState::Awarded, [600, 700]),
+            Made::Line([900, 200]),
+            NOTICE,
+            Made::Clock([50, 1, 1]),
+        ]),
+    ),
+    (
+        Case::Award(Award {
+            price: 901,
+            responsive: Some(true),
+        }),
+        Wanted::Refused("InsufficientFunds"),
+    ),
+    (
+        Case::Award(Award {
+            price: 700,
+            responsive: None,
+        }),
+        Wanted::Refused("NotAllExamined"),
+    ),
+];
+
 #[test]
 fn lots_are_awarded(rt: HostRuntime) {
-    let alloc = rt.alloc();
-    let case = Award {
-        price: 700,
-        responsive: Some(true),
-    };
-    answers(
-        &rt,
-        alloc,
-        &case,
-        "award 1 1 700 50 Active;lot N1/L1 North 1000 600 50 1 Awarded 700;line 1000 Roads 900 200;\
-         notice N1 Road repair 5 9 90 10 0 Opened - 0 8;clock 50 1 1;",
-    );
-    let case = Award {
-        price: 901,
-        responsive: Some(true),
-    };
-    answers(&rt, alloc, &case, "InsufficientFunds");
-    let case = Award {
-        price: 700,
-        responsive: None,
-    };
-    answers(&rt, alloc, &case, "NotAllExamined");
+    assert!(rt; are_decided(rt.alloc(), &AWARDED));
 }
+
+static TO_NOBODY: [(Case, Wanted); 1] = [(
+    Case::Award(Award {
+        price: 700,
+        responsive: Some(false),
+    }),
+    Wanted::Puts(&[
+        Made::Lot(LotState::Unsuccessful, [600, 0]),
+        Made::Line([900, 900]),
+        NOTICE,
+        Made::Clock([50, 1, 0]),
+        Made::Security(1, SecurityState::Returned),
+    ]),
+)];
 
 #[test]
 fn lots_without_a_responsive_tender_go_to_nobody(rt: HostRuntime) {
-    let alloc = rt.alloc();
-    let case = Award {
-        price: 700,
-        responsive: Some(false),
-    };
-    answers(
-        &rt,
-        alloc,
-        &case,
-        "lot N1/L1 North 1000 600 50 1 Unsuccessful 0;line 1000 Roads 900 900;\
-         notice N1 Road repair 5 9 90 10 0 Opened - 0 8;clock 50 1 0;security 1 T1 S1 50 Returned;",
-    );
+    assert!(rt; are_decided(rt.alloc(), &TO_NOBODY));
 }

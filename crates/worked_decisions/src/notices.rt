@@ -1,14 +1,13 @@
 //! Registrations, and notices that are published and amended.
-use crate::answers::{Case, answers};
+use crate::answers::{Case, Decided, Wanted, are_decided};
+use crate::made::{Made, MadeNotice};
 use crate::rows;
 use keyed_table::table::Table;
 use office_acts::amounts::Estimate;
 use office_acts::lot::{NewLot, NewLots};
 use office_acts::notice::{Criteria, NewNotice, Standstill, Validity};
-use office_base::puts::Put;
-use office_base::records::{LineRow, NoticeState};
+use office_base::records::{LineRow, LotState, NoticeState};
 use office_values::money::Amount;
-use office_values::refusal::Refusal;
 use std::alloc::Global;
 use tender_core::amend_notice::{AmendNoticeRows, decide_amend_notice};
 use tender_core::publish::{PublishRows, decide_publish};
@@ -16,12 +15,12 @@ use tender_core::register::{RegisterRows, decide_register};
 
 // The registration of a new tenderer of this name.
 #[derive(Clone, Copy)]
-struct Registration {
-    tenderer: &'static str,
+pub struct Registration {
+    pub tenderer: &'static str,
 }
 
-impl Case for Registration {
-    fn decide(&self, alloc: Global) -> Option<Result<Vec<Put>, Refusal>> {
+impl Registration {
+    pub fn decide(&self, alloc: Global) -> Option<Decided> {
         let (t, tenderer, clock) = (rows::at(8)?, rows::id(self.tenderer)?, rows::clock(1, 0)?);
         let name = rows::text(alloc, "Paving Ltd")?;
         let address = rows::text(alloc, "1 High Road")?;
@@ -29,29 +28,34 @@ impl Case for Registration {
             tenderer: None,
             clock,
         };
-        Some(decide_register(alloc, t, rows, tenderer, name, address, [7; 32]))
+        let decided = decide_register(alloc, t, rows, tenderer, name, address, [7; 32]);
+        Some((true, decided))
     }
 }
 
+// A new name, and the clerk's own, which is taken.
+static REGISTRATIONS: [(Case, Wanted); 2] = [
+    (
+        Case::Registration(Registration { tenderer: "T1" }),
+        Wanted::Puts(&[Made::Tenderer, Made::Clock([8, 1, 0])]),
+    ),
+    (
+        Case::Registration(Registration { tenderer: "clerk" }),
+        Wanted::Refused("Exists"),
+    ),
+];
+
 #[test]
 fn tenderers_are_registered(rt: HostRuntime) {
-    let alloc = rt.alloc();
-    answers(
-        &rt,
-        alloc,
-        &Registration { tenderer: "T1" },
-        "tenderer T1 Paving Ltd 1 High Road 7;clock 8 1 0;",
-    );
-    // The clerk's own name is taken.
-    answers(&rt, alloc, &Registration { tenderer: "clerk" }, "Exists");
+    assert!(rt; are_decided(rt.alloc(), &REGISTRATIONS));
 }
 
 // The publication of a notice with one lot of this line and estimate; 300 is free on the line 1000.
 #[derive(Clone, Copy)]
-struct Publication {
-    line: &'static str,
-    estimate: u64,
-    deadline: u64,
+pub struct Publication {
+    pub line: &'static str,
+    pub estimate: u64,
+    pub deadline: u64,
 }
 
 fn new_lot(alloc: Global, line: &str, estimate: u64) -> Option<NewLot> {
@@ -88,8 +92,8 @@ fn lines(alloc: Global) -> Option<Table<LineRow>> {
     Some(lines)
 }
 
-impl Case for Publication {
-    fn decide(&self, alloc: Global) -> Option<Result<Vec<Put>, Refusal>> {
+impl Publication {
+    pub fn decide(&self, alloc: Global) -> Option<Decided> {
         let (t, notice, clock) = (rows::at(5)?, rows::id("N1")?, rows::clock(1, 0)?);
         let new = new_notice(alloc, self)?;
         let rows = PublishRows {
@@ -97,103 +101,111 @@ impl Case for Publication {
             lines: lines(alloc)?,
             clock,
         };
-        Some(decide_publish(alloc, t, rows, notice, new))
+        Some((true, decide_publish(alloc, t, rows, notice, new)))
     }
 }
 
-#[test]
-fn notices_are_published(rt: HostRuntime) {
-    let alloc = rt.alloc();
-    answers(
-        &rt,
-        alloc,
-        &Publication {
+static PUBLICATIONS: [(Case, Wanted); 4] = [
+    (
+        Case::Publication(Publication {
             line: "1000",
             estimate: 300,
             deadline: 9,
-        },
-        "line 1000 Roads 900 0;lot N1/L1 North 1000 300 50 1 Undecided 300;\
-         notice N1 Road repair 5 9 90 10 0 Receiving - 0 1;clock 5 1 0;",
-    );
-    answers(
-        &rt,
-        alloc,
-        &Publication {
+        }),
+        Wanted::Puts(&[
+            Made::Line([900, 0]),
+            Made::Lot(LotState::Undecided, [300, 300]),
+            Made::Notice(MadeNotice {
+                numbers: [9, 0, 1],
+                state: NoticeState::Receiving,
+                opened: None,
+            }),
+            Made::Clock([5, 1, 0]),
+        ]),
+    ),
+    (
+        Case::Publication(Publication {
             line: "2000",
             estimate: 300,
             deadline: 9,
-        },
-        "NoSuch line",
-    );
-    answers(
-        &rt,
-        alloc,
-        &Publication {
+        }),
+        Wanted::RefusedOf("NoSuch", "line"),
+    ),
+    (
+        Case::Publication(Publication {
             line: "1000",
             estimate: 301,
             deadline: 9,
-        },
-        "InsufficientFunds",
-    );
-    answers(
-        &rt,
-        alloc,
-        &Publication {
+        }),
+        Wanted::Refused("InsufficientFunds"),
+    ),
+    (
+        Case::Publication(Publication {
             line: "1000",
             estimate: 300,
             deadline: 5,
-        },
-        "DeadlinePassed",
-    );
+        }),
+        Wanted::Refused("DeadlinePassed"),
+    ),
+];
+
+#[test]
+fn notices_are_published(rt: HostRuntime) {
+    assert!(rt; are_decided(rt.alloc(), &PUBLICATIONS));
 }
 
 // The deadline, which was second 9, comes to be this one.
 #[derive(Clone, Copy)]
-struct Delay {
-    second: u64,
-    deadline: u64,
+pub struct Delay {
+    pub second: u64,
+    pub deadline: u64,
 }
 
-impl Case for Delay {
-    fn decide(&self, alloc: Global) -> Option<Result<Vec<Put>, Refusal>> {
+impl Delay {
+    pub fn decide(&self, alloc: Global) -> Option<Decided> {
         let (t, clock) = (rows::at(self.second)?, rows::clock(1, 0)?);
         let deadline = rows::at(self.deadline)?;
         let rows = AmendNoticeRows {
-            notice: Some(rows::notice(alloc, NoticeState::Receiving, 0, 1)?),
+            notice: rows::notice(alloc, NoticeState::Receiving, 0, 1),
             clock,
         };
-        Some(decide_amend_notice(alloc, t, rows, deadline))
+        let whole = rows.notice.is_some();
+        Some((whole, decide_amend_notice(alloc, t, rows, deadline)))
     }
 }
 
-#[test]
-fn deadlines_are_moved(rt: HostRuntime) {
-    let alloc = rt.alloc();
-    answers(
-        &rt,
-        alloc,
-        &Delay {
+static DELAYS: [(Case, Wanted); 3] = [
+    (
+        Case::Delay(Delay {
             second: 8,
             deadline: 20,
-        },
-        "notice N1 Road repair 5 20 90 10 0 Receiving - 1 2;clock 8 1 0;",
-    );
-    answers(
-        &rt,
-        alloc,
-        &Delay {
+        }),
+        Wanted::Puts(&[
+            Made::Notice(MadeNotice {
+                numbers: [20, 1, 2],
+                state: NoticeState::Receiving,
+                opened: None,
+            }),
+            Made::Clock([8, 1, 0]),
+        ]),
+    ),
+    (
+        Case::Delay(Delay {
             second: 8,
             deadline: 8,
-        },
-        "DeadlineEarlier",
-    );
-    answers(
-        &rt,
-        alloc,
-        &Delay {
+        }),
+        Wanted::Refused("DeadlineEarlier"),
+    ),
+    (
+        Case::Delay(Delay {
             second: 9,
             deadline: 20,
-        },
-        "DeadlinePassed",
-    );
+        }),
+        Wanted::Refused("DeadlinePassed"),
+    ),
+];
+
+#[test]
+fn deadlines_are_moved(rt: HostRuntime) {
+    assert!(rt; are_decided(rt.alloc(), &DELAYS));
 }

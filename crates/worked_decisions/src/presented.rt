@@ -1,30 +1,16 @@
 //! Tenders that are presented.
-use crate::answers::{Case, answers};
+use crate::answers::{Case, Decided, Wanted, are_decided};
+use crate::made::{Made, MadeTender};
 use crate::rows;
 use office_acts::amounts::SecurityAmount;
 use office_acts::command::Caller;
 use office_acts::sealed::Sealed;
 use office_acts::tender::NamedSecurity;
-use office_base::puts::Put;
 use office_base::reading::Reading;
-use office_base::records::{EnvelopeRow, LotRow, LotState, NoticeRow, NoticeState};
+use office_base::records::{EnvelopeRow, EnvelopeState, LotState, NoticeState, SecurityState};
 use office_base::rows::Rows;
-use office_values::refusal::Refusal;
 use std::alloc::Global;
 use tender_core::present::{PresentRows, decide_present};
-
-// It receives tenders until second 9.
-fn notice(alloc: Global) -> Option<NoticeRow> {
-    rows::notice(alloc, NoticeState::Receiving, 0, 1)
-}
-
-fn caller(tenderer: &str) -> Option<Caller> {
-    Some(Caller::Tenderer(rows::id(tenderer)?))
-}
-
-fn lot(alloc: Global) -> Option<LotRow> {
-    rows::lot(alloc, "L1", LotState::Undecided, 600)
-}
 
 // A security of this amount; none of 0.
 fn named(amount: u64) -> Option<NamedSecurity> {
@@ -37,99 +23,119 @@ fn named(amount: u64) -> Option<NamedSecurity> {
 // T1's first tender, where there is one.
 fn earlier(alloc: Global, there: bool, reading: Option<Reading>) -> Option<Rows<EnvelopeRow>> {
     if !there {
-        return Some(rows::none(alloc));
+        return Some(Rows::from_vec(Vec::new(alloc)));
     }
     let row = EnvelopeRow {
         failed: false,
         ..rows::tender(1, reading)?
     };
-    rows::one(alloc, row)
+    Some(rows::of(alloc, Some(row)))
 }
 
-// T1 presents a tender at this second with a security of this amount, perhaps after another.
+// T1 presents a tender at this second with a security of this amount, perhaps after another. The notice receives tenders until second 9.
 #[derive(Clone, Copy)]
-struct Presented {
-    second: u64,
-    security: u64,
-    again: bool,
+pub struct Presented {
+    pub second: u64,
+    pub security: u64,
+    pub again: bool,
 }
 
-impl Case for Presented {
-    fn decide(&self, alloc: Global) -> Option<Result<Vec<Put>, Refusal>> {
-        let (t, clock, caller) = (rows::at(self.second)?, rows::clock(3, 0)?, caller("T1")?);
-        let (notice_id, lot_id) = (rows::id("N1")?, rows::id("L1")?);
-        let sealed = Sealed::read(b"abc")?;
-        let security = named(self.security);
+impl Presented {
+    pub fn decide(&self, alloc: Global) -> Option<Decided> {
+        let (t, clock) = (rows::at(self.second)?, rows::clock(3, 0)?);
+        let caller = Caller::Tenderer(rows::id("T1")?);
+        let (notice, lot) = (rows::id("N1")?, rows::id("L1")?);
+        let (security, sealed) = (named(self.security), Sealed::read(b"abc")?);
         let reading: Option<Reading> = None;
+        let envelopes = earlier(alloc, self.again, reading)?;
         let rows = PresentRows {
-            notice: Some(notice(alloc)?),
-            lot: Some(lot(alloc)?),
-            envelopes: earlier(alloc, self.again, reading)?,
+            notice: rows::notice(alloc, NoticeState::Receiving, 0, 1),
+            lot: rows::lot(alloc, "L1", LotState::Undecided, 600),
+            envelopes,
             clock,
         };
-        Some(decide_present(
-            alloc, t, &caller, rows, notice_id, lot_id, security, &sealed,
-        ))
+        let whole = rows.notice.is_some()
+            && rows.lot.is_some()
+            && rows::is_one(&rows.envelopes) == self.again;
+        let decided = decide_present(alloc, t, &caller, rows, notice, lot, security, &sealed);
+        Some((whole, decided))
     }
 }
 
-#[test]
-fn tenders_are_received_sealed(rt: HostRuntime) {
-    let alloc = rt.alloc();
-    // The SHA-256 of "abc" begins with 0xba (FIPS 180-4).
-    answers(
-        &rt,
-        alloc,
-        &Presented {
+// The SHA-256 of "abc" begins with 0xba (FIPS 180-4).
+static RECEIVED: [(Case, Wanted); 4] = [
+    (
+        Case::Presented(Presented {
             second: 9,
             security: 50,
             again: false,
-        },
-        "tender 4 N1/L1 T1 9 3 186 Some(4) Sealed - None None false;clock 9 4 0;seal 4 3 97;security 4 T1 S1 50 Held;",
-    );
-    answers(
-        &rt,
-        alloc,
-        &Presented {
+        }),
+        Wanted::Puts(&[
+            Made::Tender(MadeTender {
+                numbers: [4, 9, 3, 0xba, 4],
+                state: EnvelopeState::Sealed,
+                price: None,
+                responsive: None,
+                quality: None,
+                failed: false,
+            }),
+            Made::Clock([9, 4, 0]),
+            Made::Seal([4, 3, 97]),
+            Made::Security(4, SecurityState::Held),
+        ]),
+    ),
+    (
+        Case::Presented(Presented {
             second: 9,
             security: 49,
             again: false,
-        },
-        "SecurityTooSmall",
-    );
-    answers(
-        &rt,
-        alloc,
-        &Presented {
+        }),
+        Wanted::Refused("SecurityTooSmall"),
+    ),
+    (
+        Case::Presented(Presented {
             second: 9,
             security: 0,
             again: false,
-        },
-        "SecurityMissing",
-    );
-    answers(
-        &rt,
-        alloc,
-        &Presented {
+        }),
+        Wanted::Refused("SecurityMissing"),
+    ),
+    (
+        Case::Presented(Presented {
             second: 9,
             security: 50,
             again: true,
-        },
-        "AlreadyPresented",
-    );
+        }),
+        Wanted::Refused("AlreadyPresented"),
+    ),
+];
+
+#[test]
+fn tenders_are_received_sealed(rt: HostRuntime) {
+    assert!(rt; are_decided(rt.alloc(), &RECEIVED));
 }
+
+static LATE: [(Case, Wanted); 1] = [(
+    Case::Presented(Presented {
+        second: 10,
+        security: 50,
+        again: true,
+    }),
+    Wanted::Puts(&[
+        Made::Tender(MadeTender {
+            numbers: [4, 10, 3, 0xba, 4],
+            state: EnvelopeState::Returned,
+            price: None,
+            responsive: None,
+            quality: None,
+            failed: false,
+        }),
+        Made::Clock([10, 4, 0]),
+        Made::Security(4, SecurityState::Returned),
+    ]),
+)];
 
 #[test]
 fn late_tenders_are_given_back(rt: HostRuntime) {
-    let alloc = rt.alloc();
-    answers(
-        &rt,
-        alloc,
-        &Presented {
-            second: 10,
-            security: 50,
-            again: true,
-        },
-        "tender 4 N1/L1 T1 10 3 186 Some(4) Returned - None None false;clock 10 4 0;security 4 T1 S1 50 Returned;",
-    );
+    assert!(rt; are_decided(rt.alloc(), &LATE));
 }

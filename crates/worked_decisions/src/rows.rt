@@ -31,21 +31,18 @@ pub fn text(alloc: Global, text: &str) -> Option<TextLine> {
     TextLine::read(alloc, text.as_bytes()).ok()?
 }
 
-/// No rows.
-pub fn none<R: Drop>(alloc: Global) -> Rows<R> {
-    Rows::from_vec(Vec::new(alloc))
-}
-
-/// One row.
-pub fn one<R: Drop>(alloc: Global, row: R) -> Option<Rows<R>> {
+/// The row, or none where there is none or memory is wanting, as `is_one` tells.
+pub fn of<R: Drop>(alloc: Global, row: Option<R>) -> Rows<R> {
     let mut rows = Vec::new(alloc);
-    rows.push(row).ok()?;
-    Some(Rows::from_vec(rows))
+    if let Some(row) = row {
+        let _ = rows.push(row).is_ok();
+    }
+    Rows::from_vec(rows)
 }
 
-/// The row, where there is one.
-pub fn one_of<R: Drop>(alloc: Global, row: Option<R>) -> Option<Rows<R>> {
-    one(alloc, row?)
+/// There is one row.
+pub fn is_one<R: Drop>(rows: &Rows<R>) -> bool {
+    rows.as_slice().len() == 1
 }
 
 /// The line 1000, with 900 appropriated and so much of it free.

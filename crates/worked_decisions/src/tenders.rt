@@ -1,12 +1,11 @@
 //! Tenders that are modified and withdrawn.
-use crate::answers::{Case, answers};
+use crate::answers::{Case, Decided, Wanted, are_decided};
+use crate::made::{Made, MadeTender};
 use crate::rows;
 use office_acts::command::Caller;
 use office_acts::sealed::Sealed;
-use office_base::puts::Put;
 use office_base::reading::Reading;
-use office_base::records::{NoticeRow, NoticeState, SecurityState};
-use office_values::refusal::Refusal;
+use office_base::records::{EnvelopeState, NoticeRow, NoticeState, SecurityState};
 use std::alloc::Global;
 use tender_core::modify::{ModifyRows, decide_modify};
 use tender_core::withdraw::{WithdrawRows, decide_withdraw};
@@ -16,114 +15,134 @@ fn notice(alloc: Global) -> Option<NoticeRow> {
     rows::notice(alloc, NoticeState::Receiving, 0, 1)
 }
 
-fn caller(tenderer: &str) -> Option<Caller> {
-    Some(Caller::Tenderer(rows::id(tenderer)?))
-}
-
 // This tenderer puts another tender in the place of T1's, at this second.
 #[derive(Clone, Copy)]
-struct Modified {
-    second: u64,
-    tenderer: &'static str,
+pub struct Modified {
+    pub second: u64,
+    pub tenderer: &'static str,
 }
 
-impl Case for Modified {
-    fn decide(&self, alloc: Global) -> Option<Result<Vec<Put>, Refusal>> {
+impl Modified {
+    pub fn decide(&self, alloc: Global) -> Option<Decided> {
         let (t, clock) = (rows::at(self.second)?, rows::clock(3, 0)?);
-        let (caller, sealed) = (caller(self.tenderer)?, Sealed::read(b"abc")?);
+        let caller = Caller::Tenderer(rows::id(self.tenderer)?);
+        let sealed = Sealed::read(b"abc")?;
         let reading: Option<Reading> = None;
         let rows = ModifyRows {
             envelope: rows::tender(1, reading),
-            notice: Some(notice(alloc)?),
+            notice: notice(alloc),
             clock,
         };
-        Some(decide_modify(alloc, t, &caller, rows, &sealed))
+        let whole = rows.notice.is_some();
+        Some((whole, decide_modify(alloc, t, &caller, rows, &sealed)))
     }
 }
 
-#[test]
-fn tenders_are_modified(rt: HostRuntime) {
-    let alloc = rt.alloc();
-    answers(
-        &rt,
-        alloc,
-        &Modified {
+// T1's tender after it was withdrawn or another came in its place.
+const WITHDRAWN: Made = Made::Tender(MadeTender {
+    numbers: [1, 6, 1, 7, 1],
+    state: EnvelopeState::Withdrawn,
+    price: None,
+    responsive: None,
+    quality: None,
+    failed: false,
+});
+
+static MODIFIED: [(Case, Wanted); 3] = [
+    (
+        Case::Modified(Modified {
             second: 8,
             tenderer: "T1",
-        },
-        "tender 1 N1/L1 T1 6 1 7 Some(1) Withdrawn - None None false;no seal 1;\
-         tender 4 N1/L1 T1 8 3 186 Some(1) Sealed - None None false;seal 4 3 97;clock 8 4 0;",
-    );
-    answers(
-        &rt,
-        alloc,
-        &Modified {
+        }),
+        Wanted::Puts(&[
+            WITHDRAWN,
+            Made::NoSeal(1),
+            Made::Tender(MadeTender {
+                numbers: [4, 8, 3, 0xba, 1],
+                state: EnvelopeState::Sealed,
+                price: None,
+                responsive: None,
+                quality: None,
+                failed: false,
+            }),
+            Made::Seal([4, 3, 97]),
+            Made::Clock([8, 4, 0]),
+        ]),
+    ),
+    (
+        Case::Modified(Modified {
             second: 8,
             tenderer: "T2",
-        },
-        "NotYourTender",
-    );
-    answers(
-        &rt,
-        alloc,
-        &Modified {
+        }),
+        Wanted::Refused("NotYourTender"),
+    ),
+    (
+        Case::Modified(Modified {
             second: 9,
             tenderer: "T1",
-        },
-        "DeadlinePassed",
-    );
+        }),
+        Wanted::Refused("DeadlinePassed"),
+    ),
+];
+
+#[test]
+fn tenders_are_modified(rt: HostRuntime) {
+    assert!(rt; are_decided(rt.alloc(), &MODIFIED));
 }
 
 // This tenderer withdraws T1's tender, at this second.
 #[derive(Clone, Copy)]
-struct Withdrawn {
-    second: u64,
-    tenderer: &'static str,
+pub struct Withdrawn {
+    pub second: u64,
+    pub tenderer: &'static str,
 }
 
-impl Case for Withdrawn {
-    fn decide(&self, alloc: Global) -> Option<Result<Vec<Put>, Refusal>> {
+impl Withdrawn {
+    pub fn decide(&self, alloc: Global) -> Option<Decided> {
         let (t, clock) = (rows::at(self.second)?, rows::clock(3, 0)?);
-        let caller = caller(self.tenderer)?;
+        let caller = Caller::Tenderer(rows::id(self.tenderer)?);
         let reading: Option<Reading> = None;
         let rows = WithdrawRows {
             envelope: rows::tender(1, reading),
-            notice: Some(notice(alloc)?),
+            notice: notice(alloc),
             security: rows::security(1, SecurityState::Held),
             clock,
         };
-        Some(decide_withdraw(alloc, t, &caller, rows))
+        let whole = rows.notice.is_some();
+        Some((whole, decide_withdraw(alloc, t, &caller, rows)))
     }
 }
 
-#[test]
-fn tenders_are_withdrawn(rt: HostRuntime) {
-    let alloc = rt.alloc();
-    answers(
-        &rt,
-        alloc,
-        &Withdrawn {
+static WITHDRAWALS: [(Case, Wanted); 3] = [
+    (
+        Case::Withdrawn(Withdrawn {
             second: 8,
             tenderer: "T1",
-        },
-        "tender 1 N1/L1 T1 6 1 7 Some(1) Withdrawn - None None false;no seal 1;clock 8 3 0;security 1 T1 S1 50 Returned;",
-    );
-    answers(
-        &rt,
-        alloc,
-        &Withdrawn {
+        }),
+        Wanted::Puts(&[
+            WITHDRAWN,
+            Made::NoSeal(1),
+            Made::Clock([8, 3, 0]),
+            Made::Security(1, SecurityState::Returned),
+        ]),
+    ),
+    (
+        Case::Withdrawn(Withdrawn {
             second: 8,
             tenderer: "T2",
-        },
-        "NotYourTender",
-    );
-    answers(
-        &rt,
-        alloc,
-        &Withdrawn {
+        }),
+        Wanted::Refused("NotYourTender"),
+    ),
+    (
+        Case::Withdrawn(Withdrawn {
             second: 9,
             tenderer: "T1",
-        },
-        "DeadlinePassed",
-    );
+        }),
+        Wanted::Refused("DeadlinePassed"),
+    ),
+];
+
+#[test]
+fn tenders_are_withdrawn(rt: HostRuntime) {
+    assert!(rt; are_decided(rt.alloc(), &WITHDRAWALS));
 }
