@@ -108,4 +108,3 @@ loud {s = s} key n row clock rest is full same more own moment =
 
 pub returned_own : (rows : List SecurityRow) → AreOn is_own (securities_returned rows)
 returned_own rows = on-map is_own security_returned (filter is_held_security rows) (λ _. refl)
-

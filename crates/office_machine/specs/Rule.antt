@@ -9,10 +9,8 @@ use Rattle.office_base.specs.declared.records.SealRow.{SealRow}
 use Rattle.office_base.specs.Tables.{Tables, lot_at, seal_at, envelopes_of_notice}
 use Rattle.office_base.specs.declared.puts.Put.{Put}
 use Rattle.tender_core.specs.Rules.Open.{SealedTender, is_sealed_envelope}
-use Rattle.std.specs.Prelude.{ℕ, List, Option, Some, None}
 use Rattle.office_base.specs.declared.records.AwardRow.{AwardRow}
 use Rattle.office_base.specs.declared.records.ContractRow.{ContractRow}
-use Rattle.office_base.specs.Tables.{Tables}
 use Rattle.office_machine.specs.Readings.{Readings}
 use Rattle.office_machine.specs.Replies.{Reply}
 

@@ -5,24 +5,17 @@ use Rattle.award_core.specs.Rules.Examine.{examine_rows, examine_tests, examine_
 use Rattle.award_core.specs.Rules.Fail.{fail_rows, fail_tests, fail_puts}
 use Rattle.award_core.specs.Rules.Sign.{sign_rows, sign_tests, sign_puts}
 use Rattle.office_acts.specs.declared.commands.Command.TheVariants.{Import, Register, Publish, AmendNotice, Cancel, Open, Present, Modify, Withdraw, Examine, Award, Fail, Sign, AmendContract, Pay, End}
-use Rattle.office_acts.specs.declared.commands.Command.TheVariants.{Publish, AmendNotice, Cancel, Open, Award, Fail, Sign, AmendContract, Pay, End}
 use Rattle.office_acts.specs.declared.commands.Command.{Command}
 use Rattle.office_base.specs.Rows.{holds_of}
 use Rattle.office_base.specs.RuleParts.{is_in_time}
-use Rattle.office_base.specs.Tables.{award_at, contract_at}
-use Rattle.office_base.specs.Tables.{notice_at, envelope_at, award_at, contract_at, envelopes_of_notice}
-use Rattle.office_base.specs.Tables.{notice_at, envelopes_of_notice}
-use Rattle.std.specs.Prelude.{Some, None, option_map}
-use Rattle.std.specs.Prelude.{length, filter, Some, None, option_map}
-use Rattle.std.specs.Prelude.{filter, Some, None, option_map}
+use Rattle.office_base.specs.Tables.{award_at, contract_at, notice_at, envelope_at, envelopes_of_notice}
+use Rattle.std.specs.Prelude.{Some, None, option_map, length, filter}
 use Rattle.tender_core.specs.Rules.AmendNotice.{amend_notice_rows, amend_notice_tests, amend_notice_puts}
 use Rattle.tender_core.specs.Rules.Cancel.{cancel_rows, cancel_tests, cancel_puts}
 use Rattle.tender_core.specs.Rules.Import.{import_rows, import_tests, import_puts}
 use Rattle.tender_core.specs.Rules.Modify.{modify_rows, modify_tests, modify_puts}
 use Rattle.tender_core.specs.Rules.Open.{is_sealed_envelope, open_rows, open_tests, open_puts}
-use Rattle.tender_core.specs.Rules.Open.{is_sealed_envelope}
-use Rattle.tender_core.specs.Rules.Present.{present_rows, present_tests, present_puts}
-use Rattle.tender_core.specs.Rules.Present.{received}
+use Rattle.tender_core.specs.Rules.Present.{present_rows, present_tests, present_puts, received}
 use Rattle.tender_core.specs.Rules.Publish.{publish_rows, publish_tests, publish_puts}
 use Rattle.tender_core.specs.Rules.Register.{register_rows, register_tests, register_puts}
 use Rattle.office_machine.specs.Replies.{Imported, Enrolled, OfNotice, OpenedAll, Examined, Failed, Signed, OfContract, release_of, award_release, contract_release, left_of, received_reply, modify_reply}

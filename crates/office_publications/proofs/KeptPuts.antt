@@ -13,9 +13,7 @@ use Rattle.office_machine.specs.Publications.{published_for}
 use Rattle.office_machine.proofs.Aside.{after-append}
 use Rattle.ocds_release.specs.declared.event.Event.{Event}
 use Rattle.office_publications.specs.Events.{event_of}
-use Rattle.office_publications.specs.Keeping.{kept_puts, kept_next, merge_puts, merged_row}
-use Rattle.office_publications.specs.Keeping.{NoEventPublishesNothing, EventsAreReleased}
-use Rattle.office_publications.specs.Keeping.{NoEventPutsItsEffect, EventsPutReleases, MergesStandBeside}
+use Rattle.office_publications.specs.Keeping.{kept_puts, kept_next, merge_puts, merged_row, NoEventPublishesNothing, EventsAreReleased, NoEventPutsItsEffect, EventsPutReleases, MergesStandBeside}
 use Rattle.office_publications.specs.Publishing.{publishing, text_by}
 
 module _ (settings : Settings) (x : Given) where

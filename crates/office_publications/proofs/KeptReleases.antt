@@ -16,8 +16,7 @@ use Rattle.office_machine.specs.Releases.{ReleasesArePublished, published_of}
 use Rattle.office_machine.proofs.Aside.{after-append}
 use Rattle.office_machine.proofs.NextIs.{next_is}
 use Rattle.office_machine.proofs.ParentsThere.{parents_there}
-use Rattle.office_publications.specs.Keeping.{KeepsReleases, PublicationReadsBack, kept_puts, kept_next, merge_puts, merged_row}
-use Rattle.office_publications.specs.Keeping.{KeptStepsReach, ReleasesStayKept, NothingIsKeptAtFirst}
+use Rattle.office_publications.specs.Keeping.{KeepsReleases, PublicationReadsBack, kept_puts, kept_next, merge_puts, merged_row, KeptStepsReach, ReleasesStayKept, NothingIsKeptAtFirst}
 use Rattle.office_publications.specs.Merges.{AreMerged, CanBeMerged, body_in}
 use Rattle.office_publications.specs.Publishing.{publishing}
 use Rattle.office_publications.proofs.KeptPuts.{merges_stand_beside}

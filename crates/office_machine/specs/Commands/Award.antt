@@ -1,10 +1,6 @@
 -- The award of a lot.
-use Rattle.award_core.specs.Rules.Award.{award_rows, award_tests, award_puts}
-use Rattle.award_core.specs.Rules.Award.{winner}
+use Rattle.award_core.specs.Rules.Award.{award_rows, award_tests, award_puts, winner}
 use Rattle.office_base.specs.Tables.{notice_at, envelopes_of_lot}
-use Rattle.office_base.specs.Tables.{notice_at}
-use Rattle.std.specs.Prelude.{ℕ, List, Some, option_map}
-use Rattle.std.specs.Prelude.{ℕ, List, Some, option_map}
 use Rattle.std.specs.Prelude.{ℕ, List, Some, option_map}
 use Rattle.office_machine.specs.Replies.{Awarded, release_of, winning}
 use Rattle.office_machine.specs.Rule.{Rule}

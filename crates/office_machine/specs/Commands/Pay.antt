@@ -1,9 +1,6 @@
 -- A payment under a contract.
 use Rattle.award_core.specs.Rules.Pay.{pay_rows, pay_tests, pay_puts}
 use Rattle.office_base.specs.Tables.{contract_at}
-use Rattle.office_base.specs.Tables.{contract_at}
-use Rattle.std.specs.Prelude.{ℕ, List, option_map}
-use Rattle.std.specs.Prelude.{ℕ, List, option_map}
 use Rattle.std.specs.Prelude.{ℕ, List, option_map}
 use Rattle.office_machine.specs.Replies.{OfContract, contract_release, left_of}
 use Rattle.office_machine.specs.Rule.{Rule, notice_in_contract}

@@ -1,7 +1,5 @@
 -- The withdrawal of a tender.
 use Rattle.std.specs.Prelude.{ℕ, None}
-use Rattle.std.specs.Prelude.{ℕ, None}
-use Rattle.std.specs.Prelude.{ℕ, None}
 use Rattle.tender_core.specs.Rules.Withdraw.{withdraw_rows, withdraw_tests, withdraw_puts}
 use Rattle.office_machine.specs.Replies.{Withdrew}
 use Rattle.office_machine.specs.Rule.{Rule}

@@ -1,5 +1,4 @@
-use Rattle.office_publications.proofs.KeptPuts.{no_event_publishes_nothing, events_are_released}
-use Rattle.office_publications.proofs.KeptPuts.{no_event_puts_its_effect, events_put_releases, merges_stand_beside}
+use Rattle.office_publications.proofs.KeptPuts.{no_event_publishes_nothing, events_are_released, no_event_puts_its_effect, events_put_releases, merges_stand_beside}
 use Rattle.office_publications.proofs.KeptReleases.{reaches, stays, starts}
 use Rattle.office_publications.proofs.laws.keeping.Goals as goal
 
