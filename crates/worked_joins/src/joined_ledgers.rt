@@ -10,7 +10,6 @@ use office_values::given::GivenNumber;
 use office_values::id::Id;
 use office_values::money::{Amount, Total};
 use std::alloc::Global;
-use std::test::Fail;
 
 fn entry(name: &str, kind: EntryKind, amount: u64) -> Option<JoinedEntry> {
     Some(JoinedEntry {
@@ -64,18 +63,41 @@ fn added_up(
     Some(sums.finish())
 }
 
-// What lots have reserved, what is contracted and what was paid.
-fn told(row: &LedgerRow) -> (u64, u64, u64) {
+// A line of the ledger; and its appropriation, what lots have reserved, what is contracted and what was paid.
+type Told = (&'static str, [u64; 4]);
+
+fn is_told(row: &LedgerRow, told: &Told) -> bool {
     let pots = &row.pots;
-    (
-        pots.reserved.units(),
-        pots.contracted.units(),
-        pots.paid.units(),
-    )
+    let (appropriation, reserved) = (pots.appropriation.units(), pots.reserved.units());
+    let (contracted, paid) = (pots.contracted.units(), pots.paid.units());
+    row.line.as_str() == told.0 && [appropriation, reserved, contracted, paid] == told.1
 }
 
+fn are_told(rows: &[LedgerRow], told: &[Told]) -> bool {
+    if rows.len() != told.len() {
+        return false;
+    }
+    for (row, told) in rows.iter().zip(told.iter()) {
+        if !is_told(row, told) {
+            return false;
+        }
+    }
+    true
+}
+
+// The ledger of these rows is this one.
+fn is_ledger(alloc: Global, rows: &[Option<JoinedRow>], told: &[Told]) -> bool {
+    match added_up(alloc, rows) {
+        Some(Ok(ledger)) => are_told(ledger.as_slice(), told),
+        _ => false,
+    }
+}
+
+// What the rows of two lines add up to.
+static LEDGER: [Told; 2] = [("1000", [1000, 30, 130, 20]), ("2000", [50, 0, 0, 0])];
+
 #[test]
-fn a_join_is_added_up(rt: HostRuntime) -> Result<(), Fail> {
+fn a_join_is_added_up(rt: HostRuntime) {
     let payment = EntryKind::Payment;
     let rows = [
         row(
@@ -92,18 +114,11 @@ fn a_join_is_added_up(rt: HostRuntime) -> Result<(), Fail> {
         row("1000", 1000, lot("C", 30, None)),
         row("2000", 50, None),
     ];
-    let ledger = added_up(rt.alloc(), &rows).ok_or("rows")?;
-    let ledger = ledger.ok().ok_or("a ledger")?;
-    assert_eq!(rt; ledger.len(), 2);
-    assert_eq!(rt; told(&ledger[0]), (30, 130, 20));
-    assert_eq!(rt; told(&ledger[1]), (0, 0, 0));
-    assert_eq!(rt; ledger[0].line.as_str(), "1000");
-    assert_eq!(rt; ledger[1].pots.appropriation.units(), 50);
-    Ok(())
+    assert!(rt; is_ledger(rt.alloc(), &rows, &LEDGER));
 }
 
 #[test]
-fn a_contract_is_overdrawn(rt: HostRuntime) -> Result<(), Fail> {
+fn a_contract_is_overdrawn(rt: HostRuntime) {
     let rows = [
         row(
             "1000",
@@ -116,13 +131,14 @@ fn a_contract_is_overdrawn(rt: HostRuntime) -> Result<(), Fail> {
         ),
         row("2000", 50, None),
     ];
-    let ledger = added_up(rt.alloc(), &rows).ok_or("rows")?;
-    assert!(rt; matches!(ledger, Err(ShelfFault::Store)));
-    Ok(())
+    assert!(rt; matches!(added_up(rt.alloc(), &rows), Some(Err(ShelfFault::Store))));
 }
 
+// What is left of a contract that was cut by more than it was signed for, and then raised.
+static RAISED_AND_CUT: [Told; 1] = [("1000", [1000, 0, 30, 0])];
+
 #[test]
-fn raises_and_cuts_count(rt: HostRuntime) -> Result<(), Fail> {
+fn raises_and_cuts_count(rt: HostRuntime) {
     let rows = [
         row(
             "1000",
@@ -135,11 +151,7 @@ fn raises_and_cuts_count(rt: HostRuntime) -> Result<(), Fail> {
             lot("A", 0, contract(1, 100, entry("E2", EntryKind::Raise, 50))),
         ),
     ];
-    let ledger = added_up(rt.alloc(), &rows).ok_or("rows")?;
-    let ledger = ledger.ok().ok_or("a ledger")?;
-    assert_eq!(rt; ledger.len(), 1);
-    assert_eq!(rt; told(&ledger[0]), (0, 30, 0));
-    Ok(())
+    assert!(rt; is_ledger(rt.alloc(), &rows, &RAISED_AND_CUT));
 }
 
 // What the contracts of these rows come to; None where one of them is none.
@@ -159,8 +171,23 @@ fn listed(
     Some(list.finish())
 }
 
+fn is_sum(sums: &ContractSums, wanted: [u128; 3]) -> bool {
+    [sums.gained, sums.lost, sums.paid] == wanted
+}
+
+// The contracts of these rows are two, of these sums.
+fn are_listed(alloc: Global, rows: &[Option<JoinedLot>]) -> bool {
+    match listed(alloc, rows) {
+        Some(Ok(sums)) => match sums.as_slice() {
+            [first, second] => is_sum(first, [100, 20, 20]) && is_sum(second, [50, 0, 0]),
+            _ => false,
+        },
+        _ => false,
+    }
+}
+
 #[test]
-fn contracts_are_listed(rt: HostRuntime) -> Result<(), Fail> {
+fn contracts_are_listed(rt: HostRuntime) {
     let rows = [
         lot(
             "A",
@@ -175,11 +202,5 @@ fn contracts_are_listed(rt: HostRuntime) -> Result<(), Fail> {
         lot("B", 0, contract(2, 50, None)),
         lot("C", 30, None),
     ];
-    let sums = listed(rt.alloc(), &rows).ok_or("rows")?;
-    let sums = sums.ok().ok_or("sums")?;
-    assert_eq!(rt; sums.len(), 2);
-    let (first, second) = (&sums[0], &sums[1]);
-    assert_eq!(rt; (first.gained, first.lost, first.paid), (100, 20, 20));
-    assert_eq!(rt; (second.gained, second.lost, second.paid), (50, 0, 0));
-    Ok(())
+    assert!(rt; are_listed(rt.alloc(), &rows));
 }

@@ -1,9 +1,9 @@
 //! Tests of the selects over a store in memory.
+use office_base::ledger::{ContractSums, LedgerRow};
 use office_joins::adding::{ledger_of_rows, sums_of_rows};
 use office_joins::select::{list_joined, list_joined_of_line};
 use sqlite::{Connection, MemStore, Row, params};
 use std::alloc::Global;
-use std::test::Fail;
 
 const TABLES: &str = "CREATE TABLE other (x TEXT);
 CREATE TABLE lines (line TEXT NOT NULL PRIMARY KEY, title TEXT NOT NULL, appropriation INTEGER NOT NULL, free INTEGER NOT NULL) STRICT;
@@ -37,41 +37,75 @@ fn joined_of_line(alloc: Global, line: &str) -> Option<Vec<Row>> {
         .ok()
 }
 
-#[test]
-fn the_ledger_is_selected(rt: HostRuntime) -> Result<(), Fail> {
-    let rows = joined(rt.alloc()).ok_or("rows")?;
-    assert_eq!(rt; rows.len(), 5);
-    let ledger = ledger_of_rows(rt.alloc(), &rows).ok().ok_or("a ledger")?;
-    assert_eq!(rt; ledger.len(), 2);
-    let (roads, parks) = (&ledger[0], &ledger[1]);
-    assert_eq!(rt; roads.line.as_str(), "1000");
-    assert_eq!(rt;
-        (
-            roads.pots.reserved.units(),
-            roads.pots.contracted.units(),
-            roads.pots.paid.units()
-        ),
-        (30, 130, 20)
-    );
-    assert_eq!(rt;
-        (
-            parks.pots.appropriation.units(),
-            parks.pots.contracted.units()
-        ),
-        (50, 0)
-    );
-    Ok(())
+// Two lines: what is reserved, contracted and paid of the first; what is appropriated and contracted of the second.
+fn are_lines(ledger: &[LedgerRow]) -> bool {
+    match ledger {
+        [roads, parks] => {
+            let (reserved, contracted) = (
+                roads.pots.reserved.units(),
+                roads.pots.contracted.units(),
+            );
+            let (appropriation, of_parks) = (
+                parks.pots.appropriation.units(),
+                parks.pots.contracted.units(),
+            );
+            roads.line.as_str() == "1000"
+                && [reserved, contracted, roads.pots.paid.units()] == [30, 130, 20]
+                && [appropriation, of_parks] == [50, 0]
+        }
+        _ => false,
+    }
+}
+
+fn is_ledger(alloc: Global, rows: &[Row]) -> bool {
+    match ledger_of_rows(alloc, rows) {
+        Ok(ledger) => rows.len() == 5 && are_lines(ledger.as_slice()),
+        Err(_) => false,
+    }
+}
+
+fn ledger_is_selected(alloc: Global) -> bool {
+    match joined(alloc) {
+        Some(rows) => is_ledger(alloc, rows.as_slice()),
+        None => false,
+    }
 }
 
 #[test]
-fn sums_of_a_line_are_selected(rt: HostRuntime) -> Result<(), Fail> {
-    let rows = joined_of_line(rt.alloc(), "1000").ok_or("rows")?;
-    let sums = sums_of_rows(rt.alloc(), &rows).ok().ok_or("sums")?;
-    assert_eq!(rt; sums.len(), 2);
-    let (first, second) = (&sums[0], &sums[1]);
-    assert_eq!(rt; (first.gained, first.lost, first.paid), (100, 20, 20));
-    assert_eq!(rt; (second.gained, second.lost, second.paid), (50, 0, 0));
-    let none = joined_of_line(rt.alloc(), "3000").ok_or("rows")?;
-    assert!(rt; none.is_empty());
-    Ok(())
+fn the_ledger_is_selected(rt: HostRuntime) {
+    assert!(rt; ledger_is_selected(rt.alloc()));
+}
+
+fn is_sum(sums: &ContractSums, wanted: [u128; 3]) -> bool {
+    [sums.gained, sums.lost, sums.paid] == wanted
+}
+
+fn are_sums(alloc: Global, rows: &[Row]) -> bool {
+    match sums_of_rows(alloc, rows) {
+        Ok(sums) => match sums.as_slice() {
+            [first, second] => is_sum(first, [100, 20, 20]) && is_sum(second, [50, 0, 0]),
+            _ => false,
+        },
+        Err(_) => false,
+    }
+}
+
+fn sums_are_selected(alloc: Global) -> bool {
+    match joined_of_line(alloc, "1000") {
+        Some(rows) => are_sums(alloc, rows.as_slice()),
+        None => false,
+    }
+}
+
+fn none_are_selected(alloc: Global) -> bool {
+    match joined_of_line(alloc, "3000") {
+        Some(rows) => rows.is_empty(),
+        None => false,
+    }
+}
+
+#[test]
+fn sums_of_a_line_are_selected(rt: HostRuntime) {
+    assert!(rt; sums_are_selected(rt.alloc()));
+    assert!(rt; none_are_selected(rt.alloc()));
 }

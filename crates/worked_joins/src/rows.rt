@@ -15,38 +15,48 @@ use sqlite::{Connection, Row};
 use sqlite_value::value::ValueRef;
 use sqlite_value::value::ValueRef::{Blob, Int, Null, Text};
 use std::alloc::Global;
-use std::fmt::Write;
-use std::test::Fail;
 
 const DIGEST: &[u8] = b"\x00\x0123456789abcdef0123456789ABCDEF";
 
 const ITEMS: &str = "I1\t3\tPaving, 2 m\nI-2.a\t1000000\tK\u{fc}bel \"x\"\n";
 
-// A row of an answer, of these values.
-fn row_of(alloc: Global, values: &[ValueRef<'_>]) -> Result<Row, Fail> {
-    let mut sql = String::from_str(alloc, "SELECT ?1")?;
-    for number in 2..=values.len() {
-        write!(&mut sql, ", ?{number}")?;
-    }
-    let Ok(mut conn) = Connection::open_in_memory(alloc) else {
-        return Err(Fail::from("a connection"));
-    };
-    let Ok(row) = conn.query_row(sql.as_str(), values) else {
-        return Err(Fail::from("a row"));
-    };
-    Ok(row)
+// Selects of so many values.
+static SELECTS: [&str; 17] = [
+    "SELECT NULL",
+    "SELECT ?1",
+    "SELECT ?1, ?2",
+    "SELECT ?1, ?2, ?3",
+    "SELECT ?1, ?2, ?3, ?4",
+    "SELECT ?1, ?2, ?3, ?4, ?5",
+    "SELECT ?1, ?2, ?3, ?4, ?5, ?6",
+    "SELECT ?1, ?2, ?3, ?4, ?5, ?6, ?7",
+    "SELECT ?1, ?2, ?3, ?4, ?5, ?6, ?7, ?8",
+    "SELECT ?1, ?2, ?3, ?4, ?5, ?6, ?7, ?8, ?9",
+    "SELECT ?1, ?2, ?3, ?4, ?5, ?6, ?7, ?8, ?9, ?10",
+    "SELECT ?1, ?2, ?3, ?4, ?5, ?6, ?7, ?8, ?9, ?10, ?11",
+    "SELECT ?1, ?2, ?3, ?4, ?5, ?6, ?7, ?8, ?9, ?10, ?11, ?12",
+    "SELECT ?1, ?2, ?3, ?4, ?5, ?6, ?7, ?8, ?9, ?10, ?11, ?12, ?13",
+    "SELECT ?1, ?2, ?3, ?4, ?5, ?6, ?7, ?8, ?9, ?10, ?11, ?12, ?13, ?14",
+    "SELECT ?1, ?2, ?3, ?4, ?5, ?6, ?7, ?8, ?9, ?10, ?11, ?12, ?13, ?14, ?15",
+    "SELECT ?1, ?2, ?3, ?4, ?5, ?6, ?7, ?8, ?9, ?10, ?11, ?12, ?13, ?14, ?15, ?16",
+];
+
+// A row of an answer, of these values; None where it was not answered.
+fn row_of(alloc: Global, values: &[ValueRef<'_>]) -> Option<Row> {
+    let sql = SELECTS.get(values.len())?;
+    let mut conn = Connection::open_in_memory(alloc).ok()?;
+    conn.query_row(sql, values).ok()
 }
 
-fn read<R: Stored>(alloc: Global, values: &[ValueRef<'_>]) -> Result<R, Fail> {
-    match R::from_row(alloc, &row_of(alloc, values)?) {
-        Ok(record) => Ok(record),
-        Err(_) => Err(Fail::from("a record")),
-    }
+fn read<R: Stored>(alloc: Global, values: &[ValueRef<'_>]) -> Option<R> {
+    R::from_row(alloc, &row_of(alloc, values)?).ok()
 }
 
-fn is_refused<R: Stored + Drop>(alloc: Global, values: &[ValueRef<'_>]) -> Result<bool, Fail> {
-    let row = row_of(alloc, values)?;
-    Ok(matches!(R::from_row(alloc, &row), Err(ShelfFault::Store)))
+fn is_refused<R: Stored + Drop>(alloc: Global, values: &[ValueRef<'_>]) -> bool {
+    match row_of(alloc, values) {
+        Some(row) => matches!(R::from_row(alloc, &row), Err(ShelfFault::Store)),
+        None => false,
+    }
 }
 
 fn is_same(left: ValueRef<'_>, right: ValueRef<'_>) -> bool {
@@ -65,51 +75,6 @@ fn are_same(left: &[ValueRef<'_>], right: &[ValueRef<'_>]) -> bool {
             .iter()
             .zip(right.iter())
             .all(|(left, right)| is_same(*left, *right))
-}
-
-#[test]
-fn budgets_come_back(rt: HostRuntime) -> Result<(), Fail> {
-    let alloc = rt.alloc();
-    let line = [Text(b"1000"), Text(b"Roads"), Int(1000), Int(395)];
-    assert!(rt; are_same(&line_values(&read::<LineRow>(alloc, &line)?), &line));
-    let batch = [Text(b"B-1"), Int(4_102_444_799), Int(500)];
-    assert!(rt; are_same(&batch_values(&read::<BatchRow>(alloc, &batch)?), &batch));
-    let clock = [Int(1), Int(8), Int(3), Int(0)];
-    assert!(rt; are_same(&clock_values(&read::<ClockRow>(alloc, &clock)?), &clock));
-    Ok(())
-}
-
-#[test]
-fn notices_come_back(rt: HostRuntime) -> Result<(), Fail> {
-    let alloc = rt.alloc();
-    let tenderer = [Text(b"T1"), Text(b"Acme"), Text(b"1 Road"), Blob(DIGEST)];
-    assert!(rt;
-        are_same(
-            &tenderer_values(&read::<TendererRow>(alloc, &tenderer)?),
-            &tenderer
-        )
-    );
-    for (state, opened) in [
-        (b"receiving".as_slice(), Null),
-        (b"opened".as_slice(), Int(0)),
-        (b"cancelled".as_slice(), Int(7)),
-    ] {
-        let notice = notice_of(state, opened);
-        assert!(rt; are_same(&notice_values(&read::<NoticeRow>(alloc, &notice)?), &notice));
-    }
-    for state in [
-        b"undecided".as_slice(),
-        b"awarded".as_slice(),
-        b"contracted".as_slice(),
-        b"unsuccessful".as_slice(),
-        b"cancelled".as_slice(),
-    ] {
-        let values = lot_of(ITEMS.as_bytes(), state);
-        let lot = read::<LotRow>(alloc, &values)?;
-        let items = items_text(alloc, &lot.items)?;
-        assert!(rt; are_same(&lot_values(&lot, items.as_slice()), &values));
-    }
-    Ok(())
 }
 
 fn notice_of<'a>(state: &'a [u8], opened: ValueRef<'a>) -> [ValueRef<'a>; 11] {
@@ -165,60 +130,6 @@ fn envelope_of<'a>(state: &'a [u8], read: [ValueRef<'a>; 6]) -> [ValueRef<'a>; 1
     ]
 }
 
-// Whether a tender has these values.
-fn has_values(envelope: &EnvelopeRow, values: &[ValueRef<'_>]) -> bool {
-    are_same(&envelope_values(envelope), values)
-}
-
-fn is_envelope_back<'a>(
-    alloc: Global,
-    state: &'a [u8],
-    read_in: [ValueRef<'a>; 6],
-) -> Result<bool, Fail> {
-    let values = envelope_of(state, read_in);
-    let mut rows = Vec::new(alloc);
-    rows.push(row_of(alloc, &values)?)?;
-    match all::<EnvelopeRow>(alloc, rows.as_slice()) {
-        Ok(found) => Ok(found.iter().any(|envelope| has_values(envelope, &values))),
-        Err(_) => Err(Fail::from("tenders")),
-    }
-}
-
-#[test]
-fn envelopes_come_back(rt: HostRuntime) -> Result<(), Fail> {
-    let alloc = rt.alloc();
-    let unread = [Null, Null, Null, Null, Null, Null];
-    assert!(rt; is_envelope_back(alloc, b"sealed", unread)?);
-    let unreadable = [Text(b"unreadable"), Null, Null, Null, Null, Null];
-    assert!(rt; is_envelope_back(alloc, b"withdrawn", unreadable)?);
-    let nonconforming = [Text(b"nonconforming"), Null, Null, Null, Int(0), Null];
-    assert!(rt; is_envelope_back(alloc, b"returned", nonconforming)?);
-    let priced = [Text(b"priced"), Int(620), Int(600), Int(0), Int(1), Int(40)];
-    assert!(rt; is_envelope_back(alloc, b"opened", priced)?);
-    Ok(())
-}
-
-#[test]
-fn seals_and_securities_come_back(rt: HostRuntime) -> Result<(), Fail> {
-    let alloc = rt.alloc();
-    let seal = [Int(1), Blob(b"\x00price,600")];
-    assert!(rt; are_same(&seal_values(&read::<SealRow>(alloc, &seal)?), &seal));
-    for state in [
-        b"held".as_slice(),
-        b"returned".as_slice(),
-        b"forfeited".as_slice(),
-    ] {
-        let security = security_of(state);
-        assert!(rt;
-            are_same(
-                &security_values(&read::<SecurityRow>(alloc, &security)?),
-                &security
-            )
-        );
-    }
-    Ok(())
-}
-
 fn security_of(state: &[u8]) -> [ValueRef<'_>; 7] {
     [
         Int(12),
@@ -261,136 +172,385 @@ fn entry_of<'a>(kind: &'a [u8], rationale: ValueRef<'a>) -> [ValueRef<'a>; 6] {
     [Int(1), Text(b"P1"), Text(kind), Int(10), Int(9), rationale]
 }
 
-#[test]
-fn contracts_come_back(rt: HostRuntime) -> Result<(), Fail> {
-    let alloc = rt.alloc();
-    for state in [
-        b"active".as_slice(),
-        b"failed".as_slice(),
-        b"cancelled".as_slice(),
-        b"signed".as_slice(),
-    ] {
-        let award = award_of(state);
-        assert!(rt; are_same(&award_values(&read::<AwardRow>(alloc, &award)?), &award));
+fn is_line_back(alloc: Global, values: &[ValueRef<'_>]) -> bool {
+    match read::<LineRow>(alloc, values) {
+        Some(row) => are_same(&line_values(&row), values),
+        None => false,
     }
-    for (ended, how) in [
-        (Null, Null),
-        (Int(9), Text(b"regular")),
-        (Int(9), Text(b"default")),
-    ] {
-        let contract = contract_of(ended, how);
-        assert!(rt;
-            are_same(
-                &contract_values(&read::<ContractRow>(alloc, &contract)?),
-                &contract
-            )
-        );
+}
+
+fn is_batch_back(alloc: Global, values: &[ValueRef<'_>]) -> bool {
+    match read::<BatchRow>(alloc, values) {
+        Some(row) => are_same(&batch_values(&row), values),
+        None => false,
     }
-    for (kind, rationale) in [
-        (b"raise".as_slice(), Text(b"More sand")),
-        (b"cut".as_slice(), Text(b"Less sand")),
-        (b"payment".as_slice(), Null),
-    ] {
-        let entry = entry_of(kind, rationale);
-        assert!(rt; are_same(&entry_values(&read::<EntryRow>(alloc, &entry)?), &entry));
+}
+
+fn is_clock_back(alloc: Global, values: &[ValueRef<'_>]) -> bool {
+    match read::<ClockRow>(alloc, values) {
+        Some(row) => are_same(&clock_values(&row), values),
+        None => false,
     }
-    Ok(())
+}
+
+fn is_tenderer_back(alloc: Global, values: &[ValueRef<'_>]) -> bool {
+    match read::<TendererRow>(alloc, values) {
+        Some(row) => are_same(&tenderer_values(&row), values),
+        None => false,
+    }
+}
+
+fn is_notice_back(alloc: Global, values: &[ValueRef<'_>]) -> bool {
+    match read::<NoticeRow>(alloc, values) {
+        Some(row) => are_same(&notice_values(&row), values),
+        None => false,
+    }
+}
+
+fn is_seal_back(alloc: Global, values: &[ValueRef<'_>]) -> bool {
+    match read::<SealRow>(alloc, values) {
+        Some(row) => are_same(&seal_values(&row), values),
+        None => false,
+    }
+}
+
+fn is_security_back(alloc: Global, values: &[ValueRef<'_>]) -> bool {
+    match read::<SecurityRow>(alloc, values) {
+        Some(row) => are_same(&security_values(&row), values),
+        None => false,
+    }
+}
+
+fn is_award_back(alloc: Global, values: &[ValueRef<'_>]) -> bool {
+    match read::<AwardRow>(alloc, values) {
+        Some(row) => are_same(&award_values(&row), values),
+        None => false,
+    }
+}
+
+fn is_contract_back(alloc: Global, values: &[ValueRef<'_>]) -> bool {
+    match read::<ContractRow>(alloc, values) {
+        Some(row) => are_same(&contract_values(&row), values),
+        None => false,
+    }
+}
+
+fn is_entry_back(alloc: Global, values: &[ValueRef<'_>]) -> bool {
+    match read::<EntryRow>(alloc, values) {
+        Some(row) => are_same(&entry_values(&row), values),
+        None => false,
+    }
+}
+
+fn is_release_back(alloc: Global, values: &[ValueRef<'_>]) -> bool {
+    match read::<ReleaseRow>(alloc, values) {
+        Some(row) => are_same(&release_values(&row), values),
+        None => false,
+    }
+}
+
+fn is_compiled_back(alloc: Global, values: &[ValueRef<'_>]) -> bool {
+    match read::<CompiledRow>(alloc, values) {
+        Some(row) => are_same(&compiled_values(&row), values),
+        None => false,
+    }
+}
+
+fn has_values(alloc: Global, lot: &LotRow, values: &[ValueRef<'_>]) -> bool {
+    match items_text(alloc, &lot.items) {
+        Ok(items) => are_same(&lot_values(lot, items.as_slice()), values),
+        Err(_) => false,
+    }
+}
+
+fn is_lot_back(alloc: Global, values: &[ValueRef<'_>]) -> bool {
+    match read::<LotRow>(alloc, values) {
+        Some(lot) => has_values(alloc, &lot, values),
+        None => false,
+    }
 }
 
 #[test]
-fn releases_come_back(rt: HostRuntime) -> Result<(), Fail> {
+fn budgets_come_back(rt: HostRuntime) {
+    let alloc = rt.alloc();
+    assert!(rt; is_line_back(alloc, &[Text(b"1000"), Text(b"Roads"), Int(1000), Int(395)]));
+    assert!(rt; is_batch_back(alloc, &[Text(b"B-1"), Int(4_102_444_799), Int(500)]));
+    assert!(rt; is_clock_back(alloc, &[Int(1), Int(8), Int(3), Int(0)]));
+}
+
+// States of notices, and when they were opened.
+static NOTICES: [(&[u8], ValueRef<'static>); 3] = [
+    (b"receiving", Null),
+    (b"opened", Int(0)),
+    (b"cancelled", Int(7)),
+];
+
+fn all_notices_come_back(alloc: Global) -> bool {
+    for (state, opened) in &NOTICES {
+        if !is_notice_back(alloc, &notice_of(state, *opened)) {
+            return false;
+        }
+    }
+    true
+}
+
+// States of lots.
+static LOTS: [&[u8]; 5] = [
+    b"undecided",
+    b"awarded",
+    b"contracted",
+    b"unsuccessful",
+    b"cancelled",
+];
+
+fn all_lots_come_back(alloc: Global) -> bool {
+    for state in &LOTS {
+        if !is_lot_back(alloc, &lot_of(ITEMS.as_bytes(), state)) {
+            return false;
+        }
+    }
+    true
+}
+
+#[test]
+fn notices_come_back(rt: HostRuntime) {
+    let alloc = rt.alloc();
+    let tenderer = [Text(b"T1"), Text(b"Acme"), Text(b"1 Road"), Blob(DIGEST)];
+    assert!(rt; is_tenderer_back(alloc, &tenderer));
+    assert!(rt; all_notices_come_back(alloc));
+    assert!(rt; all_lots_come_back(alloc));
+}
+
+// The rows are one tender of these values.
+fn are_envelope(alloc: Global, rows: &[Row], values: &[ValueRef<'_>]) -> bool {
+    match all::<EnvelopeRow>(alloc, rows) {
+        Ok(found) => match found.as_slice() {
+            [envelope] => are_same(&envelope_values(envelope), values),
+            _ => false,
+        },
+        Err(_) => false,
+    }
+}
+
+fn is_envelope_back(alloc: Global, values: &[ValueRef<'_>]) -> bool {
+    match row_of(alloc, values) {
+        Some(row) => are_envelope(alloc, &[row], values),
+        None => false,
+    }
+}
+
+#[test]
+fn envelopes_come_back(rt: HostRuntime) {
+    let alloc = rt.alloc();
+    let unread = [Null, Null, Null, Null, Null, Null];
+    assert!(rt; is_envelope_back(alloc, &envelope_of(b"sealed", unread)));
+    let unreadable = [Text(b"unreadable"), Null, Null, Null, Null, Null];
+    assert!(rt; is_envelope_back(alloc, &envelope_of(b"withdrawn", unreadable)));
+    let nonconforming = [Text(b"nonconforming"), Null, Null, Null, Int(0), Null];
+    assert!(rt; is_envelope_back(alloc, &envelope_of(b"returned", nonconforming)));
+    let priced = [Text(b"priced"), Int(620), Int(600), Int(0), Int(1), Int(40)];
+    assert!(rt; is_envelope_back(alloc, &envelope_of(b"opened", priced)));
+}
+
+// States of securities.
+static SECURITIES: [&[u8]; 3] = [b"held", b"returned", b"forfeited"];
+
+fn all_securities_come_back(alloc: Global) -> bool {
+    for state in &SECURITIES {
+        if !is_security_back(alloc, &security_of(state)) {
+            return false;
+        }
+    }
+    true
+}
+
+#[test]
+fn seals_and_securities_come_back(rt: HostRuntime) {
+    let alloc = rt.alloc();
+    assert!(rt; is_seal_back(alloc, &[Int(1), Blob(b"\x00price,600")]));
+    assert!(rt; all_securities_come_back(alloc));
+}
+
+// States of awards.
+static AWARDS: [&[u8]; 4] = [b"active", b"failed", b"cancelled", b"signed"];
+
+fn all_awards_come_back(alloc: Global) -> bool {
+    for state in &AWARDS {
+        if !is_award_back(alloc, &award_of(state)) {
+            return false;
+        }
+    }
+    true
+}
+
+// When contracts ended, and how.
+static CONTRACTS: [(ValueRef<'static>, ValueRef<'static>); 3] = [
+    (Null, Null),
+    (Int(9), Text(b"regular")),
+    (Int(9), Text(b"default")),
+];
+
+fn all_contracts_come_back(alloc: Global) -> bool {
+    for (ended, how) in &CONTRACTS {
+        if !is_contract_back(alloc, &contract_of(*ended, *how)) {
+            return false;
+        }
+    }
+    true
+}
+
+// Kinds of entries, and their rationales.
+static ENTRIES: [(&[u8], ValueRef<'static>); 3] = [
+    (b"raise", Text(b"More sand")),
+    (b"cut", Text(b"Less sand")),
+    (b"payment", Null),
+];
+
+fn all_entries_come_back(alloc: Global) -> bool {
+    for (kind, rationale) in &ENTRIES {
+        if !is_entry_back(alloc, &entry_of(kind, *rationale)) {
+            return false;
+        }
+    }
+    true
+}
+
+#[test]
+fn contracts_come_back(rt: HostRuntime) {
+    let alloc = rt.alloc();
+    assert!(rt; all_awards_come_back(alloc));
+    assert!(rt; all_contracts_come_back(alloc));
+    assert!(rt; all_entries_come_back(alloc));
+}
+
+#[test]
+fn releases_come_back(rt: HostRuntime) {
     let alloc = rt.alloc();
     let release = [Text(b"N1"), Int(2), Int(5), Text(b"{\"date\":\"\"}")];
-    assert!(rt;
-        are_same(
-            &release_values(&read::<ReleaseRow>(alloc, &release)?),
-            &release
-        )
-    );
-    let compiled = [Text(b"N1"), Text(b"{}")];
-    assert!(rt;
-        are_same(
-            &compiled_values(&read::<CompiledRow>(alloc, &compiled)?),
-            &compiled
-        )
-    );
-    Ok(())
+    assert!(rt; is_release_back(alloc, &release));
+    assert!(rt; is_compiled_back(alloc, &[Text(b"N1"), Text(b"{}")]));
+}
+
+// No name, less than nothing, no number, and too few values.
+static LINES_REFUSED: [&[ValueRef<'static>]; 4] = [
+    &[Text(b"10 00"), Text(b"Roads"), Int(1000), Int(395)],
+    &[Text(b"1000"), Text(b"Roads"), Int(1000), Int(-1)],
+    &[Text(b"1000"), Text(b"Roads"), Int(1000), Null],
+    &[Text(b"1000"), Text(b"Roads"), Int(1000)],
+];
+
+fn all_lines_are_refused(alloc: Global) -> bool {
+    for line in &LINES_REFUSED {
+        if !is_refused::<LineRow>(alloc, line) {
+            return false;
+        }
+    }
+    true
 }
 
 #[test]
-fn refuses_words_and_numbers(rt: HostRuntime) -> Result<(), Fail> {
+fn refuses_words_and_numbers(rt: HostRuntime) {
     let alloc = rt.alloc();
-    let line = [Text(b"10 00"), Text(b"Roads"), Int(1000), Int(395)];
-    assert!(rt; is_refused::<LineRow>(alloc, &line)?);
-    let line = [Text(b"1000"), Text(b"Roads"), Int(1000), Int(-1)];
-    assert!(rt; is_refused::<LineRow>(alloc, &line)?);
-    let line = [Text(b"1000"), Text(b"Roads"), Int(1000), Null];
-    assert!(rt; is_refused::<LineRow>(alloc, &line)?);
-    let line = [Text(b"1000"), Text(b"Roads"), Int(1000)];
-    assert!(rt; is_refused::<LineRow>(alloc, &line)?);
+    assert!(rt; all_lines_are_refused(alloc));
     let batch = [Text(b"B1"), Int(4_102_444_800), Int(500)];
-    assert!(rt; is_refused::<BatchRow>(alloc, &batch)?);
+    assert!(rt; is_refused::<BatchRow>(alloc, &batch));
     let short = DIGEST.split_at(31).0;
     let tenderer = [Text(b"T1"), Text(b"Acme"), Text(b"1 Road"), Blob(short)];
-    assert!(rt; is_refused::<TendererRow>(alloc, &tenderer)?);
+    assert!(rt; is_refused::<TendererRow>(alloc, &tenderer));
     let tenderer = [Text(b"T1"), Text(b"Acme"), Text(b"1 Road"), Text(DIGEST)];
-    assert!(rt; is_refused::<TendererRow>(alloc, &tenderer)?);
-    assert!(rt; is_refused::<NoticeRow>(alloc, &notice_of(b"Opened", Null))?);
-    assert!(rt; is_refused::<AwardRow>(alloc, &award_of(b"sealed"))?);
-    assert!(rt; is_refused::<ContractRow>(alloc, &contract_of(Null, Text(b"regularly")))?);
-    assert!(rt; is_refused::<EntryRow>(alloc, &entry_of(b"cut", Text(b"")))?);
-    Ok(())
+    assert!(rt; is_refused::<TendererRow>(alloc, &tenderer));
+    assert!(rt; is_refused::<NoticeRow>(alloc, &notice_of(b"Opened", Null)));
+    assert!(rt; is_refused::<AwardRow>(alloc, &award_of(b"sealed")));
+    assert!(rt; is_refused::<ContractRow>(alloc, &contract_of(Null, Text(b"regularly"))));
+    assert!(rt; is_refused::<EntryRow>(alloc, &entry_of(b"cut", Text(b""))));
+}
+
+// What can't have been read and found in a tender.
+static READINGS_REFUSED: [[ValueRef<'static>; 6]; 6] = [
+    [Text(b"unreadable"), Int(1), Null, Null, Null, Null],
+    [Text(b"priced"), Int(1), Int(1), Null, Null, Null],
+    [Null, Null, Null, Int(0), Null, Null],
+    [Text(b"Priced"), Int(1), Int(1), Int(0), Null, Null],
+    [Null, Null, Null, Null, Int(2), Null],
+    [Null, Null, Null, Null, Null, Int(101)],
+];
+
+fn all_readings_are_refused(alloc: Global) -> bool {
+    for read_in in &READINGS_REFUSED {
+        if !is_refused::<EnvelopeRow>(alloc, &envelope_of(b"opened", *read_in)) {
+            return false;
+        }
+    }
+    true
+}
+
+// Texts that no lot's items have.
+static ITEMS_REFUSED: [&[u8]; 7] = [
+    b"",
+    b"I1\t3\tPaving",
+    b"I1\t03\tPaving\n",
+    b"I1\t3\tPaving\r\n",
+    b"I1\t3\n",
+    b"I1\t0\tPaving\n",
+    b"I1\t3\tPaving\nI1\t4\tKerbs\n",
+];
+
+fn all_items_are_refused(alloc: Global) -> bool {
+    for items in &ITEMS_REFUSED {
+        if !is_refused::<LotRow>(alloc, &lot_of(items, b"undecided")) {
+            return false;
+        }
+    }
+    true
 }
 
 #[test]
-fn refuses_readings_and_items(rt: HostRuntime) -> Result<(), Fail> {
+fn refuses_readings_and_items(rt: HostRuntime) {
     let alloc = rt.alloc();
-    for read_in in [
-        [Text(b"unreadable"), Int(1), Null, Null, Null, Null],
-        [Text(b"priced"), Int(1), Int(1), Null, Null, Null],
-        [Null, Null, Null, Int(0), Null, Null],
-        [Text(b"Priced"), Int(1), Int(1), Int(0), Null, Null],
-        [Null, Null, Null, Null, Int(2), Null],
-        [Null, Null, Null, Null, Null, Int(101)],
-    ] {
-        assert!(rt; is_refused::<EnvelopeRow>(alloc, &envelope_of(b"opened", read_in))?);
+    assert!(rt; all_readings_are_refused(alloc));
+    assert!(rt; all_items_are_refused(alloc));
+}
+
+// A merge with this notice, if any, is the first of the rows.
+fn is_first(alloc: Global, rows: &[Row], notice: Option<&str>) -> bool {
+    match (first::<CompiledRow>(alloc, rows), notice) {
+        (Ok(Some(one)), Some(notice)) => one.notice.as_str() == notice,
+        (Ok(None), None) => true,
+        _ => false,
     }
-    for items in [
-        "",
-        "I1\t3\tPaving",
-        "I1\t03\tPaving\n",
-        "I1\t3\tPaving\r\n",
-        "I1\t3\n",
-        "I1\t0\tPaving\n",
-        "I1\t3\tPaving\nI1\t4\tKerbs\n",
-    ] {
-        assert!(rt; is_refused::<LotRow>(alloc, &lot_of(items.as_bytes(), b"undecided"))?);
+}
+
+// The rows are two, and the second has this notice.
+fn are_two(alloc: Global, rows: &[Row], notice: &str) -> bool {
+    match all::<CompiledRow>(alloc, rows) {
+        Ok(found) => match found.as_slice() {
+            [_, second] => second.notice.as_str() == notice,
+            _ => false,
+        },
+        Err(_) => false,
     }
-    Ok(())
+}
+
+fn add_merge(alloc: Global, rows: &mut Vec<Row>, notice: &[u8]) -> Option<()> {
+    rows.push(row_of(alloc, &[Text(notice), Text(b"{}")])?).ok()
+}
+
+fn are_read(alloc: Global, rows: &mut Vec<Row>) -> Option<bool> {
+    let none = is_first(alloc, rows.as_slice(), None);
+    add_merge(alloc, rows, b"N1")?;
+    add_merge(alloc, rows, b"N2")?;
+    let two = is_first(alloc, rows.as_slice(), Some("N1")) && are_two(alloc, rows.as_slice(), "N2");
+    add_merge(alloc, rows, b"N 3")?;
+    let refused = matches!(
+        all::<CompiledRow>(alloc, rows.as_slice()),
+        Err(ShelfFault::Store)
+    );
+    Some(none && two && refused)
 }
 
 #[test]
-fn reads_answers(rt: HostRuntime) -> Result<(), Fail> {
+fn reads_answers(rt: HostRuntime) {
     let alloc = rt.alloc();
     let mut rows = Vec::new(alloc);
-    assert!(rt; matches!(first::<CompiledRow>(alloc, rows.as_slice()), Ok(None)));
-    rows.push(row_of(alloc, &[Text(b"N1"), Text(b"{}")])?)?;
-    rows.push(row_of(alloc, &[Text(b"N2"), Text(b"{}")])?)?;
-    let Ok(Some(one)) = first::<CompiledRow>(alloc, rows.as_slice()) else {
-        return Err(Fail::from("a first row"));
-    };
-    assert_eq!(rt; one.notice.as_str(), "N1");
-    let Ok(found) = all::<CompiledRow>(alloc, rows.as_slice()) else {
-        return Err(Fail::from("all rows"));
-    };
-    assert_eq!(rt; found.len(), 2);
-    assert_eq!(rt; found[1].notice.as_str(), "N2");
-    rows.push(row_of(alloc, &[Text(b"N 3"), Text(b"{}")])?)?;
-    assert!(rt;
-        matches!(
-            all::<CompiledRow>(alloc, rows.as_slice()),
-            Err(ShelfFault::Store)
-        )
-    );
-    Ok(())
+    assert!(rt; are_read(alloc, &mut rows) == Some(true));
 }
