@@ -14,14 +14,19 @@ use transcripts::session::{Session, Wrong};
 // What the clerk's command in this block would do.
 fn planned<H: Shelf + Drop>(session: &mut Session<H>, block: &Block) -> Option<Planned> {
     let mut reader = CountedReader::new(block.request.as_slice());
-    let request = read_request(session.alloc, &mut reader).ok()?;
-    let route = session.routes.route_of(&request).ok()?;
-    match command_of(session.alloc, &Caller::Clerk, &route, &request).ok()? {
-        Asked::Does(command) => session
-            .desk
-            .plan(block.moment, &Caller::Clerk, command)
-            .ok(),
-        Asked::Looks(_) => None,
+    let Ok(request) = read_request(session.alloc, &mut reader) else {
+        return None;
+    };
+    let Ok(route) = session.routes.route_of(&request) else {
+        return None;
+    };
+    let Ok(Asked::Does(command)) = command_of(session.alloc, &Caller::Clerk, &route, &request)
+    else {
+        return None;
+    };
+    match session.desk.plan(block.moment, &Caller::Clerk, command) {
+        Ok(planned) => Some(planned),
+        Err(_) => None,
     }
 }
 
@@ -34,20 +39,47 @@ pub(crate) fn copied(alloc: Global, puts: &[Put]) -> Result<Vec<Put>, AllocError
     Ok(copies)
 }
 
+// Does what is planned. Whether it is answered so.
+fn is_done<H: Shelf + Drop>(session: &mut Session<H>, planned: Planned, response: &[u8]) -> bool {
+    match session.desk.commit(planned) {
+        Ok(reply) => response.ends_with(&reply),
+        Err(_) => false,
+    }
+}
+
 // What the clerk's command in this block changes, once it is done. It is answered as its block says.
-fn done<H: Shelf + Drop>(session: &mut Session<H>, block: &str) -> Result<Vec<Put>, Wrong> {
-    let block = match read(session.alloc, block) {
-        Ok(block) => block,
-        Err(fault) => return Err(Wrong::Block(0, fault)),
-    };
-    let Some(planned) = planned(session, &block) else {
+fn done_of<H: Shelf + Drop>(session: &mut Session<H>, block: &Block) -> Result<Vec<Put>, Wrong> {
+    let Some(planned) = planned(session, block) else {
         return Err(Wrong::Unopened);
     };
     let puts = copied(session.alloc, planned.puts())?;
-    match session.desk.commit(planned) {
-        Ok(reply) if block.response.ends_with(&reply) => Ok(puts),
-        _ => Err(Wrong::Unopened),
+    if is_done(session, planned, &block.response) {
+        Ok(puts)
+    } else {
+        Err(Wrong::Unopened)
     }
+}
+
+fn done<H: Shelf + Drop>(session: &mut Session<H>, block: &str) -> Result<Vec<Put>, Wrong> {
+    match read(session.alloc, block) {
+        Ok(block) => done_of(session, &block),
+        Err(fault) => Err(Wrong::Block(0, fault)),
+    }
+}
+
+// Appends what each command of a transcript changes.
+fn append_done<H: Shelf + Drop>(
+    session: &mut Session<H>,
+    changes: &mut Vec<Vec<Put>>,
+    transcript: &str,
+) -> Result<(), Wrong> {
+    for block in transcript.trim_matches("\n").split("\n\n") {
+        let puts = done(session, block)?;
+        if changes.push(puts).is_err() {
+            return Err(Wrong::NoMemory);
+        }
+    }
+    Ok(())
 }
 
 fn all_done<H: Shelf + Drop>(
@@ -58,12 +90,7 @@ fn all_done<H: Shelf + Drop>(
     let mut session = Session::new(alloc, shelf, 0)?;
     let mut changes = Vec::new(alloc);
     for transcript in transcripts {
-        for block in transcript.trim_matches("\n").split("\n\n") {
-            let puts = done(&mut session, block)?;
-            if changes.push(puts).is_err() {
-                return Err(Wrong::NoMemory);
-            }
-        }
+        append_done(&mut session, &mut changes, transcript)?;
     }
     Ok(changes)
 }

@@ -5,7 +5,6 @@ use office_on_disks::database::Database;
 use office_on_disks::disks::Disks;
 use office_on_disks::office::{OfficeOnDisks, Unopened};
 use std::alloc::Global;
-use std::test::Fail;
 use transcripts::setup::MONEY;
 
 // The files behind these statements; None where one can't be run.
@@ -61,7 +60,7 @@ fn office_shows_number(alloc: Global, statements: &str, question: &str, wanted: 
 }
 
 #[test]
-fn names_are_taken(rt: HostRuntime) -> Result<(), Fail> {
+fn names_are_taken(rt: HostRuntime) {
     let alloc = rt.alloc();
     let lots = "CREATE TABLE lots (x INTEGER); INSERT INTO lots VALUES (5)";
     assert!(rt; shows_number(alloc, lots, "SELECT x FROM lots", 5));
@@ -70,11 +69,10 @@ fn names_are_taken(rt: HostRuntime) -> Result<(), Fail> {
     let index =
         "CREATE TABLE others (a INTEGER); CREATE INDEX lots_of_line ON others (a); INSERT INTO others VALUES (7)";
     assert!(rt; shows_number(alloc, index, "SELECT a FROM others", 7));
-    Ok(())
 }
 
 #[test]
-fn versions_are_others(rt: HostRuntime) -> Result<(), Fail> {
+fn versions_are_others(rt: HostRuntime) {
     let alloc = rt.alloc();
     let nine = "CREATE TABLE office (version INTEGER); INSERT INTO office VALUES (9)";
     assert!(rt; shows_number(alloc, nine, "SELECT version FROM office", 9));
@@ -92,7 +90,6 @@ fn versions_are_others(rt: HostRuntime) -> Result<(), Fail> {
         )
     );
     assert!(rt; office_shows_number(alloc, "DROP TABLE office", "SELECT count(*) FROM lots", 0));
-    Ok(())
 }
 
 // What is shown by a question of files in which another table stood, and an office was made then, and changed.
@@ -108,9 +105,8 @@ fn beside_shows_number(alloc: Global, question: &str, wanted: i64) -> bool {
 }
 
 #[test]
-fn other_tables_stay(rt: HostRuntime) -> Result<(), Fail> {
+fn other_tables_stay(rt: HostRuntime) {
     let alloc = rt.alloc();
     assert!(rt; beside_shows_number(alloc, "SELECT a FROM other", 8));
     assert!(rt; beside_shows_number(alloc, "SELECT appropriation FROM lines", 1000));
-    Ok(())
 }
