@@ -75,7 +75,7 @@ pub fn decide_amend_contract(
     amount: EntryAmount,
     rationale: TextLine,
 ) -> Result<Vec<Put>, Refusal>
-    ensures { Decides result (first_of (amend_contract_tests rows.contract rows.entries rows.notice rows.line entry kind amount)) (amend_contract_puts rows.clock t rows.contract rows.notice rows.line entry kind amount rationale) }
+    ensures { Decides result (first_of (amend_contract_tests rows entry kind amount)) (amend_contract_puts rows t entry kind amount rationale) }
 {
     let AmendContractRows {
         contract,

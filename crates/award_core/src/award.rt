@@ -1,16 +1,17 @@
 //! The decision on the award of a lot.
-ghost use Rattle.std.specs.Prelude.{◌≡◌, ◌+◌, ◌-◌, IfOk, IfErr, IfSome, Some, None, []};
+ghost use Rattle.std.specs.Prelude.{◌≡◌, ◌+◌, ◌-◌, IfOk, IfErr, IfSome, Some, None, [], option_map};
 ghost use Rattle.std.specs.List.{list_any};
 ghost use Rattle.office_values.specs.declared.refusal.Refusal.TheVariants.{Unavailable};
 ghost use Rattle.office_base.specs.Deciding.{Decides};
 ghost use Rattle.office_base.specs.Joined.{free_in};
 ghost use Rattle.office_base.specs.declared.records.AwardState.TheVariants as award_states;
 ghost use Rattle.office_base.specs.Rules.{first_of};
-ghost use Rattle.award_core.specs.Rules.Award.{is_admissible, price_of, isnt_examined, is_above, decision_puts, award_row, award_tests, award_puts};
+ghost use Rattle.award_core.specs.Rules.Award.{is_admissible, price_of, isnt_examined, is_above, winner, weight_in, decision_puts, award_row, award_tests, award_puts};
 
 use crate::best::{best_row, is_admissible, is_priced, price_of};
 use crate::lines::{free_on, with_free};
 use crate::securities::push_returned;
+use office_acts::notice::Weight;
 use office_base::parts::{at_moment, has_all_releases, is_expired, released};
 use office_base::puts::Put;
 use office_base::records::{
@@ -147,11 +148,62 @@ fn lost(
     Ok(made)
 }
 
-/// Decides the award of a lot: its refusal, or what it puts. `Unavailable` where all 10^9 numbers of awards are given out, and where the
-/// office lacks the lot's line, or the line would have more free than 10^15, as in none that commands reach.
-#[tactic(auto, unfolding(office_base::specs::Deciding::Decides))]
-pub fn decide_award(alloc: Global, t: Moment, rows: AwardRows) -> Result<Vec<Put>, Refusal>
-    ensures { Decides result (first_of (award_tests t rows.notice rows.lot rows.line rows.envelopes)) (award_puts rows.clock t rows.notice rows.lot rows.line rows.envelopes rows.securities) }
+// What the price weighs in a hundred points; 0 where the notice isn't there.
+fn weight_in(notice: &Option<NoticeRow>) -> Weight
+    ensures { result ≡ weight_in notice.now }
+{
+    match notice {
+        Some(row) => row.weight,
+        None => Weight::read(0).unwrap(),
+    }
+}
+
+/// The best tender of the lot; None where none of them may win. Takes no memory.
+pub fn best_tender(rows: &AwardRows) -> Option<&EnvelopeRow>
+    ensures { option_map (λ row. row.now) result ≡ winner rows.now.notice rows.now.envelopes }
+{
+    best_row(weight_in(&rows.notice), rows.envelopes.as_slice())
+}
+
+/// Why the award of a lot is refused, where this is its best tender.
+pub fn refusal(t: Moment, rows: &AwardRows, best: Option<&EnvelopeRow>) -> Option<Refusal>
+    requires { option_map (λ row. row.now) best ≡ winner rows.now.notice rows.now.envelopes }
+    ensures { result ≡ first_of (award_tests rows.now t) }
+{
+    let Some(notice) = &rows.notice else {
+        return Some(Refusal::NoSuch(Thing::Notice));
+    };
+    let Some(lot) = &rows.lot else {
+        return Some(Refusal::NoSuch(Thing::Lot));
+    };
+    if notice.state != NoticeState::Opened {
+        return Some(Refusal::NotOpened);
+    }
+    if lot.state != LotState::Undecided {
+        return Some(Refusal::AlreadyDecided);
+    }
+    if some_isnt_examined(rows.envelopes.as_slice()) {
+        return Some(Refusal::NotAllExamined);
+    }
+    if some_is_admissible(rows.envelopes.as_slice()) && is_expired(t, notice) {
+        return Some(Refusal::Expired);
+    }
+    if let Some(row) = best {
+        if is_above_funds(lot, &rows.line, row) {
+            return Some(Refusal::InsufficientFunds);
+        }
+    }
+    if notice.releases.get() >= RELEASE_LIMIT {
+        return Some(Refusal::LimitReached);
+    }
+    None
+}
+
+/// What the award of a lot puts. `Unavailable` where all 10^9 numbers of awards are given out, where the notice, the lot or its line isn't
+/// there, the notice counts no more releases, or the line would have more free than 10^15.
+pub fn puts(alloc: Global, t: Moment, rows: AwardRows) -> Result<Vec<Put>, Refusal>
+    ensures puts { IfOk result (λ made. made.items ≡ award_puts rows t) }
+    ensures fault { IfErr result (λ e. e ≡ Unavailable) }
 {
     let AwardRows {
         notice,
@@ -161,38 +213,23 @@ pub fn decide_award(alloc: Global, t: Moment, rows: AwardRows) -> Result<Vec<Put
         securities,
         clock,
     } = rows;
-    let Some(notice) = notice else {
-        return Err(Refusal::NoSuch(Thing::Notice));
-    };
-    let Some(lot) = lot else {
-        return Err(Refusal::NoSuch(Thing::Lot));
-    };
-    if notice.state != NoticeState::Opened {
-        return Err(Refusal::NotOpened);
-    }
-    if lot.state != LotState::Undecided {
-        return Err(Refusal::AlreadyDecided);
-    }
-    if some_isnt_examined(envelopes.as_slice()) {
-        return Err(Refusal::NotAllExamined);
-    }
-    if some_is_admissible(envelopes.as_slice()) && is_expired(t, &notice) {
-        return Err(Refusal::Expired);
-    }
-    let winner = best_row(notice.weight, envelopes.as_slice());
-    if let Some(row) = winner {
-        if is_above_funds(&lot, &line, row) {
-            return Err(Refusal::InsufficientFunds);
-        }
-    }
-    if notice.releases.get() >= RELEASE_LIMIT {
-        return Err(Refusal::LimitReached);
-    }
-    let Some(line) = line else {
-        return Err(Refusal::Unavailable);
-    };
-    match winner {
+    let notice = notice.ok_or(Refusal::Unavailable)?;
+    let lot = lot.ok_or(Refusal::Unavailable)?;
+    let line = line.ok_or(Refusal::Unavailable)?;
+    match best_row(notice.weight, envelopes.as_slice()) {
         Some(row) => won(alloc, t, clock, notice, lot, line, row),
         None => lost(alloc, t, clock, notice, lot, line, securities.as_slice()),
+    }
+}
+
+/// Decides the award of a lot: its refusal, or what it puts. `Unavailable` where all 10^9 numbers of awards are given out, and where the
+/// office lacks the lot's line, or the line would have more free than 10^15, as in none that commands reach.
+#[tactic(auto, unfolding(office_base::specs::Deciding::Decides))]
+pub fn decide_award(alloc: Global, t: Moment, rows: AwardRows) -> Result<Vec<Put>, Refusal>
+    ensures { Decides result (first_of (award_tests rows t)) (award_puts rows t) }
+{
+    match refusal(t, &rows, best_tender(&rows)) {
+        Some(why) => Err(why),
+        None => puts(alloc, t, rows),
     }
 }

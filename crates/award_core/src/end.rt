@@ -30,7 +30,7 @@ pub struct EndRows {
 /// sums above their bounds, which none has that commands reach.
 #[tactic(auto, unfolding(office_base::specs::Deciding::Decides))]
 pub fn decide_end(alloc: Global, t: Moment, rows: EndRows, how: How) -> Result<Vec<Put>, Refusal>
-    ensures { Decides result (first_of (end_tests rows.contract rows.notice)) (end_puts rows.clock t how rows.contract rows.entries rows.notice rows.line) }
+    ensures { Decides result (first_of (end_tests rows)) (end_puts rows t how) }
 {
     let EndRows {
         contract,

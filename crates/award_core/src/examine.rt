@@ -83,7 +83,7 @@ pub fn decide_examine(
     responsive: bool,
     quality: Option<Quality>,
 ) -> Result<Vec<Put>, Refusal>
-    ensures { Decides result (first_of (examine_tests rows.envelope rows.notice rows.lot responsive quality)) (examine_puts rows.clock t rows.envelope responsive quality) }
+    ensures { Decides result (first_of (examine_tests rows responsive quality)) (examine_puts rows t responsive quality) }
 {
     let ExamineRows {
         envelope,

@@ -1,15 +1,17 @@
 //! The decision on an award whose winner doesn't sign.
 ghost use Rattle.std.specs.Prelude.{◌≡◌, ◌++◌, OnOk};
 ghost use Rattle.office_base.specs.Deciding.{Decides};
-ghost use Rattle.office_base.specs.RuleParts.{put_if, security_forfeited};
+ghost use Rattle.office_base.specs.RuleParts.{passed_over, put_if, security_settled};
 ghost use Rattle.office_base.specs.Rules.{first_of};
 ghost use Rattle.office_base.specs.declared.puts.Put.TheVariants as puts;
-ghost use Rattle.award_core.specs.Rules.Fail.{stands_still, failed_envelope, fail_tests, fail_puts};
+ghost use Rattle.office_base.specs.declared.records.SecurityState.TheVariants.{Forfeited};
+ghost use Rattle.award_core.specs.Rules.Fail.{stands_still, fail_tests, fail_puts, fail_conditions};
 
-use office_base::parts::{at_moment, forfeited, has_all_releases, is_expired, released};
+use office_base::parts::{at_moment, has_all_releases, is_expired, passed_over, released, settled};
 use office_base::puts::Put;
 use office_base::records::{
     AwardRow, AwardState, ClockRow, EnvelopeRow, LotRow, LotState, NoticeRow, SecurityRow,
+    SecurityState,
 };
 use office_values::moment::Moment;
 use office_values::refusal::{Refusal, Thing};
@@ -43,7 +45,7 @@ pub(crate) fn refusal_of(
     award: &Option<AwardRow>,
     notice: &Option<NoticeRow>,
 ) -> Option<Refusal>
-    ensures { result ≡ first_of (fail_tests t award.now notice.now) }
+    ensures { result ≡ first_of (fail_conditions t award.now notice.now) }
 {
     let Some(award) = award else {
         return Some(Refusal::NoSuch(Thing::Award));
@@ -68,23 +70,20 @@ pub(crate) fn refusal_of(
 
 // The tender, passed over from now on.
 fn push_failed(made: &mut Vec<Put>, envelope: Option<EnvelopeRow>) -> Result<(), AllocError>
-    ensures { OnOk result (made.new.items ≡ made.old.items ++ put_if (λ e. puts.Envelope (failed_envelope e)) envelope) }
+    ensures { OnOk result (made.new.items ≡ made.old.items ++ put_if (λ e. puts.Envelope (passed_over e)) envelope) }
 {
     if let Some(row) = envelope {
-        made.push(Put::Envelope(EnvelopeRow {
-            failed: true,
-            ..row
-        }))?;
+        made.push(Put::Envelope(passed_over(row)))?;
     }
     Ok(())
 }
 
 // The tender's security, forfeited.
 fn push_forfeited(made: &mut Vec<Put>, security: Option<SecurityRow>) -> Result<(), AllocError>
-    ensures { OnOk result (made.new.items ≡ made.old.items ++ put_if security_forfeited security) }
+    ensures { OnOk result (made.new.items ≡ made.old.items ++ put_if (security_settled Forfeited) security) }
 {
     if let Some(row) = security {
-        made.push(Put::Security(forfeited(row)))?;
+        made.push(Put::Security(settled(row, SecurityState::Forfeited)))?;
     }
     Ok(())
 }
@@ -93,7 +92,7 @@ fn push_forfeited(made: &mut Vec<Put>, security: Option<SecurityRow>) -> Result<
 /// none does that commands reach.
 #[tactic(auto, unfolding(office_base::specs::Deciding::Decides))]
 pub fn decide_fail(alloc: Global, t: Moment, rows: FailRows) -> Result<Vec<Put>, Refusal>
-    ensures { Decides result (first_of (fail_tests t rows.award rows.notice)) (fail_puts rows.clock t rows.award rows.notice rows.lot rows.envelope rows.security) }
+    ensures { Decides result (first_of (fail_tests rows t)) (fail_puts rows t) }
 {
     let FailRows {
         award,

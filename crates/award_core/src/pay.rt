@@ -1,5 +1,6 @@
 //! The decision on a payment under a contract.
-ghost use Rattle.std.specs.Prelude.{◌≡◌};
+ghost use Rattle.std.specs.Prelude.{◌≡◌, IfOk, IfErr};
+ghost use Rattle.office_values.specs.declared.refusal.Refusal.TheVariants.{Unavailable};
 ghost use Rattle.office_base.specs.Deciding.{Decides};
 ghost use Rattle.office_base.specs.Rules.{first_of};
 ghost use Rattle.award_core.specs.Rules.Pay.{pay_tests, pay_puts};
@@ -24,42 +25,41 @@ pub struct PayRows {
     pub clock: ClockRow,
 }
 
-/// Decides a payment under a contract: its refusal, or what it puts. `Unavailable` where the office lacks the contract's notice, which
-/// none does that commands reach.
-#[tactic(auto, unfolding(office_base::specs::Deciding::Decides))]
-pub fn decide_pay(
+/// Why a payment under a contract is refused.
+pub fn refusal(rows: &PayRows, entry: &Id, amount: EntryAmount) -> Option<Refusal>
+    ensures { result ≡ first_of (pay_tests rows.now entry.now amount) }
+{
+    let Some(contract) = &rows.contract else {
+        return Some(Refusal::NoSuch(Thing::Contract));
+    };
+    if has_entry(rows.entries.as_slice(), entry) {
+        return Some(Refusal::Exists);
+    }
+    if is_beyond(rows.entries.as_slice(), amount, contract) {
+        return Some(Refusal::MoreThanOutstanding);
+    }
+    if contract.ended.is_some() {
+        return Some(Refusal::ContractEnded);
+    }
+    if has_all_entries(rows.entries.as_slice()) || has_all_releases(&rows.notice) {
+        return Some(Refusal::LimitReached);
+    }
+    None
+}
+
+/// What a payment puts. `Unavailable` where the contract or its notice isn't there, or the notice counts no more releases.
+pub fn puts(
     alloc: Global,
     t: Moment,
     rows: PayRows,
     entry: Id,
     amount: EntryAmount,
 ) -> Result<Vec<Put>, Refusal>
-    ensures { Decides result (first_of (pay_tests rows.contract rows.entries rows.notice entry amount)) (pay_puts rows.clock t rows.contract rows.notice entry amount) }
+    ensures puts { IfOk result (λ made. made.items ≡ pay_puts rows t entry amount) }
+    ensures fault { IfErr result (λ e. e ≡ Unavailable) }
 {
-    let PayRows {
-        contract,
-        entries,
-        notice,
-        clock,
-    } = rows;
-    let Some(contract) = contract else {
-        return Err(Refusal::NoSuch(Thing::Contract));
-    };
-    if has_entry(entries.as_slice(), &entry) {
-        return Err(Refusal::Exists);
-    }
-    if is_beyond(entries.as_slice(), amount, &contract) {
-        return Err(Refusal::MoreThanOutstanding);
-    }
-    if contract.ended.is_some() {
-        return Err(Refusal::ContractEnded);
-    }
-    if has_all_entries(entries.as_slice()) || has_all_releases(&notice) {
-        return Err(Refusal::LimitReached);
-    }
-    let Some(notice) = notice else {
-        return Err(Refusal::Unavailable);
-    };
+    let contract = rows.contract.ok_or(Refusal::Unavailable)?;
+    let notice = rows.notice.ok_or(Refusal::Unavailable)?;
     let notice = released(notice).ok_or(Refusal::Unavailable)?;
     let mut made = Vec::with_capacity(alloc, 3)?;
     made.push(Put::Entry(EntryRow {
@@ -71,6 +71,24 @@ pub fn decide_pay(
         rationale: None,
     }))?;
     made.push(Put::Notice(notice))?;
-    made.push(Put::Clock(at_moment(clock, t)))?;
+    made.push(Put::Clock(at_moment(rows.clock, t)))?;
     Ok(made)
+}
+
+/// Decides a payment under a contract: its refusal, or what it puts. `Unavailable` where the office lacks the contract's notice, which
+/// none does that commands reach.
+#[tactic(auto, unfolding(office_base::specs::Deciding::Decides))]
+pub fn decide_pay(
+    alloc: Global,
+    t: Moment,
+    rows: PayRows,
+    entry: Id,
+    amount: EntryAmount,
+) -> Result<Vec<Put>, Refusal>
+    ensures { Decides result (first_of (pay_tests rows entry amount)) (pay_puts rows t entry amount) }
+{
+    match refusal(&rows, &entry, amount) {
+        Some(why) => Err(why),
+        None => puts(alloc, t, rows, entry, amount),
+    }
 }

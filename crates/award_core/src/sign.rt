@@ -52,7 +52,7 @@ fn contract_row(t: Moment, award: &AwardRow, tenderer: Id) -> ContractRow
 /// tender, which none does that commands reach.
 #[tactic(auto, unfolding(office_base::specs::Deciding::Decides))]
 pub fn decide_sign(alloc: Global, t: Moment, rows: SignRows) -> Result<Vec<Put>, Refusal>
-    ensures { Decides result (first_of (sign_tests t rows.award rows.notice)) (sign_puts rows.clock t rows.award rows.notice rows.lot rows.envelope rows.securities) }
+    ensures { Decides result (first_of (sign_tests rows t)) (sign_puts rows t) }
 {
     let SignRows {
         award,

@@ -1,10 +1,12 @@
 -- What the rules of several commands share.
-use Rattle.std.specs.Prelude.{ℕ, ◌+◌, Bool, not, ◌&&◌, List, [], ◌∷◌, map, filter, Option, Some, None, nat_le}
+use Rattle.std.specs.Prelude.{ℕ, ◌+◌, Bool, true, not, cond, ◌&&◌, List, [], ◌∷◌, map, filter, Option, Some, None, nat_le}
 use Rattle.office_base.specs.Limits.{release_limit, receipt_limit, days}
 use Rattle.office_base.specs.Rows.{holds_of}
 use Rattle.office_base.specs.States.{is_held, is_opened}
 use Rattle.office_base.specs.declared.records.SecurityState.TheVariants as security_states
 use Rattle.office_base.specs.declared.records.NoticeRow.{NoticeRow}
+use Rattle.office_base.specs.declared.records.EnvelopeRow.{EnvelopeRow}
+use Rattle.office_base.specs.declared.records.SecurityState.{SecurityState}
 use Rattle.office_base.specs.declared.records.SecurityRow.{SecurityRow}
 use Rattle.office_base.specs.declared.records.ClockRow.{ClockRow}
 use Rattle.office_base.specs.declared.puts.Put.TheVariants as puts
@@ -47,18 +49,23 @@ is_past_deadline t n = nat_le n.deadline t
 abbrev pub is_expired : ℕ → NoticeRow → Bool
 is_expired t n = nat_le (n.deadline + days n.validity) t
 
--- a security that goes back to its tenderer, and one that is forfeited
+-- a security that goes back to its tenderer
 abbrev pub returned : SecurityRow → SecurityRow
 returned s = record s { state = security_states.Returned }
 
-abbrev pub forfeited : SecurityRow → SecurityRow
-forfeited s = record s { state = security_states.Forfeited }
+-- what becomes of a security is decided once: where it isn't held it stays as it is
+abbrev pub settled : SecurityState → SecurityRow → SecurityRow
+settled state s = record s { state = cond (is_held s.state) state s.state }
+
+-- a tender that is out of the running
+abbrev pub passed_over : EnvelopeRow → EnvelopeRow
+passed_over e = record e { failed = true }
 
 abbrev pub security_returned : SecurityRow → Put
 security_returned s = puts.Security (returned s)
 
-abbrev pub security_forfeited : SecurityRow → Put
-security_forfeited s = puts.Security (forfeited s)
+abbrev pub security_settled : SecurityState → SecurityRow → Put
+security_settled state s = puts.Security (settled state s)
 
 -- the held ones of these go back
 abbrev pub is_held_security : SecurityRow → Bool

@@ -1,9 +1,9 @@
 //! What the decisions on several commands share.
 ghost use Rattle.std.specs.Prelude.{◌≡◌, IfSome, IfNone, Some, true};
-ghost use Rattle.office_base.specs.RuleParts.{has_all_releases, is_expired, is_in_time, is_past_deadline, released, at_moment, returned, forfeited};
+ghost use Rattle.office_base.specs.RuleParts.{has_all_releases, is_expired, is_in_time, is_past_deadline, released, at_moment, returned, settled, passed_over};
 
 use crate::counts::ReleaseCount;
-use crate::records::{ClockRow, NoticeRow, NoticeState, SecurityRow, SecurityState};
+use crate::records::{ClockRow, EnvelopeRow, NoticeRow, NoticeState, SecurityRow, SecurityState};
 use office_values::moment::Moment;
 
 /// The seconds of a day.
@@ -67,12 +67,22 @@ pub fn returned(security: SecurityRow) -> SecurityRow
     }
 }
 
-/// The security, forfeited.
-pub fn forfeited(security: SecurityRow) -> SecurityRow
-    ensures { result ≡ forfeited security }
+/// The security with what becomes of it, which is decided once: where it isn't held it stays as it is.
+pub fn settled(security: SecurityRow, state: SecurityState) -> SecurityRow
+    ensures { result ≡ settled state security }
 {
-    SecurityRow {
-        state: SecurityState::Forfeited,
-        ..security
+    if security.state != SecurityState::Held {
+        return security;
+    }
+    SecurityRow { state, ..security }
+}
+
+/// The tender, out of the running.
+pub fn passed_over(envelope: EnvelopeRow) -> EnvelopeRow
+    ensures { result ≡ passed_over envelope }
+{
+    EnvelopeRow {
+        failed: true,
+        ..envelope
     }
 }

@@ -8,52 +8,33 @@ use Rattle.office_values.specs.declared.settings.Settings.{Settings}
 use Rattle.office_base.specs.declared.puts.Put.{Put}
 use Rattle.office_base.specs.declared.puts.Put.TheVariants as puts
 use Rattle.office_base.specs.declared.records.ReleaseRow.{ReleaseRow}
-use Rattle.office_machine.specs.Machine.{Given, Means, effect, publication, publication_puts}
-use Rattle.office_machine.specs.OfficeMeans.{NothingIsPublished}
+use Rattle.office_machine.specs.Machine.{Given, effect, publication, publication_puts}
+use Rattle.office_machine.specs.OfficeMeans.{office_readings}
 use Rattle.office_publications.specs.Events.{event_of}
-use Rattle.office_publications.specs.Keeping.{KeepsReleases, NoEventPublishesNothing, NoEventPutsItsEffect, EffectsAreTheSame, kept_puts, merge_puts, merged_row, ReadsBack}
+use Rattle.office_publications.specs.Keeping.{KeepsReleases, NoEventPublishesNothing, NoEventPutsItsEffect, kept_puts, merge_puts, merged_row, ReadsBack}
 use Rattle.office_publications.specs.Publishing.{publishing}
-use Rattle.office_publications.specs.Replies.{RepliesAreTheSame}
 use Rattle.office_publications.specs.declared.publication.Publication.{Publication}
 use Rattle.office_publisher.specs.Released.{IsKept, IsReleased, as_row}
 use Rattle.office_publisher.specs.declared.released.Released.{Released}
 use Rattle.office_plans.specs.Effects.{HasEffect, IsEffect}
 use Rattle.office_plans.specs.Plans.{Plan}
-use Rattle.office_plans.specs.Replies.{reply_text}
-use Rattle.office_desk.specs.Steps.{IsPlan, IsPlanned, accepted_reply}
+use Rattle.office_desk.specs.Steps.{IsPlan, IsPlanned}
 
--- the laws of what is published that are taken over
-pub record Laws : Type 0 where
-  pub silent : NoEventPublishesNothing
-  pub unpublished : NoEventPutsItsEffect
-  pub effects : EffectsAreTheSame
-  pub replies : RepliesAreTheSame
-  pub nothing : NothingIsPublished
-
-module _ (laws : Laws) (settings : Settings) (x : Given) where
-  abbrev means : Means
-  means = publishing settings
-
-  puts_are : (planned : Plan) → IsEffect x planned → planned.puts ≡ effect means x
-  puts_are planned is = is.puts ∙ laws.nothing x ∙ sym (laws.effects settings x)
-
-  reply_is : (planned : Plan) → IsEffect x planned → planned.reply ≡ reply_text (accepted_reply settings x)
-  reply_is planned is = is.reply ∙ ap reply_text (sym (laws.replies settings x))
-
+module _ (settings : Settings) (x : Given) where
   -- a command that is no event
 
-  module _ (none : event_of x.before x.command ≡ None) where
-    none_published : (r : ReleaseRow) → publication means x ≡ Some r → ReadsBack x.before r
+  module _ (silent : NoEventPublishesNothing) (unpublished : NoEventPutsItsEffect) (none : event_of x.before x.command ≡ None) where
+    none_published : (r : ReleaseRow) → publication (publishing settings) x ≡ Some r → ReadsBack x.before r
     none_published r is =
-        let differ : None ≡ Some r = sym (laws.silent settings x none) ∙ is in
+        let differ : None ≡ Some r = sym (silent settings x none) ∙ is in
         absurd (cc)
 
     silent_plan : (planned : Plan) → IsEffect x planned → IsPlan settings x planned
     silent_plan planned is = record {
       given = is.given;
       allowed = is.allowed;
-      put = λ keeps. record { puts = puts_are planned is ∙ sym (laws.unpublished settings x none); reads = none_published };
-      reply = reply_is planned is;
+      put = λ keeps. record { puts = is.puts ∙ sym (unpublished settings x none); reads = none_published };
+      reply = is.reply;
     }
 
     pub silent_planned : (result : Result Plan Refusal) → HasEffect x result → IsPlanned settings x result
@@ -63,7 +44,7 @@ module _ (laws : Laws) (settings : Settings) (x : Given) where
   -- a command that publishes a release
 
   abbrev puts_with : Option ReleaseRow → List Put
-  puts_with p = (effect means x ++ publication_puts p) ++ merge_puts x.before p
+  puts_with p = (effect office_readings x ++ publication_puts p) ++ merge_puts x.before p
 
   module _ (r : Released) (p : Publication) (released : IsReleased settings x r) where
     all_put : (planned q : Plan) → IsEffect x planned → q.puts ≡ planned.puts ++ (puts.Release p.release ∷ puts.Compiled p.merge ∷ [])
@@ -72,13 +53,13 @@ module _ (laws : Laws) (settings : Settings) (x : Given) where
         let row : as_row r ≡ p.release = sym kept.release in
         let merge : merged_row x.before p.release ≡ p.merge = sym kept.merge in
         let two : ReleaseRow → List Put = λ row. puts.Release row ∷ puts.Compiled (merged_row x.before row) ∷ [] in
-        are ∙ ap (λ ps. ps ++ (puts.Release p.release ∷ puts.Compiled p.merge ∷ [])) (puts_are planned is)
-        ∙ ap (λ c. effect means x ++ (puts.Release p.release ∷ puts.Compiled c ∷ [])) kept.merge
-        ∙ ap (λ row. effect means x ++ two row) kept.release
-        ∙ sym (append_assoc (effect means x) (puts.Release (as_row r) ∷ []) (puts.Compiled (merged_row x.before (as_row r)) ∷ []))
+        are ∙ ap (λ ps. ps ++ (puts.Release p.release ∷ puts.Compiled p.merge ∷ [])) is.puts
+        ∙ ap (λ c. effect office_readings x ++ (puts.Release p.release ∷ puts.Compiled c ∷ [])) kept.merge
+        ∙ ap (λ row. effect office_readings x ++ two row) kept.release
+        ∙ sym (append_assoc (effect office_readings x) (puts.Release (as_row r) ∷ []) (puts.Compiled (merged_row x.before (as_row r)) ∷ []))
         ∙ ap puts_with (sym released.is)
 
-    reads_back : IsKept x.before r p → (row : ReleaseRow) → publication means x ≡ Some row → ReadsBack x.before row
+    reads_back : IsKept x.before r p → (row : ReleaseRow) → publication (publishing settings) x ≡ Some row → ReadsBack x.before row
     reads_back kept row is =
         let found : Some (as_row r) ≡ Some row = sym released.is ∙ is in
         let same : as_row r ≡ row = cc in
@@ -90,7 +71,7 @@ module _ (laws : Laws) (settings : Settings) (x : Given) where
       given = is.given;
       allowed = is.allowed;
       put = λ keeps. record { puts = all_put planned q is are (kept keeps); reads = reads_back (kept keeps) };
-      reply = reply ∙ reply_is planned is;
+      reply = reply ∙ is.reply;
     }
 
     -- the plan with the release, or want of memory

@@ -9,15 +9,15 @@ use Rattle.office_values.specs.declared.refusal.Refusal.TheVariants.{Unavailable
 use Rattle.office_values.specs.declared.settings.Settings.{Settings}
 use Rattle.office_base.specs.Tables.{Tables}
 use Rattle.office_base.specs.Shelves.{Meaning}
-use Rattle.office_machine.specs.Machine.{Given, IsCommand, refusal_of, time_of, next, Reaches}
+use Rattle.office_machine.specs.Machine.{Given, IsCommand, refusal_of, Reaches}
 use Rattle.office_machine.specs.Accounts.{AccountsHold}
 use Rattle.office_machine.specs.Fates.{TendersHaveFates, SecuritiesHaveFates}
-use Rattle.office_machine.specs.Replies.{Reply, reply_for}
 use Rattle.office_machine.specs.Sights.{Packages, told}
 use Rattle.office_publications.specs.Keeping.{KeepsReleases, PublicationReadsBack, kept_next, kept_puts}
 use Rattle.office_publications.specs.Packages.{packages}
 use Rattle.office_publications.specs.Publishing.{publishing}
 use Rattle.office_publications.specs.Standing.{Stands}
+use Rattle.office_plans.specs.Effects.{accepted_reply}
 use Rattle.office_plans.specs.Plans.{Plan}
 use Rattle.office_plans.specs.Replies.{reply_text, text_of}
 
@@ -25,10 +25,6 @@ use Rattle.office_plans.specs.Replies.{reply_text, text_of}
 abbrev pub read_text : Result (Vec ℕ Global) Refusal → Result (List ℕ) Refusal
 read_text (Ok text) = Ok text.items
 read_text (Err why) = Err why
-
--- the reply to a command that is accepted
-abbrev pub accepted_reply : Settings → Given → Reply
-accepted_reply settings x = reply_for (publishing settings) x.before (next (publishing settings) x) (time_of x) x.caller x.command
 
 -- what is planned is what the machine puts, with the merge that the release joins; and what is published can be read again
 pub record IsPut (settings : Settings) (x : Given) (planned : Plan) : Type 0 where
@@ -40,7 +36,7 @@ pub record IsPlan (settings : Settings) (x : Given) (planned : Plan) : Type 0 wh
   pub given : IsCommand x.command
   pub allowed : refusal_of x ≡ None
   pub put : KeepsReleases x.before → IsPut settings x planned
-  pub reply : planned.reply ≡ reply_text (accepted_reply settings x)
+  pub reply : planned.reply ≡ reply_text (accepted_reply x)
 
 -- the plan, or the command's refusal, or Unavailable
 abbrev pub IsPlanned : Settings → Given → Result Plan Refusal → Type 0
@@ -49,7 +45,7 @@ IsPlanned settings x (Err why) = (refusal_of x ≡ Some why) ⊎ (why ≡ Unavai
 
 -- the reply, or the command's refusal, or Unavailable
 abbrev pub IsAnswered : Settings → Given → Result (List ℕ) Refusal → Type 0
-IsAnswered settings x (Ok reply) = (refusal_of x ≡ None) × (reply ≡ reply_text (accepted_reply settings x))
+IsAnswered settings x (Ok reply) = (refusal_of x ≡ None) × (reply ≡ reply_text (accepted_reply x))
 IsAnswered settings x (Err why) = (refusal_of x ≡ Some why) ⊎ (why ≡ Unavailable)
 
 -- a command that was asked for: it is done where the answer is Ok and the office keeps its releases, and else nothing is; a stop leaves the

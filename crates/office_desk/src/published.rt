@@ -20,7 +20,6 @@ mod notices;
 use office_acts::commands::Command;
 use office_base::puts::Put;
 use office_base::shelf::Lookups;
-use office_machine::laws as machine;
 use office_plans::commands::{examine, import, modify, present, register, withdraw};
 use office_plans::planned::Planned;
 use office_publications::laws;
@@ -36,8 +35,6 @@ fn silent(planned: Result<Planned, Refusal>) -> Result<Planned, Refusal>
     ensures { (settings : SettingsOf) (x : Given) → event_of x.before x.command ≡ None → HasEffect x planned → IsPlanned settings x result }
 {
     laws::keeping();
-    laws::replies();
-    machine::nothing_published();
     planned
 }
 
@@ -63,9 +60,6 @@ fn with_release<H: Lookups>(
     ensures { Looks H.meaning shelf.old shelf.new (λ s. (settings : SettingsOf) (x : Given) → x.before ≡ s → IsEffect x planned → IsReleased settings x released
         → IsPlanned settings x result) }
 {
-    laws::keeping();
-    laws::replies();
-    machine::nothing_published();
     let publication = keep(alloc, shelf, released)?;
     with_publication(planned, publication)
 }

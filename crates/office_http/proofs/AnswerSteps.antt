@@ -100,7 +100,7 @@ module _ {S : Type 0} (M : Meaning S) (settings : Settings) (new : S) (s : Table
         },
       ) in
       is_told (kept_next settings x) (Gives caller command) (Json planned.reply)
-      (ap (λ (o : Option Refusal). told_as (reply_by o (publishing settings) x)) plan.allowed ∙ accepted_as settings x plan.allowed ∙ ap Json (sym plan.reply))
+      (ap (λ (o : Option Refusal). told_as (reply_by o (publishing settings) x)) plan.allowed ∙ accepted_as x plan.allowed ∙ ap Json (sym plan.reply))
       (ap (λ (o : Option Refusal). office_kept o settings x) plan.allowed)
       is after
 

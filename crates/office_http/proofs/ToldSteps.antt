@@ -12,7 +12,6 @@ use Rattle.office_acts.specs.declared.queries.Query.{Query}
 use Rattle.office_acts.specs.declared.queries.Query.TheVariants as queries
 use Rattle.office_values.specs.declared.refusal.Refusal.{Refusal}
 use Rattle.office_values.specs.declared.refusal.Refusal.TheVariants.{Forbidden, NotOpened, NotYourTender}
-use Rattle.office_values.specs.declared.settings.Settings.{Settings}
 use Rattle.office_base.specs.declared.records.LineRow.{LineRow}
 use Rattle.office_base.specs.declared.records.LotRow.{LotRow}
 use Rattle.office_base.specs.declared.records.NoticeRow.{NoticeRow}
@@ -24,15 +23,16 @@ use Rattle.office_base.specs.Parents.{notice_of_envelope}
 use Rattle.office_base.specs.Rules.{first_of}
 use Rattle.office_base.specs.States.{is_opened}
 use Rattle.office_base.specs.Tables.{Tables, envelope_at, envelopes_of_notice, line_at, lots_of_notice, notice_at, security_at}
-use Rattle.tender_core.specs.Rules.Modify.{modify_tests}
-use Rattle.office_machine.specs.Machine.{Given, Means, may_give, refusal_of, tests_for, time_of, next}
+use Rattle.tender_core.specs.Rules.Modify.{modify_conditions}
+use Rattle.office_machine.specs.Machine.{Given, done, may_give, refusal_of, reply_for, tests_for, time_of}
 use Rattle.office_machine.specs.Replies.{Reply, Refused, Imported, Enrolled, OfNotice, OpenedAll, Received, Withdrew, Examined}
 use Rattle.office_machine.specs.Replies.{Awarded, Failed, Signed, OfContract, LineSeen, LedgerSeen, Tender}
-use Rattle.office_machine.specs.Replies.{Security, Registry, Minutes, Package, modify_reply, reply_for}
+use Rattle.office_machine.specs.Replies.{Security, Registry, Minutes, Package, modify_reply}
+use Rattle.office_machine.specs.OfficeMeans.{office_readings}
+use Rattle.office_machine.specs.Readings.{Readings}
 use Rattle.office_machine.specs.Sights.{Packages, is_read_envelope, line_told, minuted, minutes_told, package_told, register_told, security_told, shown, tender_told, told}
-use Rattle.office_publications.specs.Publishing.{publishing}
+use Rattle.office_plans.specs.Effects.{accepted_reply}
 use Rattle.office_plans.specs.Replies.{reply_text, text_of}
-use Rattle.office_desk.specs.Steps.{accepted_reply}
 use Rattle.office_http.specs.Answering.{told_as, seen_as}
 use Rattle.office_http.specs.declared.reply.Reply as replies
 use Rattle.office_http.specs.declared.reply.Reply.TheVariants.{Json, Text}
@@ -62,38 +62,37 @@ refused_as (Package a) why is = absurd (cc)
 
 -- The reply to an accepted command.
 
-modified : (means : Means) (clock : ClockRow) (t : ℕ) (caller : Caller) (bytes : List ℕ) (given : Bool) (envelope : Option EnvelopeRow) (notice : Option NoticeRow)
-    → first_of ((not given, Forbidden) ∷ modify_tests clock t caller envelope notice) ≡ None
-    → told_as (modify_reply means clock t bytes envelope) ≡ Json (reply_text (modify_reply means clock t bytes envelope))
-modified means clock t caller bytes true None notice allowed = absurd (cc)
-modified means clock t caller bytes false None notice allowed = absurd (cc)
-modified means clock t caller bytes given (Some e) notice allowed = refl
+modified : (readings : Readings) (clock : ClockRow) (t : ℕ) (caller : Caller) (bytes : List ℕ) (given : Bool) (envelope : Option EnvelopeRow) (notice : Option NoticeRow)
+    → first_of ((not given, Forbidden) ∷ modify_conditions clock t caller envelope notice) ≡ None
+    → told_as (modify_reply readings clock t bytes envelope) ≡ Json (reply_text (modify_reply readings clock t bytes envelope))
+modified readings clock t caller bytes true None notice allowed = absurd (cc)
+modified readings clock t caller bytes false None notice allowed = absurd (cc)
+modified readings clock t caller bytes given (Some e) notice allowed = refl
 
-as_json : (means : Means) (s u : Tables) (t : ℕ) (caller : Caller) (command : Command)
+as_json : (readings : Readings) (s u : Tables) (t : ℕ) (caller : Caller) (command : Command)
     → first_of ((not (may_give caller command), Forbidden) ∷ tests_for s t caller command) ≡ None
-    → told_as (reply_for means s u t caller command) ≡ Json (reply_text (reply_for means s u t caller command))
-as_json means s u t caller (Import batch rows) allowed = refl
-as_json means s u t caller (Register tenderer name address key) allowed = refl
-as_json means s u t caller (Publish notice content) allowed = refl
-as_json means s u t caller (AmendNotice notice deadline rationale) allowed = refl
-as_json means s u t caller (Cancel notice rationale) allowed = refl
-as_json means s u t caller (Open notice) allowed = refl
-as_json means s u t caller (Present notice lot security bytes) allowed = refl
-as_json means s u t caller (Modify receipt bytes) allowed =
-    modified means s.clock t caller bytes (may_give caller (Modify receipt bytes)) (envelope_at receipt s) (notice_of_envelope (envelope_at receipt s) s) allowed
-as_json means s u t caller (Withdraw receipt) allowed = refl
-as_json means s u t caller (Examine receipt responsive quality) allowed = refl
-as_json means s u t caller (Award notice lot) allowed = refl
-as_json means s u t caller (Fail award) allowed = refl
-as_json means s u t caller (Sign award) allowed = refl
-as_json means s u t caller (AmendContract contract entry kind amount rationale) allowed = refl
-as_json means s u t caller (Pay contract entry amount) allowed = refl
-as_json means s u t caller (End contract how) allowed = refl
+    → told_as (reply_for readings s u t caller command) ≡ Json (reply_text (reply_for readings s u t caller command))
+as_json readings s u t caller (Import batch rows) allowed = refl
+as_json readings s u t caller (Register tenderer name address key) allowed = refl
+as_json readings s u t caller (Publish notice content) allowed = refl
+as_json readings s u t caller (AmendNotice notice deadline rationale) allowed = refl
+as_json readings s u t caller (Cancel notice rationale) allowed = refl
+as_json readings s u t caller (Open notice) allowed = refl
+as_json readings s u t caller (Present notice lot security bytes) allowed = refl
+as_json readings s u t caller (Modify receipt bytes) allowed =
+    modified readings s.clock t caller bytes (may_give caller (Modify receipt bytes)) (envelope_at receipt s) (notice_of_envelope (envelope_at receipt s) s) allowed
+as_json readings s u t caller (Withdraw receipt) allowed = refl
+as_json readings s u t caller (Examine receipt responsive quality) allowed = refl
+as_json readings s u t caller (Award notice lot) allowed = refl
+as_json readings s u t caller (Fail award) allowed = refl
+as_json readings s u t caller (Sign award) allowed = refl
+as_json readings s u t caller (AmendContract contract entry kind amount rationale) allowed = refl
+as_json readings s u t caller (Pay contract entry amount) allowed = refl
+as_json readings s u t caller (End contract how) allowed = refl
 
 -- it is told in JSON
-pub accepted_as : (settings : Settings) (x : Given) → refusal_of x ≡ None → told_as (accepted_reply settings x) ≡ Json (reply_text (accepted_reply settings x))
-accepted_as settings x allowed =
-    as_json (publishing settings) x.before (next (publishing settings) x) (time_of x) x.caller x.command allowed
+pub accepted_as : (x : Given) → refusal_of x ≡ None → told_as (accepted_reply x) ≡ Json (reply_text (accepted_reply x))
+accepted_as x allowed = as_json office_readings x.before (done office_readings x) (time_of x) x.caller x.command allowed
 
 -- What a query sees.
 

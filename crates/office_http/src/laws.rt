@@ -1,9 +1,10 @@
 //! Laws of an office that is asked over HTTP.
-ghost use Rattle.office_machine.specs.Seals.{SealsAreKept, WholeRunsAreAlike};
+ghost use Rattle.office_publications.specs.Sealed.{PublishedRunsAreAlike, PublishedSealsAreKept};
 ghost use Rattle.office_http.specs.Joined.{RequestsAreKept, StepsAreKept};
 
-use office_machine::{fates, laws, seals as of_seals};
+use office_machine::{fates, laws};
 use office_publications::laws::keeping;
+use office_publications::sealed;
 
 /// Wherever accepted commands lead from the empty office, those that requests and whole runs accept join them: together they lead to the
 /// office after it, its accounts are what they moved, and each tender and each security has the fate that they gave it.
@@ -21,9 +22,8 @@ pub fn kept()
 /// same up to the opening of the lot's notice, and this tenderer the same but for the digest; where each receipt whose bytes differ is
 /// withdrawn or returned in the end, this holds for the whole of both runs.
 pub fn seals()
-    ensures seals { SealsAreKept }
-    ensures whole { WholeRunsAreAlike }
+    ensures seals { PublishedSealsAreKept }
+    ensures whole { PublishedRunsAreAlike }
 {
-    of_seals::seals();
-    of_seals::whole();
+    sealed::kept();
 }

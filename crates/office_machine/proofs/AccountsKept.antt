@@ -1,54 +1,17 @@
 -- Each accepted command keeps the accounts, and so does every list of them.
-use Rattle.std.proofs.Common.{◌≡◌, ℕ, List, [], ◌∷◌, Some, None, refl, sym, subst}
+use Rattle.std.proofs.Common.{◌≡◌, List, [], Some, None, refl}
 use Rattle.office_base.specs.Rows.{row_at}
-use Rattle.office_base.specs.Rules.{first_of}
-use Rattle.office_acts.specs.declared.command.Caller.{Caller}
-use Rattle.office_acts.specs.declared.commands.Command.{Command}
-use Rattle.office_acts.specs.declared.commands.Command.TheVariants.{Import, Register, Publish, AmendNotice, Cancel, Open, Present, Modify, Withdraw, Examine, Award, Fail, Sign, AmendContract, Pay, End}
-use Rattle.office_base.specs.Tables.{Tables, IsSorted, no_tables, after_puts}
-use Rattle.office_machine.specs.Machine.{Means, Given, IsCommand, Reaches, command_tests, effect, next, with_trees}
+use Rattle.office_base.specs.Tables.{Tables, no_tables}
+use Rattle.office_machine.specs.Machine.{Means, Given, Reaches, with_trees}
 use Rattle.office_base.specs.declared.records.CompiledRow.{CompiledRow}
 use Rattle.office_machine.specs.Accounts.{AreBalanced}
 use Rattle.office_machine.proofs.Aside.{kept_published}
 use Rattle.office_machine.proofs.Balance.{balanced}
 use Rattle.office_machine.proofs.Kept.{IsKept}
+use Rattle.office_machine.proofs.AllLawful.{lawful}
+use Rattle.office_machine.proofs.Runs.{along}
 use Rattle.office_machine.proofs.Passed.{allowed_by}
 use Rattle.office_machine.proofs.SortedTables.{sorted}
-use Rattle.office_machine.proofs.Idle.{register_keeps, amend_notice_keeps, open_keeps, present_keeps, modify_keeps, withdraw_keeps, examine_keeps}
-use Rattle.office_machine.proofs.ImportKeeps.{import_keeps}
-use Rattle.office_machine.proofs.PublishKeeps.{publish_keeps}
-use Rattle.office_machine.proofs.CancelKeeps.{cancel_keeps}
-use Rattle.office_machine.proofs.AwardKeeps.{award_keeps}
-use Rattle.office_machine.proofs.FailKeeps.{fail_keeps}
-use Rattle.office_machine.proofs.SignKeeps.{sign_keeps}
-use Rattle.office_machine.proofs.AmendContractKeeps.{amend_contract_keeps}
-use Rattle.office_machine.proofs.PayKeeps.{pay_keeps}
-use Rattle.office_machine.proofs.EndKeeps.{end_keeps}
-
-abbrev given : Tables → ℕ → Caller → Command → Given
-given s moment caller command = record { before = s; moment = moment; caller = caller; command = command }
-
-abbrev Keeps : Command → Type 0
-Keeps command = (means : Means) (xs : List Given) (s : Tables) (moment : ℕ) (caller : Caller) → IsKept xs s → IsSorted s → IsCommand command
-    → first_of (command_tests (given s moment caller command)) ≡ None → IsKept (given s moment caller command ∷ xs) (after_puts (effect means (given s moment caller command)) s)
-
-keeps : (command : Command) → Keeps command
-keeps (Import batch rows) means xs s moment caller kept order own allowed = import_keeps means xs s moment caller batch rows kept order allowed
-keeps (Register tenderer name address key) means xs s moment caller kept order own allowed = register_keeps means xs s moment caller kept tenderer name address key
-keeps (Publish notice content) means xs s moment caller kept order own allowed = publish_keeps means xs s moment caller notice content kept order own allowed
-keeps (AmendNotice notice deadline rationale) means xs s moment caller kept order own allowed = amend_notice_keeps means xs s moment caller kept notice deadline rationale
-keeps (Cancel notice rationale) means xs s moment caller kept order own allowed = cancel_keeps means xs s moment caller notice rationale kept order allowed
-keeps (Open notice) means xs s moment caller kept order own allowed = open_keeps means xs s moment caller kept notice
-keeps (Present notice lot security bytes) means xs s moment caller kept order own allowed = present_keeps means xs s moment caller kept notice lot security bytes
-keeps (Modify receipt bytes) means xs s moment caller kept order own allowed = modify_keeps means xs s moment caller kept receipt bytes
-keeps (Withdraw receipt) means xs s moment caller kept order own allowed = withdraw_keeps means xs s moment caller kept receipt
-keeps (Examine receipt responsive quality) means xs s moment caller kept order own allowed = examine_keeps means xs s moment caller kept receipt responsive quality
-keeps (Award notice lot) means xs s moment caller kept order own allowed = award_keeps means xs s moment caller notice lot kept allowed
-keeps (Fail award) means xs s moment caller kept order own allowed = fail_keeps means xs s moment caller award kept allowed
-keeps (Sign award) means xs s moment caller kept order own allowed = sign_keeps means xs s moment caller award kept order allowed
-keeps (AmendContract contract entry kind amount rationale) means xs s moment caller kept order own allowed = amend_contract_keeps means xs s moment caller contract entry kind amount rationale kept order allowed
-keeps (Pay contract entry amount) means xs s moment caller kept order own allowed = pay_keeps means xs s moment caller contract entry amount kept order allowed
-keeps (End contract how) means xs s moment caller kept order own allowed = end_keeps means xs s moment caller contract how kept order allowed
 
 start : IsKept [] no_tables
 unfolding row_at
@@ -73,12 +36,9 @@ kept_beside trees xs s k = record {
 }
 
 pub all_kept : (means : Means) (xs : List Given) (s : Tables) → Reaches means xs s → IsKept xs s
-all_kept means [] s reached = subst (IsKept []) (sym reached) start
-all_kept means (x ∷ xs) s reached =
-    subst (IsKept (x ∷ xs)) (sym reached.is)
-    (kept_beside reached.trees (x ∷ xs) (next means x)
-    (kept_published means x xs
-    (keeps x.command means xs x.before x.moment x.caller (all_kept means xs x.before reached.reached) (sorted means xs x.before reached.reached) reached.given.0 (allowed_by x reached.allowed))))
+all_kept means = along means IsKept start (λ trees in_order. kept_beside trees)
+    (λ xs x accepted kept. kept_published means x xs
+    ((lawful x.command).accounts means.readings xs x.before x.moment x.caller kept (sorted means xs x.before accepted.reached) accepted.given.0 (allowed_by x accepted.allowed)))
 
 pub lines_balanced : (means : Means) (xs : List Given) (s : Tables) → Reaches means xs s → AreBalanced xs s
 lines_balanced means xs s reached line = balanced xs s (all_kept means xs s reached) (sorted means xs s reached) line

@@ -49,8 +49,7 @@ there_by q k x y f none h false e = h
 pub there_still : {X : Type 0} (q k : ℕ) (x y : X) (f : ℕ → Option X) → f k ≡ None → f q ≡ Some y → added k x f q ≡ Some y
 there_still q k x y f none h = there_by q k x y f none h (eq_by_cmp nat_cmp q k) refl
 
-module _ (k : ℕ) (x : EnvelopeRow) (V : View) (sound : IsSound V) (new : V.envelope_at k ≡ None) (fits : EnvelopeFits V x)
-    (alone : (q : ℕ) (d : EnvelopeRow) (s : ℕ) → V.envelope_at q ≡ Some d → is_kept d.state ≡ true → is_kept x.state ≡ true → d.security ≡ Some s → x.security ≡ Some s → ⊥) where
+module _ (k : ℕ) (x : EnvelopeRow) (V : View) (sound : IsSound V) (new : V.envelope_at k ≡ None) (fits : EnvelopeFits V x) where
   abbrev with_it : View
   with_it = record V { envelope_at = added k x V.envelope_at }
 
@@ -59,9 +58,8 @@ module _ (k : ℕ) (x : EnvelopeRow) (V : View) (sound : IsSound V) (new : V.env
     noticed = old.noticed;
     housed = old.housed;
     receiving = old.receiving;
-    willing = old.willing;
     secured = λ s h.
-        let is = old.secured s h in record { row = is.row; found = is.found; of_notice = is.of_notice; of_lot = is.of_lot; held = is.held };
+        let is = old.secured s h in record { row = is.row; found = is.found; of_notice = is.of_notice; of_lot = is.of_lot };
   }
 
   award_still : (w : AwardRow) → AwardFits V w → AwardFits with_it w
@@ -69,7 +67,6 @@ module _ (k : ℕ) (x : EnvelopeRow) (V : View) (sound : IsSound V) (new : V.env
     tender = old.tender;
     found = there_still w.receipt k x old.tender V.envelope_at new old.found;
     opened = old.opened;
-    willing = old.willing;
     of_notice = old.of_notice;
     of_lot = old.of_lot;
     awarded = old.awarded;
@@ -81,19 +78,6 @@ module _ (k : ℕ) (x : EnvelopeRow) (V : View) (sound : IsSound V) (new : V.env
         elim (added_is r k x e V.envelope_at h) as (λ _. EnvelopeFits with_it e) [
           | inl it ↦ subst (EnvelopeFits with_it) it.1 (fits_still x fits)
           | inr old ↦ fits_still e (sound.envelopes r e old.1)
-        ];
-    one_carrier = λ q r d e s hd he kd ke sd se.
-        elim (added_is q k x d V.envelope_at hd) as (λ _. q ≡ r) [
-          | inl a ↦
-              elim (added_is r k x e V.envelope_at he) as (λ _. q ≡ r) [
-                | inl b ↦ a.0 ∙ sym b.0
-                | inr b ↦ absurd (alone r e s b.1 ke (ap (λ (x : EnvelopeRow). is_kept x.state) a.1 ∙ kd) se (ap (λ (x : EnvelopeRow). x.security) a.1 ∙ sd))
-              ]
-          | inr a ↦
-              elim (added_is r k x e V.envelope_at he) as (λ _. q ≡ r) [
-                | inl b ↦ absurd (alone q d s a.1 kd (ap (λ (x : EnvelopeRow). is_kept x.state) b.1 ∙ ke) sd (ap (λ (x : EnvelopeRow). x.security) b.1 ∙ se))
-                | inr b ↦ sound.one_carrier q r d e s a.1 b.1 kd ke sd se
-              ]
         ];
     homed = sound.homed;
     undecided = sound.undecided;
@@ -112,16 +96,14 @@ module _ (k : ℕ) (x : SecurityRow) (V : View) (sound : IsSound V) (new : V.sec
     noticed = old.noticed;
     housed = old.housed;
     receiving = old.receiving;
-    willing = old.willing;
     secured = λ s h.
         let is = old.secured s h in
-        record { row = is.row; found = there_still s k x is.row V.security_at new is.found; of_notice = is.of_notice; of_lot = is.of_lot; held = is.held };
+        record { row = is.row; found = there_still s k x is.row V.security_at new is.found; of_notice = is.of_notice; of_lot = is.of_lot };
   }
 
   pub sound_security : IsSound with_security
   sound_security = record {
     envelopes = λ r e h. secured_fits e (sound.envelopes r e h);
-    one_carrier = sound.one_carrier;
     homed = sound.homed;
     undecided = sound.undecided;
     securities = λ s w h held.
@@ -131,7 +113,7 @@ module _ (k : ℕ) (x : SecurityRow) (V : View) (sound : IsSound V) (new : V.sec
         ];
     awards = λ a w h active.
         let old = sound.awards a w h active in
-        record { tender = old.tender; found = old.found; opened = old.opened; willing = old.willing; of_notice = old.of_notice; of_lot = old.of_lot; awarded = old.awarded };
+        record { tender = old.tender; found = old.found; opened = old.opened; of_notice = old.of_notice; of_lot = old.of_lot; awarded = old.awarded };
     one_award = sound.one_award;
   }
 
@@ -146,7 +128,6 @@ module _ (k : ℕ) (x : AwardRow) (V : View) (sound : IsSound V) (fits : AwardFi
         old.tender;
     found = old.found;
     opened = old.opened;
-    willing = old.willing;
     of_notice = old.of_notice;
     of_lot = old.of_lot;
     awarded = old.awarded;
@@ -160,11 +141,9 @@ module _ (k : ℕ) (x : AwardRow) (V : View) (sound : IsSound V) (fits : AwardFi
           noticed = old.noticed;
           housed = old.housed;
           receiving = old.receiving;
-          willing = old.willing;
           secured = λ s h.
-              let is = old.secured s h in record { row = is.row; found = is.found; of_notice = is.of_notice; of_lot = is.of_lot; held = is.held };
+              let is = old.secured s h in record { row = is.row; found = is.found; of_notice = is.of_notice; of_lot = is.of_lot };
         };
-    one_carrier = sound.one_carrier;
     homed = sound.homed;
     undecided = sound.undecided;
     securities = sound.securities;
@@ -213,10 +192,9 @@ module _ (n : List ℕ) (N : List ℕ → Option NoticeState) (L : List ℕ × L
         noticed = ap is_some same ∙ old.noticed;
         housed = ap is_some lot_is ∙ old.housed;
         receiving = λ h. same ∙ old.receiving h;
-        willing = old.willing;
         secured = λ s h.
             let is = old.secured s h in
-            record { row = is.row; found = is.found; of_notice = is.of_notice; of_lot = is.of_lot; held = λ counted live. is.held counted (sym (ap is_live lot_is) ∙ live) };
+            record { row = is.row; found = is.found; of_notice = is.of_notice; of_lot = is.of_lot };
       }
 
   lot_there : (k : List ℕ × List ℕ) (l : LotState) → V.lot_at k ≡ Some l → L k ≡ Some l
@@ -232,7 +210,6 @@ module _ (n : List ℕ) (N : List ℕ → Option NoticeState) (L : List ℕ × L
   pub sound_published : IsSound published
   sound_published = record {
     envelopes = λ r e h. published_fits e (sound.envelopes r e h);
-    one_carrier = sound.one_carrier;
     homed = homed_by;
     undecided = λ k l receiving h.
         elim (lots_elsewhere k) as (λ _. l ≡ lot.Undecided) [
@@ -248,7 +225,6 @@ module _ (n : List ℕ) (N : List ℕ → Option NoticeState) (L : List ℕ × L
           tender = old.tender;
           found = old.found;
           opened = old.opened;
-          willing = old.willing;
           of_notice = old.of_notice;
           of_lot = old.of_lot;
           awarded = lot_there (w.notice, w.lot) lot.Awarded old.awarded;

@@ -1,5 +1,5 @@
 -- No sum leaves its range.
-use Rattle.std.proofs.Common.{◌≡◌, ℕ, ◌+◌, ◌-◌, ◌≤◌, Bool, true, false, cond, ◌&&◌, List, [], ◌∷◌, ◌++◌, map, Option, Some, None, nat_le, refl, sym, ◌∙◌, ap, subst, arith}
+use Rattle.std.proofs.Common.{◌≡◌, ℕ, ◌+◌, ◌-◌, ◌≤◌, Bool, true, false, cond, ◌&&◌, List, [], ◌∷◌, ◌++◌, Option, Some, None, nat_le, refl, sym, ◌∙◌, ap, subst, arith}
 use Rattle.std.specs.Ordering.{nat_cmp}
 use Rattle.office_base.specs.Rows.{row_at}
 use Rattle.office_values.specs.Ids.{same_id}
@@ -12,9 +12,9 @@ use Rattle.office_acts.specs.declared.contract.ChangeKind.{ChangeKind}
 use Rattle.office_acts.specs.declared.contract.ChangeKind.TheVariants as change_kinds
 use Rattle.office_acts.specs.declared.commands.Command.{Command}
 use Rattle.office_acts.specs.declared.commands.Command.TheVariants.{Import, Register, Publish, AmendNotice, Cancel, Open, Present, Modify, Withdraw, Examine, Award, Fail, Sign, AmendContract, Pay, End}
-use Rattle.office_base.specs.Tables.{Tables, IsSorted, no_tables, lot_cmp, lot_key, contract_key, find_lot, notice_at, lot_at, contract_at, envelopes_of_lot, after_puts}
+use Rattle.office_base.specs.Tables.{Tables, IsSorted, lot_cmp, lot_key, contract_key, find_lot, notice_at, lot_at, contract_at, envelopes_of_lot, after_puts}
 use Rattle.award_core.specs.Rules.Award.{price_of, winner}
-use Rattle.office_base.specs.Joined.{plus, minus, outstanding, paid_under, is_on_line}
+use Rattle.office_base.specs.Joined.{outstanding, paid_under, is_on_line}
 use Rattle.office_base.specs.Parents.{lot_of_contract}
 use Rattle.office_machine.specs.Machine.{Means, Given, Reaches, command_tests, effect, publication_puts, next, publication}
 use Rattle.office_machine.specs.Moves.{Move, Outside, came, went, moves, moves_by, move_of_lot, move_back, move_of_award, move_of_change, held_for, line_in, Free, Reserved}
@@ -65,13 +65,13 @@ module _ (means : Means) (xs : List Given) (s : Tables) (moment : ℕ) (caller :
   given command = record { before = s; moment = moment; caller = caller; command = command }
 
   abbrev FitsAfter : Command → Type 0
-  FitsAfter command = first_of (command_tests (given command)) ≡ None → (t : Tables) → IsKept (given command ∷ xs) t → ((q : List ℕ) → appropriation q t ≡ appropriation q (after_puts (effect means (given command)) s)) → Fit t
+  FitsAfter command = first_of (command_tests (given command)) ≡ None → (t : Tables) → IsKept (given command ∷ xs) t → ((q : List ℕ) → appropriation q t ≡ appropriation q (after_puts (effect means.readings (given command)) s)) → Fit t
 
   inside : (command : Command) → ((q : List ℕ) → IsInside (moves xs) (moves_by (given command) xs) q) → FitsAfter command
   inside command is allowed t after same q = omega (arith, fit q, same_appropriation xs (given command) s t q kept after (is q))
 
   fits : (command : Command) → FitsAfter command
-  fits (Import batch rows) = λ allowed t after same q. omega (arith, import_fits means xs s moment caller batch rows kept order allowed fit q, same q)
+  fits (Import batch rows) = λ allowed t after same q. omega (arith, import_fits means.readings xs s moment caller batch rows kept order allowed fit q, same q)
   fits (Register tenderer name address key) = inside (Register tenderer name address key) (nothing_more (moves xs))
   fits (Publish notice content) = inside (Publish notice content) (λ q. record {
     came_is = omega (arith, sum_over-append_map (λ (m : Move). cond (Rattle.office_machine.specs.Moves.same_pot m.to Outside && same_id m.line q) m.amount 0) move_of_lot content.lots (moves xs), sum_over-zero content.lots);
@@ -97,10 +97,10 @@ module _ (means : Means) (xs : List Given) (s : Tables) (moment : ℕ) (caller :
   fits (End contract how) = inside (End contract how) (λ q. record { came_is = omega arith; went_is = omega arith })
 
 -- a publication changes no line
-published_line : (means : Means) (x : Given) (q : List ℕ) → appropriation q (next means x) ≡ appropriation q (after_puts (effect means x) x.before)
+published_line : (means : Means) (x : Given) (q : List ℕ) → appropriation q (next means x) ≡ appropriation q (after_puts (effect means.readings x) x.before)
 published_line means x q =
-    ap (appropriation q) (after-append (effect means x) (publication_puts (publication means x)) x.before)
-    ∙ ap (λ lines. Rattle.office_base.specs.Joined.appropriation_in (Rattle.office_base.specs.Tables.find_line lines q)) (sym (all_aside 0 (publication_puts (publication means x)) (after_puts (effect means x) x.before) (published_aside 0 (publication means x))).lines)
+    ap (appropriation q) (after-append (effect means.readings x) (publication_puts (publication means x)) x.before)
+    ∙ ap (λ lines. Rattle.office_base.specs.Joined.appropriation_in (Rattle.office_base.specs.Tables.find_line lines q)) (sym (all_aside 0 (publication_puts (publication means x)) (after_puts (effect means.readings x) x.before) (published_aside 0 (publication means x))).lines)
 
 all_fit : (means : Means) (xs : List Given) (t : Tables) → Reaches means xs t → Fit t
 unfolding row_at

@@ -1,10 +1,7 @@
 -- A raise or a cut of a contract keeps the accounts.
 use Rattle.std.proofs.Common.{◌≡◌, ℕ, ◌+◌, ◌-◌, ◌≤◌, Bool, true, false, cond, not, ◌&&◌, List, [], ◌∷◌, Some, None, is_some, refl, sym, ◌∙◌, ap, subst, arith}
 use Rattle.std.specs.Prelude.{IsSome}
-use Rattle.std.specs.FinMap.{nat_cmp-IsAntisymmetric}
-use Rattle.std.specs.Cmp.{nat_cmp_total}
-use Rattle.std.specs.List.{AllByRecursion, list_any}
-use Rattle.std.specs.Ordering.{nat_cmp, eq_by_cmp}
+use Rattle.std.specs.List.{AllByRecursion}
 use Rattle.office_values.specs.Ids.{same_id}
 use Rattle.office_base.specs.Tables.{same_number, Tables, IsSorted, line_at, notice_at, lot_at, contract_at, find_line, put_line, find_entry, put_entry, entries_of_contract, after_puts}
 use Rattle.office_acts.specs.declared.command.Caller.{Caller}
@@ -19,12 +16,13 @@ use Rattle.office_base.specs.declared.records.ContractRow.{ContractRow}
 use Rattle.office_base.specs.declared.records.EntryRow.{EntryRow}
 use Rattle.office_base.specs.Joined.{plus, minus, outstanding, paid_under, free_in}
 use Rattle.office_base.specs.Parents.{notice_of_contract, lot_of_contract, line_of_lot}
-use Rattle.office_machine.specs.Machine.{Given, Means, time_of, command_tests, effect}
+use Rattle.office_machine.specs.Machine.{Given, time_of, command_tests, effect}
+use Rattle.office_machine.specs.Readings.{Readings}
 use Rattle.office_machine.specs.Moves.{moves, line_in, raised_by, cut_by, move_of_change}
 use Rattle.office_acts.specs.declared.commands.Command.TheVariants as commands
 use Rattle.office_base.specs.declared.puts.Put.TheVariants as puts
 use Rattle.office_machine.proofs.Aside.{kept_aside}
-use Rattle.office_machine.proofs.Keyed.{found_key, found, found_put, elsewhere, still_there, none_before, own_key}
+use Rattle.office_machine.proofs.Keyed.{found_key, found, still_there}
 use Rattle.office_machine.proofs.Keyed as keyed
 use Rattle.office_machine.proofs.Kept.{IsKept, PotsAre, ContractIs, over_contracts}
 use Rattle.office_machine.proofs.Joins.{outstanding-own, free-replaced}
@@ -32,7 +30,7 @@ use Rattle.office_machine.proofs.Passed.{none_holds, not_false, not_both, not_al
 use Rattle.office_acts.specs.declared.contract.ChangeKind.{ChangeKind}
 use Rattle.office_acts.specs.declared.contract.ChangeKind.TheVariants as change_kinds
 use Rattle.office_base.specs.EntryKinds.{is_raise, is_less, is_payment}
-use Rattle.award_core.specs.Rules.AmendContract.{is_running, is_beyond, has_ended, is_raising, entry_kind, line_after, change_row, amend_contract_puts}
+use Rattle.award_core.specs.Rules.AmendContract.{is_running, is_beyond, has_ended, is_raising, entry_kind, line_after, change_row, amend_contract_effect}
 use Rattle.office_machine.proofs.Entered.{not_taken, contracts_are, no_contract_are, gains, losses, payments}
 
 -- what an entry of the kind raises, and cuts
@@ -57,7 +55,7 @@ abbrev IsEnough : ChangeKind → ℕ → ℕ → ℕ → Type 0
 IsEnough change_kinds.Raise amount free left = amount ≤ free
 IsEnough change_kinds.Cut amount free left = amount ≤ left
 
-module _ (means : Means) (xs : List Given) (s : Tables) (moment : ℕ) (caller : Caller) (c : ℕ) (entry : List ℕ) (kind : ChangeKind) (amount : ℕ) (rationale : List ℕ) (kept : IsKept xs s) (order : IsSorted s) where
+module _ (readings : Readings) (xs : List Given) (s : Tables) (moment : ℕ) (caller : Caller) (c : ℕ) (entry : List ℕ) (kind : ChangeKind) (amount : ℕ) (rationale : List ℕ) (kept : IsKept xs s) (order : IsSorted s) where
   abbrev x : Given
   x = record { before = s; moment = moment; caller = caller; command = commands.AmendContract c entry kind amount rationale }
 
@@ -157,11 +155,11 @@ module _ (means : Means) (xs : List Given) (s : Tables) (moment : ℕ) (caller :
       no_contract = no_contract_are x xs s kept order c r l row is lot number new_here comes goes (within_by kind enough) s';
     }
 
-    effect_is : amend_contract_puts s.clock (time_of x) (Some r) (Some n) (Some w) entry kind amount rationale ≡ effect means x
-    effect_is = λ i. amend_contract_puts s.clock (time_of x) (sym is i) (sym (ap (λ o. notice_of_contract o s) is ∙ notice) i)
+    effect_is : amend_contract_effect s.clock (time_of x) (Some r) (Some n) (Some w) entry kind amount rationale ≡ effect readings x
+    effect_is = λ i. amend_contract_effect s.clock (time_of x) (sym is i) (sym (ap (λ o. notice_of_contract o s) is ∙ notice) i)
         (sym (ap (λ o. line_of_lot o s) (ap (λ o. lot_of_contract o s) is ∙ lot) ∙ line) i) entry kind amount rationale
 
-    keeps : IsKept (x ∷ xs) (after_puts (effect means x) s)
+    keeps : IsKept (x ∷ xs) (after_puts (effect readings x) s)
     keeps = subst (λ ps. IsKept (x ∷ xs) (after_puts ps s)) effect_is
         (kept_aside (x ∷ xs) (puts.Notice (released n) ∷ clock_put s.clock (time_of x) ∷ []) s' (tt, (omega arith, tt)) entered_keeps)
 
@@ -181,7 +179,7 @@ module _ (means : Means) (xs : List Given) (s : Tables) (moment : ℕ) (caller :
         let left = at_least _ _ (not_both _ _ (test_of (is_beyond (entries_of_contract c s) amount) (contract_at c s) r is false beyond) runs) in
         omega (arith, left, outstanding-own s.entries c r (found_key keyed.contracts s.contracts c r is))
 
-    pub amend_contract_keeps : IsKept (x ∷ xs) (after_puts (effect means x) s)
+    pub amend_contract_keeps : IsKept (x ∷ xs) (after_puts (effect readings x) s)
     amend_contract_keeps =
         let found = witness (contract_at c s) (not_false _ passes.0) in
         let r = found.0 in

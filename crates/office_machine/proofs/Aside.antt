@@ -123,10 +123,10 @@ pub published_aside : (n : ℕ) (p : Option ReleaseRow) → AreAside n (publicat
 published_aside n None = tt
 published_aside n (Some p) = (tt, tt)
 
-pub kept_published : (means : Means) (x : Given) (xs : List Given) → IsKept (x ∷ xs) (after_puts (effect means x) x.before) → IsKept (x ∷ xs) (next means x)
+pub kept_published : (means : Means) (x : Given) (xs : List Given) → IsKept (x ∷ xs) (after_puts (effect means.readings x) x.before) → IsKept (x ∷ xs) (next means x)
 kept_published means x xs kept =
-    subst (IsKept (x ∷ xs)) (sym (after-append (effect means x) (publication_puts (publication means x)) x.before))
-    (kept_aside (x ∷ xs) (publication_puts (publication means x)) (after_puts (effect means x) x.before) (published_aside _ (publication means x)) kept)
+    subst (IsKept (x ∷ xs)) (sym (after-append (effect means.readings x) (publication_puts (publication means x)) x.before))
+    (kept_aside (x ∷ xs) (publication_puts (publication means x)) (after_puts (effect means.readings x) x.before) (published_aside _ (publication means x)) kept)
 
 -- the command moves nothing, and no more is held or owed after it
 pub record IsIdle (x : Given) (xs : List Given) : Type 0 where

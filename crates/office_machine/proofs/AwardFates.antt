@@ -26,11 +26,12 @@ use Rattle.office_base.specs.declared.puts.Put.TheVariants as puts
 use Rattle.office_base.specs.declared.puts.Put.{Put}
 use Rattle.office_base.specs.States.{is_read}
 use Rattle.office_base.specs.Rules.{first_of}
-use Rattle.office_base.specs.RuleParts.{clock_put, released, is_held_security, security_returned}
-use Rattle.award_core.specs.Rules.Award.{is_admissible, is_responsive, lowest_price, winner, unsuccessful, awarded, award_row, decision_puts, award_tests, award_puts}
+use Rattle.office_base.specs.RuleParts.{clock_put, released, is_held_security, security_returned, returned}
+use Rattle.award_core.specs.Rules.Award.{is_admissible, is_responsive, lowest_price, winner, unsuccessful, awarded, award_row, decision_puts, award_conditions, award_effect}
 use Rattle.office_base.specs.Tables.{Tables, lot_cmp, lot_key, award_key, envelope_key, security_key, award_at, lot_at, notice_at, line_at, envelope_at, seal_at, security_at, envelopes_of_lot, securities_of_lot, after_puts}
 use Rattle.office_base.specs.Parents.{line_of_lot}
-use Rattle.office_machine.specs.Machine.{Given, Means}
+use Rattle.office_machine.specs.Machine.{Given}
+use Rattle.office_machine.specs.Readings.{Readings}
 use Rattle.office_machine.specs.Fates.{came, is_of_lot}
 use Rattle.office_base.proofs.ExactKeys.{equal_ids, lots_exact}
 use Rattle.office_base.proofs.Orders.{lots_total}
@@ -39,7 +40,7 @@ use Rattle.office_base.proofs.RowLaws.{row_at-row_put}
 use Rattle.office_machine.proofs.RowsChanged.{rows_put, found_key}
 use Rattle.office_machine.proofs.Views.{View, IsSound, AwardFits, Change, after_change, sound_changed}
 use Rattle.office_machine.proofs.Added.{added, sound_award}
-use Rattle.office_machine.proofs.Steps.{both_true, returned}
+use Rattle.office_machine.proofs.Steps.{both_true}
 use Rattle.office_machine.proofs.Decisions.{awarding, fair_awarding, same_lot}
 use Rattle.office_machine.proofs.Seen.{seen, alike, lot_state, notices-same, LotFits, AreInOrder, OnLines, IsOnLine, lines-puts, order-puts, after_securities}
 use Rattle.office_machine.proofs.FatesHold.{IsKept, Keeps, given, tenders_same, named_same}
@@ -69,7 +70,7 @@ first_and_last false b c d h = cc
 first_and_last true false c d h = cc
 first_and_last true true false d h = cc
 
-module _ (means : Means) (name lot_name : List ℕ) (xs : List Given) (t : Tables) (m : ℕ) (caller : Caller) (kept : IsKept means xs t)
+module _ (readings : Readings) (name lot_name : List ℕ) (xs : List Given) (t : Tables) (m : ℕ) (caller : Caller) (kept : IsKept readings xs t)
     (n : NoticeRow) (notice_found : notice_at name t ≡ Some n) (l : LotRow) (lot_found : lot_at (name, lot_name) t ≡ Some l) (r : LineRow)
     (opened : n.state ≡ notice.Opened) (undecided : l.state ≡ lot.Undecided) where
   abbrev T : ℕ
@@ -105,7 +106,7 @@ module _ (means : Means) (name lot_name : List ℕ) (xs : List Given) (t : Table
       cc
 
   line_there : IsOnLine t.lines l
-  line_there = on_line means xs t kept (name, lot_name) l lot_found
+  line_there = on_line readings xs t kept (name, lot_name) l lot_found
 
   key_is : lot_key l ≡ (name, lot_name)
   key_is = found_key lots_total lots_exact lot_key t.lots (name, lot_name) l lot_found
@@ -132,9 +133,9 @@ module _ (means : Means) (name lot_name : List ℕ) (xs : List Given) (t : Table
   and_true true = refl
   and_true false = refl
 
-  nobody_kept : winner (Some n) rows ≡ None → IsKept means (x ∷ xs) nobody_after
+  nobody_kept : winner (Some n) rows ≡ None → IsKept readings (x ∷ xs) nobody_after
   nobody_kept nobody =
-      closing_kept means xs x t nobody_after kept name lot_name lot.Unsuccessful refl (λ a w. w)
+      closing_kept readings xs x t nobody_after kept name lot_name lot.Unsuccessful refl (λ a w. w)
       (λ h receiving. not_receiving receiving)
       (λ a w. refl)
       (λ a w. refl)
@@ -199,7 +200,6 @@ module _ (means : Means) (name lot_name : List ℕ) (xs : List Given) (t : Table
       tender = e;
       found = best.0.0;
       opened = read_state e.state admissible.0;
-      willing = not_true e.failed admissible.1;
       of_notice = equal_ids e.notice name of_lot.0 ∙ sym (ap (λ (k : List ℕ × List ℕ). k.0) key_is);
       of_lot = equal_ids e.lot lot_name of_lot.1 ∙ sym (ap (λ (k : List ℕ × List ℕ). k.1) key_is);
       awarded =
@@ -224,14 +224,14 @@ module _ (means : Means) (name lot_name : List ℕ) (xs : List Given) (t : Table
     and_false true = refl
     and_false false = refl
 
-    awarded_kept : IsKept means (x ∷ xs) after
+    awarded_kept : IsKept readings (x ∷ xs) after
     awarded_kept = record {
       sound = sound_after;
       tenders =
-          tenders_same means.digest xs x refl t.clock.receipts (λ q. envelope_at q t) (λ q. envelope_at q t) (λ q. seal_at q t)
+          tenders_same readings.digest xs x refl t.clock.receipts (λ q. envelope_at q t) (λ q. envelope_at q t) (λ q. seal_at q t)
           (λ q. seal_at q t) kept.tenders (λ q. refl) (λ q. refl) (λ q. refl);
       named =
-          named_same means.digest xs x refl (λ s. security_at s t) (λ s. security_at s t) kept.named
+          named_same readings.digest xs x refl (λ s. security_at s t) (λ s. security_at s t) kept.named
           (λ s.
           ap (λ b. cond (is_of_lot name lot_name (came xs s) && b) security.Returned security.Held) (ap not (best_some n.weight lowest rows e wins))
           ∙ ap (λ b. cond b security.Returned security.Held) (and_false (is_of_lot name lot_name (came xs s))))
@@ -241,40 +241,40 @@ module _ (means : Means) (name lot_name : List ℕ) (xs : List Given) (t : Table
     }
 
   decided_kept : (won : Option EnvelopeRow) → winner (Some n) rows ≡ won
-      → IsKept means (x ∷ xs) (after_puts (decision_puts t.clock T n l r won securities) t)
-  decided_kept None wins = subst (IsKept means (x ∷ xs)) (sym nobody_is) (nobody_kept wins)
+      → IsKept readings (x ∷ xs) (after_puts (decision_puts t.clock T n l r won securities) t)
+  decided_kept None wins = subst (IsKept readings (x ∷ xs)) (sym nobody_is) (nobody_kept wins)
   decided_kept (Some e) wins = awarded_kept e wins
 
-award_by : (means : Means) (name lot_name : List ℕ) (xs : List Given) (t : Tables) (m : ℕ) (caller : Caller) (kept : IsKept means xs t) (n : NoticeRow) → notice_at name t ≡ Some n
+award_by : (readings : Readings) (name lot_name : List ℕ) (xs : List Given) (t : Tables) (m : ℕ) (caller : Caller) (kept : IsKept readings xs t) (n : NoticeRow) → notice_at name t ≡ Some n
     → (l : LotRow) → lot_at (name, lot_name) t ≡ Some l
-    → first_of (award_tests (max m t.clock.moment) (Some n) (Some l) (line_at l.line t) (envelopes_of_lot name lot_name t)) ≡ None
-    → IsKept means (given t m caller (Award name lot_name) ∷ xs)
-    (after_puts (award_puts t.clock (max m t.clock.moment) (Some n) (Some l) (line_at l.line t) (envelopes_of_lot name lot_name t) (securities_of_lot name lot_name t)) t)
-award_by means name lot_name xs t m caller kept n n_is l l_is allowed =
-    let tests = award_tests (max m t.clock.moment) (Some n) (Some l) (line_at l.line t) (envelopes_of_lot name lot_name t) in
+    → first_of (award_conditions (max m t.clock.moment) (Some n) (Some l) (line_at l.line t) (envelopes_of_lot name lot_name t)) ≡ None
+    → IsKept readings (given t m caller (Award name lot_name) ∷ xs)
+    (after_puts (award_effect t.clock (max m t.clock.moment) (Some n) (Some l) (line_at l.line t) (envelopes_of_lot name lot_name t) (securities_of_lot name lot_name t)) t)
+award_by readings name lot_name xs t m caller kept n n_is l l_is allowed =
+    let tests = award_conditions (max m t.clock.moment) (Some n) (Some l) (line_at l.line t) (envelopes_of_lot name lot_name t) in
     let passes : AllByRecursion (λ (test : Bool × Refusal). test.0 ≡ false) tests = none_holds tests allowed in
-    let r = there (line_at l.line t) (on_line means xs t kept (name, lot_name) l l_is) in
-    subst (λ o. IsKept means (given t m caller (Award name lot_name) ∷ xs)
-    (after_puts (award_puts t.clock (max m t.clock.moment) (Some n) (Some l) o (envelopes_of_lot name lot_name t) (securities_of_lot name lot_name t)) t)) (sym r.1)
-    (decided_kept means name lot_name xs t m caller kept n n_is l l_is r.0 (opened_state n.state passes.1.1.0) (undecided_state l.state passes.1.1.1.0) (winner (Some n) (envelopes_of_lot name lot_name t)) refl)
+    let r = there (line_at l.line t) (on_line readings xs t kept (name, lot_name) l l_is) in
+    subst (λ o. IsKept readings (given t m caller (Award name lot_name) ∷ xs)
+    (after_puts (award_effect t.clock (max m t.clock.moment) (Some n) (Some l) o (envelopes_of_lot name lot_name t) (securities_of_lot name lot_name t)) t)) (sym r.1)
+    (decided_kept readings name lot_name xs t m caller kept n n_is l l_is r.0 (opened_state n.state passes.1.1.0) (undecided_state l.state passes.1.1.1.0) (winner (Some n) (envelopes_of_lot name lot_name t)) refl)
 
-pub award_keeps : (means : Means) (notice lot : List ℕ) → Keeps means (Award notice lot)
-award_keeps means name lot_name xs t m caller kept _ allowed =
-    let tests = award_tests (max m t.clock.moment) (notice_at name t) (lot_at (name, lot_name) t) (line_of_lot (lot_at (name, lot_name) t) t) (envelopes_of_lot name lot_name t) in
+pub award_keeps : (readings : Readings) (notice lot : List ℕ) → Keeps readings (Award notice lot)
+award_keeps readings name lot_name xs t m caller kept _ allowed =
+    let tests = award_conditions (max m t.clock.moment) (notice_at name t) (lot_at (name, lot_name) t) (line_of_lot (lot_at (name, lot_name) t) t) (envelopes_of_lot name lot_name t) in
     let passes : AllByRecursion (λ (test : Bool × Refusal). test.0 ≡ false) tests = none_holds tests allowed in
     let n = there (notice_at name t) (not_false (is_some (notice_at name t)) passes.0) in
     let l = there (lot_at (name, lot_name) t) (not_false (is_some (lot_at (name, lot_name) t)) passes.1.0) in
     by_rows n.0 n.1 l.0 l.1
   where
     Goal : Option NoticeRow → Option LotRow → Type 0
-    Goal o p = first_of (award_tests (max m t.clock.moment) o p (line_of_lot p t) (envelopes_of_lot name lot_name t)) ≡ None
-        → IsKept means (given t m caller (Award name lot_name) ∷ xs)
-        (after_puts (award_puts t.clock (max m t.clock.moment) o p (line_of_lot p t) (envelopes_of_lot name lot_name t) (securities_of_lot name lot_name t)) t)
+    Goal o p = first_of (award_conditions (max m t.clock.moment) o p (line_of_lot p t) (envelopes_of_lot name lot_name t)) ≡ None
+        → IsKept readings (given t m caller (Award name lot_name) ∷ xs)
+        (after_puts (award_effect t.clock (max m t.clock.moment) o p (line_of_lot p t) (envelopes_of_lot name lot_name t) (securities_of_lot name lot_name t)) t)
 
     by_rows : (n : NoticeRow) → notice_at name t ≡ Some n → (l : LotRow) → lot_at (name, lot_name) t ≡ Some l
-        → IsKept means (given t m caller (Award name lot_name) ∷ xs)
-        (after_puts (award_puts t.clock (max m t.clock.moment) (notice_at name t) (lot_at (name, lot_name) t) (line_of_lot (lot_at (name, lot_name) t) t) (envelopes_of_lot name lot_name t) (securities_of_lot name lot_name t)) t)
+        → IsKept readings (given t m caller (Award name lot_name) ∷ xs)
+        (after_puts (award_effect t.clock (max m t.clock.moment) (notice_at name t) (lot_at (name, lot_name) t) (line_of_lot (lot_at (name, lot_name) t) t) (envelopes_of_lot name lot_name t) (securities_of_lot name lot_name t)) t)
     by_rows n n_is l l_is =
         let goal : Goal (notice_at name t) (lot_at (name, lot_name) t) =
-        subst (λ o. Goal o (lot_at (name, lot_name) t)) (sym n_is) (subst (λ p. Goal (Some n) p) (sym l_is) (award_by means name lot_name xs t m caller kept n n_is l l_is)) in
+        subst (λ o. Goal o (lot_at (name, lot_name) t)) (sym n_is) (subst (λ p. Goal (Some n) p) (sym l_is) (award_by readings name lot_name xs t m caller kept n n_is l l_is)) in
         goal allowed

@@ -12,16 +12,17 @@ use Rattle.office_base.specs.RuleParts.{released, clock_put, securities_returned
 use Rattle.office_base.specs.declared.records.LineRow.{LineRow}
 use Rattle.office_base.specs.declared.records.NoticeRow.{NoticeRow}
 use Rattle.office_base.specs.declared.records.LotRow.{LotRow}
-use Rattle.office_base.specs.Tables.{Tables, IsSorted, line_at, notice_at, lot_at, contract_at, find_line, put_line, find_lot, find_contract, put_contract, find_entry, put_entry, entries_of_contract, after_puts, lot_cmp, find_award, find_notice, put_award, put_lot, award_at, envelopes_of_lot, securities_of_lot}
+use Rattle.office_base.specs.Tables.{Tables, line_at, notice_at, lot_at, find_line, put_line, find_lot, after_puts, lot_cmp, find_award, put_award, put_lot, envelopes_of_lot, securities_of_lot}
 use Rattle.office_base.specs.Joined.{free_in}
 use Rattle.office_base.specs.Parents.{line_of_lot}
-use Rattle.office_machine.specs.Machine.{Given, Means, time_of, command_tests, effect}
+use Rattle.office_machine.specs.Machine.{Given, time_of, command_tests, effect}
+use Rattle.office_machine.specs.Readings.{Readings}
 use Rattle.office_machine.specs.Moves.{Move, Free, Reserved, moves, held_for, line_in, same_lot, price_after, move_of_award}
 use Rattle.office_acts.specs.declared.commands.Command.TheVariants as commands
 use Rattle.office_base.specs.declared.puts.Put.TheVariants as puts
 use Rattle.office_machine.proofs.Aside.{kept_aside, aside-securities}
 use Rattle.office_base.proofs.ExactKeys.{other_keys, equal_ids, same_itself}
-use Rattle.office_machine.proofs.Keyed.{found_key, found, found_put, elsewhere, still_there, none_before, own_key}
+use Rattle.office_machine.proofs.Keyed.{found_key, found, found_put, elsewhere, still_there, own_key}
 use Rattle.office_machine.proofs.Keyed as keyed
 use Rattle.office_machine.proofs.Kept.{IsKept, PotsAre, LotIs, AwardIs}
 use Rattle.office_machine.proofs.LotChanged.{lots_are, award_is, back, over, after_line}
@@ -33,7 +34,7 @@ use Rattle.office_base.specs.declared.records.SecurityRow.{SecurityRow}
 use Rattle.office_base.specs.States.{is_open, is_undecided, is_awarded, is_active}
 use Rattle.office_base.specs.declared.records.LotState.{LotState}
 use Rattle.office_base.specs.declared.records.LotState.TheVariants as lot_states
-use Rattle.award_core.specs.Rules.Award.{price_of, winner, is_above, reserved_in, unsuccessful, awarded, award_row, decision_puts, award_puts}
+use Rattle.award_core.specs.Rules.Award.{price_of, winner, is_above, reserved_in, unsuccessful, awarded, award_row, decision_puts, award_effect}
 
 open_too : (l : LotState) → is_undecided l ≡ true → is_open l ≡ true
 open_too lot_states.Undecided e = refl
@@ -54,7 +55,7 @@ abbrev price : Option EnvelopeRow → ℕ
 price None = 0
 price (Some e) = price_of e
 
-module _ (means : Means) (xs : List Given) (s : Tables) (moment : ℕ) (caller : Caller) (n i : List ℕ) (kept : IsKept xs s) where
+module _ (readings : Readings) (xs : List Given) (s : Tables) (moment : ℕ) (caller : Caller) (n i : List ℕ) (kept : IsKept xs s) where
   abbrev x : Given
   x = record { before = s; moment = moment; caller = caller; command = commands.Award n i }
 
@@ -193,17 +194,17 @@ module _ (means : Means) (xs : List Given) (s : Tables) (moment : ℕ) (caller :
         one a b v u (inr p) (inr q) f g x y = kept.one_active a b v u p.1 q.1 f g x y
 
     -- and all that it puts
-    effect_is : (o : Option EnvelopeRow) → best ≡ o → decision_puts s.clock (time_of x) row l w o securities ≡ effect means x
+    effect_is : (o : Option EnvelopeRow) → best ≡ o → decision_puts s.clock (time_of x) row l w o securities ≡ effect readings x
     effect_is o won =
         (λ z. decision_puts s.clock (time_of x) row l w (sym (ap (λ r. winner r (envelopes_of_lot n i s)) (sym notice) ∙ won) z) securities)
-        ∙ (λ z. award_puts s.clock (time_of x) (sym notice z) (sym lot z) (sym (ap (λ o. line_of_lot o s) lot ∙ line) z) (envelopes_of_lot n i s) securities)
+        ∙ (λ z. award_effect s.clock (time_of x) (sym notice z) (sym lot z) (sym (ap (λ o. line_of_lot o s) lot ∙ line) z) (envelopes_of_lot n i s) securities)
 
     puts_by : (o : Option EnvelopeRow) → best ≡ o → price o ≤ l.reserved + w.free → IsKept (x ∷ xs) (after_puts (decision_puts s.clock (time_of x) row l w o securities) s)
     puts_by None won p =
         kept_aside (x ∷ xs) (puts.Notice (released row) ∷ clock_put s.clock (time_of x) ∷ securities_returned securities) (after None) (tt, (omega arith, aside-securities s.clock.awards securities)) (keeps_by None won p)
     puts_by (Some e) won p = keeps_by (Some e) won p
 
-    keeps : (o : Option EnvelopeRow) → best ≡ o → price o ≤ l.reserved + w.free → IsKept (x ∷ xs) (after_puts (effect means x) s)
+    keeps : (o : Option EnvelopeRow) → best ≡ o → price o ≤ l.reserved + w.free → IsKept (x ∷ xs) (after_puts (effect readings x) s)
     keeps o won p = subst (λ ps. IsKept (x ∷ xs) (after_puts ps s)) (effect_is o won) (puts_by o won p)
 
   module _ (allowed : first_of (command_tests x) ≡ None) where
@@ -214,7 +215,7 @@ module _ (means : Means) (xs : List Given) (s : Tables) (moment : ℕ) (caller :
     enough_by None funds h = omega arith
     enough_by (Some e) funds h = at_least _ _ h
 
-    pub award_keeps : IsKept (x ∷ xs) (after_puts (effect means x) s)
+    pub award_keeps : IsKept (x ∷ xs) (after_puts (effect readings x) s)
     award_keeps =
         let notice = witness (notice_at n s) (not_false _ passes.0) in
         let lot = witness (lot_at k s) (not_false _ passes.1.0) in

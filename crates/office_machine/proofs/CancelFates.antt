@@ -28,10 +28,11 @@ use Rattle.office_base.specs.declared.puts.Put.TheVariants as puts
 use Rattle.office_base.specs.declared.puts.Put.{Put}
 use Rattle.office_base.specs.States.{is_sealed, is_held, is_active, is_receiving}
 use Rattle.office_base.specs.Rules.{first_of}
-use Rattle.office_base.specs.RuleParts.{clock_put, security_returned}
-use Rattle.tender_core.specs.Rules.Cancel.{is_open_lot, cancelled_lot, lot_put, line_row, line_put, ends, is_ended_award, cancelled_award, award_put, is_ended_envelope, returned_envelope, envelope_put, drop_put, is_ended_security, cancelled_notice, cancel_tests, cancel_puts}
+use Rattle.office_base.specs.RuleParts.{clock_put, security_returned, returned}
+use Rattle.tender_core.specs.Rules.Cancel.{is_open_lot, cancelled_lot, lot_put, line_row, line_put, ends, is_ended_award, cancelled_award, award_put, is_ended_envelope, returned_envelope, envelope_put, drop_put, is_ended_security, cancelled_notice, cancel_conditions, cancel_effect}
 use Rattle.office_base.specs.Tables.{Tables, lot_cmp, line_key, lot_key, envelope_key, seal_key, security_key, award_key, find_lot, of_notice, envelope_at, seal_at, security_at, award_at, lot_at, notice_at, lots_of_notice, envelopes_of_notice, securities_of_notice, awards_of_notice, after_puts}
-use Rattle.office_machine.specs.Machine.{Given, Means}
+use Rattle.office_machine.specs.Machine.{Given}
+use Rattle.office_machine.specs.Readings.{Readings}
 use Rattle.office_machine.specs.Fates.{Reception, came, is_of_notice, tender_decided, fate_of_tender, security_decided, fate_of_security, is_kept, EnvelopeIs, SecurityIs}
 use Rattle.office_machine.proofs.Counting.{is_live}
 use Rattle.office_base.proofs.Orders.{lots_total}
@@ -39,7 +40,7 @@ use Rattle.office_base.proofs.ExactKeys.{lots_exact, equal_ids, same_itself}
 use Rattle.office_machine.proofs.Passed.{none_holds}
 use Rattle.office_machine.proofs.RowsChanged.{rows_put, rows_drop, changed, filter_filter, found_key, row_at-filter, row_at-changed, some_passes_is, all_filter}
 use Rattle.office_machine.proofs.Views.{Change, after_change}
-use Rattle.office_machine.proofs.Steps.{cond_keeps, returned}
+use Rattle.office_machine.proofs.Steps.{cond_keeps}
 use Rattle.office_machine.proofs.Decisions.{cancelling, fair_cancelling}
 use Rattle.office_machine.proofs.Seen.{seen, alike, lot_state, LotFits, IsOnLine, OnLines, AreInOrder, lines-puts, order-puts, after-append, after_lines, after_lots, after_awards, after_envelopes, after_securities, after_drops, row_at-drops}
 use Rattle.office_machine.proofs.FatesHold.{IsKept, Keeps, given}
@@ -63,7 +64,7 @@ tests_agree : {X : Type 0} (p q : X → Bool) (g : X → X) (o : Option X) → (
 tests_agree p q g None h = refl
 tests_agree p q g (Some x) h = ap (λ b. Some (cond b (g x) x)) (h x refl)
 
-module _ (means : Means) (name : List ℕ) (rationale : List ℕ) (xs : List Given) (t : Tables) (m : ℕ) (caller : Caller) (kept : IsKept means xs t)
+module _ (readings : Readings) (name : List ℕ) (rationale : List ℕ) (xs : List Given) (t : Tables) (m : ℕ) (caller : Caller) (kept : IsKept readings xs t)
     (n : NoticeRow) (found : notice_at name t ≡ Some n) where
   abbrev T : ℕ
   T = max m t.clock.moment
@@ -130,7 +131,7 @@ module _ (means : Means) (name : List ℕ) (rationale : List ℕ) (xs : List Giv
   ended_securities = filter (is_ended_security lots) (securities_of_notice name t)
 
   abbrev ps : List Put
-  ps = cancel_puts t.clock T t.lines (Some n) lots (awards_of_notice name t) (envelopes_of_notice name t) (securities_of_notice name t)
+  ps = cancel_effect t.clock T t.lines (Some n) lots (awards_of_notice name t) (envelopes_of_notice name t) (securities_of_notice name t)
 
   abbrev last_puts : List Put
   last_puts = puts.Notice (cancelled_notice n) ∷ clock_put t.clock T ∷ []
@@ -233,7 +234,7 @@ module _ (means : Means) (name : List ℕ) (rationale : List ℕ) (xs : List Giv
       ∙ row_at-drops envelope_test t.envelopes t.seals r kept.order.1
       ∙ ap (λ b. cond b None (seal_at r t)) (some_passes_is nat_cmp_total nat_cmp-IsAntisymmetric envelope_key envelope_test t.envelopes r kept.order.0)
 
-  seal_goes : (r : ℕ) (d : EnvelopeRow) (a : Reception) → envelope_at r t ≡ Some d → EnvelopeIs means.digest r a (fate_of_tender xs r) d (seal_at r t)
+  seal_goes : (r : ℕ) (d : EnvelopeRow) (a : Reception) → envelope_at r t ≡ Some d → EnvelopeIs readings.digest r a (fate_of_tender xs r) d (seal_at r t)
       → seal_at r after ≡ cond (is_kept (c.envelope_to r d).state) (Some (record { receipt = r; bytes = a.bytes })) None
   seal_goes r d a at is =
       seal_is r
@@ -246,7 +247,7 @@ module _ (means : Means) (name : List ℕ) (rationale : List ℕ) (xs : List Giv
       by false = is.seal_is
 
   tender_goes : (r : ℕ) (d : EnvelopeRow) (a : Reception) → envelope_at r t ≡ Some d → came xs r ≡ Some a
-      → EnvelopeIs means.digest r a (fate_of_tender xs r) d (seal_at r t)
+      → EnvelopeIs readings.digest r a (fate_of_tender xs r) d (seal_at r t)
       → (c.envelope_to r d).state ≡ cond (is_sealed d.state) (tender_decided (Cancel name rationale) x (came xs) r) d.state
   tender_goes r d a at came_is is =
       by d.state refl
@@ -294,9 +295,9 @@ module _ (means : Means) (name : List ℕ) (rationale : List ℕ) (xs : List Giv
       (all_append (LotFits t.lines) (map drop_put ended_envelopes) _ (all_of_map (LotFits t.lines) drop_put ended_envelopes (λ e. tt))
       (all_append (LotFits t.lines) (map security_returned ended_securities) last_puts (all_of_map (LotFits t.lines) security_returned ended_securities (λ w. tt)) (tt, (tt, tt)))))))
 
-  cancelled_kept : IsKept means (x ∷ xs) after
+  cancelled_kept : IsKept readings (x ∷ xs) after
   cancelled_kept =
-      kept_by_change means xs x t after c kept (fair_cancelling (seen t) kept.sound name E ends_only ends_all)
+      kept_by_change readings xs x t after c kept (fair_cancelling (seen t) kept.sound name E ends_only ends_all)
       (record {
         none = refl;
         seen_is = seen_is;
@@ -325,15 +326,15 @@ module _ (means : Means) (name : List ℕ) (rationale : List ℕ) (xs : List Giv
       (subst (λ (u : Tables). OnLines u.lines u.lots) after_is (lines-puts ps t kept.lines fit))
       (subst (λ (u : Tables). AreInOrder u) after_is (order-puts ps t kept.order))
 
-cancel_by : (means : Means) (name rationale : List ℕ) (xs : List Given) (t : Tables) (m : ℕ) (caller : Caller) (kept : IsKept means xs t) (o : Option NoticeRow) → notice_at name t ≡ o
-    → first_of (cancel_tests o (lots_of_notice name t)) ≡ None
-    → IsKept means (given t m caller (Cancel name rationale) ∷ xs)
-    (after_puts (cancel_puts t.clock (max m t.clock.moment) t.lines o (lots_of_notice name t) (awards_of_notice name t) (envelopes_of_notice name t) (securities_of_notice name t)) t)
-cancel_by means name rationale xs t m caller kept None found allowed =
-    let passes : AllByRecursion (λ (test : Bool × Refusal). test.0 ≡ false) (cancel_tests None (lots_of_notice name t)) = none_holds (cancel_tests None (lots_of_notice name t)) allowed in
+cancel_by : (readings : Readings) (name rationale : List ℕ) (xs : List Given) (t : Tables) (m : ℕ) (caller : Caller) (kept : IsKept readings xs t) (o : Option NoticeRow) → notice_at name t ≡ o
+    → first_of (cancel_conditions o (lots_of_notice name t)) ≡ None
+    → IsKept readings (given t m caller (Cancel name rationale) ∷ xs)
+    (after_puts (cancel_effect t.clock (max m t.clock.moment) t.lines o (lots_of_notice name t) (awards_of_notice name t) (envelopes_of_notice name t) (securities_of_notice name t)) t)
+cancel_by readings name rationale xs t m caller kept None found allowed =
+    let passes : AllByRecursion (λ (test : Bool × Refusal). test.0 ≡ false) (cancel_conditions None (lots_of_notice name t)) = none_holds (cancel_conditions None (lots_of_notice name t)) allowed in
     let no : true ≡ false = passes.0 in absurd cc
-cancel_by means name rationale xs t m caller kept (Some n) found allowed =
-    subst (IsKept means (given t m caller (Cancel name rationale) ∷ xs)) (sym (after_is means name rationale xs t m caller kept n found)) (cancelled_kept means name rationale xs t m caller kept n found)
+cancel_by readings name rationale xs t m caller kept (Some n) found allowed =
+    subst (IsKept readings (given t m caller (Cancel name rationale) ∷ xs)) (sym (after_is readings name rationale xs t m caller kept n found)) (cancelled_kept readings name rationale xs t m caller kept n found)
 
-pub cancel_keeps : (means : Means) (notice : List ℕ) (rationale : List ℕ) → Keeps means (Cancel notice rationale)
-cancel_keeps means name rationale xs t m caller kept _ allowed = cancel_by means name rationale xs t m caller kept (notice_at name t) refl allowed
+pub cancel_keeps : (readings : Readings) (notice : List ℕ) (rationale : List ℕ) → Keeps readings (Cancel notice rationale)
+cancel_keeps readings name rationale xs t m caller kept _ allowed = cancel_by readings name rationale xs t m caller kept (notice_at name t) refl allowed

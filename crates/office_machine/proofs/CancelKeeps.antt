@@ -14,13 +14,14 @@ use Rattle.office_base.specs.declared.records.LotRow.{LotRow}
 use Rattle.office_base.specs.declared.records.ContractRow.{ContractRow}
 use Rattle.office_base.specs.Tables.{Tables, IsSorted, notice_at, find_line, find_lot, after_puts, line_key, lot_key, lot_cmp, award_key, find_award, of_notice, lots_of_notice, awards_of_notice, envelopes_of_notice, securities_of_notice, after_put}
 use Rattle.office_base.specs.Joined.{plus, minus, paid_under, free_in, appropriation_in}
-use Rattle.office_machine.specs.Machine.{Given, Means, time_of, command_tests, effect}
+use Rattle.office_machine.specs.Machine.{Given, time_of, command_tests, effect}
+use Rattle.office_machine.specs.Readings.{Readings}
 use Rattle.office_machine.specs.Moves.{Move, Outside, Free, Reserved, Contracted, Paid, moves, held_for, Pot, came, went, same_pot, move_back}
 use Rattle.office_acts.specs.declared.commands.Command.TheVariants as commands
 use Rattle.office_base.specs.declared.puts.Put.TheVariants as puts
 use Rattle.office_machine.proofs.Aside.{kept_aside, AreAside, aside-append, aside-map}
 use Rattle.office_base.proofs.ExactKeys.{equal_keys, ids_exact, same_id_is}
-use Rattle.office_machine.proofs.Keyed.{found_key, found, found_put, elsewhere, still_there, none_before, own_key, sum-found_agree}
+use Rattle.office_machine.proofs.Keyed.{found_key, found, sum-found_agree}
 use Rattle.office_machine.proofs.Keyed as keyed
 use Rattle.office_machine.proofs.Kept.{IsKept, PotsAre, LotIs, AwardIs, over_contracts, reserved_by, reserved_over}
 use Rattle.office_machine.proofs.Passed.{none_holds, neither, not_false, witness}
@@ -34,7 +35,7 @@ use Rattle.office_base.specs.declared.records.EnvelopeRow.{EnvelopeRow}
 use Rattle.office_base.specs.declared.records.SecurityRow.{SecurityRow}
 use Rattle.office_base.specs.States.{is_awarded, is_active}
 use Rattle.tender_core.specs.Rules.Publish.{no_line}
-use Rattle.tender_core.specs.Rules.Cancel.{is_open_lot, cancelled_lot, freed, line_row, ends, is_ended_award, cancelled_award, is_ended_envelope, envelope_put, drop_put, is_ended_security, cancelled_notice, cancel_puts}
+use Rattle.tender_core.specs.Rules.Cancel.{is_open_lot, cancelled_lot, freed, line_row, ends, is_ended_award, cancelled_award, is_ended_envelope, envelope_put, drop_put, is_ended_security, cancelled_notice, cancel_effect}
 use Rattle.office_machine.proofs.RowsPut.{rows_put, some_has, lines_put, lots_put, after_lines, after_lots, found_after, there_after}
 use Rattle.office_machine.proofs.Joins.{is_of}
 use Rattle.office_machine.proofs.Lists.{row_at-filter}
@@ -104,7 +105,7 @@ and_parts : (a b : Bool) → (a && b) ≡ true → (a ≡ true) × (b ≡ true)
 and_parts true b e = (refl, e)
 and_parts false b e = cc
 
-module _ (means : Means) (xs : List Given) (s : Tables) (moment : ℕ) (caller : Caller) (n rationale : List ℕ) (kept : IsKept xs s) (order : IsSorted s) where
+module _ (readings : Readings) (xs : List Given) (s : Tables) (moment : ℕ) (caller : Caller) (n rationale : List ℕ) (kept : IsKept xs s) (order : IsSorted s) where
   abbrev x : Given
   x = record { before = s; moment = moment; caller = caller; command = commands.Cancel n rationale }
 
@@ -312,7 +313,7 @@ module _ (means : Means) (xs : List Given) (s : Tables) (moment : ℕ) (caller :
         (aside-append s.clock.awards (map security_returned securities) last_puts (aside-map s.clock.awards security_returned securities (λ _. tt)) (tt, (omega arith, tt))))
 
     abbrev all_puts : List Put
-    all_puts = cancel_puts s.clock (time_of x) s.lines (Some row) lots (awards_of_notice n s) (envelopes_of_notice n s) (securities_of_notice n s)
+    all_puts = cancel_effect s.clock (time_of x) s.lines (Some row) lots (awards_of_notice n s) (envelopes_of_notice n s) (securities_of_notice n s)
 
     cancelled_is : after_puts all_puts s ≡ after_puts rest s'
     cancelled_is =
@@ -321,15 +322,15 @@ module _ (means : Means) (xs : List Given) (s : Tables) (moment : ℕ) (caller :
         ∙ after_awards cancelled_award (filter (is_ended_award lots) (awards_of_notice n s)) rest (record s { lines = lines'; lots = lots_put s.lots (map cancelled_lot ended) })
         ∙ (λ i. after_puts rest (record s { lines = lines'; lots = lots_after i; awards = awards_after i }))
 
-    effect_is : all_puts ≡ effect means x
-    effect_is = λ i. cancel_puts s.clock (time_of x) s.lines (sym notice i) lots (awards_of_notice n s) (envelopes_of_notice n s) (securities_of_notice n s)
+    effect_is : all_puts ≡ effect readings x
+    effect_is = λ i. cancel_effect s.clock (time_of x) s.lines (sym notice i) lots (awards_of_notice n s) (envelopes_of_notice n s) (securities_of_notice n s)
 
-    keeps : IsKept (x ∷ xs) (after_puts (effect means x) s)
+    keeps : IsKept (x ∷ xs) (after_puts (effect readings x) s)
     keeps = subst (IsKept (x ∷ xs)) (sym cancelled_is ∙ ap (λ ps. after_puts ps s) effect_is) (kept_aside (x ∷ xs) rest s' rest_aside ended_keeps)
 
   module _ (allowed : first_of (command_tests x) ≡ None) where
     passes : AllByRecursion (λ (test : Bool × Refusal). test.0 ≡ false) (command_tests x)
     passes = none_holds (command_tests x) allowed
 
-    pub cancel_keeps : IsKept (x ∷ xs) (after_puts (effect means x) s)
+    pub cancel_keeps : IsKept (x ∷ xs) (after_puts (effect readings x) s)
     cancel_keeps = let notice = witness (notice_at n s) (not_false _ passes.0) in keeps notice.0 notice.1

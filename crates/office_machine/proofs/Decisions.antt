@@ -5,7 +5,7 @@ use Rattle.std.specs.Ordering.{nat_cmp, is_eq, eq_by_cmp}
 use Rattle.office_values.specs.Ids.{id_cmp}
 use Rattle.office_base.specs.Tables.{lot_cmp}
 use Rattle.office_base.specs.States.{is_sealed, is_held, is_active, is_receiving}
-use Rattle.office_machine.specs.Fates.{is_kept, has_number}
+use Rattle.office_machine.specs.Fates.{has_number}
 use Rattle.office_base.specs.declared.records.EnvelopeRow.{EnvelopeRow}
 use Rattle.office_base.specs.declared.records.SecurityRow.{SecurityRow}
 use Rattle.office_base.specs.declared.records.AwardRow.{AwardRow}
@@ -16,15 +16,16 @@ use Rattle.office_base.specs.declared.records.LotState.{LotState}
 use Rattle.office_base.specs.declared.records.LotState.TheVariants as lot
 use Rattle.office_base.specs.declared.records.NoticeState.{NoticeState}
 use Rattle.office_base.specs.declared.records.NoticeState.TheVariants as notice
-use Rattle.award_core.specs.Rules.Fail.{failed_award, failed_envelope}
+use Rattle.office_base.specs.RuleParts.{returned, settled, passed_over}
+use Rattle.award_core.specs.Rules.Fail.{failed_award}
 use Rattle.tender_core.specs.Rules.Cancel.{cancelled_award, returned_envelope}
-use Rattle.office_machine.proofs.Counting.{is_live, counts}
+use Rattle.office_machine.proofs.Counting.{is_live}
 use Rattle.office_base.proofs.Orders.{lots_total, same_key}
 use Rattle.office_base.proofs.ExactKeys.{lots_exact, ids_exact, equal_keys}
 use Rattle.office_machine.proofs.Views.{View, EnvelopeFits, AwardFits, IsSound, Change, IsFair}
 use Rattle.office_machine.proofs.Added.{equal_numbers}
 use Rattle.office_machine.proofs.Matched.{same_itself}
-use Rattle.office_machine.proofs.Steps.{choose, cond_keeps, both_true, returned, has_number_it}
+use Rattle.office_machine.proofs.Steps.{choose, cond_keeps, both_true, settled_held}
 
 pub same_lot : (k : List ℕ × List ℕ) → eq_by_cmp lot_cmp k k ≡ true
 same_lot k = ap is_eq (same_key lots_total k)
@@ -57,13 +58,6 @@ module _ (V : View) (sound : IsSound V) (k0 : List ℕ × List ℕ) (closed : Lo
     notice_to = λ n x. x;
   }
 
-  -- a lot that is live afterwards is another
-  other_lot : (k : List ℕ × List ℕ) (l : LotState) → is_live (Some (cond (eq_by_cmp lot_cmp k k0) closed l)) ≡ true → k ≡ k0 → ⊥
-  other_lot k l live e =
-      let same : cond (eq_by_cmp lot_cmp k k0) closed l ≡ closed = ap (λ b. cond b closed l) (at_same_lot k k0 e) in
-      let no : is_live (Some closed) ≡ true = sym (ap (λ x. is_live (Some x)) same) ∙ live in
-      cc
-
   pub fair_closing : IsFair closing V
   fair_closing = record {
     keeps = record {
@@ -77,12 +71,7 @@ module _ (V : View) (sound : IsSound V) (k0 : List ℕ × List ℕ) (closed : Lo
       a_receipt = a_receipt;
     };
     sealed = λ r e at h. h;
-    sealed_failed = λ r e at h. refl;
     sealed_notice = λ r e at h. refl;
-    kept = λ r e at h. h;
-    count = λ r e at h. h;
-    live = λ k l at.
-        choose (λ x. is_live (Some x) ≡ true → is_live (Some l) ≡ true) (eq_by_cmp lot_cmp k k0) closed l (λ _ h. let no : false ≡ true = sym is_closed ∙ h in cc) (λ _ h. h);
     receive = λ n x at h. h;
     undecided = λ k at receiving h.
         choose (λ x. x ≡ lot.Undecided) (eq_by_cmp lot_cmp k k0) closed lot.Undecided
@@ -98,14 +87,8 @@ module _ (V : View) (sound : IsSound V) (k0 : List ℕ × List ℕ) (closed : Lo
         let no : security.Returned ≡ security.Held = sym (ap (λ b. let x : SecurityRow = cond b (returned w) w in x.state) tested) ∙ h in
         cc)
         (λ _. live);
-    still_held = λ r e s w l at carries s_at n_is l_is held counted lot_is live.
-        choose (λ (x : SecurityRow). x.state ≡ security.Held) (test w) (returned w) w
-        (λ t.
-        let only = test_only w t in
-        absurd (other_lot (e.notice, e.lot) l live (pair_path e.notice e.lot k0.0 k0.1 (sym n_is ∙ only.0) (sym l_is ∙ only.1))))
-        (λ _. held);
     active = active;
-    active_tender = λ a w e at is e_at opened willing. (opened, willing);
+    active_tender = λ a w e at is e_at opened. opened;
     active_lot = λ a w at is awarded.
         choose (λ x. x ≡ lot.Awarded) (eq_by_cmp lot_cmp (w.notice, w.lot) k0) closed lot.Awarded
         (λ e. let same = equal_keys lots_exact (w.notice, w.lot) k0 e in absurd (elsewhere a w at is (ap (λ (k : List ℕ × List ℕ). k.0) same) (ap (λ (k : List ℕ × List ℕ). k.1) same)))
@@ -141,12 +124,7 @@ module _ (V : View) (sound : IsSound V) (k0 : List ℕ × List ℕ) (undecided :
       a_receipt = λ a w. refl;
     };
     sealed = λ r e at h. h;
-    sealed_failed = λ r e at h. refl;
     sealed_notice = λ r e at h. refl;
-    kept = λ r e at h. h;
-    count = λ r e at h. h;
-    live = λ k l at.
-        choose (λ x. is_live (Some x) ≡ true → is_live (Some l) ≡ true) (eq_by_cmp lot_cmp k k0) lot.Awarded l (λ e h. ap (λ x. is_live (Some x)) (was_undecided k l e at)) (λ _ h. h);
     receive = λ n x at h. h;
     undecided = λ k at receiving h.
         choose (λ x. x ≡ lot.Undecided) (eq_by_cmp lot_cmp k k0) lot.Awarded lot.Undecided
@@ -155,9 +133,8 @@ module _ (V : View) (sound : IsSound V) (k0 : List ℕ × List ℕ) (undecided :
     held = λ s w at h. h;
     held_live = λ s w l at h lot_is live.
         choose (λ x. is_live (Some x) ≡ true) (eq_by_cmp lot_cmp (w.notice, w.lot) k0) lot.Awarded l (λ _. refl) (λ _. live);
-    still_held = λ r e s w l at carries s_at n_is l_is held counted lot_is live. held;
     active = λ a w at h. h;
-    active_tender = λ a w e at is e_at opened willing. (opened, willing);
+    active_tender = λ a w e at is e_at opened. opened;
     active_lot = λ a w at is awarded.
         choose (λ x. x ≡ lot.Awarded) (eq_by_cmp lot_cmp (w.notice, w.lot) k0) lot.Awarded lot.Awarded (λ _. refl) (λ _. refl);
   }
@@ -170,15 +147,15 @@ module _ (V : View) (sound : IsSound V) (a0 : ℕ) (w0 : AwardRow) (found : V.aw
 
   abbrev pub failing : Change
   failing = record {
-    envelope_to = λ r e. cond (eq_by_cmp nat_cmp r w0.receipt) (failed_envelope e) e;
-    security_to = λ s w. cond (has_number s fits.tender.security) (record w { state = security.Forfeited }) w;
+    envelope_to = λ r e. cond (eq_by_cmp nat_cmp r w0.receipt) (passed_over e) e;
+    security_to = λ s w. cond (has_number s fits.tender.security) (settled security.Forfeited w) w;
     award_to = λ a w. cond (eq_by_cmp nat_cmp a a0) (failed_award w) w;
     lot_to = λ k l. cond (eq_by_cmp lot_cmp k k0) lot.Undecided l;
     notice_to = λ n x. x;
   }
 
   abbrev forfeited : SecurityRow → SecurityRow
-  forfeited w = record w { state = security.Forfeited }
+  forfeited w = settled security.Forfeited w
 
   -- an award that is active afterwards is another, of another lot
   other_award : (a : ℕ) (w : AwardRow) → V.award_at a ≡ Some w → (failing.award_to a w).state ≡ award.Active
@@ -194,68 +171,29 @@ module _ (V : View) (sound : IsSound V) (a0 : ℕ) (w0 : AwardRow) (found : V.aw
       let no : eq_by_cmp nat_cmp a a0 ≡ true = ap (λ a. eq_by_cmp nat_cmp a a0) one ∙ same_itself a0 in
       cc
 
-  still : (r : ℕ) (e : EnvelopeRow) (s : ℕ) (w : SecurityRow) → V.envelope_at r ≡ Some e → e.security ≡ Some s → w.state ≡ security.Held
-      → counts (failing.envelope_to r e) ≡ true → (failing.security_to s w).state ≡ security.Held
-  still r e s w at carries held =
-      choose (λ (x : SecurityRow). counts (failing.envelope_to r e) ≡ true → x.state ≡ security.Held) (has_number s fits.tender.security) (forfeited w) w
-      (λ same counted.
-      choose (λ (x : EnvelopeRow). counts x ≡ true → security.Forfeited ≡ security.Held) (eq_by_cmp nat_cmp r w0.receipt) (failed_envelope e) e
-      (λ _ h. let no : false ≡ true = (both_true (is_kept e.state) false h).1 in cc)
-      (λ other h.
-      let one : r ≡ w0.receipt = sound.one_carrier r w0.receipt e fits.tender s at fits.found (both_true _ _ h).0 (ap is_kept fits.opened) carries (has_number_it s fits.tender.security same) in
-      let no : eq_by_cmp nat_cmp r w0.receipt ≡ true = ap (λ r. eq_by_cmp nat_cmp r w0.receipt) one ∙ same_itself w0.receipt in
-      cc)
-      counted)
-      (λ _ counted. held)
-
   pub fair_failing : IsFair failing V
   fair_failing = record {
     keeps = record {
-      e_notice = λ r e. cond_keeps (λ (e : EnvelopeRow). e.notice) (eq_by_cmp nat_cmp r w0.receipt) (failed_envelope e) e refl;
-      e_lot = λ r e. cond_keeps (λ (e : EnvelopeRow). e.lot) (eq_by_cmp nat_cmp r w0.receipt) (failed_envelope e) e refl;
-      e_security = λ r e. cond_keeps (λ (e : EnvelopeRow). e.security) (eq_by_cmp nat_cmp r w0.receipt) (failed_envelope e) e refl;
+      e_notice = λ r e. cond_keeps (λ (e : EnvelopeRow). e.notice) (eq_by_cmp nat_cmp r w0.receipt) (passed_over e) e refl;
+      e_lot = λ r e. cond_keeps (λ (e : EnvelopeRow). e.lot) (eq_by_cmp nat_cmp r w0.receipt) (passed_over e) e refl;
+      e_security = λ r e. cond_keeps (λ (e : EnvelopeRow). e.security) (eq_by_cmp nat_cmp r w0.receipt) (passed_over e) e refl;
       s_notice = λ s w. cond_keeps (λ (w : SecurityRow). w.notice) (has_number s fits.tender.security) (forfeited w) w refl;
       s_lot = λ s w. cond_keeps (λ (w : SecurityRow). w.lot) (has_number s fits.tender.security) (forfeited w) w refl;
       a_notice = λ a w. cond_keeps (λ (w : AwardRow). w.notice) (eq_by_cmp nat_cmp a a0) (failed_award w) w refl;
       a_lot = λ a w. cond_keeps (λ (w : AwardRow). w.lot) (eq_by_cmp nat_cmp a a0) (failed_award w) w refl;
       a_receipt = λ a w. cond_keeps (λ (w : AwardRow). w.receipt) (eq_by_cmp nat_cmp a a0) (failed_award w) w refl;
     };
-    sealed = λ r e at h. sym (cond_keeps (λ (e : EnvelopeRow). e.state) (eq_by_cmp nat_cmp r w0.receipt) (failed_envelope e) e refl) ∙ h;
-    sealed_failed = λ r e at h.
-        choose (λ (x : EnvelopeRow). x.failed ≡ e.failed) (eq_by_cmp nat_cmp r w0.receipt) (failed_envelope e) e
-        (λ same.
-        let it : Some e ≡ Some fits.tender = sym at ∙ ap V.envelope_at (equal_numbers r w0.receipt same) ∙ fits.found in
-        let is : e ≡ fits.tender = cc in
-        let sealed : e.state ≡ envelope.Sealed = sym (cond_keeps (λ (e : EnvelopeRow). e.state) (eq_by_cmp nat_cmp r w0.receipt) (failed_envelope e) e refl) ∙ h in
-        let no : envelope.Opened ≡ envelope.Sealed = sym fits.opened ∙ sym (ap (λ (x : EnvelopeRow). x.state) is) ∙ sealed in
-        cc)
-        (λ _. refl);
+    sealed = λ r e at h. sym (cond_keeps (λ (e : EnvelopeRow). e.state) (eq_by_cmp nat_cmp r w0.receipt) (passed_over e) e refl) ∙ h;
     sealed_notice = λ r e at h. refl;
-    kept = λ r e at h. sym (ap is_kept (cond_keeps (λ (e : EnvelopeRow). e.state) (eq_by_cmp nat_cmp r w0.receipt) (failed_envelope e) e refl)) ∙ h;
-    count = λ r e at.
-        choose (λ (x : EnvelopeRow). counts x ≡ true → counts e ≡ true) (eq_by_cmp nat_cmp r w0.receipt) (failed_envelope e) e
-        (λ _ h. let no : false ≡ true = (both_true (is_kept e.state) false h).1 in cc) (λ _ h. h);
-    live = λ k l at.
-        choose (λ x. is_live (Some x) ≡ true → is_live (Some l) ≡ true) (eq_by_cmp lot_cmp k k0) lot.Undecided l
-        (λ e h. let same : Some l ≡ Some lot.Awarded = sym at ∙ ap V.lot_at (equal_keys lots_exact k k0 e) ∙ fits.awarded in let is : l ≡ lot.Awarded = cc in ap (λ x. is_live (Some x)) is)
-        (λ _ h. h);
     receive = λ n x at h. h;
     undecided = λ k at receiving h. choose (λ x. x ≡ lot.Undecided) (eq_by_cmp lot_cmp k k0) lot.Undecided lot.Undecided (λ _. refl) (λ _. refl);
     held = λ s w at.
         choose (λ (x : SecurityRow). x.state ≡ security.Held → w.state ≡ security.Held) (has_number s fits.tender.security) (forfeited w) w
-        (λ _ h. cc) (λ _ h. h);
+        (λ _ h. settled_held security.Forfeited w.state h) (λ _ h. h);
     held_live = λ s w l at h lot_is live.
         choose (λ x. is_live (Some x) ≡ true) (eq_by_cmp lot_cmp (w.notice, w.lot) k0) lot.Undecided l (λ _. refl) (λ _. live);
-    still_held = λ r e s w l at carries s_at n_is l_is held counted lot_is live. still r e s w at carries held counted;
     active = λ a w at h. (other_award a w at h).0;
-    active_tender = λ a w e at is e_at opened willing.
-        choose (λ (x : EnvelopeRow). (x.state ≡ envelope.Opened) × (x.failed ≡ false)) (eq_by_cmp nat_cmp w.receipt w0.receipt) (failed_envelope e) e
-        (λ same.
-        let its = sound.awards a w at (other_award a w at is).0 in
-        let it : Some its.tender ≡ Some fits.tender = sym its.found ∙ ap V.envelope_at (equal_numbers w.receipt w0.receipt same) ∙ fits.found in
-        let one : its.tender ≡ fits.tender = cc in
-        absurd (apart a w at is (sym its.of_notice ∙ ap (λ (x : EnvelopeRow). x.notice) one ∙ fits.of_notice) (sym its.of_lot ∙ ap (λ (x : EnvelopeRow). x.lot) one ∙ fits.of_lot)))
-        (λ _. (opened, willing));
+    active_tender = λ a w e at is e_at opened. cond_keeps (λ (x : EnvelopeRow). x.state) (eq_by_cmp nat_cmp w.receipt w0.receipt) (passed_over e) e refl ∙ opened;
     active_lot = λ a w at is awarded.
         choose (λ x. x ≡ lot.Awarded) (eq_by_cmp lot_cmp (w.notice, w.lot) k0) lot.Undecided lot.Awarded
         (λ e. let same = equal_keys lots_exact (w.notice, w.lot) k0 e in absurd (apart a w at is (ap (λ (k : List ℕ × List ℕ). k.0) same) (ap (λ (k : List ℕ × List ℕ). k.1) same)))
@@ -321,7 +259,6 @@ module _ (V : View) (sound : IsSound V) (n : List ℕ) (ends : List ℕ → List
       a_receipt = λ a w. cond_keeps (λ (w : AwardRow). w.receipt) (is_active w.state && ends w.notice w.lot) (cancelled_award w) w refl;
     };
     sealed = λ r e at h. (sealed_apart e h).0;
-    sealed_failed = λ r e at h. cond_keeps (λ (e : EnvelopeRow). e.failed) (is_sealed e.state && ends e.notice e.lot) (returned_envelope e) e refl;
     sealed_notice = λ r e at h.
         choose (λ x. x ≡ notice.Receiving) (eq_by_cmp id_cmp e.notice n) notice.Cancelled notice.Receiving
         (λ same.
@@ -329,13 +266,6 @@ module _ (V : View) (sound : IsSound V) (n : List ℕ) (ends : List ℕ → List
         let no : true ≡ false = sym (ends_all e.notice e.lot (equal_keys ids_exact e.notice n same) (sealed_live e (sound.envelopes r e at) sealed.0)) ∙ sealed.1 in
         cc)
         (λ _. refl);
-    kept = λ r e at.
-        choose (λ (x : EnvelopeRow). is_kept x.state ≡ true → is_kept e.state ≡ true) (is_sealed e.state && ends e.notice e.lot) (returned_envelope e) e (λ _ h. let no : false ≡ true = h in cc) (λ _ h. h);
-    count = λ r e at.
-        choose (λ (x : EnvelopeRow). counts x ≡ true → counts e ≡ true) (is_sealed e.state && ends e.notice e.lot) (returned_envelope e) e (λ _ h. let no : false ≡ true = h in cc) (λ _ h. h);
-    live = λ k l at.
-        choose (λ x. is_live (Some x) ≡ true → is_live (Some l) ≡ true) (ends k.0 k.1) lot.Cancelled l (λ _ h. let no : false ≡ true = h in cc)
-        (λ _ h. h);
     receive = λ m x at.
         choose (λ y. y ≡ notice.Receiving → x ≡ notice.Receiving) (eq_by_cmp id_cmp m n) (cond (is_receiving x) notice.Cancelled x) x
         (λ _ h. still_receiving x h) (λ _ h. h);
@@ -348,17 +278,10 @@ module _ (V : View) (sound : IsSound V) (n : List ℕ) (ends : List ℕ → List
         (λ _. refl);
     held = λ s w at h. (held_apart w h).0;
     held_live = λ s w l at h lot_is live. subst (λ b. is_live (Some (cond b lot.Cancelled l)) ≡ true) (sym (held_apart w h).1) live;
-    still_held = λ r e s w l at carries s_at n_is l_is held counted lot_is live.
-        choose (λ (x : SecurityRow). x.state ≡ security.Held) (is_held w.state && ends w.notice w.lot) (returned w) w
-        (λ t.
-        let ended : ends e.notice e.lot ≡ true = sym (ap (λ m. ends m w.lot) n_is ∙ ap (ends e.notice) l_is) ∙ (both_true (is_held w.state) (ends w.notice w.lot) t).1 in
-        let no : false ≡ true = sym (ap (λ b. is_live (Some (cond b lot.Cancelled l))) ended) ∙ live in
-        cc)
-        (λ _. held);
     active = λ a w at h. (active_apart w h).0;
-    active_tender = λ a w e at is e_at opened willing.
-        choose (λ (x : EnvelopeRow). (x.state ≡ envelope.Opened) × (x.failed ≡ false)) (is_sealed e.state && ends e.notice e.lot) (returned_envelope e) e
+    active_tender = λ a w e at is e_at opened.
+        choose (λ (x : EnvelopeRow). x.state ≡ envelope.Opened) (is_sealed e.state && ends e.notice e.lot) (returned_envelope e) e
         (λ t. let no : false ≡ true = sym (ap is_sealed opened) ∙ (both_true (is_sealed e.state) (ends e.notice e.lot) t).0 in cc)
-        (λ _. (opened, willing));
+        (λ _. opened);
     active_lot = λ a w at is awarded. ap (λ b. cond b lot.Cancelled lot.Awarded) (active_apart w is).1;
   }

@@ -5,7 +5,7 @@ use Rattle.std.specs.Cmp.{nat_cmp_total}
 use Rattle.std.specs.List.{AllByRecursion}
 use Rattle.std.specs.Ordering.{nat_cmp, eq_by_cmp}
 use Rattle.office_values.specs.Ids.{same_id}
-use Rattle.office_base.specs.Tables.{same_number, Tables, IsSorted, line_at, notice_at, lot_at, contract_at, find_line, put_line, find_lot, find_contract, put_contract, find_entry, put_entry, entries_of_contract, after_puts}
+use Rattle.office_base.specs.Tables.{same_number, Tables, IsSorted, line_at, notice_at, lot_at, contract_at, find_line, put_line, find_contract, put_contract, entries_of_contract, after_puts}
 use Rattle.office_acts.specs.declared.command.Caller.{Caller}
 use Rattle.office_values.specs.declared.refusal.Refusal.{Refusal}
 use Rattle.office_base.specs.Rules.{first_of}
@@ -16,22 +16,23 @@ use Rattle.office_base.specs.declared.records.LotRow.{LotRow}
 use Rattle.office_base.specs.declared.records.ContractRow.{ContractRow}
 use Rattle.office_base.specs.Joined.{plus, minus, outstanding, paid_under}
 use Rattle.office_base.specs.Parents.{notice_of_contract, lot_of_contract, line_of_lot}
-use Rattle.office_machine.specs.Machine.{Given, Means, time_of, command_tests, effect}
+use Rattle.office_machine.specs.Machine.{Given, time_of, command_tests, effect}
+use Rattle.office_machine.specs.Readings.{Readings}
 use Rattle.office_machine.specs.Moves.{moves, brought, taken, owed, line_in}
 use Rattle.office_acts.specs.declared.commands.Command.TheVariants as commands
 use Rattle.office_base.specs.declared.puts.Put.TheVariants as puts
 use Rattle.office_machine.proofs.Aside.{kept_aside}
 use Rattle.office_base.proofs.ExactKeys.{other_keys}
-use Rattle.office_machine.proofs.Keyed.{found_key, found, found_put, elsewhere, still_there, none_before, own_key}
+use Rattle.office_machine.proofs.Keyed.{found_key, found, still_there, none_before, own_key}
 use Rattle.office_machine.proofs.Keyed as keyed
 use Rattle.office_machine.proofs.Kept.{IsKept, PotsAre, ContractIs, NoContractIs, over_contracts}
 use Rattle.office_machine.proofs.Joins.{outstanding-own, over_contracts-replaced, free-replaced}
 use Rattle.office_machine.proofs.Passed.{none_holds, not_false, witness, test_of, split}
 use Rattle.office_acts.specs.declared.contract.How.{How}
 use Rattle.award_core.specs.Rules.AmendContract.{has_ended}
-use Rattle.award_core.specs.Rules.End.{ended_contract, end_puts}
+use Rattle.award_core.specs.Rules.End.{ended_contract, end_effect}
 
-module _ (means : Means) (xs : List Given) (s : Tables) (moment : ℕ) (caller : Caller) (c : ℕ) (how : How) (kept : IsKept xs s) (order : IsSorted s) where
+module _ (readings : Readings) (xs : List Given) (s : Tables) (moment : ℕ) (caller : Caller) (c : ℕ) (how : How) (kept : IsKept xs s) (order : IsSorted s) where
   abbrev x : Given
   x = record { before = s; moment = moment; caller = caller; command = commands.End c how }
 
@@ -138,11 +139,11 @@ module _ (means : Means) (xs : List Given) (s : Tables) (moment : ℕ) (caller :
       no_contract = no_contract_is;
     }
 
-    effect_is : end_puts s.clock (time_of x) how (Some r) (entries_of_contract c s) (Some n) (Some w) ≡ effect means x
-    effect_is = λ i. end_puts s.clock (time_of x) how (sym is i) (entries_of_contract c s) (sym (ap (λ o. notice_of_contract o s) is ∙ notice) i)
+    effect_is : end_effect s.clock (time_of x) how (Some r) (entries_of_contract c s) (Some n) (Some w) ≡ effect readings x
+    effect_is = λ i. end_effect s.clock (time_of x) how (sym is i) (entries_of_contract c s) (sym (ap (λ o. notice_of_contract o s) is ∙ notice) i)
         (sym (ap (λ o. line_of_lot o s) (ap (λ o. lot_of_contract o s) is ∙ lot) ∙ line) i)
 
-    keeps : IsKept (x ∷ xs) (after_puts (effect means x) s)
+    keeps : IsKept (x ∷ xs) (after_puts (effect readings x) s)
     keeps = subst (λ ps. IsKept (x ∷ xs) (after_puts ps s)) effect_is
         (kept_aside (x ∷ xs) (puts.Notice (released n) ∷ clock_put s.clock (time_of x) ∷ []) s' (tt, (omega arith, tt)) ended_keeps)
 
@@ -150,7 +151,7 @@ module _ (means : Means) (xs : List Given) (s : Tables) (moment : ℕ) (caller :
     passes : AllByRecursion (λ (test : Bool × Refusal). test.0 ≡ false) (command_tests x)
     passes = none_holds (command_tests x) allowed
 
-    pub end_keeps : IsKept (x ∷ xs) (after_puts (effect means x) s)
+    pub end_keeps : IsKept (x ∷ xs) (after_puts (effect readings x) s)
     end_keeps =
         let found = witness (contract_at c s) (not_false _ passes.0) in
         let r = found.0 in

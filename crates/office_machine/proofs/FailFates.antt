@@ -20,21 +20,21 @@ use Rattle.office_base.specs.declared.records.LotState.TheVariants as lot
 use Rattle.office_base.specs.declared.puts.Put.{Put}
 use Rattle.office_base.specs.States.{is_held}
 use Rattle.office_base.specs.Rules.{first_of}
-use Rattle.office_base.specs.RuleParts.{released}
-use Rattle.award_core.specs.Rules.Fail.{failed_award, failed_envelope, undecided_again, fail_tests, fail_puts}
-use Rattle.office_base.specs.Tables.{Tables, lot_cmp, envelope_key, award_key, lot_key, notice_key, find_award, put_award, envelope_at, seal_at, security_at, award_at, lot_at, notice_at, after_puts}
+use Rattle.office_base.specs.RuleParts.{released, passed_over, settled}
+use Rattle.award_core.specs.Rules.Fail.{failed_award, undecided_again, fail_conditions, fail_effect}
+use Rattle.office_base.specs.Tables.{Tables, envelope_key, award_key, lot_key, envelope_at, seal_at, security_at, award_at, lot_at, notice_at, after_puts}
 use Rattle.office_base.specs.Parents.{notice_of_award, lot_of_award, envelope_of_award, security_of_envelope}
-use Rattle.office_machine.specs.Machine.{Given, Means}
+use Rattle.office_machine.specs.Machine.{Given}
+use Rattle.office_machine.specs.Readings.{Readings}
 use Rattle.office_machine.specs.Fates.{Reception, came, fate_of_tender, security_decided, fate_of_security, is_kept, has_number, carries, is_award_security, SecurityIs}
-use Rattle.office_machine.proofs.Counting.{is_live, counts}
 use Rattle.office_machine.proofs.Passed.{none_holds}
 use Rattle.office_machine.proofs.RowsChanged.{found_key, row_at-changed_put}
 use Rattle.office_machine.proofs.Views.{AwardFits, Change, after_change}
 use Rattle.office_machine.proofs.Matched.{EnvelopeStands}
-use Rattle.office_machine.proofs.Steps.{cond_keeps, has_number_it}
+use Rattle.office_machine.proofs.Steps.{cond_keeps, settled_keep, settled_goes}
 use Rattle.office_machine.proofs.Decisions.{failing, fair_failing}
 use Rattle.office_machine.proofs.Seen.{seen, alike, lot_state, notice_state, notices-same, LotFits, IsOnLine, lines-puts, order-puts}
-use Rattle.office_machine.proofs.FatesHold.{IsKept, Keeps, given, still_sealed, still_held}
+use Rattle.office_machine.proofs.FatesHold.{IsKept, Keeps, given, still_sealed}
 use Rattle.office_machine.proofs.QuietFates.{notice_stands}
 use Rattle.office_machine.proofs.FatesChanged.{kept_by_change, securities_put, securities_left}
 use Rattle.office_machine.proofs.States.{map_same, lots_put, active_state}
@@ -50,9 +50,9 @@ row_there f None h = absurd (let no : false ≡ true = h in cc)
 row_there f (Some x) h = (x, refl)
 
 -- a lot that is found has its line
-pub on_line : (means : Means) (xs : List Given) (t : Tables) (kept : IsKept means xs t) (k : List ℕ × List ℕ) (l : LotRow) → lot_at k t ≡ Some l
+pub on_line : (readings : Readings) (xs : List Given) (t : Tables) (kept : IsKept readings xs t) (k : List ℕ × List ℕ) (l : LotRow) → lot_at k t ≡ Some l
     → IsOnLine t.lines l
-on_line means xs t kept k l found =
+on_line readings xs t kept k l found =
     all-found Rattle.office_base.proofs.Orders.lots_total lot_key (λ (o : Option LotRow). o ≡ Some l → IsOnLine t.lines l) t.lots k (λ h. let no : None ≡ Some l = h in absurd cc)
     (each t.lots kept.lines) found
   where
@@ -60,7 +60,7 @@ on_line means xs t kept k l found =
     each [] h = tt
     each (r ∷ rows) h = ((λ e. let is : r ≡ l = cc in subst (IsOnLine t.lines) is h.0), each rows h.1)
 
-module _ (means : Means) (number : ℕ) (xs : List Given) (t : Tables) (m : ℕ) (caller : Caller) (kept : IsKept means xs t)
+module _ (readings : Readings) (number : ℕ) (xs : List Given) (t : Tables) (m : ℕ) (caller : Caller) (kept : IsKept readings xs t)
     (w : AwardRow) (found : award_at number t ≡ Some w) (active : w.state ≡ award.Active) where
   abbrev T : ℕ
   T = max m t.clock.moment
@@ -74,18 +74,18 @@ module _ (means : Means) (number : ℕ) (xs : List Given) (t : Tables) (m : ℕ)
   abbrev e : EnvelopeRow
   e = fits.tender
 
-  abbrev stands : EnvelopeStands means.digest w.receipt (came xs w.receipt) (fate_of_tender xs w.receipt) e (seal_at w.receipt t)
+  abbrev stands : EnvelopeStands readings.digest w.receipt (came xs w.receipt) (fate_of_tender xs w.receipt) e (seal_at w.receipt t)
   stands = kept.tenders.received w.receipt e fits.found
 
   abbrev c : Change
   c = failing (seen t) kept.sound number w found active fits
 
   abbrev forfeited : SecurityRow → SecurityRow
-  forfeited s = record s { state = security.Forfeited }
+  forfeited s = settled security.Forfeited s
 
   module _ (n : NoticeRow) (notice_found : notice_at w.notice t ≡ Some n) (l : LotRow) (lot_found : lot_at (w.notice, w.lot) t ≡ Some l) where
     abbrev ps : Option SecurityRow → List Put
-    ps so = fail_puts t.clock T (Some w) (Some n) (Some l) (Some e) so
+    ps so = fail_effect t.clock T (Some w) (Some n) (Some l) (Some e) so
 
     abbrev after : Option SecurityRow → Tables
     after so = after_puts (ps so) t
@@ -94,27 +94,13 @@ module _ (means : Means) (number : ℕ) (xs : List Given) (t : Tables) (m : ℕ)
         → SecurityIs s a named (fate_of_security xs s) v
         → (c.security_to s v).state ≡ cond (is_held v.state) (security_decided (Fail number) x (came xs) s) v.state
     security_goes s v a named at came_is is =
-        by (has_number s e.security) refl ∙ sym (ap (λ b. cond (is_held v.state) (cond b security.Forfeited security.Held) v.state) carried)
+        settled_goes security.Forfeited v (has_number s e.security) ∙ sym (ap (λ b. cond (is_held v.state) (cond b security.Forfeited security.Held) v.state) carried)
       where
         carried : is_award_security s (came xs) (award_at number t) ≡ has_number s e.security
         carried = ap (is_award_security s (came xs)) found ∙ ap (carries s) stands.came_is ∙ ap (has_number s) (sym stands.stands.security_is)
 
-        by : (b : Bool) → has_number s e.security ≡ b
-            → (let v' : SecurityRow = cond b (forfeited v) v in v'.state) ≡ cond (is_held v.state) (cond b security.Forfeited security.Held) v.state
-        by true has =
-            let carries_it = has_number_it s e.security has in
-            let its = (kept.sound.envelopes w.receipt e fits.found).secured s carries_it in
-            let same : Some its.row ≡ Some v = sym its.found ∙ at in
-            let one : its.row ≡ v = cc in
-            let counted : counts e ≡ true = ap (λ st. is_kept st && not e.failed) fits.opened ∙ ap not fits.willing in
-            let alive : is_live ((seen t).lot_at (e.notice, e.lot)) ≡ true =
-            ap (λ k. is_live ((seen t).lot_at (k, e.lot))) fits.of_notice ∙ ap (λ k. is_live ((seen t).lot_at (w.notice, k))) fits.of_lot ∙ ap is_live fits.awarded in
-            let held : v.state ≡ security.Held = sym (ap (λ (v : SecurityRow). v.state) one) ∙ its.held counted alive in
-            sym (ap (λ st. cond (is_held st) security.Forfeited st) held)
-        by false other = still_held v.state
-
     failed_state : (r : ℕ) (d : EnvelopeRow) → (c.envelope_to r d).state ≡ d.state
-    failed_state r d = cond_keeps (λ (e : EnvelopeRow). e.state) (eq_by_cmp nat_cmp r w.receipt) (failed_envelope d) d refl
+    failed_state r d = cond_keeps (λ (e : EnvelopeRow). e.state) (eq_by_cmp nat_cmp r w.receipt) (passed_over d) d refl
 
     module _ (so : Option SecurityRow) (envelopes_are : (r : ℕ) → envelope_at r (after so) ≡ envelope_at r (after None))
         (back : (s : ℕ) → security_at s (after so) ≡ option_map (λ v. cond (has_number s e.security) (forfeited v) v) (security_at s t))
@@ -125,35 +111,28 @@ module _ (means : Means) (number : ℕ) (xs : List Given) (t : Tables) (m : ℕ)
       seen_is =
           rest
           ∙ alike (record (seen (after None)) { envelope_at = λ r. envelope_at r (after so); security_at = λ s. security_at s (after so) }) (after_change c (seen t))
-          (λ r. envelopes_are r ∙ row_at-changed_put nat_cmp_total nat_cmp-IsAntisymmetric envelope_key failed_envelope t.envelopes w.receipt r e fits.found (found_key nat_cmp_total nat_cmp-IsAntisymmetric envelope_key t.envelopes w.receipt e fits.found))
+          (λ r. envelopes_are r ∙ row_at-changed_put nat_cmp_total nat_cmp-IsAntisymmetric envelope_key passed_over t.envelopes w.receipt r e fits.found (found_key nat_cmp_total nat_cmp-IsAntisymmetric envelope_key t.envelopes w.receipt e fits.found))
           back
           (λ a. row_at-changed_put nat_cmp_total nat_cmp-IsAntisymmetric award_key failed_award t.awards number a w found (found_key nat_cmp_total nat_cmp-IsAntisymmetric award_key t.awards number w found))
           (λ k. lots_put t.lots (w.notice, w.lot) k l undecided_again (λ s. lot.Undecided) (λ l. refl) (λ l. refl) lot_found)
           (λ q. notices-same t.notices (released n) (notice_stands t w.notice n notice_found) q ∙ map_same ((seen t).notice_at q))
 
-      failed_kept : IsKept means (x ∷ xs) (after so)
+      failed_kept : IsKept readings (x ∷ xs) (after so)
       failed_kept =
-          kept_by_change means xs x t (after so) c kept (fair_failing (seen t) kept.sound number w found active fits)
+          kept_by_change readings xs x t (after so) c kept (fair_failing (seen t) kept.sound number w found active fits)
           (record {
             none = refl;
             seen_is = seen_is;
             receipts_are = receipts_are;
             e_keeps = record {
-              notice = λ r d. cond_keeps (λ (e : EnvelopeRow). e.notice) (eq_by_cmp nat_cmp r w.receipt) (failed_envelope d) d refl;
-              lot = λ r d. cond_keeps (λ (e : EnvelopeRow). e.lot) (eq_by_cmp nat_cmp r w.receipt) (failed_envelope d) d refl;
-              tenderer = λ r d. cond_keeps (λ (e : EnvelopeRow). e.tenderer) (eq_by_cmp nat_cmp r w.receipt) (failed_envelope d) d refl;
-              security = λ r d. cond_keeps (λ (e : EnvelopeRow). e.security) (eq_by_cmp nat_cmp r w.receipt) (failed_envelope d) d refl;
-              len = λ r d. cond_keeps (λ (e : EnvelopeRow). e.length) (eq_by_cmp nat_cmp r w.receipt) (failed_envelope d) d refl;
-              digest = λ r d. cond_keeps (λ (e : EnvelopeRow). e.digest) (eq_by_cmp nat_cmp r w.receipt) (failed_envelope d) d refl;
+              notice = λ r d. cond_keeps (λ (e : EnvelopeRow). e.notice) (eq_by_cmp nat_cmp r w.receipt) (passed_over d) d refl;
+              lot = λ r d. cond_keeps (λ (e : EnvelopeRow). e.lot) (eq_by_cmp nat_cmp r w.receipt) (passed_over d) d refl;
+              tenderer = λ r d. cond_keeps (λ (e : EnvelopeRow). e.tenderer) (eq_by_cmp nat_cmp r w.receipt) (passed_over d) d refl;
+              security = λ r d. cond_keeps (λ (e : EnvelopeRow). e.security) (eq_by_cmp nat_cmp r w.receipt) (passed_over d) d refl;
+              len = λ r d. cond_keeps (λ (e : EnvelopeRow). e.length) (eq_by_cmp nat_cmp r w.receipt) (passed_over d) d refl;
+              digest = λ r d. cond_keeps (λ (e : EnvelopeRow). e.digest) (eq_by_cmp nat_cmp r w.receipt) (passed_over d) d refl;
             };
-            s_keeps = record {
-              number = λ s v. cond_keeps (λ (w : SecurityRow). w.security) (has_number s e.security) (forfeited v) v refl;
-              notice = λ s v. cond_keeps (λ (w : SecurityRow). w.notice) (has_number s e.security) (forfeited v) v refl;
-              lot = λ s v. cond_keeps (λ (w : SecurityRow). w.lot) (has_number s e.security) (forfeited v) v refl;
-              tenderer = λ s v. cond_keeps (λ (w : SecurityRow). w.tenderer) (has_number s e.security) (forfeited v) v refl;
-              reference = λ s v. cond_keeps (λ (w : SecurityRow). w.reference) (has_number s e.security) (forfeited v) v refl;
-              amount = λ s v. cond_keeps (λ (w : SecurityRow). w.amount) (has_number s e.security) (forfeited v) v refl;
-            };
+            s_keeps = settled_keep e.security security.Forfeited;
             tender_goes = λ r d a at came_is is. failed_state r d ∙ still_sealed d.state;
             seal_goes = λ r d a at is.
                 ap (λ rows. Rattle.office_base.specs.Tables.find_seal rows r) seals_are ∙ is.seal_is
@@ -165,14 +144,14 @@ module _ (means : Means) (number : ℕ) (xs : List Given) (t : Tables) (m : ℕ)
           (order-puts (ps so) t kept.order)
 
     line_there : IsOnLine t.lines (undecided_again l)
-    line_there = on_line means xs t kept (w.notice, w.lot) l lot_found
+    line_there = on_line readings xs t kept (w.notice, w.lot) l lot_found
 
-    by_security : (sec : Option ℕ) → e.security ≡ sec → IsKept means (x ∷ xs) (after (option_and_then (λ n. security_at n t) sec))
+    by_security : (sec : Option ℕ) → e.security ≡ sec → IsKept readings (x ∷ xs) (after (option_and_then (λ n. security_at n t) sec))
     by_security None none =
         failed_kept None (λ r. refl) (λ s. securities_left forfeited t.securities s ∙ ap (λ o. option_map (λ v. cond (has_number s o) (forfeited v) v) (security_at s t)) (sym none)) refl refl refl (tt, (line_there, (tt, (tt, (tt, tt)))))
     by_security (Some k) carried =
         let is = (kept.sound.envelopes w.receipt e fits.found).secured k carried in
-        subst (λ so. IsKept means (x ∷ xs) (after so)) (sym is.found)
+        subst (λ so. IsKept readings (x ∷ xs) (after so)) (sym is.found)
         (failed_kept (Some is.row) (λ r. refl)
         (λ s. securities_put forfeited t.securities k is.row is.found refl s ∙ ap (λ o. option_map (λ v. cond (has_number s o) (forfeited v) v) (security_at s t)) (sym carried))
         refl refl refl (tt, (line_there, (tt, (tt, (tt, (tt, tt)))))))
@@ -189,23 +168,23 @@ module _ (means : Means) (number : ℕ) (xs : List Given) (t : Tables) (m : ℕ)
       (subst (λ o. P (Some n.0) o (envelope_at w.receipt t)) (sym l.1)
       (subst (λ o. P (Some n.0) (Some l.0) o) (sym fits.found) (f n.0 n.1 l.0 l.1)))
 
-  fail_kept : IsKept means (x ∷ xs) (after_puts (fail_puts t.clock T (Some w) (notice_at w.notice t) (lot_at (w.notice, w.lot) t) (envelope_at w.receipt t) (security_of_envelope (envelope_at w.receipt t) t)) t)
+  fail_kept : IsKept readings (x ∷ xs) (after_puts (fail_effect t.clock T (Some w) (notice_at w.notice t) (lot_at (w.notice, w.lot) t) (envelope_at w.receipt t) (security_of_envelope (envelope_at w.receipt t) t)) t)
   fail_kept =
-      rows_there (λ n l o. IsKept means (x ∷ xs) (after_puts (fail_puts t.clock T (Some w) n l o (security_of_envelope o t)) t))
+      rows_there (λ n l o. IsKept readings (x ∷ xs) (after_puts (fail_effect t.clock T (Some w) n l o (security_of_envelope o t)) t))
       (λ n n_is l l_is. by_security n n_is l l_is e.security refl)
 
-fail_by : (means : Means) (number : ℕ) (xs : List Given) (t : Tables) (m : ℕ) (caller : Caller) (kept : IsKept means xs t) (o : Option AwardRow)
+fail_by : (readings : Readings) (number : ℕ) (xs : List Given) (t : Tables) (m : ℕ) (caller : Caller) (kept : IsKept readings xs t) (o : Option AwardRow)
     → award_at number t ≡ o
-    → first_of (fail_tests (max m t.clock.moment) o (notice_of_award o t)) ≡ None
-    → IsKept means (given t m caller (Fail number) ∷ xs)
-    (after_puts (fail_puts t.clock (max m t.clock.moment) o (notice_of_award o t) (lot_of_award o t) (envelope_of_award o t) (security_of_envelope (envelope_of_award o t) t)) t)
-fail_by means number xs t m caller kept None found allowed =
-    let passes : AllByRecursion (λ (test : Bool × Refusal). test.0 ≡ false) (fail_tests (max m t.clock.moment) None None) = none_holds (fail_tests (max m t.clock.moment) None None) allowed in
+    → first_of (fail_conditions (max m t.clock.moment) o (notice_of_award o t)) ≡ None
+    → IsKept readings (given t m caller (Fail number) ∷ xs)
+    (after_puts (fail_effect t.clock (max m t.clock.moment) o (notice_of_award o t) (lot_of_award o t) (envelope_of_award o t) (security_of_envelope (envelope_of_award o t) t)) t)
+fail_by readings number xs t m caller kept None found allowed =
+    let passes : AllByRecursion (λ (test : Bool × Refusal). test.0 ≡ false) (fail_conditions (max m t.clock.moment) None None) = none_holds (fail_conditions (max m t.clock.moment) None None) allowed in
     let no : true ≡ false = passes.0 in absurd cc
-fail_by means number xs t m caller kept (Some w) found allowed =
-    let tests = fail_tests (max m t.clock.moment) (Some w) (notice_at w.notice t) in
+fail_by readings number xs t m caller kept (Some w) found allowed =
+    let tests = fail_conditions (max m t.clock.moment) (Some w) (notice_at w.notice t) in
     let passes : AllByRecursion (λ (test : Bool × Refusal). test.0 ≡ false) tests = none_holds tests allowed in
-    fail_kept means number xs t m caller kept w found (active_state w.state passes.1.0)
+    fail_kept readings number xs t m caller kept w found (active_state w.state passes.1.0)
 
-pub fail_keeps : (means : Means) (award : ℕ) → Keeps means (Fail award)
-fail_keeps means number xs t m caller kept _ allowed = fail_by means number xs t m caller kept (award_at number t) refl allowed
+pub fail_keeps : (readings : Readings) (award : ℕ) → Keeps readings (Fail award)
+fail_keeps readings number xs t m caller kept _ allowed = fail_by readings number xs t m caller kept (award_at number t) refl allowed

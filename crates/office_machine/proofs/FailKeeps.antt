@@ -3,31 +3,33 @@ use Rattle.std.proofs.Common.{◌≡◌, ℕ, Bool, true, false, List, ◌∷◌
 use Rattle.std.specs.List.{AllByRecursion}
 use Rattle.office_acts.specs.declared.command.Caller.{Caller}
 use Rattle.office_values.specs.declared.refusal.Refusal.{Refusal}
+use Rattle.office_base.specs.declared.records.SecurityState.TheVariants.{Forfeited}
 use Rattle.office_base.specs.Rules.{first_of}
-use Rattle.office_base.specs.RuleParts.{released, clock_put, security_forfeited, put_if}
+use Rattle.office_base.specs.RuleParts.{released, clock_put, put_if, passed_over, security_settled}
 use Rattle.office_base.specs.declared.records.NoticeRow.{NoticeRow}
 use Rattle.office_base.specs.declared.records.LotRow.{LotRow}
 use Rattle.office_base.specs.Tables.{Tables, notice_at, lot_at, find_lot, after_puts, find_award, put_award, put_lot, award_at}
 use Rattle.office_base.specs.Joined.{plus, minus, paid_under}
 use Rattle.office_base.specs.Parents.{notice_of_award, lot_of_award, envelope_of_award, security_of_envelope}
-use Rattle.office_machine.specs.Machine.{Given, Means, time_of, command_tests, effect}
+use Rattle.office_machine.specs.Machine.{Given, time_of, command_tests, effect}
+use Rattle.office_machine.specs.Readings.{Readings}
 use Rattle.office_machine.specs.Moves.{moves}
 use Rattle.office_acts.specs.declared.commands.Command.TheVariants as commands
 use Rattle.office_base.specs.declared.puts.Put.TheVariants as puts
 use Rattle.office_machine.proofs.Aside.{kept_aside, aside-append, aside-if}
-use Rattle.office_machine.proofs.Keyed.{found_key, found, found_put, elsewhere, still_there, none_before, own_key}
+use Rattle.office_machine.proofs.Keyed.{found_key, found, still_there}
 use Rattle.office_machine.proofs.Keyed as keyed
 use Rattle.office_machine.proofs.Kept.{IsKept, PotsAre, AwardIs}
 use Rattle.office_machine.proofs.Passed.{none_holds, not_false, witness, test_of}
 use Rattle.office_base.specs.declared.records.AwardRow.{AwardRow}
 use Rattle.office_base.specs.States.{is_awarded, is_active}
-use Rattle.award_core.specs.Rules.Fail.{isnt_active, failed_award, failed_envelope, undecided_again, fail_puts}
+use Rattle.award_core.specs.Rules.Fail.{isnt_active, failed_award, undecided_again, fail_effect}
 use Rattle.office_base.specs.declared.records.AwardState.TheVariants as award_states
 use Rattle.office_base.specs.declared.records.LotState.TheVariants as lot_states
 use Rattle.office_machine.proofs.LotChanged.{joined, reserved_after, lots_are, awards_are, one_active, award_of}
 use Rattle.office_machine.proofs.SignKeeps.{open_too}
 
-module _ (means : Means) (xs : List Given) (s : Tables) (moment : ℕ) (caller : Caller) (a : ℕ) (kept : IsKept xs s) where
+module _ (readings : Readings) (xs : List Given) (s : Tables) (moment : ℕ) (caller : Caller) (a : ℕ) (kept : IsKept xs s) where
   abbrev x : Given
   x = record { before = s; moment = moment; caller = caller; command = commands.Fail a }
 
@@ -83,18 +85,18 @@ module _ (means : Means) (xs : List Given) (s : Tables) (moment : ℕ) (caller :
       no_contract = λ c h. let old = kept.no_contract c h in record { came_in = omega (arith, old.came_in); went_out = omega (arith, old.went_out); raised = old.raised; lessened = old.lessened; paid_out = old.paid_out };
     }
 
-    effect_is : fail_puts s.clock (time_of x) (Some w) (Some n) (Some l) (envelope_of_award (award_at a s) s) (security_of_envelope (envelope_of_award (award_at a s) s) s) ≡ effect means x
-    effect_is = λ i. fail_puts s.clock (time_of x) (sym is i) (sym (ap (λ o. notice_of_award o s) is ∙ notice) i) (sym (ap (λ o. lot_of_award o s) is ∙ lot) i) (envelope_of_award (award_at a s) s) (security_of_envelope (envelope_of_award (award_at a s) s) s)
+    effect_is : fail_effect s.clock (time_of x) (Some w) (Some n) (Some l) (envelope_of_award (award_at a s) s) (security_of_envelope (envelope_of_award (award_at a s) s) s) ≡ effect readings x
+    effect_is = λ i. fail_effect s.clock (time_of x) (sym is i) (sym (ap (λ o. notice_of_award o s) is ∙ notice) i) (sym (ap (λ o. lot_of_award o s) is ∙ lot) i) (envelope_of_award (award_at a s) s) (security_of_envelope (envelope_of_award (award_at a s) s) s)
 
     abbrev rest : List Rattle.office_base.specs.declared.puts.Put.Put
-    rest = put_if (λ e. puts.Envelope (failed_envelope e)) (envelope_of_award (award_at a s) s) ++ put_if security_forfeited (security_of_envelope (envelope_of_award (award_at a s) s) s)
+    rest = put_if (λ e. puts.Envelope (passed_over e)) (envelope_of_award (award_at a s) s) ++ put_if (security_settled Forfeited) (security_of_envelope (envelope_of_award (award_at a s) s) s)
 
     rest_aside : Rattle.office_machine.proofs.Aside.AreAside s.clock.awards rest
-    rest_aside = aside-append s.clock.awards (put_if (λ e. puts.Envelope (failed_envelope e)) (envelope_of_award (award_at a s) s)) (put_if security_forfeited (security_of_envelope (envelope_of_award (award_at a s) s) s))
-        (aside-if s.clock.awards (λ e. puts.Envelope (failed_envelope e)) (envelope_of_award (award_at a s) s) (λ _. tt))
-        (aside-if s.clock.awards security_forfeited (security_of_envelope (envelope_of_award (award_at a s) s) s) (λ _. tt))
+    rest_aside = aside-append s.clock.awards (put_if (λ e. puts.Envelope (passed_over e)) (envelope_of_award (award_at a s) s)) (put_if (security_settled Forfeited) (security_of_envelope (envelope_of_award (award_at a s) s) s))
+        (aside-if s.clock.awards (λ e. puts.Envelope (passed_over e)) (envelope_of_award (award_at a s) s) (λ _. tt))
+        (aside-if s.clock.awards (security_settled Forfeited) (security_of_envelope (envelope_of_award (award_at a s) s) s) (λ _. tt))
 
-    keeps : IsKept (x ∷ xs) (after_puts (effect means x) s)
+    keeps : IsKept (x ∷ xs) (after_puts (effect readings x) s)
     keeps = subst (λ ps. IsKept (x ∷ xs) (after_puts ps s)) effect_is
         (kept_aside (x ∷ xs) (puts.Notice (released n) ∷ clock_put s.clock (time_of x) ∷ rest) s' (tt, (omega arith, rest_aside)) failed_keeps)
 
@@ -102,7 +104,7 @@ module _ (means : Means) (xs : List Given) (s : Tables) (moment : ℕ) (caller :
     passes : AllByRecursion (λ (test : Bool × Refusal). test.0 ≡ false) (command_tests x)
     passes = none_holds (command_tests x) allowed
 
-    pub fail_keeps : IsKept (x ∷ xs) (after_puts (effect means x) s)
+    pub fail_keeps : IsKept (x ∷ xs) (after_puts (effect readings x) s)
     fail_keeps =
         let found = witness (award_at a s) (not_false _ passes.0) in
         let w = found.0 in

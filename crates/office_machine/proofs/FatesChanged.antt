@@ -16,10 +16,11 @@ use Rattle.office_base.specs.declared.records.LotState.{LotState}
 use Rattle.office_base.specs.States.{is_sealed, is_held}
 use Rattle.office_base.specs.RuleParts.{is_past_deadline}
 use Rattle.office_base.specs.Tables.{Tables, security_key, envelope_at, seal_at, security_at, notice_at, find_security, put_security}
-use Rattle.office_machine.specs.Machine.{Given, Means}
+use Rattle.office_machine.specs.Machine.{Given}
+use Rattle.office_machine.specs.Readings.{Readings}
 use Rattle.office_machine.specs.Fates.{Reception, brought, came, tender_decided, fate_of_tender, security_decided, fate_of_security, is_kept, has_number, is_before_deadline, is_effective, EnvelopeIs, SecurityIs}
 use Rattle.office_machine.proofs.RowsChanged.{found_key, row_at-changed_put}
-use Rattle.office_machine.proofs.Counting.{is_live, counts}
+use Rattle.office_machine.proofs.Counting.{is_live}
 use Rattle.office_machine.proofs.Views.{View, IsSound, EnvelopeFits, Change, IsFair, after_change, sound_changed}
 use Rattle.office_machine.proofs.Matched.{EnvelopeKeeps, SecurityKeeps, EnvelopesMatch}
 use Rattle.office_machine.proofs.Seen.{seen, AreInOrder, OnLines}
@@ -42,17 +43,17 @@ pub record Decides (digest : List ℕ → List ℕ) (xs : List Given) (x : Given
       → SecurityIs s a named (fate_of_security xs s) w
       → (c.security_to s w).state ≡ cond (is_held w.state) (security_decided x.command x (came xs) s) w.state
 
-pub kept_by_change : (means : Means) (xs : List Given) (x : Given) (t u : Tables) (c : Change) → IsKept means xs t → IsFair c (seen t)
-    → Decides means.digest xs x t u c
-    → OnLines u.lines u.lots → AreInOrder u → IsKept means (x ∷ xs) u
-kept_by_change means xs x t u c kept fair d lines order = record {
+pub kept_by_change : (readings : Readings) (xs : List Given) (x : Given) (t u : Tables) (c : Change) → IsKept readings xs t → IsFair c (seen t)
+    → Decides readings.digest xs x t u c
+    → OnLines u.lines u.lots → AreInOrder u → IsKept readings (x ∷ xs) u
+kept_by_change readings xs x t u c kept fair d lines order = record {
   sound = subst IsSound (sym d.seen_is) (sound_changed c (seen t) kept.sound fair);
   tenders =
-      subst (λ (n : ℕ). EnvelopesMatch means.digest (came (x ∷ xs)) (fate_of_tender (x ∷ xs)) (λ r. seal_at r u) n (λ r. envelope_at r u)) (sym d.receipts_are)
-      (tenders_changed means.digest xs x d.none t.clock.receipts (λ r. envelope_at r t) (λ r. envelope_at r u) (λ r. seal_at r t) (λ r. seal_at r u) kept.tenders
+      subst (λ (n : ℕ). EnvelopesMatch readings.digest (came (x ∷ xs)) (fate_of_tender (x ∷ xs)) (λ r. seal_at r u) n (λ r. envelope_at r u)) (sym d.receipts_are)
+      (tenders_changed readings.digest xs x d.none t.clock.receipts (λ r. envelope_at r t) (λ r. envelope_at r u) (λ r. seal_at r t) (λ r. seal_at r u) kept.tenders
       c.envelope_to d.e_keeps (λ r. ap (λ (V : View). V.envelope_at r) d.seen_is) d.tender_goes d.seal_goes d.no_seal);
   named =
-      named_changed means.digest xs x d.none (λ s. security_at s t) (λ s. security_at s u) kept.named c.security_to d.s_keeps (λ s. ap (λ (V : View). V.security_at s) d.seen_is) d.security_goes;
+      named_changed readings.digest xs x d.none (λ s. security_at s t) (λ s. security_at s u) kept.named c.security_to d.s_keeps (λ s. ap (λ (V : View). V.security_at s) d.seen_is) d.security_goes;
   lines = lines;
   order = order;
 }
@@ -72,17 +73,6 @@ live_by V sound e fits sealed (Some l) at = ap (λ x. is_live (Some x)) (sound.u
 pub sealed_live : (V : View) → IsSound V → (e : EnvelopeRow) → EnvelopeFits V e → e.state ≡ envelope.Sealed
     → is_live (V.lot_at (e.notice, e.lot)) ≡ true
 sealed_live V sound e fits sealed = live_by V sound e fits sealed (V.lot_at (e.notice, e.lot)) refl
-
--- and its security is held
-pub sealed_held : (V : View) → IsSound V → (r : ℕ) (e : EnvelopeRow) → V.envelope_at r ≡ Some e → e.state ≡ envelope.Sealed
-    → (s : ℕ) (w : SecurityRow) → e.security ≡ Some s → V.security_at s ≡ Some w → w.state ≡ security.Held
-sealed_held V sound r e at sealed s w carries found =
-    let fits = sound.envelopes r e at in
-    let is = fits.secured s carries in
-    let same : Some is.row ≡ Some w = sym is.found ∙ found in
-    let one : is.row ≡ w = cc in
-    let counted : counts e ≡ true = ap (λ s. is_kept s && not e.failed) sealed ∙ ap not (fits.willing sealed) in
-    sym (ap (λ (x : SecurityRow). x.state) one) ∙ is.held counted (sealed_live V sound e fits sealed)
 
 map_same : {X : Type 0} (o : Option X) → o ≡ option_map (λ x. x) o
 map_same None = refl

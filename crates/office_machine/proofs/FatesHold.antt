@@ -14,15 +14,16 @@ use Rattle.office_base.specs.declared.records.SecurityState.{SecurityState}
 use Rattle.office_base.specs.States.{is_sealed, is_held}
 use Rattle.office_base.specs.Rules.{first_of}
 use Rattle.office_base.specs.Tables.{Tables, envelope_at, seal_at, security_at, after_puts}
-use Rattle.office_machine.specs.Machine.{Given, Means, IsCommand, tests_for, puts_for}
+use Rattle.office_machine.specs.Machine.{Given, IsCommand, tests_for, puts_for}
+use Rattle.office_machine.specs.Readings.{Readings}
 use Rattle.office_machine.specs.Fates.{Reception, brought, came_after, came, tender_decided, fate_after, fate_of_tender, security_received, security_decided, security_after, fate_of_security, is_kept, EnvelopeIs, SecurityIs}
 use Rattle.office_machine.proofs.Views.{IsSound}
 use Rattle.office_machine.proofs.Matched.{EnvelopesMatch, EnvelopeKeeps, envelopes_changed, SecuritiesMatch, SecurityKeeps, named_in, securities_changed}
 use Rattle.office_machine.proofs.Seen.{seen, AreInOrder, OnLines}
 
-pub record IsKept (means : Means) (xs : List Given) (t : Tables) : Type 0 where
+pub record IsKept (readings : Readings) (xs : List Given) (t : Tables) : Type 0 where
   pub sound : IsSound (seen t)
-  pub tenders : EnvelopesMatch means.digest (came xs) (fate_of_tender xs) (λ r. seal_at r t) t.clock.receipts (λ r. envelope_at r t)
+  pub tenders : EnvelopesMatch readings.digest (came xs) (fate_of_tender xs) (λ r. seal_at r t) t.clock.receipts (λ r. envelope_at r t)
   pub named : SecuritiesMatch (came xs) (fate_of_security xs) (λ s. security_at s t)
   pub lines : OnLines t.lines t.lots
   pub order : AreInOrder t
@@ -30,10 +31,10 @@ pub record IsKept (means : Means) (xs : List Given) (t : Tables) : Type 0 where
 abbrev pub given : Tables → ℕ → Caller → Command → Given
 given t m caller command = record { before = t; moment = m; caller = caller; command = command }
 
-abbrev pub Keeps : Means → Command → Type 0
-Keeps means command = (xs : List Given) (t : Tables) (m : ℕ) (caller : Caller) → IsKept means xs t → IsCommand command
+abbrev pub Keeps : Readings → Command → Type 0
+Keeps readings command = (xs : List Given) (t : Tables) (m : ℕ) (caller : Caller) → IsKept readings xs t → IsCommand command
     → first_of (tests_for t (max m t.clock.moment) caller command) ≡ None
-    → IsKept means (given t m caller command ∷ xs) (after_puts (puts_for means t (max m t.clock.moment) caller command) t)
+    → IsKept readings (given t m caller command ∷ xs) (after_puts (puts_for readings t (max m t.clock.moment) caller command) t)
 
 -- what is decided stays so, and what isn't is decided now
 fate_step : (st : EnvelopeState) (now : Option Reception) (d : EnvelopeState) → fate_after (Some st) now d ≡ Some (cond (is_sealed st) d st)

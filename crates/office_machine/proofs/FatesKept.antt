@@ -1,9 +1,7 @@
 -- Each accepted command keeps the fates, and so does every list of them.
 use Rattle.std.specs.Prelude.{◌≡◌, ℕ, ◌+◌, ◌≤◌, ◌<◌, ◌⊎◌, true, false, List, [], ◌∷◌, Option, Some, None, is_some}
-use Rattle.std.proofs.Common.{refl, sym, ◌∙◌, ap, subst, inl, inr, arith}
+use Rattle.std.proofs.Common.{refl, sym, subst, inl, inr, arith}
 use Rattle.office_base.specs.Rows.{row_at}
-use Rattle.office_acts.specs.declared.commands.Command.{Command}
-use Rattle.office_acts.specs.declared.commands.Command.TheVariants.{Import, Register, Publish, AmendNotice, Cancel, Open, Present, Modify, Withdraw, Examine, Award, Fail, Sign, AmendContract, Pay, End}
 use Rattle.office_base.specs.declared.records.EnvelopeRow.{EnvelopeRow}
 use Rattle.office_base.specs.declared.records.SealRow.{SealRow}
 use Rattle.office_base.specs.declared.records.SecurityRow.{SecurityRow}
@@ -13,49 +11,23 @@ use Rattle.office_base.specs.Tables.{Tables, no_tables, envelope_key, envelope_a
 use Rattle.office_machine.specs.Machine.{Given, Means, Reaches, effect, publication_puts, publication, with_trees}
 use Rattle.office_base.specs.declared.records.CompiledRow.{CompiledRow}
 use Rattle.office_machine.specs.Fates.{Reception, came, fate_of_tender, fate_of_security, TenderIs, NamedIs, HasFate, TendersAreKept, SecuritiesAreKept}
-use Rattle.office_machine.proofs.Passed.{passed}
 use Rattle.office_machine.proofs.Matched.{EnvelopeStands, NoneStands, SecurityStands, named_in}
 use Rattle.office_machine.proofs.Seen.{after-append}
-use Rattle.office_machine.proofs.FatesHold.{IsKept, Keeps}
-use Rattle.office_machine.proofs.QuietFates.{import_keeps, register_keeps, amend_notice_keeps, amend_contract_keeps, pay_keeps, end_keeps, publication_keeps}
-use Rattle.office_machine.proofs.PublishFates.{publish_keeps}
-use Rattle.office_machine.proofs.PresentFates.{present_keeps}
-use Rattle.office_machine.proofs.ModifyFates.{modify_keeps}
-use Rattle.office_machine.proofs.WithdrawFates.{withdraw_keeps}
-use Rattle.office_machine.proofs.OpenFates.{open_keeps, examine_keeps}
-use Rattle.office_machine.proofs.CancelFates.{cancel_keeps}
-use Rattle.office_machine.proofs.AwardFates.{award_keeps}
-use Rattle.office_machine.proofs.FailFates.{fail_keeps}
-use Rattle.office_machine.proofs.SignFates.{sign_keeps}
+use Rattle.office_machine.proofs.FatesHold.{IsKept}
+use Rattle.office_machine.proofs.QuietFates.{publication_keeps}
+use Rattle.office_machine.proofs.AllLawful.{lawful}
+use Rattle.office_machine.proofs.Runs.{along}
+use Rattle.office_machine.proofs.Passed.{allowed_by}
 use Rattle.office_machine.proofs.Numbered.{FindsAll, keys_are}
-
-keeps : (means : Means) (command : Command) → Keeps means command
-keeps means (Import batch rows) = import_keeps means batch rows
-keeps means (Register tenderer name address key) = register_keeps means tenderer name address key
-keeps means (Publish notice content) = publish_keeps means notice content
-keeps means (AmendNotice notice deadline rationale) = amend_notice_keeps means notice deadline rationale
-keeps means (Cancel notice rationale) = cancel_keeps means notice rationale
-keeps means (Open notice) = open_keeps means notice
-keeps means (Present notice lot security bytes) = present_keeps means notice lot security bytes
-keeps means (Modify receipt bytes) = modify_keeps means receipt bytes
-keeps means (Withdraw receipt) = withdraw_keeps means receipt
-keeps means (Examine receipt responsive quality) = examine_keeps means receipt responsive quality
-keeps means (Award notice lot) = award_keeps means notice lot
-keeps means (Fail award) = fail_keeps means award
-keeps means (Sign award) = sign_keeps means award
-keeps means (AmendContract contract entry kind amount rationale) = amend_contract_keeps means contract entry kind amount rationale
-keeps means (Pay contract entry amount) = pay_keeps means contract entry amount
-keeps means (End contract how) = end_keeps means contract how
 
 nothing : {X : Type 0} {A : Type 0} (x : X) → None ≡ Some x → A
 nothing x h = absurd cc
 
-start : (means : Means) → IsKept means [] no_tables
+start : (means : Means) → IsKept means.readings [] no_tables
 unfolding row_at
 start means = record {
   sound = record {
     envelopes = λ r e h. nothing e h;
-    one_carrier = λ q r d e s hd he kd ke sd se. nothing d hd;
     homed = λ k l h. nothing l h;
     undecided = λ k l receiving h. nothing l h;
     securities = λ s w h held. nothing w h;
@@ -76,17 +48,15 @@ start means = record {
   zero_or_more r = grind arith
 
 -- the same with other merges of releases beside it
-kept_beside : (means : Means) (trees : List CompiledRow) (xs : List Given) (t : Tables) → IsKept means xs t → IsKept means xs (with_trees trees t)
+kept_beside : (means : Means) (trees : List CompiledRow) (xs : List Given) (t : Tables) → IsKept means.readings xs t → IsKept means.readings xs (with_trees trees t)
 kept_beside means trees xs t k = record { sound = k.sound; tenders = k.tenders; named = k.named; lines = k.lines; order = k.order }
 
-pub all_kept : (means : Means) (xs : List Given) (t : Tables) → Reaches means xs t → IsKept means xs t
-all_kept means [] t reached = subst (IsKept means []) (sym reached) (start means)
-all_kept means (x ∷ xs) t steps =
-    subst (IsKept means (x ∷ xs))
-    (sym (steps.is ∙ ap (with_trees steps.trees) (after-append (effect means x) (publication_puts (publication means x)) x.before)))
-    (kept_beside means steps.trees (x ∷ xs) (after_puts (publication_puts (publication means x)) (after_puts (effect means x) x.before))
-    (publication_keeps means (x ∷ xs) (after_puts (effect means x) x.before) (publication means x)
-    (keeps means x.command xs x.before x.moment x.caller (all_kept means xs x.before steps.reached) steps.given.0 (passed _ _ _ steps.allowed).1)))
+pub all_kept : (means : Means) (xs : List Given) (t : Tables) → Reaches means xs t → IsKept means.readings xs t
+all_kept means = along means (IsKept means.readings) (start means) (λ trees in_order. kept_beside means trees)
+    (λ xs x accepted kept. subst (IsKept means.readings (x ∷ xs))
+    (sym (after-append (effect means.readings x) (publication_puts (publication means x)) x.before))
+    (publication_keeps means.readings (x ∷ xs) (after_puts (effect means.readings x) x.before) (publication means x)
+    ((lawful x.command).fates means.readings xs x.before x.moment x.caller kept accepted.given.0 (allowed_by x accepted.allowed))))
 
 tender_there : (digest : List ℕ → List ℕ) (r : ℕ) (o : Option Reception) (fate : Option EnvelopeState) (e : EnvelopeRow) (seal : Option SealRow)
     → EnvelopeStands digest r o fate e seal
@@ -97,12 +67,12 @@ tender_not : (digest : List ℕ → List ℕ) (r : ℕ) (o : Option Reception) (
     → NoneStands digest o fate seal → TenderIs digest r o fate None seal
 tender_not digest r o fate seal is = subst (λ o. TenderIs digest r o fate None seal) (sym is.no_reception) (is.no_fate, is.no_seal)
 
-tender_by : (means : Means) (xs : List Given) (t : Tables) → IsKept means xs t → (r : ℕ) (o : Option EnvelopeRow) → envelope_at r t ≡ o
-    → TenderIs means.digest r (came xs r) (fate_of_tender xs r) o (seal_at r t)
-tender_by means xs t kept r None at = tender_not means.digest r (came xs r) (fate_of_tender xs r) (seal_at r t) (kept.tenders.others r at)
-tender_by means xs t kept r (Some e) at = tender_there means.digest r (came xs r) (fate_of_tender xs r) e (seal_at r t) (kept.tenders.received r e at)
+tender_by : (means : Means) (xs : List Given) (t : Tables) → IsKept means.readings xs t → (r : ℕ) (o : Option EnvelopeRow) → envelope_at r t ≡ o
+    → TenderIs means.readings.digest r (came xs r) (fate_of_tender xs r) o (seal_at r t)
+tender_by means xs t kept r None at = tender_not means.readings.digest r (came xs r) (fate_of_tender xs r) (seal_at r t) (kept.tenders.others r at)
+tender_by means xs t kept r (Some e) at = tender_there means.readings.digest r (came xs r) (fate_of_tender xs r) e (seal_at r t) (kept.tenders.received r e at)
 
-envelope_there : (means : Means) (xs : List Given) (t : Tables) → IsKept means xs t → (q : ℕ) → 1 ≤ q → q < 1 + t.clock.receipts
+envelope_there : (means : Means) (xs : List Given) (t : Tables) → IsKept means.readings xs t → (q : ℕ) → 1 ≤ q → q < 1 + t.clock.receipts
     → (o : Option EnvelopeRow) → envelope_at q t ≡ o → is_some o ≡ true
 envelope_there means xs t kept q low high None at = out (kept.tenders.all q at)
   where
@@ -111,7 +81,7 @@ envelope_there means xs t kept q low high None at = out (kept.tenders.all q at)
     out (inr none) = absurd (omega (arith, none, low))
 envelope_there means xs t kept q low high (Some e) at = refl
 
-finds : (means : Means) (xs : List Given) (t : Tables) → IsKept means xs t → FindsAll envelope_key 1 t.clock.receipts t.envelopes
+finds : (means : Means) (xs : List Given) (t : Tables) → IsKept means.readings xs t → FindsAll envelope_key 1 t.clock.receipts t.envelopes
 finds means xs t kept = record {
   here = λ q low high. envelope_there means xs t kept q low high (envelope_at q t) refl;
   nowhere = λ q e at. let given = kept.tenders.given q e at in (given.0, omega (arith, given.1));
@@ -134,7 +104,7 @@ named_not : (s : ℕ) (o : Option Reception) (fate : Option SecurityState) → n
 named_not s None fate none no_fate = no_fate
 named_not s (Some c) fate none no_fate = subst (λ n. NamedIs s c n fate None) (sym none) no_fate
 
-security_by : (means : Means) (xs : List Given) (t : Tables) → IsKept means xs t → (s : ℕ) (o : Option SecurityRow) → security_at s t ≡ o
+security_by : (means : Means) (xs : List Given) (t : Tables) → IsKept means.readings xs t → (s : ℕ) (o : Option SecurityRow) → security_at s t ≡ o
     → HasFate s (came xs s) (fate_of_security xs s) o
 security_by means xs t kept s None at = let is = kept.named.none s at in named_not s (came xs s) (fate_of_security xs s) is.none_named is.no_fate
 security_by means xs t kept s (Some w) at = named_there s (came xs s) (fate_of_security xs s) w (kept.named.there s w at)

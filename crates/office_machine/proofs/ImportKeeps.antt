@@ -7,7 +7,8 @@ use Rattle.office_values.specs.declared.refusal.Refusal.{Refusal}
 use Rattle.office_base.specs.Rules.{first_of}
 use Rattle.office_base.specs.declared.records.LineRow.{LineRow}
 use Rattle.office_base.specs.Tables.{Tables, IsSorted, after_puts, line_key, put_batch}
-use Rattle.office_machine.specs.Machine.{Given, Means, time_of, command_tests, effect}
+use Rattle.office_machine.specs.Machine.{Given, time_of, command_tests, effect}
+use Rattle.office_machine.specs.Readings.{Readings}
 use Rattle.office_machine.specs.Moves.{Move, Outside, Free, Reserved, Contracted, Paid, moves, Pot, came, went, same_pot, move_of_row}
 use Rattle.office_acts.specs.declared.commands.Command.TheVariants as commands
 use Rattle.office_machine.proofs.Kept.{IsKept, PotsAre}
@@ -103,7 +104,7 @@ rows_within m (row ∷ rows) within h q =
     let passes = neither _ _ h in
     rows_within (after_row m row) rows (row_within m row within passes.0) passes.1 q
 
-module _ (means : Means) (xs : List Given) (s : Tables) (moment : ℕ) (caller : Caller) (batch : List ℕ) (rows : List BudgetRow) (kept : IsKept xs s) (order : IsSorted s) where
+module _ (readings : Readings) (xs : List Given) (s : Tables) (moment : ℕ) (caller : Caller) (batch : List ℕ) (rows : List BudgetRow) (kept : IsKept xs s) (order : IsSorted s) where
   abbrev x : Given
   x = record { before = s; moment = moment; caller = caller; command = commands.Import batch rows }
 
@@ -120,7 +121,7 @@ module _ (means : Means) (xs : List Given) (s : Tables) (moment : ℕ) (caller :
       clock = record s.clock { moment = time_of x };
     }
 
-    imported_is : after_puts (effect means x) s ≡ imported
+    imported_is : after_puts (effect readings x) s ≡ imported
     imported_is = after_lines (line_row (after_rows (standings s) rows)) rows _ s
 
     covered : (q : List ℕ) → IsCovered (columns_at (standings s) q)
@@ -181,11 +182,11 @@ module _ (means : Means) (xs : List Given) (s : Tables) (moment : ℕ) (caller :
       no_contract = λ c h. let old = kept.no_contract c h in record { came_in = omega (arith, old.came_in); went_out = omega (arith, old.went_out); raised = old.raised; lessened = old.lessened; paid_out = old.paid_out };
     }
 
-    pub import_keeps : IsKept (x ∷ xs) (after_puts (effect means x) s)
+    pub import_keeps : IsKept (x ∷ xs) (after_puts (effect readings x) s)
     import_keeps = subst (IsKept (x ∷ xs)) (sym imported_is) keeps
 
     -- the appropriation of a line after it is within the bound, if all were before
-    pub import_fits : ((p : List ℕ) → appropriation p s ≤ total_limit) → (q : List ℕ) → appropriation q (after_puts (effect means x) s) ≤ total_limit
+    pub import_fits : ((p : List ℕ) → appropriation p s ≤ total_limit) → (q : List ℕ) → appropriation q (after_puts (effect readings x) s) ≤ total_limit
     import_fits fit q =
         let within : (p : List ℕ) → appropriation_of (columns_at (standings s) p) ≤ total_limit = λ p. let stand = columns_stand s p in omega (arith, fit p, stand.appropriation_is) in
         let after : appropriation_of (columns_at (after_rows (standings s) rows) q) ≤ total_limit = rows_within (standings s) rows within (neither (nat_lt row_limit (length rows)) (some_row passes_limit (standings s) rows) passes.1.1.1.0).1 q in

@@ -30,6 +30,14 @@ pub mod LotChanged
 pub mod ParentsPut
 pub mod ParentsThere
 pub mod SpokenOf
+pub mod Footprint
+pub mod Tail
+pub mod Tails
+pub mod Runs
+pub mod Lawful
+pub mod Commands
+pub mod AllLawful
+pub mod NextIs
 pub mod ReleasesCounted
 pub mod ClockSet
 pub mod ReleasesMade
@@ -69,5 +77,4 @@ pub mod FatesKept
 pub mod RepliesAlike
 pub mod SealsKept
 pub mod WholeRuns
-pub mod NothingPublished
 pub mod Outstanding

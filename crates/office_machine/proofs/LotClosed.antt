@@ -16,15 +16,16 @@ use Rattle.office_base.specs.declared.records.LotState.TheVariants as lot
 use Rattle.office_base.specs.declared.records.LotState.{LotState}
 use Rattle.office_base.specs.declared.records.NoticeState.TheVariants as notice
 use Rattle.office_base.specs.States.{is_held, is_sealed}
-use Rattle.office_base.specs.RuleParts.{is_held_security}
+use Rattle.office_base.specs.RuleParts.{is_held_security, returned}
 use Rattle.office_base.specs.Tables.{Tables, lot_cmp, security_key, envelope_at, seal_at, security_at, securities_of_lot, find_security}
-use Rattle.office_machine.specs.Machine.{Given, Means}
+use Rattle.office_machine.specs.Machine.{Given}
+use Rattle.office_machine.specs.Readings.{Readings}
 use Rattle.office_machine.specs.Fates.{Reception, brought, came, is_of_lot, tender_decided, security_decided, fate_of_security, SecurityIs}
 use Rattle.office_machine.proofs.Counting.{is_live}
 use Rattle.office_base.proofs.ExactKeys.{equal_ids, same_itself}
 use Rattle.office_machine.proofs.RowsChanged.{rows_put, changed, filter_filter, row_at-changed}
 use Rattle.office_machine.proofs.Views.{Change, after_change}
-use Rattle.office_machine.proofs.Steps.{cond_keeps, both_true, returned}
+use Rattle.office_machine.proofs.Steps.{cond_keeps, both_true}
 use Rattle.office_machine.proofs.Decisions.{closing, fair_closing}
 use Rattle.office_machine.proofs.Seen.{seen, alike, AreInOrder, OnLines}
 use Rattle.office_machine.proofs.FatesHold.{IsKept, still_sealed, all_keep}
@@ -62,7 +63,7 @@ securities_go_back t n l s order =
     ap (λ rs. find_security (rows_put nat_cmp security_key t.securities (map returned rs)) s) (filter_filter is_held_security (λ (w : SecurityRow). same_id w.notice n && same_id w.lot l) t.securities)
     ∙ row_at-changed nat_cmp_total nat_cmp-IsAntisymmetric security_key returned (λ w. refl) (is_held_of n l) t.securities s order.2
 
-module _ (means : Means) (xs : List Given) (x : Given) (t u : Tables) (kept : IsKept means xs t) (n l : List ℕ) (closed : LotState)
+module _ (readings : Readings) (xs : List Given) (x : Given) (t u : Tables) (kept : IsKept readings xs t) (n l : List ℕ) (closed : LotState)
     (is_closed : is_live (Some closed) ≡ false)
     (award_to : ℕ → AwardRow → AwardRow)
     (not_receiving : (seen t).lot_at (n, l) ≡ Some lot.Undecided → (seen t).notice_at n ≡ Some notice.Receiving → ⊥)
@@ -93,16 +94,16 @@ module _ (means : Means) (xs : List Given) (x : Given) (t u : Tables) (kept : Is
       (ap (λ q. same_id q n && same_id w.lot l) is.of_notice ∙ ap (λ q. same_id a.notice n && same_id q l) is.of_lot ∙ sym (ap (is_of_lot n l) came_is))
       ∙ ap (λ d. cond (is_held w.state) d w.state) (sym (decided s))
 
-  pub closing_kept : IsKept means (x ∷ xs) u
+  pub closing_kept : IsKept readings (x ∷ xs) u
   closing_kept =
-      kept_by_change means xs x t u c kept
+      kept_by_change readings xs x t u c kept
       (fair_closing (seen t) kept.sound (n, l) closed is_closed award_to (is_held_of n l) (held_of_all n l) (held_of_only n l) not_receiving a_notice a_lot a_receipt active elsewhere)
       (record {
         none = none;
         seen_is =
             alike (seen u) (after_change c (seen t)) (λ r. envelopes_are r ∙ map_same (envelope_at r t)) securities_are awards_are lots_are (λ q. notices_are q ∙ map_same ((seen t).notice_at q));
         receipts_are = receipts_are;
-        e_keeps = all_keep means.digest;
+        e_keeps = all_keep readings.digest;
         s_keeps = record {
           number = λ s w. cond_keeps (λ (w : SecurityRow). w.security) (is_held_of n l w) (returned w) w refl;
           notice = λ s w. cond_keeps (λ (w : SecurityRow). w.notice) (is_held_of n l w) (returned w) w refl;

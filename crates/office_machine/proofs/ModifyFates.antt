@@ -12,30 +12,29 @@ use Rattle.office_values.specs.declared.refusal.Refusal.{Refusal}
 use Rattle.office_base.specs.declared.records.EnvelopeRow.{EnvelopeRow}
 use Rattle.office_base.specs.declared.records.SealRow.{SealRow}
 use Rattle.office_base.specs.declared.records.EnvelopeState.TheVariants as envelope
+use Rattle.office_base.specs.declared.records.SecurityState.TheVariants as security
 use Rattle.office_base.specs.States.{is_sealed}
 use Rattle.office_base.specs.Rules.{first_of}
-use Rattle.tender_core.specs.Rules.Modify.{withdrawn, replacing, modify_tests, modify_puts}
+use Rattle.tender_core.specs.Rules.Modify.{withdrawn, replacing, modify_conditions, modify_effect}
 use Rattle.office_base.specs.Parents.{notice_of_envelope}
-use Rattle.office_machine.specs.Machine.{Given, Means}
+use Rattle.office_machine.specs.Machine.{Given}
+use Rattle.office_machine.specs.Readings.{Readings}
 use Rattle.office_machine.specs.Fates as fates
 use Rattle.office_machine.specs.Fates.{Reception, came, brought, tender_decided, fate_of_tender, is_kept, EnvelopeIs}
 use Rattle.office_machine.proofs.Passed.{none_holds}
 use Rattle.office_base.proofs.RowLaws.{row_at-row_put}
 use Rattle.office_machine.proofs.RowsChanged.{found_key, row_at-changed_put, row_at-row_drop}
-use Rattle.office_machine.proofs.Views.{View, IsSound, EnvelopeFits, Change, after_change, sound_changed, before}
+use Rattle.office_machine.proofs.Views.{View, IsSound, EnvelopeFits, Change, after_change, sound_changed}
 use Rattle.office_machine.proofs.Added.{added, equal_numbers, sound_envelope}
 use Rattle.office_machine.proofs.Matched.{EnvelopesMatch, EnvelopeStands, EnvelopeKeeps, named_in, same_itself, envelopes_received}
-use Rattle.office_machine.proofs.Steps.{choose, cond_keeps, withdrawal, fair_withdrawal}
+use Rattle.office_machine.proofs.Steps.{cond_keeps, taking_back, fair_withdrawal}
 use Rattle.office_machine.proofs.Seen.{seen, alike, order-puts}
 use Rattle.office_machine.proofs.FatesHold.{IsKept, Keeps, given, fate_goes, still_sealed}
-use Rattle.office_machine.proofs.FatesChanged.{is_sealed_state, sealed_held}
+use Rattle.office_machine.proofs.FatesChanged.{is_sealed_state}
 use Rattle.office_machine.proofs.States.{map_same}
 use Rattle.office_machine.proofs.NextReceipt.{none_fate, came_other, came_here, no_envelope_yet, nothing_yet, securities_stay}
 
-nothing_carried : (e : EnvelopeRow) (s : ℕ) → None ≡ Some s → e.security ≡ Some s
-nothing_carried e s h = cc
-
-module _ (means : Means) (receipt : ℕ) (bytes : List ℕ) (xs : List Given) (t : Tables) (m : ℕ) (caller : Caller) (kept : IsKept means xs t) where
+module _ (readings : Readings) (receipt : ℕ) (bytes : List ℕ) (xs : List Given) (t : Tables) (m : ℕ) (caller : Caller) (kept : IsKept readings xs t) where
   abbrev T : ℕ
   T = max m t.clock.moment
 
@@ -49,17 +48,17 @@ module _ (means : Means) (receipt : ℕ) (bytes : List ℕ) (xs : List Given) (t
     abbrev fits : EnvelopeFits (seen t) e
     fits = kept.sound.envelopes receipt e found
 
-    abbrev stands : EnvelopeStands means.digest receipt (came xs receipt) (fate_of_tender xs receipt) e (seal_at receipt t)
+    abbrev stands : EnvelopeStands readings.digest receipt (came xs receipt) (fate_of_tender xs receipt) e (seal_at receipt t)
     stands = kept.tenders.received receipt e found
 
     key_own : e.receipt ≡ receipt
     key_own = found_key nat_cmp_total nat_cmp-IsAntisymmetric envelope_key t.envelopes receipt e found
 
     abbrev new : EnvelopeRow
-    new = replacing means.digest t.clock T e bytes
+    new = replacing readings.digest t.clock T e bytes
 
     abbrev after : Tables
-    after = after_puts (modify_puts means.digest t.clock T (Some e) bytes) t
+    after = after_puts (modify_effect readings.digest t.clock T (Some e) bytes) t
 
     abbrev f : ℕ → EnvelopeRow → EnvelopeRow
     f r d = cond (eq_by_cmp nat_cmp r receipt) (withdrawn d) d
@@ -69,39 +68,26 @@ module _ (means : Means) (receipt : ℕ) (bytes : List ℕ) (xs : List Given) (t
     W = record (seen t) { envelope_at = λ r. option_map (f r) (envelope_at r t) }
 
     abbrev c : Change
-    c = withdrawal (seen t) kept.sound receipt e found sealed None (nothing_carried e)
+    c = taking_back (seen t) receipt withdrawn security.Returned None
 
     sound_W : IsSound W
     sound_W =
         subst IsSound
         (alike (after_change c (seen t)) W (λ r. refl) (λ s. sym (map_same (security_at s t))) (λ a. sym (map_same ((seen t).award_at a))) (λ k. sym (map_same ((seen t).lot_at k))) (λ n. sym (map_same ((seen t).notice_at n))))
-        (sound_changed c (seen t) kept.sound (fair_withdrawal (seen t) kept.sound receipt e found sealed None (nothing_carried e)))
+        (sound_changed c (seen t) kept.sound (fair_withdrawal (seen t) receipt e found sealed security.Returned None))
 
     new_fits : EnvelopeFits W new
     new_fits = record {
       noticed = fits.noticed;
       housed = fits.housed;
       receiving = λ h. fits.receiving sealed;
-      willing = λ h. refl;
       secured = λ s h.
           let is = fits.secured s h in
-          record { row = is.row; found = is.found; of_notice = is.of_notice; of_lot = is.of_lot; held = λ counted live. sealed_held (seen t) kept.sound receipt e found sealed s is.row h is.found };
+          record { row = is.row; found = is.found; of_notice = is.of_notice; of_lot = is.of_lot };
     }
 
     no_new : W.envelope_at k ≡ None
-    no_new = ap (option_map (f k)) (no_envelope_yet means xs t kept)
-
-    alone : (q : ℕ) (d : EnvelopeRow) (s : ℕ) → W.envelope_at q ≡ Some d → is_kept d.state ≡ true → is_kept new.state ≡ true → d.security ≡ Some s
-        → new.security ≡ Some s → ⊥
-    alone q d s at keptd keptn carries also =
-        let b = before (f q) (envelope_at q t) d at in
-        choose (λ (z : EnvelopeRow). z ≡ d → ⊥) (eq_by_cmp nat_cmp q receipt) (withdrawn b.old) b.old
-        (λ _ is. let no : false ≡ true = ap (λ (z : EnvelopeRow). is_kept z.state) is ∙ keptd in cc)
-        (λ other is.
-        let one : q ≡ receipt = kept.sound.one_carrier q receipt b.old e s b.was found (ap (λ (z : EnvelopeRow). is_kept z.state) is ∙ keptd) (ap is_kept sealed) (ap (λ (z : EnvelopeRow). z.security) is ∙ carries) also in
-        let no : eq_by_cmp nat_cmp q receipt ≡ true = ap (λ q. eq_by_cmp nat_cmp q receipt) one ∙ same_itself receipt in
-        cc)
-        b.is
+    no_new = ap (option_map (f k)) (no_envelope_yet readings xs t kept)
 
     envelopes_are : (r : ℕ) → envelope_at r after ≡ added k new (λ r. option_map (f r) (envelope_at r t)) r
     envelopes_are r =
@@ -112,7 +98,7 @@ module _ (means : Means) (receipt : ℕ) (bytes : List ℕ) (xs : List Given) (t
     sound_after =
         subst IsSound
         (alike (record W { envelope_at = added k new W.envelope_at }) (seen after) (λ r. sym (envelopes_are r)) (λ s. refl) (λ a. refl) (λ k. refl) (λ n. refl))
-        (sound_envelope k new W sound_W no_new new_fits alone)
+        (sound_envelope k new W sound_W no_new new_fits)
 
     abbrev new_seal : SealRow
     new_seal = record { receipt = k; bytes = bytes }
@@ -126,7 +112,7 @@ module _ (means : Means) (receipt : ℕ) (bytes : List ℕ) (xs : List Given) (t
     other_seal : (r : ℕ) → eq_by_cmp nat_cmp r k ≡ false → seal_at r after ≡ cond (eq_by_cmp nat_cmp r receipt) None (seal_at r t)
     other_seal r other = seal_is r ∙ ap (λ b. cond b (Some new_seal) (cond (eq_by_cmp nat_cmp r receipt) None (seal_at r t))) other
 
-    f_keeps : EnvelopeKeeps means.digest f
+    f_keeps : EnvelopeKeeps readings.digest f
     f_keeps = record {
       notice = λ r d. cond_keeps (λ (e : EnvelopeRow). e.notice) (eq_by_cmp nat_cmp r receipt) (withdrawn d) d refl;
       lot = λ r d. cond_keeps (λ (e : EnvelopeRow). e.lot) (eq_by_cmp nat_cmp r receipt) (withdrawn d) d refl;
@@ -148,7 +134,7 @@ module _ (means : Means) (receipt : ℕ) (bytes : List ℕ) (xs : List Given) (t
             sym (ap (λ s. cond (is_sealed s) envelope.Withdrawn s) (ap (λ (d : EnvelopeRow). d.state) is_e ∙ sealed))
         by false other = still_sealed d.state
 
-    seal_goes : (r : ℕ) (d : EnvelopeRow) (a : Reception) → EnvelopeIs means.digest r a (fate_of_tender xs r) d (seal_at r t)
+    seal_goes : (r : ℕ) (d : EnvelopeRow) (a : Reception) → EnvelopeIs readings.digest r a (fate_of_tender xs r) d (seal_at r t)
         → cond (eq_by_cmp nat_cmp r receipt) None (seal_at r t) ≡ cond (is_kept (f r d).state) (Some (record { receipt = r; bytes = a.bytes })) None
     seal_goes r d a is = by (eq_by_cmp nat_cmp r receipt)
       where
@@ -163,10 +149,10 @@ module _ (means : Means) (receipt : ℕ) (bytes : List ℕ) (xs : List Given) (t
 
     came_new : came (x ∷ xs) k ≡ Some (fates.replacing bytes stands.came)
     came_new =
-        came_here (came xs k) (option_map (fates.replacing bytes) (came xs receipt)) (same_number k k) (nothing_yet means xs t kept).no_reception (same_itself k)
+        came_here (came xs k) (option_map (fates.replacing bytes) (came xs receipt)) (same_number k k) (nothing_yet readings xs t kept).no_reception (same_itself k)
         ∙ ap (option_map (fates.replacing bytes)) stands.came_is
 
-    new_stands : EnvelopeStands means.digest k (came (x ∷ xs) k) (fate_of_tender (x ∷ xs) k) new (seal_at k after)
+    new_stands : EnvelopeStands readings.digest k (came (x ∷ xs) k) (fate_of_tender (x ∷ xs) k) new (seal_at k after)
     new_stands = record {
       came = fates.replacing bytes stands.came;
       came_is = came_new;
@@ -178,15 +164,15 @@ module _ (means : Means) (receipt : ℕ) (bytes : List ℕ) (xs : List Given) (t
         length_is = refl;
         digest_is = refl;
         fate_is =
-            ap (λ o. fates.fate_after o (came (x ∷ xs) k) (tender_decided (Modify receipt bytes) x (came xs) k)) (nothing_yet means xs t kept).no_fate
+            ap (λ o. fates.fate_after o (came (x ∷ xs) k) (tender_decided (Modify receipt bytes) x (came xs) k)) (nothing_yet readings xs t kept).no_fate
             ∙ ap (option_map fates.first_state) came_new;
         seal_is = seal_is k ∙ ap (λ b. cond b (Some new_seal) (cond (eq_by_cmp nat_cmp k receipt) None (seal_at k t))) (same_itself k);
       };
     }
 
-    tenders_after : EnvelopesMatch means.digest (came (x ∷ xs)) (fate_of_tender (x ∷ xs)) (λ r. seal_at r after) k (added k new (λ r. option_map (f r) (envelope_at r t)))
+    tenders_after : EnvelopesMatch readings.digest (came (x ∷ xs)) (fate_of_tender (x ∷ xs)) (λ r. seal_at r after) k (added k new (λ r. option_map (f r) (envelope_at r t)))
     tenders_after =
-        envelopes_received means.digest (came xs) (came (x ∷ xs)) (fate_of_tender xs) (fate_of_tender (x ∷ xs)) (λ r. seal_at r t) (λ r. seal_at r after) t.clock.receipts (λ r. envelope_at r t)
+        envelopes_received readings.digest (came xs) (came (x ∷ xs)) (fate_of_tender xs) (fate_of_tender (x ∷ xs)) (λ r. seal_at r t) (λ r. seal_at r after) t.clock.receipts (λ r. envelope_at r t)
         kept.tenders f f_keeps new
         (λ r other. came_other (came xs r) (brought (Modify receipt bytes) x (λ q. came xs q)) (same_number r k) other)
         (λ r d other at a came_is is. record {
@@ -208,25 +194,25 @@ module _ (means : Means) (receipt : ℕ) (bytes : List ℕ) (xs : List Given) (t
     unnamed None = refl
     unnamed (Some a) = refl
 
-    modified_kept : IsKept means (x ∷ xs) after
+    modified_kept : IsKept readings (x ∷ xs) after
     modified_kept = record {
       sound = sound_after;
       tenders =
-          subst (EnvelopesMatch means.digest (came (x ∷ xs)) (fate_of_tender (x ∷ xs)) (λ r. seal_at r after) k) (sym (λ i r. envelopes_are r i)) tenders_after;
-      named = securities_stay means xs t kept x (unnamed (came xs receipt)) (λ s. refl);
+          subst (EnvelopesMatch readings.digest (came (x ∷ xs)) (fate_of_tender (x ∷ xs)) (λ r. seal_at r after) k) (sym (λ i r. envelopes_are r i)) tenders_after;
+      named = securities_stay readings xs t kept x (unnamed (came xs receipt)) (λ s. refl);
       lines = kept.lines;
-      order = order-puts (modify_puts means.digest t.clock T (Some e) bytes) t kept.order;
+      order = order-puts (modify_effect readings.digest t.clock T (Some e) bytes) t kept.order;
     }
 
-  by_envelope : (o : Option EnvelopeRow) → envelope_at receipt t ≡ o → first_of (modify_tests t.clock T caller o (notice_of_envelope o t)) ≡ None
-      → IsKept means (x ∷ xs) (after_puts (modify_puts means.digest t.clock T o bytes) t)
+  by_envelope : (o : Option EnvelopeRow) → envelope_at receipt t ≡ o → first_of (modify_conditions t.clock T caller o (notice_of_envelope o t)) ≡ None
+      → IsKept readings (x ∷ xs) (after_puts (modify_effect readings.digest t.clock T o bytes) t)
   by_envelope None found allowed =
-      let passes : AllByRecursion (λ (test : Bool × Refusal). test.0 ≡ false) (modify_tests t.clock T caller None None) = none_holds (modify_tests t.clock T caller None None) allowed in
+      let passes : AllByRecursion (λ (test : Bool × Refusal). test.0 ≡ false) (modify_conditions t.clock T caller None None) = none_holds (modify_conditions t.clock T caller None None) allowed in
       let no : true ≡ false = passes.0 in cc
   by_envelope (Some e) found allowed =
-      let passes : AllByRecursion (λ (test : Bool × Refusal). test.0 ≡ false) (modify_tests t.clock T caller (Some e) (notice_at e.notice t)) = none_holds (modify_tests t.clock T caller (Some e) (notice_at e.notice t)) allowed in
+      let passes : AllByRecursion (λ (test : Bool × Refusal). test.0 ≡ false) (modify_conditions t.clock T caller (Some e) (notice_at e.notice t)) = none_holds (modify_conditions t.clock T caller (Some e) (notice_at e.notice t)) allowed in
       modified_kept e found (is_sealed_state e.state passes.1.1.1.0)
 
-pub modify_keeps : (means : Means) (receipt : ℕ) (bytes : List ℕ) → Keeps means (Modify receipt bytes)
-modify_keeps means receipt bytes xs t m caller kept _ allowed =
-    by_envelope means receipt bytes xs t m caller kept (envelope_at receipt t) refl allowed
+pub modify_keeps : (readings : Readings) (receipt : ℕ) (bytes : List ℕ) → Keeps readings (Modify receipt bytes)
+modify_keeps readings receipt bytes xs t m caller kept _ allowed =
+    by_envelope readings receipt bytes xs t m caller kept (envelope_at receipt t) refl allowed

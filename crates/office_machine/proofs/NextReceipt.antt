@@ -7,8 +7,9 @@ use Rattle.office_base.specs.declared.records.SecurityRow.{SecurityRow}
 use Rattle.office_base.specs.declared.records.EnvelopeState.{EnvelopeState}
 use Rattle.office_base.specs.declared.records.SecurityState.{SecurityState}
 use Rattle.office_base.specs.declared.records.SecurityState.TheVariants as security
-use Rattle.office_machine.specs.Machine.{Given, Means}
-use Rattle.office_machine.specs.Fates.{Reception, brought, came_after, came, tender_decided, fate_after, fate_of_tender, security_received, security_decided, security_after, fate_of_security}
+use Rattle.office_machine.specs.Machine.{Given}
+use Rattle.office_machine.specs.Readings.{Readings}
+use Rattle.office_machine.specs.Fates.{Reception, brought, came_after, came, fate_after, fate_of_tender, security_received, security_decided, security_after, fate_of_security}
 use Rattle.office_machine.proofs.Matched.{NoneStands, SecuritiesMatch, named_in, securities_changed}
 use Rattle.office_machine.proofs.FatesHold.{IsKept, security_goes, still_held, securities_keep}
 use Rattle.office_machine.proofs.States.{map_same}
@@ -38,14 +39,14 @@ no_envelope : (o : Option EnvelopeRow) (r n : ℕ) → ((e : EnvelopeRow) → o 
 no_envelope None r n given e = refl
 no_envelope (Some d) r n given e = let g = given d refl in absurd (omega (arith, g.1, e))
 
-module _ (means : Means) (xs : List Given) (t : Tables) (kept : IsKept means xs t) where
+module _ (readings : Readings) (xs : List Given) (t : Tables) (kept : IsKept readings xs t) where
   abbrev next : ℕ
   next = t.clock.receipts + 1
 
   pub no_envelope_yet : envelope_at next t ≡ None
   no_envelope_yet = no_envelope (envelope_at next t) next t.clock.receipts (λ e h. kept.tenders.given next e h) refl
 
-  pub nothing_yet : NoneStands means.digest (came xs next) (fate_of_tender xs next) (seal_at next t)
+  pub nothing_yet : NoneStands readings.digest (came xs next) (fate_of_tender xs next) (seal_at next t)
   nothing_yet = kept.tenders.others next no_envelope_yet
 
   no_security_by : (o : Option SecurityRow) → security_at next t ≡ o → o ≡ None

@@ -19,22 +19,24 @@ use Rattle.office_base.specs.declared.puts.Put.TheVariants as puts
 use Rattle.office_base.specs.States.{is_sealed}
 use Rattle.office_base.specs.Rules.{first_of}
 use Rattle.office_base.specs.RuleParts.{clock_put}
-use Rattle.tender_core.specs.Rules.Open.{is_sealed_envelope, opened_envelope, opened_put, opened_notice, open_tests, open_puts}
-use Rattle.award_core.specs.Rules.Examine.{examined, examine_puts}
+use Rattle.tender_core.specs.Rules.Open.{is_sealed_envelope, opened_envelope, opened_put, opened_notice, open_conditions, open_effect}
+use Rattle.award_core.specs.Rules.Examine.{examined, examine_effect}
 use Rattle.office_base.specs.Tables.{Tables, envelope_key, envelope_at, notice_at, envelopes_of_notice, after_puts}
-use Rattle.office_machine.specs.Machine.{Given, Means, sealed_tender, sealed_tenders}
+use Rattle.office_machine.specs.Machine.{Given}
+use Rattle.office_machine.specs.Readings.{Readings}
+use Rattle.office_machine.specs.Rule.{sealed_tender, sealed_tenders}
 use Rattle.office_machine.specs.Fates.{is_of_notice, is_kept}
 use Rattle.office_machine.proofs.Passed.{none_holds}
 use Rattle.office_machine.proofs.RowsChanged.{rows_put, changed, filter_filter, found_key, row_at-changed, row_at-changed_put}
 use Rattle.office_machine.proofs.Views.{Change, after_change}
 use Rattle.office_machine.proofs.Steps.{choose, cond_keeps, both_true, opening, fair_opening, examination, fair_examination}
-use Rattle.office_machine.proofs.Seen.{seen, alike, LotFits, lines-puts, order-puts, after-append, after_envelopes}
+use Rattle.office_machine.proofs.Seen.{seen, alike, order-puts, after-append, after_envelopes}
 use Rattle.office_machine.proofs.FatesHold.{IsKept, Keeps, given, still_sealed, still_held, securities_keep}
 use Rattle.office_machine.proofs.QuietFates.{one_more}
 use Rattle.office_machine.proofs.FatesChanged.{kept_by_change}
 use Rattle.office_machine.proofs.States.{map_same, notices_put, same_id_key, sealed_state, map_map}
 
-module _ (means : Means) (name : List ℕ) (xs : List Given) (t : Tables) (m : ℕ) (caller : Caller) (kept : IsKept means xs t) where
+module _ (readings : Readings) (name : List ℕ) (xs : List Given) (t : Tables) (m : ℕ) (caller : Caller) (kept : IsKept readings xs t) where
   abbrev T : ℕ
   T = max m t.clock.moment
 
@@ -46,7 +48,7 @@ module _ (means : Means) (name : List ℕ) (xs : List Given) (t : Tables) (m : �
     test e = same_id e.notice name && is_sealed e.state
 
     abbrev open_row : EnvelopeRow → EnvelopeRow
-    open_row e = opened_envelope means.read (sealed_tender t e)
+    open_row e = opened_envelope readings.read (sealed_tender t e)
 
     abbrev notice_to : List ℕ → NoticeState → NoticeState
     notice_to q s = cond (eq_by_cmp id_cmp q name) notice.Opened s
@@ -58,11 +60,11 @@ module _ (means : Means) (name : List ℕ) (xs : List Given) (t : Tables) (m : �
     after =
         after_puts (puts.Notice (opened_notice T n) ∷ clock_put t.clock T ∷ []) (record t { envelopes = rows_put nat_cmp envelope_key t.envelopes opened_rows })
 
-    after_is : after_puts (open_puts means.read t.clock T (Some n) (sealed_tenders name t)) t ≡ after
+    after_is : after_puts (open_effect readings.read t.clock T (Some n) (sealed_tenders name t)) t ≡ after
     after_is =
-        after-append (map (opened_put means.read) (sealed_tenders name t)) (puts.Notice (opened_notice T n) ∷ clock_put t.clock T ∷ []) t
+        after-append (map (opened_put readings.read) (sealed_tenders name t)) (puts.Notice (opened_notice T n) ∷ clock_put t.clock T ∷ []) t
         ∙ ap (after_puts (puts.Notice (opened_notice T n) ∷ clock_put t.clock T ∷ []))
-        (ap (λ ps. after_puts ps t) (map_map (opened_put means.read) (sealed_tender t) (filter is_sealed_envelope (envelopes_of_notice name t)))
+        (ap (λ ps. after_puts ps t) (map_map (opened_put readings.read) (sealed_tender t) (filter is_sealed_envelope (envelopes_of_notice name t)))
         ∙ after_envelopes open_row (filter is_sealed_envelope (envelopes_of_notice name t)) t
         ∙ ap (λ es. record t { envelopes = rows_put nat_cmp envelope_key t.envelopes (map open_row es) }) (filter_filter is_sealed_envelope (λ (e : EnvelopeRow). same_id e.notice name) t.envelopes))
 
@@ -83,7 +85,7 @@ module _ (means : Means) (name : List ℕ) (xs : List Given) (t : Tables) (m : �
 
     abbrev c : Change
     c =
-        opening (seen t) name test (λ r e. open_row e) notice_to sealed_test all_test (λ r e. refl) (λ r e. refl) (λ r e. refl) (λ r e. refl)
+        opening (seen t) name test (λ r e. open_row e) notice_to sealed_test all_test (λ r e. refl) (λ r e. refl) (λ r e. refl)
         (λ r e. refl) receive
 
     envelopes_are : (r : ℕ) → envelope_at r after ≡ option_map (changed test open_row) (envelope_at r t)
@@ -112,10 +114,10 @@ module _ (means : Means) (name : List ℕ) (xs : List Given) (t : Tables) (m : �
     kept_by envelope.Returned b = refl
     kept_by envelope.Opened b = refl
 
-    opened_kept : IsKept means (x ∷ xs) after
+    opened_kept : IsKept readings (x ∷ xs) after
     opened_kept =
-        kept_by_change means xs x t after c kept
-        (fair_opening (seen t) name test (λ r e. open_row e) notice_to sealed_test all_test (λ r e. refl) (λ r e. refl) (λ r e. refl) (λ r e. refl) (λ r e. refl) receive)
+        kept_by_change readings xs x t after c kept
+        (fair_opening (seen t) name test (λ r e. open_row e) notice_to sealed_test all_test (λ r e. refl) (λ r e. refl) (λ r e. refl) (λ r e. refl) receive)
         (record {
           none = refl;
           seen_is = seen_is;
@@ -142,26 +144,26 @@ module _ (means : Means) (name : List ℕ) (xs : List Given) (t : Tables) (m : �
         (order-puts (puts.Notice (opened_notice T n) ∷ clock_put t.clock T ∷ []) (record t { envelopes = rows_put nat_cmp envelope_key t.envelopes opened_rows })
         (subst (λ (u : Tables). Rattle.office_machine.proofs.Seen.AreInOrder u) (after_envelopes open_row (filter test t.envelopes) t) (order-puts (map (λ e. puts.Envelope (open_row e)) (filter test t.envelopes)) t kept.order)))
 
-  by_notice : (o : Option NoticeRow) → notice_at name t ≡ o → first_of (open_tests T o) ≡ None
-      → IsKept means (x ∷ xs) (after_puts (open_puts means.read t.clock T o (sealed_tenders name t)) t)
+  by_notice : (o : Option NoticeRow) → notice_at name t ≡ o → first_of (open_conditions T o) ≡ None
+      → IsKept readings (x ∷ xs) (after_puts (open_effect readings.read t.clock T o (sealed_tenders name t)) t)
   by_notice None found allowed =
-      let passes : AllByRecursion (λ (test : Bool × Refusal). test.0 ≡ false) (open_tests T None) = none_holds (open_tests T None) allowed in
+      let passes : AllByRecursion (λ (test : Bool × Refusal). test.0 ≡ false) (open_conditions T None) = none_holds (open_conditions T None) allowed in
       let no : true ≡ false = passes.0 in cc
-  by_notice (Some n) found allowed = subst (IsKept means (x ∷ xs)) (sym (after_is n found)) (opened_kept n found)
+  by_notice (Some n) found allowed = subst (IsKept readings (x ∷ xs)) (sym (after_is n found)) (opened_kept n found)
 
-pub open_keeps : (means : Means) (notice : List ℕ) → Keeps means (Open notice)
-open_keeps means notice xs t m caller kept _ allowed = by_notice means notice xs t m caller kept (notice_at notice t) refl allowed
+pub open_keeps : (readings : Readings) (notice : List ℕ) → Keeps readings (Open notice)
+open_keeps readings notice xs t m caller kept _ allowed = by_notice readings notice xs t m caller kept (notice_at notice t) refl allowed
 
 -- An examination.
 
-module _ (means : Means) (receipt : ℕ) (responsive : Bool) (quality : Option ℕ) (xs : List Given) (t : Tables) (m : ℕ) (caller : Caller)
-    (kept : IsKept means xs t) where
+module _ (readings : Readings) (receipt : ℕ) (responsive : Bool) (quality : Option ℕ) (xs : List Given) (t : Tables) (m : ℕ) (caller : Caller)
+    (kept : IsKept readings xs t) where
   abbrev given_examine : Given
   given_examine = given t m caller (Examine receipt responsive quality)
 
   module _ (e : EnvelopeRow) (found : envelope_at receipt t ≡ Some e) where
     abbrev examine_change : Change
-    examine_change = examination (seen t) receipt (examined responsive quality) (λ e. refl) (λ e. refl) (λ e. refl) (λ e. refl) (λ e. refl)
+    examine_change = examination (seen t) receipt (examined responsive quality) (λ e. refl) (λ e. refl) (λ e. refl) (λ e. refl)
 
     abbrev after_examine : Tables
     after_examine = after_puts (puts.Envelope (examined responsive quality e) ∷ clock_put t.clock (max m t.clock.moment) ∷ []) t
@@ -169,10 +171,10 @@ module _ (means : Means) (receipt : ℕ) (responsive : Bool) (quality : Option �
     examine_state : (r : ℕ) (d : EnvelopeRow) → (examine_change.envelope_to r d).state ≡ d.state
     examine_state r d = cond_keeps (λ (e : EnvelopeRow). e.state) (eq_by_cmp nat_cmp r receipt) (examined responsive quality d) d refl
 
-    examined_kept : IsKept means (given_examine ∷ xs) after_examine
+    examined_kept : IsKept readings (given_examine ∷ xs) after_examine
     examined_kept =
-        kept_by_change means xs given_examine t after_examine examine_change kept
-        (fair_examination (seen t) receipt (examined responsive quality) (λ e. refl) (λ e. refl) (λ e. refl) (λ e. refl) (λ e. refl))
+        kept_by_change readings xs given_examine t after_examine examine_change kept
+        (fair_examination (seen t) receipt (examined responsive quality) (λ e. refl) (λ e. refl) (λ e. refl) (λ e. refl))
         (record {
           none = refl;
           seen_is =
@@ -200,10 +202,10 @@ module _ (means : Means) (receipt : ℕ) (responsive : Bool) (quality : Option �
         (order-puts (puts.Envelope (examined responsive quality e) ∷ clock_put t.clock (max m t.clock.moment) ∷ []) t kept.order)
 
   examine_by : (o : Option EnvelopeRow) → envelope_at receipt t ≡ o
-      → IsKept means (given_examine ∷ xs) (after_puts (examine_puts t.clock (max m t.clock.moment) o responsive quality) t)
-  examine_by None found = one_more means xs given_examine t kept refl (λ r. refl) (λ s. refl)
+      → IsKept readings (given_examine ∷ xs) (after_puts (examine_effect t.clock (max m t.clock.moment) o responsive quality) t)
+  examine_by None found = one_more readings xs given_examine t kept refl (λ r. refl) (λ s. refl)
   examine_by (Some e) found = examined_kept e found
 
-pub examine_keeps : (means : Means) (receipt : ℕ) (responsive : Bool) (quality : Option ℕ) → Keeps means (Examine receipt responsive quality)
-examine_keeps means receipt responsive quality xs t m caller kept _ allowed =
-    examine_by means receipt responsive quality xs t m caller kept (envelope_at receipt t) refl
+pub examine_keeps : (readings : Readings) (receipt : ℕ) (responsive : Bool) (quality : Option ℕ) → Keeps readings (Examine receipt responsive quality)
+examine_keeps readings receipt responsive quality xs t m caller kept _ allowed =
+    examine_by readings receipt responsive quality xs t m caller kept (envelope_at receipt t) refl

@@ -1,36 +1,15 @@
 -- The refusals of each command stand in order.
 use Rattle.std.proofs.Common.{◌≡◌, ℕ, ◌≤◌, Bool, true, false, cond, List, [], ◌∷◌, Some, refl, ap, arith}
 use Rattle.std.specs.List.{AllByRecursion}
-use Rattle.office_acts.specs.declared.commands.Command.{Command}
-use Rattle.office_acts.specs.declared.commands.Command.TheVariants.{Import, Register, Publish, AmendNotice, Cancel, Open, Present, Modify, Withdraw, Examine, Award, Fail, Sign, AmendContract, Pay, End}
 use Rattle.office_machine.specs.Order.{IsLeast, LeastIsAnswered, NumbersNeverFall, NeverFall}
 use Rattle.office_values.specs.declared.refusal.Refusal.{Refusal}
 use Rattle.office_values.specs.Refusals.{number_of}
 use Rattle.office_base.specs.Rules.{first_of}
-use Rattle.office_base.specs.Tables.{Tables}
-use Rattle.office_acts.specs.declared.command.Caller.{Caller}
-use Rattle.office_machine.specs.Machine.{tests, tests_for}
-
-of_command : (command : Command) (s : Tables) (t : ℕ) (caller : Caller) → NeverFall 7 (tests_for s t caller command)
-of_command (Import batch rows) s t caller = (omega arith, (omega arith, (omega arith, (omega arith, tt))))
-of_command (Register tenderer name address key) s t caller = (omega arith, tt)
-of_command (Publish notice content) s t caller = (omega arith, (omega arith, (omega arith, (omega arith, (omega arith, tt)))))
-of_command (AmendNotice notice deadline rationale) s t caller = (omega arith, (omega arith, (omega arith, (omega arith, (omega arith, tt)))))
-of_command (Cancel notice rationale) s t caller = (omega arith, (omega arith, (omega arith, tt)))
-of_command (Open notice) s t caller = (omega arith, (omega arith, (omega arith, (omega arith, (omega arith, tt)))))
-of_command (Present notice lot security bytes) s t caller = (omega arith, (omega arith, (omega arith, (omega arith, (omega arith, (omega arith, (omega arith, (omega arith, tt))))))))
-of_command (Modify receipt bytes) s t caller = (omega arith, (omega arith, (omega arith, (omega arith, (omega arith, tt)))))
-of_command (Withdraw receipt) s t caller = (omega arith, (omega arith, (omega arith, (omega arith, tt))))
-of_command (Examine receipt responsive quality) s t caller = (omega arith, (omega arith, (omega arith, (omega arith, tt))))
-of_command (Award notice lot) s t caller = (omega arith, (omega arith, (omega arith, (omega arith, (omega arith, (omega arith, (omega arith, (omega arith, tt))))))))
-of_command (Fail award) s t caller = (omega arith, (omega arith, (omega arith, (omega arith, (omega arith, tt)))))
-of_command (Sign award) s t caller = (omega arith, (omega arith, (omega arith, (omega arith, (omega arith, tt)))))
-of_command (AmendContract contract entry kind amount rationale) s t caller = (omega arith, (omega arith, (omega arith, (omega arith, (omega arith, (omega arith, tt))))))
-of_command (Pay contract entry amount) s t caller = (omega arith, (omega arith, (omega arith, (omega arith, (omega arith, tt)))))
-of_command (End contract how) s t caller = (omega arith, (omega arith, (omega arith, tt)))
+use Rattle.office_machine.specs.Machine.{tests}
+use Rattle.office_machine.proofs.AllLawful.{lawful}
 
 pub never_fall : NumbersNeverFall
-never_fall x = (omega arith, of_command x.command x.before _ x.caller)
+never_fall x = (omega arith, (lawful x.command).in_order x.before _ x.caller)
 
 -- numbers that never fall stay above the first
 above : (m n : ℕ) (tests : List (Bool × Refusal)) → m ≤ n → NeverFall n tests → AllByRecursion (λ (test : Bool × Refusal). test.0 ≡ true → m ≤ number_of test.1) tests

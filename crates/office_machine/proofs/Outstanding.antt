@@ -20,13 +20,13 @@ use Rattle.office_base.specs.declared.records.NoticeRow.{NoticeRow}
 use Rattle.office_base.specs.declared.records.LotRow.{LotRow}
 use Rattle.office_base.specs.declared.records.ContractRow.{ContractRow}
 use Rattle.office_base.specs.declared.records.EntryRow.{EntryRow}
-use Rattle.award_core.specs.Rules.AmendContract.{is_taken, has_ended, is_beyond, change_row, amend_contract_puts}
-use Rattle.award_core.specs.Rules.Pay.{payment_row, pay_puts}
-use Rattle.award_core.specs.Rules.End.{ended_contract, end_puts}
-use Rattle.office_machine.specs.Machine.{Means, Given, Reaches, time_of, command_tests, effect, publication, publication_puts}
-use Rattle.office_machine.specs.Outstanding.{left_with, left_by_payment, left_by_change, left_by_end, left_after, left_before, notice_under, line_under, IsLeft, LeftIsKnown, IsBooked, LeftIsBooked}
+use Rattle.award_core.specs.Rules.AmendContract.{is_taken, has_ended, is_beyond, change_row, amend_contract_effect}
+use Rattle.award_core.specs.Rules.Pay.{payment_row, pay_effect}
+use Rattle.award_core.specs.Rules.End.{ended_contract, end_effect}
+use Rattle.office_machine.specs.Readings.{Readings}
+use Rattle.office_machine.specs.Machine.{Means, Given, Reaches, time_of, command_tests}
+use Rattle.office_machine.specs.Outstanding.{left_with, left_by_payment, left_by_change, left_by_end, left_before, notice_under, line_under, IsLeft, LeftIsKnown, IsBooked, LeftIsBooked}
 use Rattle.office_machine.specs.Replies.{left_of}
-use Rattle.office_machine.proofs.Aside.{after-append, all_aside, published_aside}
 use Rattle.office_machine.proofs.Entered.{not_taken}
 use Rattle.office_machine.proofs.Joins.{entry_sum-new, entry_sum-own, outstanding-own}
 use Rattle.office_machine.proofs.Keyed.{found_key, found_put, own_key}
@@ -38,13 +38,6 @@ use Rattle.office_machine.proofs.Passed.{none_holds, allowed_by, not_false, not_
 -- what is outstanding of a contract in an office
 abbrev left_at : ℕ → Tables → ℕ
 left_at c t = left_of (contract_at c t) t.entries
-
--- a publication leaves contracts and entries
-published : (means : Means) (x : Given) (c : ℕ) → left_after means x c ≡ left_at c (after_puts (effect means x) x.before)
-published means x c =
-    let same = all_aside 0 (publication_puts (publication means x)) (after_puts (effect means x) x.before) (published_aside 0 (publication means x)) in
-    ap (left_at c) (after-append (effect means x) (publication_puts (publication means x)) x.before)
-    ∙ sym (λ i. left_of (find_contract (same.contracts i) c) (same.entries i))
 
 module _ (s : Tables) (c : ℕ) where
   -- the contract's own entries
@@ -94,14 +87,14 @@ module _ (s : Tables) (c : ℕ) where
 
   module _ (t : ℕ) (entry : List ℕ) (amount : ℕ) (new : list_any (is_taken entry) own ≡ false) where
     left_paid : (o : Option ContractRow) (n : Option NoticeRow) → contract_at c s ≡ o
-        → left_at c (after_puts (pay_puts s.clock t o n entry amount) s) ≡ left_by_payment o own n amount
+        → left_at c (after_puts (pay_effect s.clock t o n entry amount) s) ≡ left_by_payment o own n amount
     left_paid None n is = untouched None is
     left_paid (Some r) None is = untouched (Some r) is
     left_paid (Some r) (Some n) is = left_after_entry r is (payment_row t r entry amount) refl new
 
     left_amended : (kind : ChangeKind) (rationale : List ℕ) (o : Option ContractRow) (n : Option NoticeRow) (w : Option LineRow)
         → contract_at c s ≡ o
-        → left_at c (after_puts (amend_contract_puts s.clock t o n w entry kind amount rationale) s) ≡ left_by_change kind o own n w amount
+        → left_at c (after_puts (amend_contract_effect s.clock t o n w entry kind amount rationale) s) ≡ left_by_change kind o own n w amount
     left_amended kind rationale None n w is = untouched None is
     left_amended kind rationale (Some r) None w is = untouched (Some r) is
     left_amended kind rationale (Some r) (Some n) None is = untouched (Some r) is
@@ -111,7 +104,7 @@ module _ (s : Tables) (c : ℕ) where
         left_after_entry r is (change_row t r entry change_kinds.Cut amount rationale) refl new
 
   left_ended : (t : ℕ) (how : How) (o : Option ContractRow) (n : Option NoticeRow) (w : Option LineRow) → contract_at c s ≡ o
-      → left_at c (after_puts (end_puts s.clock t how o own n w) s) ≡ left_by_end o own n w
+      → left_at c (after_puts (end_effect s.clock t how o own n w) s) ≡ left_by_end o own n w
   left_ended t how None n w is = untouched None is
   left_ended t how (Some r) None w is = untouched (Some r) is
   left_ended t how (Some r) (Some n) None is = untouched (Some r) is
@@ -131,34 +124,33 @@ abbrev Passes : Given → Type 0
 Passes x = AllByRecursion (λ (test : Bool × Refusal). test.0 ≡ false) (command_tests x)
 
 -- by the command
-known : (means : Means) (s : Tables) (moment : ℕ) (caller : Caller) (command : Command) → Passes (given s moment caller command)
-    → IsLeft means (given s moment caller command) s command
-known means s moment caller (Import batch rows) passes = tt
-known means s moment caller (Register tenderer name address key) passes = tt
-known means s moment caller (Publish notice content) passes = tt
-known means s moment caller (AmendNotice notice deadline rationale) passes = tt
-known means s moment caller (Cancel notice rationale) passes = tt
-known means s moment caller (Open notice) passes = tt
-known means s moment caller (Present notice lot security bytes) passes = tt
-known means s moment caller (Modify receipt bytes) passes = tt
-known means s moment caller (Withdraw receipt) passes = tt
-known means s moment caller (Examine receipt responsive quality) passes = tt
-known means s moment caller (Award notice lot) passes = tt
-known means s moment caller (Fail award) passes = tt
-known means s moment caller (Sign award) passes = tt
-known means s moment caller (AmendContract c entry kind amount rationale) passes =
+known : (readings : Readings) (s : Tables) (moment : ℕ) (caller : Caller) (command : Command) → Passes (given s moment caller command)
+    → IsLeft readings (given s moment caller command) s command
+known readings s moment caller (Import batch rows) passes = tt
+known readings s moment caller (Register tenderer name address key) passes = tt
+known readings s moment caller (Publish notice content) passes = tt
+known readings s moment caller (AmendNotice notice deadline rationale) passes = tt
+known readings s moment caller (Cancel notice rationale) passes = tt
+known readings s moment caller (Open notice) passes = tt
+known readings s moment caller (Present notice lot security bytes) passes = tt
+known readings s moment caller (Modify receipt bytes) passes = tt
+known readings s moment caller (Withdraw receipt) passes = tt
+known readings s moment caller (Examine receipt responsive quality) passes = tt
+known readings s moment caller (Award notice lot) passes = tt
+known readings s moment caller (Fail award) passes = tt
+known readings s moment caller (Sign award) passes = tt
+known readings s moment caller (AmendContract c entry kind amount rationale) passes =
     let x = given s moment caller (AmendContract c entry kind amount rationale) in
-    published means x c
-    ∙ left_amended s c (time_of x) entry amount passes.1.0 kind rationale (contract_at c s) (notice_under c s) (line_under c s) refl
-known means s moment caller (Pay c entry amount) passes =
+    left_amended s c (time_of x) entry amount passes.1.0 kind rationale (contract_at c s) (notice_under c s) (line_under c s) refl
+known readings s moment caller (Pay c entry amount) passes =
     let x = given s moment caller (Pay c entry amount) in
-    published means x c ∙ left_paid s c (time_of x) entry amount passes.1.0 (contract_at c s) (notice_under c s) refl
-known means s moment caller (End c how) passes =
+    left_paid s c (time_of x) entry amount passes.1.0 (contract_at c s) (notice_under c s) refl
+known readings s moment caller (End c how) passes =
     let x = given s moment caller (End c how) in
-    published means x c ∙ left_ended s c (time_of x) how (contract_at c s) (notice_under c s) (line_under c s) refl
+    left_ended s c (time_of x) how (contract_at c s) (notice_under c s) (line_under c s) refl
 
 pub left_is_known : LeftIsKnown
-left_is_known means x allowed = known means x.before x.moment x.caller x.command (none_holds (command_tests x) (allowed_by x allowed))
+left_is_known readings x allowed = known readings x.before x.moment x.caller x.command (none_holds (command_tests x) (allowed_by x allowed))
 
 -- in an office that commands reach, what a command on a contract looks at is there
 module _ (means : Means) (xs : List Given) (s : Tables) (reached : Reaches means xs s) (c : ℕ) (there : is_some (contract_at c s) ≡ true) where
@@ -231,7 +223,7 @@ module _ (means : Means) (xs : List Given) (s : Tables) (reached : Reaches means
       omega (arith, at, before, within)
 
 booked : (means : Means) (xs : List Given) (s : Tables) (moment : ℕ) (caller : Caller) (command : Command) → Reaches means xs s
-    → Passes (given s moment caller command) → IsBooked means (given s moment caller command) s command
+    → Passes (given s moment caller command) → IsBooked means.readings (given s moment caller command) s command
 booked means xs s moment caller (Import batch rows) reached passes = tt
 booked means xs s moment caller (Register tenderer name address key) reached passes = tt
 booked means xs s moment caller (Publish n content) reached passes = tt
@@ -247,15 +239,15 @@ booked means xs s moment caller (Fail award) reached passes = tt
 booked means xs s moment caller (Sign award) reached passes = tt
 booked means xs s moment caller (AmendContract c entry change_kinds.Raise amount rationale) reached passes =
     booked_raise means xs s reached c (not_false _ passes.0) amount _
-    (known means s moment caller (AmendContract c entry change_kinds.Raise amount rationale) passes)
+    (known means.readings s moment caller (AmendContract c entry change_kinds.Raise amount rationale) passes)
 booked means xs s moment caller (AmendContract c entry change_kinds.Cut amount rationale) reached passes =
     booked_cut means xs s reached c (not_false _ passes.0) passes.1.1.1.1.0 amount _ passes.1.1.1.0
-    (known means s moment caller (AmendContract c entry change_kinds.Cut amount rationale) passes)
+    (known means.readings s moment caller (AmendContract c entry change_kinds.Cut amount rationale) passes)
 booked means xs s moment caller (Pay c entry amount) reached passes =
     booked_payment means xs s reached c (not_false _ passes.0) passes.1.1.1.0 amount _ passes.1.1.0
-    (known means s moment caller (Pay c entry amount) passes)
+    (known means.readings s moment caller (Pay c entry amount) passes)
 booked means xs s moment caller (End c how) reached passes =
-    booked_end means xs s reached c (not_false _ passes.0) passes.1.0 _ (known means s moment caller (End c how) passes)
+    booked_end means xs s reached c (not_false _ passes.0) passes.1.0 _ (known means.readings s moment caller (End c how) passes)
 
 pub left_is_booked : LeftIsBooked
 left_is_booked means xs x reached allowed = booked means xs x.before x.moment x.caller x.command reached (none_holds (command_tests x) (allowed_by x allowed))

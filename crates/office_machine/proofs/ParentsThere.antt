@@ -23,30 +23,33 @@ use Rattle.office_base.specs.declared.records.AwardRow.{AwardRow}
 use Rattle.office_base.specs.declared.records.ContractRow.{ContractRow}
 use Rattle.office_base.specs.declared.records.EntryRow.{EntryRow}
 use Rattle.office_base.specs.declared.records.ClockRow.{ClockRow}
-use Rattle.office_base.specs.Tables.{Tables, IsSorted, no_tables, tenderer_at, notice_at, lot_at, line_at, envelope_at, security_at, award_at, contract_at, after_put, after_puts, lots_of_notice, awards_of_notice, envelopes_of_notice, envelopes_of_lot, securities_of_notice, securities_of_lot, of_notice}
+use Rattle.office_base.specs.Tables.{Tables, IsSorted, no_tables, tenderer_at, notice_at, lot_at, envelope_at, security_at, award_at, contract_at, after_puts, lots_of_notice, awards_of_notice, envelopes_of_notice, envelopes_of_lot, securities_of_notice, securities_of_lot, of_notice}
 use Rattle.office_base.specs.declared.puts.Put.{Put}
 use Rattle.office_base.specs.declared.puts.Put.TheVariants as puts
 use Rattle.office_base.specs.Rules.{first_of}
-use Rattle.office_base.specs.RuleParts.{put_if, security_returned, security_forfeited, securities_returned, is_held_security}
+use Rattle.office_base.specs.RuleParts.{put_if, security_returned, settled, security_settled, passed_over, securities_returned, is_held_security}
 use Rattle.office_base.specs.Standings.{standings}
 use Rattle.tender_core.specs.Rules.Import.{after_rows, line_put as import_line}
-use Rattle.tender_core.specs.Rules.Publish.{line_put, lot_put, is_on_no_line, notice_put}
-use Rattle.tender_core.specs.Rules.AmendNotice.{amend_notice_puts}
-use Rattle.tender_core.specs.Rules.Cancel.{is_open_lot, lot_put as cancel_lot, line_put as cancel_line, is_ended_award, award_put, is_ended_envelope, envelope_put, drop_put, is_ended_security, cancel_puts}
-use Rattle.tender_core.specs.Rules.Open.{is_sealed_envelope, opened_put, open_puts}
+use Rattle.tender_core.specs.Rules.Publish.{line_put, lot_put}
+use Rattle.tender_core.specs.Rules.AmendNotice.{amend_notice_effect}
+use Rattle.tender_core.specs.Rules.Cancel.{is_open_lot, lot_put as cancel_lot, line_put as cancel_line, is_ended_award, award_put, is_ended_envelope, envelope_put, drop_put, is_ended_security, cancel_effect}
+use Rattle.tender_core.specs.Rules.Open.{is_sealed_envelope, opened_put, open_effect}
 use Rattle.tender_core.specs.Rules.Present.{received_puts, seal_puts, security_put}
-use Rattle.tender_core.specs.Rules.Modify.{modify_puts}
-use Rattle.tender_core.specs.Rules.Withdraw.{withdraw_puts}
-use Rattle.award_core.specs.Rules.Examine.{examine_puts}
-use Rattle.award_core.specs.Rules.Award.{winner, best_of, decision_puts, award_puts}
-use Rattle.award_core.specs.Rules.Fail.{fail_puts, failed_envelope}
-use Rattle.award_core.specs.Rules.Sign.{sign_puts, tenderer_in}
-use Rattle.award_core.specs.Rules.AmendContract.{amend_contract_puts}
-use Rattle.award_core.specs.Rules.Pay.{pay_puts}
-use Rattle.award_core.specs.Rules.End.{end_puts}
+use Rattle.tender_core.specs.Rules.Modify.{modify_effect}
+use Rattle.tender_core.specs.Rules.Withdraw.{withdraw_effect}
+use Rattle.award_core.specs.Rules.Examine.{examine_effect}
+use Rattle.award_core.specs.Rules.Award.{winner, best_of, decision_puts, award_effect}
+use Rattle.office_base.specs.declared.records.SecurityState.{SecurityState}
+use Rattle.office_base.specs.declared.records.SecurityState.TheVariants.{Forfeited, Returned}
+use Rattle.award_core.specs.Rules.Fail.{fail_effect}
+use Rattle.award_core.specs.Rules.Sign.{sign_effect, tenderer_in}
+use Rattle.award_core.specs.Rules.AmendContract.{amend_contract_effect}
+use Rattle.award_core.specs.Rules.Pay.{pay_effect}
+use Rattle.award_core.specs.Rules.End.{end_effect}
 use Rattle.office_base.specs.declared.records.ReleaseRow.{ReleaseRow}
-use Rattle.office_base.specs.Parents.{envelope_of_award, security_of_envelope, lot_of_award, notice_of_award, notice_of_envelope, notice_of_contract, line_of_lot, lot_of_contract}
-use Rattle.office_machine.specs.Machine.{Means, Given, Reaches, IsRegistered, may_give, publication_puts, command_tests, effect, next, puts_of, sealed_tender, publication, with_trees}
+use Rattle.office_base.specs.Parents.{envelope_of_award, security_of_envelope, lot_of_award, notice_of_award, notice_of_contract, line_of_lot, lot_of_contract}
+use Rattle.office_machine.specs.Machine.{Means, Given, IsRegistered, may_give, publication_puts, command_tests, effect, next, puts_of, publication, with_trees}
+use Rattle.office_machine.specs.Rule.{sealed_tender}
 use Rattle.office_base.specs.declared.records.CompiledRow.{CompiledRow}
 use Rattle.office_machine.specs.Parents.{LotHas, EnvelopeHas, SecurityHas, AwardHas, HaveParents, ParentsAreThere}
 use Rattle.office_machine.proofs.Aside.{after-append}
@@ -54,6 +57,7 @@ use Rattle.award_core.proofs.BestFound.{best_is_found}
 use Rattle.office_machine.proofs.Keyed.{found_put, found_key, all_found}
 use Rattle.office_machine.proofs.Keyed as keyed
 use Rattle.office_machine.proofs.ParentsPut.{Grows, grows-puts, Parents, AllParents, lot_still, envelope_still, security_still, award_still, contract_still, parents_after, parents-append, parents-map, parents-if, parents-all, all-filter, all-table}
+use Rattle.office_machine.proofs.Runs.{along}
 use Rattle.office_machine.proofs.Passed.{none_holds, not_false, allowed_by, may_by}
 use Rattle.office_machine.proofs.PublishKeeps.{OnLines, on_lines}
 use Rattle.office_machine.proofs.SortedTables.{sorted}
@@ -75,19 +79,22 @@ module _ (s u : Tables) (order : IsSorted s) (have : HaveParents s s) (g : Grows
   returned : (r : SecurityRow) → SecurityHas u r → SecurityHas u (record r { state = Rattle.office_base.specs.declared.records.SecurityState.TheVariants.Returned })
   returned r h = record { notice = h.notice; lot = h.lot; tenderer = h.tenderer }
 
+  settled_has : (state : SecurityState) (r : SecurityRow) → SecurityHas u r → SecurityHas u (settled state r)
+  settled_has state r h = record { notice = h.notice; lot = h.lot; tenderer = h.tenderer }
+
   lot_securities : (notice lot : List ℕ) → AllParents u (securities_returned (securities_of_lot notice lot s))
   lot_securities notice lot =
       parents-all u security_returned (filter is_held_security (securities_of_lot notice lot s))
       (all-filter _ is_held_security (securities_of_lot notice lot s) (all-filter _ _ s.securities (securities_have security_returned returned)))
 
-  import_parents : (clock : ClockRow) (t : ℕ) (batch : List ℕ) (rows : List BudgetRow) → AllParents u (Rattle.tender_core.specs.Rules.Import.import_puts clock t batch (standings s) rows)
+  import_parents : (clock : ClockRow) (t : ℕ) (batch : List ℕ) (rows : List BudgetRow) → AllParents u (Rattle.tender_core.specs.Rules.Import.import_effect clock t batch (standings s) rows)
   import_parents clock t batch rows = parents-append u (map (import_line (after_rows (standings s) rows)) rows) _ (parents-map u (import_line (after_rows (standings s) rows)) rows (λ _. tt)) (tt, (tt, tt))
 
   published_lots : (notice : List ℕ) → IsSome (notice_at notice u) → (lots : List NewLot) → OnLines s.lines lots → AllByRecursion (λ (l : NewLot). Parents u (lot_put notice l)) lots
   published_lots notice there [] on = tt
   published_lots notice there (l ∷ lots) on = (record { notice = there; line = g.lines l.line on.0 }, published_lots notice there lots on.1)
 
-  publish_parents : (clock : ClockRow) (t : ℕ) (notice : List ℕ) (content : NewNotice) → OnLines s.lines content.lots → IsSome (notice_at notice u) → AllParents u (Rattle.tender_core.specs.Rules.Publish.publish_puts clock t notice s.lines content)
+  publish_parents : (clock : ClockRow) (t : ℕ) (notice : List ℕ) (content : NewNotice) → OnLines s.lines content.lots → IsSome (notice_at notice u) → AllParents u (Rattle.tender_core.specs.Rules.Publish.publish_effect clock t notice s.lines content)
   publish_parents clock t notice content on there =
       parents-append u (map (line_put s.lines content.lots) content.lots ++ map (lot_put notice) content.lots) _
       (parents-append u (map (line_put s.lines content.lots) content.lots) (map (lot_put notice) content.lots)
@@ -95,11 +102,11 @@ module _ (s u : Tables) (order : IsSorted s) (have : HaveParents s s) (g : Grows
       (parents-all u (lot_put notice) content.lots (published_lots notice there content.lots on)))
       (tt, (tt, tt))
 
-  amend_parents : (clock : ClockRow) (t : ℕ) (notice : Option NoticeRow) (deadline : ℕ) → AllParents u (amend_notice_puts clock t notice deadline)
+  amend_parents : (clock : ClockRow) (t : ℕ) (notice : Option NoticeRow) (deadline : ℕ) → AllParents u (amend_notice_effect clock t notice deadline)
   amend_parents clock t None deadline = tt
   amend_parents clock t (Some n) deadline = (tt, (tt, tt))
 
-  cancel_parents : (clock : ClockRow) (t : ℕ) (notice : List ℕ) (row : Option NoticeRow) → AllParents u (cancel_puts clock t s.lines row (lots_of_notice notice s) (awards_of_notice notice s) (envelopes_of_notice notice s) (securities_of_notice notice s))
+  cancel_parents : (clock : ClockRow) (t : ℕ) (notice : List ℕ) (row : Option NoticeRow) → AllParents u (cancel_effect clock t s.lines row (lots_of_notice notice s) (awards_of_notice notice s) (envelopes_of_notice notice s) (securities_of_notice notice s))
   cancel_parents clock t notice None = tt
   cancel_parents clock t notice (Some n) =
       let lots : List LotRow = lots_of_notice notice s in
@@ -120,10 +127,10 @@ module _ (s u : Tables) (order : IsSorted s) (have : HaveParents s s) (g : Grows
   opened_all read [] h = tt
   opened_all read (e ∷ rows) h = (record { notice = h.0.notice; lot = h.0.lot; tenderer = h.0.tenderer; security = h.0.security }, opened_all read rows h.1)
 
-  open_parents : (read : List ℕ → List Rattle.office_acts.specs.declared.item.Item.Item → Rattle.office_base.specs.declared.reading.Reading.Reading) (clock : ClockRow) (t : ℕ) (notice : List ℕ) (row : Option NoticeRow) → AllParents u (open_puts read clock t row (Rattle.office_machine.specs.Machine.sealed_tenders notice s))
+  open_parents : (read : List ℕ → List Rattle.office_acts.specs.declared.item.Item.Item → Rattle.office_base.specs.declared.reading.Reading.Reading) (clock : ClockRow) (t : ℕ) (notice : List ℕ) (row : Option NoticeRow) → AllParents u (open_effect read clock t row (Rattle.office_machine.specs.Rule.sealed_tenders notice s))
   open_parents read clock t notice None = tt
   open_parents read clock t notice (Some n) =
-      parents-append u (map (opened_put read) (Rattle.office_machine.specs.Machine.sealed_tenders notice s)) _
+      parents-append u (map (opened_put read) (Rattle.office_machine.specs.Rule.sealed_tenders notice s)) _
       (opened_all read (filter is_sealed_envelope (envelopes_of_notice notice s)) (all-filter _ is_sealed_envelope (envelopes_of_notice notice s) (all-filter _ _ s.envelopes
       (all-table keyed.envelopes (EnvelopeHas u) s.envelopes order.envelopes (λ k e is. envelope_still s u g e (have.envelopes k e is))))))
       (tt, (tt, tt))
@@ -153,7 +160,7 @@ module _ (s u : Tables) (order : IsSorted s) (have : HaveParents s s) (g : Grows
     ),
   )
 
-  modify_parents : (digest : List ℕ → List ℕ) (clock : ClockRow) (t receipt : ℕ) (bytes : List ℕ) (o : Option EnvelopeRow) → envelope_at receipt s ≡ o → AllParents u (modify_puts digest clock t o bytes)
+  modify_parents : (digest : List ℕ → List ℕ) (clock : ClockRow) (t receipt : ℕ) (bytes : List ℕ) (o : Option EnvelopeRow) → envelope_at receipt s ≡ o → AllParents u (modify_effect digest clock t o bytes)
   modify_parents digest clock t receipt bytes None is = tt
   modify_parents digest clock t receipt bytes (Some e) is =
       let h = envelope_still s u g e (have.envelopes receipt e is) in
@@ -167,13 +174,13 @@ module _ (s u : Tables) (order : IsSorted s) (have : HaveParents s s) (g : Grows
       by None is = cc
       by (Some n) is = security_still s u g r (have.securities n r is)
 
-  withdraw_parents : (clock : ClockRow) (t receipt : ℕ) (o : Option EnvelopeRow) → envelope_at receipt s ≡ o → AllParents u (withdraw_puts clock t o (security_of_envelope o s))
+  withdraw_parents : (clock : ClockRow) (t receipt : ℕ) (o : Option EnvelopeRow) → envelope_at receipt s ≡ o → AllParents u (withdraw_effect clock t o (security_of_envelope o s))
   withdraw_parents clock t receipt None is = tt
   withdraw_parents clock t receipt (Some e) is =
       let h = envelope_still s u g e (have.envelopes receipt e is) in
-      (record { notice = h.notice; lot = h.lot; tenderer = h.tenderer; security = h.security }, (tt, (tt, parents-if u security_returned (security_of_envelope (Some e) s) (λ r found. returned r (security_found (Some e) r found)))))
+      (record { notice = h.notice; lot = h.lot; tenderer = h.tenderer; security = h.security }, (tt, (tt, parents-if u (security_settled Returned) (security_of_envelope (Some e) s) (λ r found. settled_has Returned r (security_found (Some e) r found)))))
 
-  examine_parents : (clock : ClockRow) (t receipt : ℕ) (responsive : Bool) (quality : Option ℕ) (o : Option EnvelopeRow) → envelope_at receipt s ≡ o → AllParents u (examine_puts clock t o responsive quality)
+  examine_parents : (clock : ClockRow) (t receipt : ℕ) (responsive : Bool) (quality : Option ℕ) (o : Option EnvelopeRow) → envelope_at receipt s ≡ o → AllParents u (examine_effect clock t o responsive quality)
   examine_parents clock t receipt responsive quality None is = tt
   examine_parents clock t receipt responsive quality (Some e) is =
       let h = envelope_still s u g e (have.envelopes receipt e is) in
@@ -199,7 +206,7 @@ module _ (s u : Tables) (order : IsSorted s) (have : HaveParents s s) (g : Grows
       (record { notice = h.notice; lot = g.lots (l.notice, l.lot) here; envelope = g.envelopes e.receipt (winner_there n.weight notice lot e won) }, (record { notice = h.notice; line = h.line }, (tt, (tt, (tt, tt)))))
 
   award_parents : (clock : ClockRow) (t : ℕ) (notice lot : List ℕ) (n : Option NoticeRow) (o : Option LotRow) (w : Option LineRow) → lot_at (notice, lot) s ≡ o
-      → AllParents u (award_puts clock t n o w (envelopes_of_lot notice lot s) (securities_of_lot notice lot s))
+      → AllParents u (award_effect clock t n o w (envelopes_of_lot notice lot s) (securities_of_lot notice lot s))
   award_parents clock t notice lot (Some n) (Some l) (Some w) is = decision_parents clock t notice lot n l w is (winner (Some n) (envelopes_of_lot notice lot s)) refl
   award_parents clock t notice lot None o w is = tt
   award_parents clock t notice lot (Some n) None w is = tt
@@ -214,7 +221,7 @@ module _ (s u : Tables) (order : IsSorted s) (have : HaveParents s s) (g : Grows
   lot_of (Some a) l is = lot_still s u g l (have.lots (a.notice, a.lot) l is)
 
   fail_parents : (clock : ClockRow) (t award : ℕ) (o : Option AwardRow) (n : Option NoticeRow) (l : Option LotRow) → award_at award s ≡ o → lot_of_award o s ≡ l
-      → AllParents u (fail_puts clock t o n l (envelope_of_award o s) (security_of_envelope (envelope_of_award o s) s))
+      → AllParents u (fail_effect clock t o n l (envelope_of_award o s) (security_of_envelope (envelope_of_award o s) s))
   fail_parents clock t award (Some a) (Some n) (Some l) is lot =
       let h = award_still s u g a (have.awards award a is) in
       let k = lot_of (Some a) l lot in (
@@ -225,9 +232,9 @@ module _ (s u : Tables) (order : IsSorted s) (have : HaveParents s s) (g : Grows
             tt,
             (
               tt,
-              parents-append u (put_if (λ e. puts.Envelope (failed_envelope e)) (envelope_of_award (Some a) s)) _
-                  (parents-if u (λ e. puts.Envelope (failed_envelope e)) (envelope_of_award (Some a) s) (λ e found. let f = envelope_of (Some a) e found in record { notice = f.notice; lot = f.lot; tenderer = f.tenderer; security = f.security }))
-                  (parents-if u security_forfeited (security_of_envelope (envelope_of_award (Some a) s) s) (λ r found. let f = security_found (envelope_of_award (Some a) s) r found in record { notice = f.notice; lot = f.lot; tenderer = f.tenderer })),
+              parents-append u (put_if (λ e. puts.Envelope (passed_over e)) (envelope_of_award (Some a) s)) _
+                  (parents-if u (λ e. puts.Envelope (passed_over e)) (envelope_of_award (Some a) s) (λ e found. let f = envelope_of (Some a) e found in record { notice = f.notice; lot = f.lot; tenderer = f.tenderer; security = f.security }))
+                  (parents-if u (security_settled Forfeited) (security_of_envelope (envelope_of_award (Some a) s) s) (λ r found. let f = security_found (envelope_of_award (Some a) s) r found in record { notice = f.notice; lot = f.lot; tenderer = f.tenderer })),
             ),
           ),
         ),
@@ -241,7 +248,7 @@ module _ (s u : Tables) (order : IsSorted s) (have : HaveParents s s) (g : Grows
   signer a (Some e) is there = (envelope_still s u g e (have.envelopes a.receipt e is)).tenderer
 
   sign_parents : (clock : ClockRow) (t award : ℕ) (o : Option AwardRow) (n : Option NoticeRow) (l : Option LotRow) → award_at award s ≡ o → lot_of_award o s ≡ l
-      → AllParents u (sign_puts clock t o n l (envelope_of_award o s) (Rattle.office_base.specs.Parents.securities_of_award o s))
+      → AllParents u (sign_effect clock t o n l (envelope_of_award o s) (Rattle.office_base.specs.Parents.securities_of_award o s))
   sign_parents clock t award (Some a) (Some n) (Some l) is lot =
       let had = have.awards award a is in
       let h = award_still s u g a had in
@@ -260,18 +267,18 @@ module _ (s u : Tables) (order : IsSorted s) (have : HaveParents s s) (g : Grows
   entry_has contract c is = g.contracts c.contract (ap is_some (ap (λ k. contract_at k s) (found_key keyed.contracts s.contracts contract c is) ∙ is))
 
   amend_contract_parents : (clock : ClockRow) (t contract : ℕ) (c : Option ContractRow) (n : Option NoticeRow) (w : Option LineRow) (entry : List ℕ) (kind : ChangeKind) (amount : ℕ) (rationale : List ℕ) → contract_at contract s ≡ c
-      → AllParents u (amend_contract_puts clock t c n w entry kind amount rationale)
+      → AllParents u (amend_contract_effect clock t c n w entry kind amount rationale)
   amend_contract_parents clock t contract (Some c) (Some n) (Some w) entry kind amount rationale is = (record { contract = entry_has contract c is }, (tt, (tt, (tt, tt))))
   amend_contract_parents clock t contract None n w entry kind amount rationale is = tt
   amend_contract_parents clock t contract (Some c) None w entry kind amount rationale is = tt
   amend_contract_parents clock t contract (Some c) (Some n) None entry kind amount rationale is = tt
 
-  pay_parents : (clock : ClockRow) (t contract : ℕ) (c : Option ContractRow) (n : Option NoticeRow) (entry : List ℕ) (amount : ℕ) → contract_at contract s ≡ c → AllParents u (pay_puts clock t c n entry amount)
+  pay_parents : (clock : ClockRow) (t contract : ℕ) (c : Option ContractRow) (n : Option NoticeRow) (entry : List ℕ) (amount : ℕ) → contract_at contract s ≡ c → AllParents u (pay_effect clock t c n entry amount)
   pay_parents clock t contract (Some c) (Some n) entry amount is = (record { contract = entry_has contract c is }, (tt, (tt, tt)))
   pay_parents clock t contract None n entry amount is = tt
   pay_parents clock t contract (Some c) None entry amount is = tt
 
-  end_parents : (clock : ClockRow) (t : ℕ) (how : Rattle.office_acts.specs.declared.contract.How.How) (contract : ℕ) (c : Option ContractRow) (entries : List EntryRow) (n : Option NoticeRow) (w : Option LineRow) → contract_at contract s ≡ c → AllParents u (end_puts clock t how c entries n w)
+  end_parents : (clock : ClockRow) (t : ℕ) (how : Rattle.office_acts.specs.declared.contract.How.How) (contract : ℕ) (c : Option ContractRow) (entries : List EntryRow) (n : Option NoticeRow) (w : Option LineRow) → contract_at contract s ≡ c → AllParents u (end_effect clock t how c entries n w)
   end_parents clock t how contract (Some c) entries (Some n) (Some w) is = let h = contract_still s u g c (have.contracts contract c is) in (record { notice = h.notice; lot = h.lot; tenderer = h.tenderer }, (tt, (tt, (tt, tt))))
   end_parents clock t how contract None entries n w is = tt
   end_parents clock t how contract (Some c) entries None w is = tt
@@ -307,13 +314,13 @@ module _ (means : Means) (s : Tables) (moment : ℕ) (caller : Caller) (order : 
   grown command = grows-puts (puts_of means (given command)) s
 
   -- what is there after the effect is there after the publication too
-  later : (command : Command) → Grows (after_puts (effect means (given command)) s) (after command)
+  later : (command : Command) → Grows (after_puts (effect means.readings (given command)) s) (after command)
   later command =
-      subst (Grows (after_puts (effect means (given command)) s)) (sym (after-append (effect means (given command)) (publication_puts (publication means (given command))) s))
-      (grows-puts (publication_puts (publication means (given command))) (after_puts (effect means (given command)) s))
+      subst (Grows (after_puts (effect means.readings (given command)) s)) (sym (after-append (effect means.readings (given command)) (publication_puts (publication means (given command))) s))
+      (grows-puts (publication_puts (publication means (given command))) (after_puts (effect means.readings (given command)) s))
 
   abbrev Has : Command → Type 0
-  Has command = may_give caller command ≡ true → first_of (command_tests (given command)) ≡ None → AllParents (after command) (effect means (given command))
+  Has command = may_give caller command ≡ true → first_of (command_tests (given command)) ≡ None → AllParents (after command) (effect means.readings (given command))
 
   has : (command : Command) → Has command
   has (Import batch rows) = λ may allowed. import_parents s (after (Import batch rows)) order have (grown (Import batch rows)) s.clock _ batch rows
@@ -324,14 +331,14 @@ module _ (means : Means) (s : Tables) (moment : ℕ) (caller : Caller) (order : 
       ((later (Publish notice content)).notices notice (publish_new (map (line_put s.lines content.lots) content.lots ++ map (lot_put notice) content.lots) _ _ s))
   has (AmendNotice notice deadline rationale) = λ may allowed. amend_parents s (after (AmendNotice notice deadline rationale)) order have (grown (AmendNotice notice deadline rationale)) s.clock _ (notice_at notice s) deadline
   has (Cancel notice rationale) = λ may allowed. cancel_parents s (after (Cancel notice rationale)) order have (grown (Cancel notice rationale)) s.clock _ notice (notice_at notice s)
-  has (Open notice) = λ may allowed. open_parents s (after (Open notice)) order have (grown (Open notice)) means.read s.clock _ notice (notice_at notice s)
+  has (Open notice) = λ may allowed. open_parents s (after (Open notice)) order have (grown (Open notice)) means.readings.read s.clock _ notice (notice_at notice s)
   has (Present notice lot security bytes) = λ may allowed.
       let passes = none_holds (command_tests (given (Present notice lot security bytes))) allowed in
       let there = not_false (is_some (notice_at notice s)) passes.0 in
       let lot_there = not_false (is_some (lot_at (notice, lot) s)) passes.1.0 in
-      present_parents s (after (Present notice lot security bytes)) order have (grown (Present notice lot security bytes)) means.digest s.clock _ caller notice lot security bytes _ there lot_there (presenter caller s may registered)
-      (λ named. (later (Present notice lot security bytes)).securities (s.clock.receipts + 1) (present_new means.digest s.clock _ caller notice lot security bytes _ s named))
-  has (Modify receipt bytes) = λ may allowed. modify_parents s (after (Modify receipt bytes)) order have (grown (Modify receipt bytes)) means.digest s.clock _ receipt bytes (envelope_at receipt s) refl
+      present_parents s (after (Present notice lot security bytes)) order have (grown (Present notice lot security bytes)) means.readings.digest s.clock _ caller notice lot security bytes _ there lot_there (presenter caller s may registered)
+      (λ named. (later (Present notice lot security bytes)).securities (s.clock.receipts + 1) (present_new means.readings.digest s.clock _ caller notice lot security bytes _ s named))
+  has (Modify receipt bytes) = λ may allowed. modify_parents s (after (Modify receipt bytes)) order have (grown (Modify receipt bytes)) means.readings.digest s.clock _ receipt bytes (envelope_at receipt s) refl
   has (Withdraw receipt) = λ may allowed. withdraw_parents s (after (Withdraw receipt)) order have (grown (Withdraw receipt)) s.clock _ receipt (envelope_at receipt s) refl
   has (Examine receipt responsive quality) = λ may allowed. examine_parents s (after (Examine receipt responsive quality)) order have (grown (Examine receipt responsive quality)) s.clock _ receipt responsive quality (envelope_at receipt s) refl
   has (Award notice lot) = λ may allowed. award_parents s (after (Award notice lot)) order have (grown (Award notice lot)) s.clock _ notice lot (notice_at notice s) (lot_at (notice, lot) s) (line_of_lot (lot_at (notice, lot) s) s) refl
@@ -348,7 +355,7 @@ module _ (means : Means) (s : Tables) (moment : ℕ) (caller : Caller) (order : 
   pub parents_kept : (command : Command) → may_give caller command ≡ true → first_of (command_tests (given command)) ≡ None → HaveParents (after command) (after command)
   parents_kept command may allowed =
       parents_after (puts_of means (given command)) s have
-      (parents-append (after command) (effect means (given command)) (publication_puts (publication means (given command))) (has command may allowed) (publication_has (after command) (publication means (given command))))
+      (parents-append (after command) (effect means.readings (given command)) (publication_puts (publication means (given command))) (has command may allowed) (publication_has (after command) (publication means (given command))))
 
 none_have : HaveParents no_tables no_tables
 unfolding row_at
@@ -373,8 +380,5 @@ have_beside trees t have = record {
 }
 
 pub parents_there : ParentsAreThere
-parents_there means [] t reached = subst (λ t. HaveParents t t) (sym reached) none_have
-parents_there means (x ∷ xs) t reached =
-    subst (λ t. HaveParents t t) (sym reached.is)
-    (have_beside reached.trees (next means x)
-    (parents_kept means x.before x.moment x.caller (sorted means xs x.before reached.reached) (parents_there means xs x.before reached.reached) reached.given.1 x.command (may_by x reached.allowed) (allowed_by x reached.allowed)))
+parents_there means = along means (λ xs t. HaveParents t t) none_have (λ trees in_order xs. have_beside trees)
+    (λ xs x accepted have. parents_kept means x.before x.moment x.caller (sorted means xs x.before accepted.reached) have accepted.given.1 x.command (may_by x accepted.allowed) (allowed_by x accepted.allowed))

@@ -13,21 +13,22 @@ use Rattle.office_base.specs.declared.records.ContractRow.{ContractRow}
 use Rattle.office_base.specs.declared.records.EntryRow.{EntryRow}
 use Rattle.office_base.specs.Joined.{plus, minus, outstanding}
 use Rattle.office_base.specs.Parents.{notice_of_contract, lot_of_contract}
-use Rattle.office_machine.specs.Machine.{Given, Means, time_of, command_tests, effect}
+use Rattle.office_machine.specs.Machine.{Given, time_of, command_tests, effect}
+use Rattle.office_machine.specs.Readings.{Readings}
 use Rattle.office_machine.specs.Moves.{moves, line_in}
 use Rattle.office_acts.specs.declared.commands.Command.TheVariants as commands
 use Rattle.office_base.specs.declared.puts.Put.TheVariants as puts
 use Rattle.office_machine.proofs.Aside.{kept_aside}
-use Rattle.office_machine.proofs.Keyed.{found_key, found, found_put, elsewhere, still_there, none_before, own_key}
+use Rattle.office_machine.proofs.Keyed.{found_key}
 use Rattle.office_machine.proofs.Keyed as keyed
 use Rattle.office_machine.proofs.Kept.{IsKept, PotsAre, ContractIs}
 use Rattle.office_machine.proofs.Joins.{outstanding-own}
 use Rattle.office_machine.proofs.Passed.{none_holds, not_false, not_both, at_least, witness, test_of}
 use Rattle.award_core.specs.Rules.AmendContract.{is_beyond, has_ended}
-use Rattle.award_core.specs.Rules.Pay.{pay_puts, payment_row}
+use Rattle.award_core.specs.Rules.Pay.{pay_effect, payment_row}
 use Rattle.office_machine.proofs.Entered.{not_taken, contracts_are, no_contract_are, gains, losses, payments}
 
-module _ (means : Means) (xs : List Given) (s : Tables) (moment : ℕ) (caller : Caller) (c : ℕ) (entry : List ℕ) (amount : ℕ) (kept : IsKept xs s) (order : IsSorted s) where
+module _ (readings : Readings) (xs : List Given) (s : Tables) (moment : ℕ) (caller : Caller) (c : ℕ) (entry : List ℕ) (amount : ℕ) (kept : IsKept xs s) (order : IsSorted s) where
   abbrev x : Given
   x = record { before = s; moment = moment; caller = caller; command = commands.Pay c entry amount }
 
@@ -86,10 +87,10 @@ module _ (means : Means) (xs : List Given) (s : Tables) (moment : ℕ) (caller :
       no_contract = no_contract_are x xs s kept order c r l row is lot number new_here (λ n. zero_at (same_number c n)) (λ n. refl) within s';
     }
 
-    effect_is : pay_puts s.clock (time_of x) (Some r) (Some n) entry amount ≡ effect means x
-    effect_is = λ i. pay_puts s.clock (time_of x) (sym is i) (sym (ap (λ o. notice_of_contract o s) is ∙ notice) i) entry amount
+    effect_is : pay_effect s.clock (time_of x) (Some r) (Some n) entry amount ≡ effect readings x
+    effect_is = λ i. pay_effect s.clock (time_of x) (sym is i) (sym (ap (λ o. notice_of_contract o s) is ∙ notice) i) entry amount
 
-    keeps : IsKept (x ∷ xs) (after_puts (effect means x) s)
+    keeps : IsKept (x ∷ xs) (after_puts (effect readings x) s)
     keeps = subst (λ ps. IsKept (x ∷ xs) (after_puts ps s)) effect_is
         (kept_aside (x ∷ xs) (puts.Notice (released n) ∷ clock_put s.clock (time_of x) ∷ []) s' (tt, (omega arith, tt)) entered_keeps)
 
@@ -100,7 +101,7 @@ module _ (means : Means) (xs : List Given) (s : Tables) (moment : ℕ) (caller :
     found_contract : (r : ContractRow) × (contract_at c s ≡ Some r)
     found_contract = witness (contract_at c s) (not_false _ passes.0)
 
-    pub pay_keeps : IsKept (x ∷ xs) (after_puts (effect means x) s)
+    pub pay_keeps : IsKept (x ∷ xs) (after_puts (effect readings x) s)
     pay_keeps =
         let r = found_contract.0 in
         let is = found_contract.1 in

@@ -22,17 +22,18 @@ use Rattle.office_base.specs.declared.records.LotState.{LotState}
 use Rattle.office_base.specs.declared.puts.Put.{Put}
 use Rattle.office_base.specs.States.{is_cancelled, is_opened}
 use Rattle.office_base.specs.RuleParts.{is_in_time}
-use Rattle.tender_core.specs.Rules.Present.{received, security_row, received_puts, present_tests}
-use Rattle.office_machine.specs.Machine.{Given, Means}
+use Rattle.tender_core.specs.Rules.Present.{received, security_row, received_puts, present_conditions}
+use Rattle.office_machine.specs.Machine.{Given}
+use Rattle.office_machine.specs.Readings.{Readings}
 use Rattle.office_machine.specs.Fates.{presented, came, brought, tender_decided, fate_after, fate_of_tender, first_state, security_received, security_decided, security_after, fate_of_security, is_kept}
-use Rattle.office_machine.proofs.Counting.{is_live, counts}
+use Rattle.office_machine.proofs.Counting.{is_live}
 use Rattle.office_machine.proofs.Passed.{none_holds, not_false}
 use Rattle.office_base.proofs.RowLaws.{row_at-row_put}
 use Rattle.office_machine.proofs.Views.{View, IsSound, IsSecured, EnvelopeFits}
 use Rattle.office_machine.proofs.Added.{added, sound_envelope, sound_security}
-use Rattle.office_machine.proofs.Matched.{EnvelopesMatch, EnvelopeStands, NoneStands, SecuritiesMatch, SecurityStands, named_in, same_itself, envelopes_received, securities_added}
+use Rattle.office_machine.proofs.Matched.{EnvelopesMatch, EnvelopeStands, SecuritiesMatch, SecurityStands, named_in, same_itself, envelopes_received, securities_added}
 use Rattle.office_machine.proofs.Steps.{both_true}
-use Rattle.office_machine.proofs.Seen.{seen, alike, lot_state, notice_state, LotFits, lines-puts, order-puts}
+use Rattle.office_machine.proofs.Seen.{seen, alike, lot_state, notice_state, order-puts}
 use Rattle.office_machine.proofs.FatesHold.{IsKept, Keeps, given, fate_goes, security_goes, still_sealed, still_held, all_keep}
 use Rattle.office_machine.proofs.States.{map_same, receiving_state}
 use Rattle.office_machine.proofs.NextReceipt.{none_fate, none_security, came_other, came_here, no_envelope_yet, nothing_yet, no_security_yet, securities_stay}
@@ -56,8 +57,8 @@ in_time_receiving t (Some n) unended in_time =
     negated true h = cc
     negated false h = refl
 
-module _ (means : Means) (name lot_name : List ℕ) (bytes : List ℕ) (xs : List Given) (t : Tables) (m : ℕ) (caller : Caller)
-    (kept : IsKept means xs t) (sec : Option NamedSecurity)
+module _ (readings : Readings) (name lot_name : List ℕ) (bytes : List ℕ) (xs : List Given) (t : Tables) (m : ℕ) (caller : Caller)
+    (kept : IsKept readings xs t) (sec : Option NamedSecurity)
     (b : Bool) (b_is : holds_of (is_in_time (max m t.clock.moment)) (notice_at name t) ≡ b)
     (notice_there : is_some (notice_at name t) ≡ true) (lot_there : is_some (lot_at (name, lot_name) t) ≡ true)
     (unended : holds_of (λ (n : NoticeRow). is_cancelled n.state) (notice_at name t) ≡ false) where
@@ -71,7 +72,7 @@ module _ (means : Means) (name lot_name : List ℕ) (bytes : List ℕ) (xs : Lis
   k = t.clock.receipts + 1
 
   abbrev new : EnvelopeRow
-  new = received means.digest t.clock T caller name lot_name sec bytes b
+  new = received readings.digest t.clock T caller name lot_name sec bytes b
 
   abbrev V : View
   V = seen t
@@ -98,17 +99,9 @@ module _ (means : Means) (name lot_name : List ℕ) (bytes : List ℕ) (xs : Lis
       by true h = refl
       by false h = cc
 
-  counts_in_time : counts new ≡ true → b ≡ true
-  counts_in_time h = by b h
-    where
-      by : (b : Bool) → (is_kept (cond b envelope.Sealed envelope.Returned) && true) ≡ true → b ≡ true
-      by true h = refl
-      by false h = cc
-
   -- the office with the new security
   module _ (S : ℕ → Option SecurityRow) (sound_S : IsSound (record V { security_at = S }))
-      (secured : (s : ℕ) → new.security ≡ Some s → IsSecured (record V { security_at = S }) new s)
-      (alone : (s : ℕ) → new.security ≡ Some s → s ≡ k) where
+      (secured : (s : ℕ) → new.security ≡ Some s → IsSecured (record V { security_at = S }) new s) where
     abbrev W : View
     W = record V { security_at = S }
 
@@ -117,27 +110,19 @@ module _ (means : Means) (name lot_name : List ℕ) (bytes : List ℕ) (xs : Lis
       noticed = there_some notice_state (notice_at name t) notice_there;
       housed = there_some lot_state (lot_at (name, lot_name) t) lot_there;
       receiving = λ h. receiving (sealed_in_time h);
-      willing = λ h. refl;
       secured = secured;
     }
 
-    nobody : (s : ℕ) → s ≡ k → (w : SecurityRow) → security_at s t ≡ Some w → ⊥
-    nobody s is w found = let no : None ≡ Some w = sym (no_security_yet means xs t kept) ∙ sym (ap (λ s. security_at s t) is) ∙ found in cc
-
-    no_other : (q : ℕ) (d : EnvelopeRow) (s : ℕ) → envelope_at q t ≡ Some d → d.security ≡ Some s → new.security ≡ Some s → ⊥
-    no_other q d s at carries also = let is = (kept.sound.envelopes q d at).secured s carries in nobody s (alone s also) is.row is.found
-
     sound_new : IsSound (record W { envelope_at = added k new (λ r. envelope_at r t) })
     sound_new =
-        sound_envelope k new W sound_S (no_envelope_yet means xs t kept) new_fits
-        (λ q d s at keptd keptn carries also. no_other q d s at carries also)
+        sound_envelope k new W sound_S (no_envelope_yet readings xs t kept) new_fits
 
   abbrev new_seal : SealRow
   new_seal = record { receipt = k; bytes = bytes }
 
   came_new : came (x ∷ xs) k ≡ Some (presented x name lot_name sec bytes)
   came_new =
-      came_here (came xs k) (Some (presented x name lot_name sec bytes)) (same_number k k) (nothing_yet means xs t kept).no_reception (same_itself k)
+      came_here (came xs k) (Some (presented x name lot_name sec bytes)) (same_number k k) (nothing_yet readings xs t kept).no_reception (same_itself k)
 
   -- the tables afterwards
   module _ (u : Tables) (envelopes_are : (r : ℕ) → envelope_at r u ≡ added k new (λ r. envelope_at r t) r)
@@ -153,14 +138,14 @@ module _ (means : Means) (name lot_name : List ℕ) (bytes : List ℕ) (xs : Lis
     here_seal =
         seals_are k
         ∙ ap (λ a. cond b (cond a (Some new_seal) (seal_at k t)) (seal_at k t)) (same_itself k)
-        ∙ ap (λ o. cond b (Some new_seal) o) (nothing_yet means xs t kept).no_seal
+        ∙ ap (λ o. cond b (Some new_seal) o) (nothing_yet readings xs t kept).no_seal
         ∙ by b
       where
         by : (b : Bool) → cond b (Some new_seal) None ≡ cond (is_kept (cond b envelope.Sealed envelope.Returned)) (Some new_seal) None
         by true = refl
         by false = refl
 
-    new_stands : EnvelopeStands means.digest k (came (x ∷ xs) k) (fate_of_tender (x ∷ xs) k) new (seal_at k u)
+    new_stands : EnvelopeStands readings.digest k (came (x ∷ xs) k) (fate_of_tender (x ∷ xs) k) new (seal_at k u)
     new_stands = record {
       came = presented x name lot_name sec bytes;
       came_is = came_new;
@@ -172,17 +157,17 @@ module _ (means : Means) (name lot_name : List ℕ) (bytes : List ℕ) (xs : Lis
         length_is = refl;
         digest_is = refl;
         fate_is =
-            ap (λ o. fate_after o (came (x ∷ xs) k) (tender_decided (Present name lot_name sec bytes) x (came xs) k)) (nothing_yet means xs t kept).no_fate
+            ap (λ o. fate_after o (came (x ∷ xs) k) (tender_decided (Present name lot_name sec bytes) x (came xs) k)) (nothing_yet readings xs t kept).no_fate
             ∙ ap (option_map first_state) came_new
             ∙ ap (λ b. Some (cond b envelope.Sealed envelope.Returned)) b_is;
         seal_is = here_seal;
       };
     }
 
-    tenders_after : EnvelopesMatch means.digest (came (x ∷ xs)) (fate_of_tender (x ∷ xs)) (λ r. seal_at r u) k (added k new (λ r. option_map (λ e. e) (envelope_at r t)))
+    tenders_after : EnvelopesMatch readings.digest (came (x ∷ xs)) (fate_of_tender (x ∷ xs)) (λ r. seal_at r u) k (added k new (λ r. option_map (λ e. e) (envelope_at r t)))
     tenders_after =
-        envelopes_received means.digest (came xs) (came (x ∷ xs)) (fate_of_tender xs) (fate_of_tender (x ∷ xs)) (λ r. seal_at r t) (λ r. seal_at r u) t.clock.receipts (λ r. envelope_at r t)
-        kept.tenders (λ r e. e) (all_keep means.digest) new
+        envelopes_received readings.digest (came xs) (came (x ∷ xs)) (fate_of_tender xs) (fate_of_tender (x ∷ xs)) (λ r. seal_at r t) (λ r. seal_at r u) t.clock.receipts (λ r. envelope_at r t)
+        kept.tenders (λ r e. e) (all_keep readings.digest) new
         (λ r other. came_other (came xs r) (brought (Present name lot_name sec bytes) x (λ q. came xs q)) (same_number r k) other)
         (λ r d other at a came_is is. record {
           fate_is =
@@ -203,12 +188,12 @@ module _ (means : Means) (name lot_name : List ℕ) (bytes : List ℕ) (xs : Lis
     envelopes_same : (r : ℕ) → added k new (λ r. option_map (λ e. e) (envelope_at r t)) r ≡ envelope_at r u
     envelopes_same r = ap (cond (eq_by_cmp nat_cmp r k) (Some new)) (sym (map_same (envelope_at r t))) ∙ sym (envelopes_are r)
 
-    pub tenders_are : EnvelopesMatch means.digest (came (x ∷ xs)) (fate_of_tender (x ∷ xs)) (λ r. seal_at r u) k (λ r. envelope_at r u)
+    pub tenders_are : EnvelopesMatch readings.digest (came (x ∷ xs)) (fate_of_tender (x ∷ xs)) (λ r. seal_at r u) k (λ r. envelope_at r u)
     tenders_are =
-        subst (EnvelopesMatch means.digest (came (x ∷ xs)) (fate_of_tender (x ∷ xs)) (λ r. seal_at r u) k) (λ i r. envelopes_same r i) tenders_after
+        subst (EnvelopesMatch readings.digest (came (x ∷ xs)) (fate_of_tender (x ∷ xs)) (λ r. seal_at r u) k) (λ i r. envelopes_same r i) tenders_after
 
 -- with no security, and with one
-module _ (means : Means) (name lot_name : List ℕ) (bytes : List ℕ) (xs : List Given) (t : Tables) (m : ℕ) (caller : Caller) (kept : IsKept means xs t)
+module _ (readings : Readings) (name lot_name : List ℕ) (bytes : List ℕ) (xs : List Given) (t : Tables) (m : ℕ) (caller : Caller) (kept : IsKept readings xs t)
     (notice_there : is_some (notice_at name t) ≡ true) (lot_there : is_some (lot_at (name, lot_name) t) ≡ true)
     (unended : holds_of (λ (n : NoticeRow). is_cancelled n.state) (notice_at name t) ≡ false) where
   abbrev given_present : Option NamedSecurity → Given
@@ -218,10 +203,10 @@ module _ (means : Means) (name lot_name : List ℕ) (bytes : List ℕ) (xs : Lis
   next = t.clock.receipts + 1
 
   abbrev ps : Option NamedSecurity → Bool → List Put
-  ps sec b = received_puts means.digest t.clock (max m t.clock.moment) caller name lot_name sec bytes b
+  ps sec b = received_puts readings.digest t.clock (max m t.clock.moment) caller name lot_name sec bytes b
 
   abbrev row : Option NamedSecurity → Bool → EnvelopeRow
-  row sec b = received means.digest t.clock (max m t.clock.moment) caller name lot_name sec bytes b
+  row sec b = received readings.digest t.clock (max m t.clock.moment) caller name lot_name sec bytes b
 
   envelopes_put : (sec : Option NamedSecurity) (b : Bool) (r : ℕ)
       → Rattle.office_base.specs.Tables.find_envelope (Rattle.office_base.specs.Tables.put_envelope t.envelopes (row sec b)) r ≡ added next (row sec b) (λ r. envelope_at r t) r
@@ -244,23 +229,23 @@ module _ (means : Means) (name lot_name : List ℕ) (bytes : List ℕ) (xs : Lis
     no_number : {A : Type 0} (s : ℕ) → (let o : Option ℕ = None in o) ≡ Some s → A
     no_number s h = absurd (let no : (let o : Option ℕ = None in o) ≡ Some s = h in cc)
 
-    unnamed_kept : IsKept means (given_present None ∷ xs) u
+    unnamed_kept : IsKept readings (given_present None ∷ xs) u
     unnamed_kept = record {
       sound =
           subst IsSound (ap (λ (E : ℕ → Option EnvelopeRow). record (seen t) { envelope_at = E }) (sym (λ i r. envelopes_are r i)) ∙ sym rest)
-          (sound_new means name lot_name bytes xs t m caller kept None b b_is notice_there lot_there unended (λ s. security_at s t) kept.sound (λ s h. no_number s h) (λ s h. no_number s h));
+          (sound_new readings name lot_name bytes xs t m caller kept None b b_is notice_there lot_there unended (λ s. security_at s t) kept.sound (λ s h. no_number s h));
       tenders =
-          subst (λ (n : ℕ). EnvelopesMatch means.digest (came (given_present None ∷ xs)) (fate_of_tender (given_present None ∷ xs)) (λ r. seal_at r u) n (λ r. envelope_at r u)) (sym receipts_are)
-          (tenders_are means name lot_name bytes xs t m caller kept None b b_is notice_there lot_there unended u envelopes_are seals_are);
+          subst (λ (n : ℕ). EnvelopesMatch readings.digest (came (given_present None ∷ xs)) (fate_of_tender (given_present None ∷ xs)) (λ r. seal_at r u) n (λ r. envelope_at r u)) (sym receipts_are)
+          (tenders_are readings name lot_name bytes xs t m caller kept None b b_is notice_there lot_there unended u envelopes_are seals_are);
       named =
           subst (λ (rows : List SecurityRow). SecuritiesMatch (came (given_present None ∷ xs)) (fate_of_security (given_present None ∷ xs)) (λ s. Rattle.office_base.specs.Tables.find_security rows s)) (sym securities_same)
-          (securities_stay means xs t kept (given_present None) refl (λ s. refl));
+          (securities_stay readings xs t kept (given_present None) refl (λ s. refl));
       lines = lines;
       order = order;
     }
 
   unnamed : (b : Bool) → holds_of (is_in_time (max m t.clock.moment)) (notice_at name t) ≡ b
-      → IsKept means (given_present None ∷ xs) (after_puts (ps None b) t)
+      → IsKept readings (given_present None ∷ xs) (after_puts (ps None b) t)
   unnamed true b_is =
       unnamed_kept true b_is (after_puts (ps None true) t) (envelopes_put None true) seals_put refl refl refl kept.lines (order-puts (ps None true) t kept.order)
   unnamed false b_is =
@@ -286,8 +271,8 @@ module _ (means : Means) (name lot_name : List ℕ) (bytes : List ℕ) (xs : Lis
 
     sound_N : IsSound N
     sound_N =
-        sound_security next w (seen t) kept.sound (no_security_yet means xs t kept)
-        (λ h. live means name lot_name bytes xs t m caller kept (Some named) b b_is notice_there lot_there unended (held_in_time means name lot_name bytes xs t m caller kept (Some named) b b_is notice_there lot_there unended h))
+        sound_security next w (seen t) kept.sound (no_security_yet readings xs t kept)
+        (λ h. live readings name lot_name bytes xs t m caller kept (Some named) b b_is notice_there lot_there unended (held_in_time readings name lot_name bytes xs t m caller kept (Some named) b b_is notice_there lot_there unended h))
 
     number_is : (s : ℕ) → (row (Some named) b).security ≡ Some s → s ≡ next
     number_is s h = let same : Some next ≡ Some s = h in cc
@@ -298,12 +283,10 @@ module _ (means : Means) (name lot_name : List ℕ) (bytes : List ℕ) (xs : Lis
       found = ap S (number_is s h) ∙ ap (λ a. cond a (Some w) (security_at next t)) (same_itself next);
       of_notice = refl;
       of_lot = refl;
-      held = λ counted alive.
-          ap (λ b. cond b security.Held security.Returned) (counts_in_time means name lot_name bytes xs t m caller kept (Some named) b b_is notice_there lot_there unended counted);
     }
 
     came_is : came (given_present (Some named) ∷ xs) next ≡ Some (presented (given_present (Some named)) name lot_name (Some named) bytes)
-    came_is = came_new means name lot_name bytes xs t m caller kept (Some named) b b_is notice_there lot_there unended
+    came_is = came_new readings name lot_name bytes xs t m caller kept (Some named) b b_is notice_there lot_there unended
 
     security_stands : SecurityStands next (came (given_present (Some named) ∷ xs) next) (fate_of_security (given_present (Some named) ∷ xs) next) w
     security_stands = record {
@@ -320,7 +303,7 @@ module _ (means : Means) (name lot_name : List ℕ) (bytes : List ℕ) (xs : Lis
         amount_is = refl;
         fate_is =
             ap (λ o. security_after o (came (given_present (Some named) ∷ xs) next) (security_decided (Present name lot_name (Some named) bytes) (given_present (Some named)) (came xs) next))
-            (nothing_named (kept.named.none next (no_security_yet means xs t kept)))
+            (nothing_named (kept.named.none next (no_security_yet readings xs t kept)))
             ∙ ap security_received came_is
             ∙ ap (λ b. Some (cond b security.Held security.Returned)) b_is;
       };
@@ -340,17 +323,17 @@ module _ (means : Means) (name lot_name : List ℕ) (bytes : List ℕ) (xs : Lis
         record { none_named = none; no_fate = none_security (fate_of_security xs s) (came (given_present (Some named) ∷ xs) s) security.Held was.no_fate none })
         security_stands
 
-    named_kept : IsKept means (given_present (Some named) ∷ xs) u
+    named_kept : IsKept readings (given_present (Some named) ∷ xs) u
     named_kept = record {
       sound =
           subst IsSound
           (alike (record N { envelope_at = added next (row (Some named) b) (λ r. envelope_at r t) }) (record (seen t) { envelope_at = λ r. envelope_at r u; security_at = λ s. security_at s u })
           (λ r. sym (envelopes_are r)) (λ s. sym (securities_are s)) (λ a. refl) (λ k. refl) (λ n. refl)
           ∙ sym rest)
-          (sound_new means name lot_name bytes xs t m caller kept (Some named) b b_is notice_there lot_there unended S sound_N secured number_is);
+          (sound_new readings name lot_name bytes xs t m caller kept (Some named) b b_is notice_there lot_there unended S sound_N secured);
       tenders =
-          subst (λ (n : ℕ). EnvelopesMatch means.digest (came (given_present (Some named) ∷ xs)) (fate_of_tender (given_present (Some named) ∷ xs)) (λ r. seal_at r u) n (λ r. envelope_at r u)) (sym receipts_are)
-          (tenders_are means name lot_name bytes xs t m caller kept (Some named) b b_is notice_there lot_there unended u envelopes_are seals_are);
+          subst (λ (n : ℕ). EnvelopesMatch readings.digest (came (given_present (Some named) ∷ xs)) (fate_of_tender (given_present (Some named) ∷ xs)) (λ r. seal_at r u) n (λ r. envelope_at r u)) (sym receipts_are)
+          (tenders_are readings name lot_name bytes xs t m caller kept (Some named) b b_is notice_there lot_there unended u envelopes_are seals_are);
       named =
           subst (SecuritiesMatch (came (given_present (Some named) ∷ xs)) (fate_of_security (given_present (Some named) ∷ xs))) (sym (λ i s. securities_are s i)) securities_after;
       lines = lines;
@@ -363,21 +346,21 @@ module _ (means : Means) (name lot_name : List ℕ) (bytes : List ℕ) (xs : Lis
   securities_put named b s = row_at-row_put nat_cmp_total security_key t.securities (security_row t.clock caller name lot_name b named) s
 
   with_security : (named : NamedSecurity) (b : Bool) → holds_of (is_in_time (max m t.clock.moment)) (notice_at name t) ≡ b
-      → IsKept means (given_present (Some named) ∷ xs) (after_puts (ps (Some named) b) t)
+      → IsKept readings (given_present (Some named) ∷ xs) (after_puts (ps (Some named) b) t)
   with_security named true b_is =
       named_kept named true b_is (after_puts (ps (Some named) true) t) (envelopes_put (Some named) true) seals_put (securities_put named true) refl refl kept.lines (order-puts (ps (Some named) true) t kept.order)
   with_security named false b_is =
       named_kept named false b_is (after_puts (ps (Some named) false) t) (envelopes_put (Some named) false) (λ r. refl) (securities_put named false) refl refl kept.lines (order-puts (ps (Some named) false) t kept.order)
 
   presented_kept : (sec : Option NamedSecurity) (b : Bool) → holds_of (is_in_time (max m t.clock.moment)) (notice_at name t) ≡ b
-      → IsKept means (given_present sec ∷ xs) (after_puts (ps sec b) t)
+      → IsKept readings (given_present sec ∷ xs) (after_puts (ps sec b) t)
   presented_kept None b b_is = unnamed b b_is
   presented_kept (Some named) b b_is = with_security named b b_is
 
-pub present_keeps : (means : Means) (notice lot : List ℕ) (security : Option NamedSecurity) (bytes : List ℕ)
-    → Keeps means (Present notice lot security bytes)
-present_keeps means name lot_name sec bytes xs t m caller kept _ allowed =
-    let tests = present_tests t.clock (max m t.clock.moment) caller (notice_at name t) (lot_at (name, lot_name) t) (envelopes_of_lot name lot_name t) sec in
+pub present_keeps : (readings : Readings) (notice lot : List ℕ) (security : Option NamedSecurity) (bytes : List ℕ)
+    → Keeps readings (Present notice lot security bytes)
+present_keeps readings name lot_name sec bytes xs t m caller kept _ allowed =
+    let tests = present_conditions t.clock (max m t.clock.moment) caller (notice_at name t) (lot_at (name, lot_name) t) (envelopes_of_lot name lot_name t) sec in
     let passes : AllByRecursion (λ (test : Bool × Refusal). test.0 ≡ false) tests = none_holds tests allowed in
-    presented_kept means name lot_name bytes xs t m caller kept (not_false (is_some (notice_at name t)) passes.0) (not_false (is_some (lot_at (name, lot_name) t)) passes.1.0) passes.1.1.0 sec
+    presented_kept readings name lot_name bytes xs t m caller kept (not_false (is_some (notice_at name t)) passes.0) (not_false (is_some (lot_at (name, lot_name) t)) passes.1.0) passes.1.1.0 sec
     (holds_of (is_in_time (max m t.clock.moment)) (notice_at name t)) refl

@@ -21,9 +21,10 @@ use Rattle.office_base.specs.declared.records.NoticeState.TheVariants as notice
 use Rattle.office_base.specs.declared.records.NoticeState.{NoticeState}
 use Rattle.office_base.specs.declared.puts.Put.TheVariants as puts
 use Rattle.office_base.specs.declared.puts.Put.{Put}
-use Rattle.tender_core.specs.Rules.Publish.{is_on_no_line, publish_tests, publish_puts, line_row, line_put, lot_row, lot_put, notice_row, notice_put}
+use Rattle.tender_core.specs.Rules.Publish.{is_on_no_line, publish_conditions, publish_effect, line_row, line_put, lot_row, lot_put, notice_row, notice_put}
 use Rattle.office_base.specs.Tables.{Tables, lot_cmp, line_key, lot_key, notice_key, find_line, put_notice, envelope_at, seal_at, security_at, lot_at, notice_at, after_puts}
-use Rattle.office_machine.specs.Machine.{Given, Means}
+use Rattle.office_machine.specs.Machine.{Given}
+use Rattle.office_machine.specs.Readings.{Readings}
 use Rattle.office_base.proofs.Orders.{lots_total, same_key}
 use Rattle.office_base.proofs.ExactKeys.{lots_exact, ids_exact, equal_keys}
 use Rattle.office_machine.proofs.Passed.{none_holds, neither, not_false}
@@ -58,7 +59,7 @@ is_none : {X : Type 0} (o : Option X) → is_some o ≡ false → o ≡ None
 is_none None h = refl
 is_none (Some y) h = cc
 
-module _ (means : Means) (name : List ℕ) (content : NewNotice) (xs : List Given) (t : Tables) (m : ℕ) (caller : Caller) (kept : IsKept means xs t)
+module _ (readings : Readings) (name : List ℕ) (content : NewNotice) (xs : List Given) (t : Tables) (m : ℕ) (caller : Caller) (kept : IsKept readings xs t)
     (on_lines : list_any (is_on_no_line t.lines) content.lots ≡ false) (absent : is_some (notice_at name t) ≡ false) where
   abbrev T : ℕ
   T = max m t.clock.moment
@@ -70,7 +71,7 @@ module _ (means : Means) (name : List ℕ) (content : NewNotice) (xs : List Give
   last_puts = notice_put T name content ∷ puts.Clock (record t.clock { moment = T }) ∷ []
 
   abbrev ps : List Put
-  ps = publish_puts t.clock T name t.lines content
+  ps = publish_effect t.clock T name t.lines content
 
   abbrev new_lots : List LotRow
   new_lots = map (lot_row name) content.lots
@@ -150,22 +151,22 @@ module _ (means : Means) (name : List ℕ) (content : NewNotice) (xs : List Give
       (all_fit t.lines name content.lots on_lines))
       (tt, (tt, tt))
 
-  after_kept : IsKept means (x ∷ xs) after
+  after_kept : IsKept readings (x ∷ xs) after
   after_kept = record {
     sound = sound_published name N L (seen t) kept.sound no_notice here elsewhere lots_here lots_elsewhere;
     tenders =
-        tenders_same means.digest xs x refl t.clock.receipts (λ r. envelope_at r t) (λ r. envelope_at r t) (λ r. seal_at r t)
+        tenders_same readings.digest xs x refl t.clock.receipts (λ r. envelope_at r t) (λ r. envelope_at r t) (λ r. seal_at r t)
         (λ r. seal_at r t) kept.tenders (λ r. refl) (λ r. refl) (λ r. refl);
-    named = named_same means.digest xs x refl (λ s. security_at s t) (λ s. security_at s t) kept.named (λ s. refl) (λ s. refl);
+    named = named_same readings.digest xs x refl (λ s. security_at s t) (λ s. security_at s t) kept.named (λ s. refl) (λ s. refl);
     lines = subst (λ (u : Tables). OnLines u.lines u.lots) after_is (lines-puts ps t kept.lines fit);
     order = subst (λ (u : Tables). AreInOrder u) after_is (order-puts ps t kept.order);
   }
 
-  published_kept : IsKept means (x ∷ xs) (after_puts ps t)
-  published_kept = subst (IsKept means (x ∷ xs)) (sym after_is) after_kept
+  published_kept : IsKept readings (x ∷ xs) (after_puts ps t)
+  published_kept = subst (IsKept readings (x ∷ xs)) (sym after_is) after_kept
 
-pub publish_keeps : (means : Means) (notice : List ℕ) (content : NewNotice) → Keeps means (Publish notice content)
-publish_keeps means name content xs t m caller kept _ allowed =
-    let tests = publish_tests t.lines (is_some (notice_at name t)) (max m t.clock.moment) content in
+pub publish_keeps : (readings : Readings) (notice : List ℕ) (content : NewNotice) → Keeps readings (Publish notice content)
+publish_keeps readings name content xs t m caller kept _ allowed =
+    let tests = publish_conditions t.lines (is_some (notice_at name t)) (max m t.clock.moment) content in
     let passes : AllByRecursion (λ (test : Bool × Refusal). test.0 ≡ false) tests = none_holds tests allowed in
-    published_kept means name content xs t m caller kept passes.0 passes.1.0
+    published_kept readings name content xs t m caller kept passes.0 passes.1.0

@@ -12,12 +12,13 @@ use Rattle.office_base.specs.declared.records.LotRow.{LotRow}
 use Rattle.office_base.specs.declared.records.ContractRow.{ContractRow}
 use Rattle.office_base.specs.Tables.{Tables, IsSorted, notice_at, find_line, find_lot, after_puts, line_key, put_notice, lot_key, lot_cmp}
 use Rattle.office_base.specs.Joined.{plus, minus, paid_under}
-use Rattle.office_machine.specs.Machine.{Given, Means, time_of, command_tests, effect}
+use Rattle.office_machine.specs.Machine.{Given, time_of, command_tests, effect}
+use Rattle.office_machine.specs.Readings.{Readings}
 use Rattle.office_machine.specs.Moves.{Move, Outside, Free, Reserved, Contracted, Paid, moves, held_for, Pot, came, went, same_pot, move_of_lot, estimate_in}
 use Rattle.office_acts.specs.declared.commands.Command.TheVariants as commands
 use Rattle.office_base.specs.declared.puts.Put.TheVariants as puts
 use Rattle.office_base.proofs.ExactKeys.{equal_keys, lots_exact, equal_ids, same_itself}
-use Rattle.office_machine.proofs.Keyed.{found_key, found, found_put, elsewhere, still_there, none_before, own_key, sum-found_agree}
+use Rattle.office_machine.proofs.Keyed.{found, found_put, still_there, sum-found_agree}
 use Rattle.office_machine.proofs.Keyed as keyed
 use Rattle.office_machine.proofs.Kept.{IsKept, PotsAre, LotIs, over_contracts}
 use Rattle.office_machine.proofs.Passed.{none_holds, neither, not_false, witness}
@@ -73,7 +74,7 @@ estimates_found (lot ∷ lots) own =
     let each = neither _ _ own in
     (λ n. ap (λ b. cond b lot.estimate (estimate_in lots lot.id n)) (same_itself lot.id), found_later lot lots lots each.0 (estimates_found lots each.1))
 
-module _ (means : Means) (xs : List Given) (s : Tables) (moment : ℕ) (caller : Caller) (notice : List ℕ) (content : NewNotice) (kept : IsKept xs s) (order : IsSorted s)
+module _ (readings : Readings) (xs : List Given) (s : Tables) (moment : ℕ) (caller : Caller) (notice : List ℕ) (content : NewNotice) (kept : IsKept xs s) (order : IsSorted s)
     (own : repeats_id lot_id content.lots ≡ false) where
   abbrev x : Given
   x = record { before = s; moment = moment; caller = caller; command = commands.Publish notice content }
@@ -98,7 +99,7 @@ module _ (means : Means) (xs : List Given) (s : Tables) (moment : ℕ) (caller :
     abbrev last_puts : List Put
     last_puts = notice_put (time_of x) notice content ∷ puts.Clock (record s.clock { moment = time_of x }) ∷ []
 
-    published_is : after_puts (effect means x) s ≡ published
+    published_is : after_puts (effect readings x) s ≡ published
     published_is =
         ap (λ ps. after_puts ps s) (append_assoc (map (line_put s.lines content.lots) content.lots) (map (lot_put notice) content.lots) last_puts)
         ∙ after_lines (line_row s.lines content.lots) content.lots (map (lot_put notice) content.lots ++ last_puts) s
@@ -204,5 +205,5 @@ module _ (means : Means) (xs : List Given) (s : Tables) (moment : ℕ) (caller :
       no_contract = λ c h. let old = kept.no_contract c h in record { came_in = omega (arith, old.came_in); went_out = omega (arith, old.went_out); raised = old.raised; lessened = old.lessened; paid_out = old.paid_out };
     }
 
-    pub publish_keeps : IsKept (x ∷ xs) (after_puts (effect means x) s)
+    pub publish_keeps : IsKept (x ∷ xs) (after_puts (effect readings x) s)
     publish_keeps = subst (IsKept (x ∷ xs)) (sym published_is) keeps

@@ -21,14 +21,15 @@ use Rattle.office_base.specs.declared.puts.Put.{Put}
 use Rattle.office_base.specs.Tables.{Tables, notice_key, notice_at, contract_at, envelope_at, seal_at, security_at, entries_of_contract, find_seal, after_puts}
 use Rattle.office_base.specs.Standings.{standings}
 use Rattle.tender_core.specs.Rules.Import.{after_rows, line_put}
-use Rattle.tender_core.specs.Rules.Register.{register_puts}
-use Rattle.tender_core.specs.Rules.AmendNotice.{amend_notice_puts}
-use Rattle.award_core.specs.Rules.AmendContract.{amend_contract_puts}
-use Rattle.award_core.specs.Rules.Pay.{pay_puts}
-use Rattle.award_core.specs.Rules.End.{end_puts}
+use Rattle.tender_core.specs.Rules.Register.{register_effect}
+use Rattle.tender_core.specs.Rules.AmendNotice.{amend_notice_effect}
+use Rattle.award_core.specs.Rules.AmendContract.{amend_contract_effect}
+use Rattle.award_core.specs.Rules.Pay.{pay_effect}
+use Rattle.award_core.specs.Rules.End.{end_effect}
 use Rattle.office_base.specs.declared.records.ReleaseRow.{ReleaseRow}
 use Rattle.office_base.specs.Parents.{notice_of_contract, line_of_lot, lot_of_contract}
-use Rattle.office_machine.specs.Machine.{Given, Means, publication_puts}
+use Rattle.office_machine.specs.Machine.{Given, publication_puts}
+use Rattle.office_machine.specs.Readings.{Readings}
 use Rattle.office_machine.specs.Fates.{brought, came, tender_decided, fate_of_tender, security_decided, fate_of_security}
 use Rattle.office_base.proofs.ExactKeys.{ids_exact}
 use Rattle.office_machine.proofs.RowsChanged.{found_key}
@@ -46,17 +47,17 @@ all_fit V n lines [] h = tt
 all_fit V n lines (p ∷ ps) h = (quiet_fits V n lines p h.0, all_fit V n lines ps h.1)
 
 -- quiet changes keep what holds
-pub kept_after : (means : Means) (xs : List Given) (ps : List Put) (t : Tables) → AllByRecursion (IsQuiet (seen t) t.clock.receipts) ps
-    → IsKept means xs t → IsKept means xs (after_puts ps t)
-kept_after means xs ps t still kept =
+pub kept_after : (readings : Readings) (xs : List Given) (ps : List Put) (t : Tables) → AllByRecursion (IsQuiet (seen t) t.clock.receipts) ps
+    → IsKept readings xs t → IsKept readings xs (after_puts ps t)
+kept_after readings xs ps t still kept =
     let same = quiet ps t still in
     let u : Tables = after_puts ps t in
     record {
       sound = subst IsSound (sym same.seen_is) kept.sound;
       tenders =
-          subst (λ (E : ℕ → Option EnvelopeRow). EnvelopesMatch means.digest (came xs) (fate_of_tender xs) (λ r. seal_at r u) u.clock.receipts E) (sym (ap (λ (V : View). V.envelope_at) same.seen_is))
-          (subst (λ (rows : List SealRow). EnvelopesMatch means.digest (came xs) (fate_of_tender xs) (λ r. find_seal rows r) u.clock.receipts (λ r. envelope_at r t)) (sym same.seals_are)
-          (subst (λ (n : ℕ). EnvelopesMatch means.digest (came xs) (fate_of_tender xs) (λ r. seal_at r t) n (λ r. envelope_at r t)) (sym same.receipts_are) kept.tenders));
+          subst (λ (E : ℕ → Option EnvelopeRow). EnvelopesMatch readings.digest (came xs) (fate_of_tender xs) (λ r. seal_at r u) u.clock.receipts E) (sym (ap (λ (V : View). V.envelope_at) same.seen_is))
+          (subst (λ (rows : List SealRow). EnvelopesMatch readings.digest (came xs) (fate_of_tender xs) (λ r. find_seal rows r) u.clock.receipts (λ r. envelope_at r t)) (sym same.seals_are)
+          (subst (λ (n : ℕ). EnvelopesMatch readings.digest (came xs) (fate_of_tender xs) (λ r. seal_at r t) n (λ r. envelope_at r t)) (sym same.receipts_are) kept.tenders));
       named =
           subst (λ (S : ℕ → Option SecurityRow). SecuritiesMatch (came xs) (fate_of_security xs) S) (sym (ap (λ (V : View). V.security_at) same.seen_is)) kept.named;
       lines = lines-puts ps t kept.lines (all_fit (seen t) t.clock.receipts t.lines ps still);
@@ -64,14 +65,14 @@ kept_after means xs ps t still kept =
     }
 
 -- one more command that takes in no tender and decides nothing
-pub one_more : (means : Means) (xs : List Given) (x : Given) (t : Tables) → IsKept means xs t → brought x.command x (λ q. came xs q) ≡ None
-    → ((r : ℕ) → tender_decided x.command x (came xs) r ≡ envelope.Sealed) → ((s : ℕ) → security_decided x.command x (came xs) s ≡ security.Held) → IsKept means (x ∷ xs) t
-one_more means xs x t kept none undecided held = record {
+pub one_more : (readings : Readings) (xs : List Given) (x : Given) (t : Tables) → IsKept readings xs t → brought x.command x (λ q. came xs q) ≡ None
+    → ((r : ℕ) → tender_decided x.command x (came xs) r ≡ envelope.Sealed) → ((s : ℕ) → security_decided x.command x (came xs) s ≡ security.Held) → IsKept readings (x ∷ xs) t
+one_more readings xs x t kept none undecided held = record {
   sound = kept.sound;
   tenders =
-      tenders_same means.digest xs x none t.clock.receipts (λ r. envelope_at r t) (λ r. envelope_at r t) (λ r. seal_at r t)
+      tenders_same readings.digest xs x none t.clock.receipts (λ r. envelope_at r t) (λ r. envelope_at r t) (λ r. seal_at r t)
       (λ r. seal_at r t) kept.tenders undecided (λ r. refl) (λ r. refl);
-  named = named_same means.digest xs x none (λ s. security_at s t) (λ s. security_at s t) kept.named held (λ s. refl);
+  named = named_same readings.digest xs x none (λ s. security_at s t) (λ s. security_at s t) kept.named held (λ s. refl);
   lines = kept.lines;
   order = kept.order;
 }
@@ -99,69 +100,69 @@ Stands V o = (n : NoticeRow) → o ≡ Some n → V.notice_at n.notice ≡ Some 
 
 module _ (V : View) (clock : ClockRow) (t : ℕ) where
   amended_notice : (o : Option NoticeRow) (deadline : ℕ) → Stands V o
-      → AllByRecursion (IsQuiet V clock.receipts) (amend_notice_puts clock t o deadline)
+      → AllByRecursion (IsQuiet V clock.receipts) (amend_notice_effect clock t o deadline)
   amended_notice None deadline h = tt
   amended_notice (Some n) deadline h = (h n refl, (refl, tt))
 
   amended_contract : (c : Option ContractRow) (n : Option NoticeRow) (r : Option LineRow) (entry : List ℕ) (kind : ChangeKind) (amount : ℕ) (rationale : List ℕ) → Stands V n
-      → AllByRecursion (IsQuiet V clock.receipts) (amend_contract_puts clock t c n r entry kind amount rationale)
+      → AllByRecursion (IsQuiet V clock.receipts) (amend_contract_effect clock t c n r entry kind amount rationale)
   amended_contract (Some c) (Some n) (Some r) entry kind amount rationale h = (tt, (tt, (h n refl, (refl, tt))))
   amended_contract None _ _ entry kind amount rationale h = tt
   amended_contract (Some c) None _ entry kind amount rationale h = tt
   amended_contract (Some c) (Some n) None entry kind amount rationale h = tt
 
   paid : (c : Option ContractRow) (n : Option NoticeRow) (entry : List ℕ) (amount : ℕ) → Stands V n
-      → AllByRecursion (IsQuiet V clock.receipts) (pay_puts clock t c n entry amount)
+      → AllByRecursion (IsQuiet V clock.receipts) (pay_effect clock t c n entry amount)
   paid (Some c) (Some n) entry amount h = (tt, (h n refl, (refl, tt)))
   paid None _ entry amount h = tt
   paid (Some c) None entry amount h = tt
 
   ended : (how : How) (c : Option ContractRow) (entries : List EntryRow) (n : Option NoticeRow) (r : Option LineRow) → Stands V n
-      → AllByRecursion (IsQuiet V clock.receipts) (end_puts clock t how c entries n r)
+      → AllByRecursion (IsQuiet V clock.receipts) (end_effect clock t how c entries n r)
   ended how (Some c) entries (Some n) (Some r) h = (tt, (tt, (h n refl, (refl, tt))))
   ended how None entries _ _ h = tt
   ended how (Some c) entries None _ h = tt
   ended how (Some c) entries (Some n) None h = tt
 
-pub import_keeps : (means : Means) (batch : List ℕ) (rows : List Rattle.office_acts.specs.declared.budget.BudgetRow.BudgetRow) → Keeps means (Import batch rows)
-import_keeps means batch rows xs t m caller kept own allowed =
-    kept_after means (given t m caller (Import batch rows) ∷ xs) _ t
+pub import_keeps : (readings : Readings) (batch : List ℕ) (rows : List Rattle.office_acts.specs.declared.budget.BudgetRow.BudgetRow) → Keeps readings (Import batch rows)
+import_keeps readings batch rows xs t m caller kept own allowed =
+    kept_after readings (given t m caller (Import batch rows) ∷ xs) _ t
     (all_append (IsQuiet (seen t) t.clock.receipts) (map (line_put (after_rows (standings t) rows)) rows) _ (all_of_map (IsQuiet (seen t) t.clock.receipts) (line_put (after_rows (standings t) rows)) rows (λ r. tt)) (tt, (refl, tt)))
-    (one_more means xs (given t m caller (Import batch rows)) t kept refl (λ r. refl) (λ s. refl))
+    (one_more readings xs (given t m caller (Import batch rows)) t kept refl (λ r. refl) (λ s. refl))
 
-pub register_keeps : (means : Means) (tenderer name address key : List ℕ) → Keeps means (Register tenderer name address key)
-register_keeps means tenderer name address key xs t m caller kept own allowed =
-    kept_after means (given t m caller (Register tenderer name address key) ∷ xs) (register_puts t.clock (max m t.clock.moment) tenderer name address key) t (tt, (refl, tt)) (one_more means xs (given t m caller (Register tenderer name address key)) t kept refl (λ r. refl) (λ s. refl))
+pub register_keeps : (readings : Readings) (tenderer name address key : List ℕ) → Keeps readings (Register tenderer name address key)
+register_keeps readings tenderer name address key xs t m caller kept own allowed =
+    kept_after readings (given t m caller (Register tenderer name address key) ∷ xs) (register_effect t.clock (max m t.clock.moment) tenderer name address key) t (tt, (refl, tt)) (one_more readings xs (given t m caller (Register tenderer name address key)) t kept refl (λ r. refl) (λ s. refl))
 
-pub amend_notice_keeps : (means : Means) (notice : List ℕ) (deadline : ℕ) (rationale : List ℕ) → Keeps means (AmendNotice notice deadline rationale)
-amend_notice_keeps means notice deadline rationale xs t m caller kept own allowed =
-    kept_after means (given t m caller (AmendNotice notice deadline rationale) ∷ xs) _ t
+pub amend_notice_keeps : (readings : Readings) (notice : List ℕ) (deadline : ℕ) (rationale : List ℕ) → Keeps readings (AmendNotice notice deadline rationale)
+amend_notice_keeps readings notice deadline rationale xs t m caller kept own allowed =
+    kept_after readings (given t m caller (AmendNotice notice deadline rationale) ∷ xs) _ t
     (amended_notice (seen t) t.clock (max m t.clock.moment) (notice_at notice t) deadline (λ n found. notice_stands t notice n found))
-    (one_more means xs (given t m caller (AmendNotice notice deadline rationale)) t kept refl (λ r. refl) (λ s. refl))
+    (one_more readings xs (given t m caller (AmendNotice notice deadline rationale)) t kept refl (λ r. refl) (λ s. refl))
 
-pub amend_contract_keeps : (means : Means) (contract : ℕ) (entry : List ℕ) (kind : ChangeKind) (amount : ℕ) (rationale : List ℕ)
-    → Keeps means (AmendContract contract entry kind amount rationale)
-amend_contract_keeps means contract entry kind amount rationale xs t m caller kept own allowed =
-    kept_after means (given t m caller (AmendContract contract entry kind amount rationale) ∷ xs) _ t
+pub amend_contract_keeps : (readings : Readings) (contract : ℕ) (entry : List ℕ) (kind : ChangeKind) (amount : ℕ) (rationale : List ℕ)
+    → Keeps readings (AmendContract contract entry kind amount rationale)
+amend_contract_keeps readings contract entry kind amount rationale xs t m caller kept own allowed =
+    kept_after readings (given t m caller (AmendContract contract entry kind amount rationale) ∷ xs) _ t
     (amended_contract (seen t) t.clock (max m t.clock.moment) (contract_at contract t) (notice_of_contract (contract_at contract t) t) (line_of_lot (lot_of_contract (contract_at contract t) t) t) entry kind amount rationale
     (λ n found. contract_notice t (contract_at contract t) n found))
-    (one_more means xs (given t m caller (AmendContract contract entry kind amount rationale)) t kept refl (λ r. refl) (λ s. refl))
+    (one_more readings xs (given t m caller (AmendContract contract entry kind amount rationale)) t kept refl (λ r. refl) (λ s. refl))
 
-pub pay_keeps : (means : Means) (contract : ℕ) (entry : List ℕ) (amount : ℕ) → Keeps means (Pay contract entry amount)
-pay_keeps means contract entry amount xs t m caller kept own allowed =
-    kept_after means (given t m caller (Pay contract entry amount) ∷ xs) _ t
+pub pay_keeps : (readings : Readings) (contract : ℕ) (entry : List ℕ) (amount : ℕ) → Keeps readings (Pay contract entry amount)
+pay_keeps readings contract entry amount xs t m caller kept own allowed =
+    kept_after readings (given t m caller (Pay contract entry amount) ∷ xs) _ t
     (paid (seen t) t.clock (max m t.clock.moment) (contract_at contract t) (notice_of_contract (contract_at contract t) t) entry amount (λ n found. contract_notice t (contract_at contract t) n found))
-    (one_more means xs (given t m caller (Pay contract entry amount)) t kept refl (λ r. refl) (λ s. refl))
+    (one_more readings xs (given t m caller (Pay contract entry amount)) t kept refl (λ r. refl) (λ s. refl))
 
-pub end_keeps : (means : Means) (contract : ℕ) (how : How) → Keeps means (End contract how)
-end_keeps means contract how xs t m caller kept own allowed =
-    kept_after means (given t m caller (End contract how) ∷ xs) _ t
+pub end_keeps : (readings : Readings) (contract : ℕ) (how : How) → Keeps readings (End contract how)
+end_keeps readings contract how xs t m caller kept own allowed =
+    kept_after readings (given t m caller (End contract how) ∷ xs) _ t
     (ended (seen t) t.clock (max m t.clock.moment) how (contract_at contract t) (entries_of_contract contract t) (notice_of_contract (contract_at contract t) t) (line_of_lot (lot_of_contract (contract_at contract t) t) t)
     (λ n found. contract_notice t (contract_at contract t) n found))
-    (one_more means xs (given t m caller (End contract how)) t kept refl (λ r. refl) (λ s. refl))
+    (one_more readings xs (given t m caller (End contract how)) t kept refl (λ r. refl) (λ s. refl))
 
 -- what a command publishes
-pub publication_keeps : (means : Means) (xs : List Given) (t : Tables) (p : Option ReleaseRow) → IsKept means xs t
-    → IsKept means xs (after_puts (publication_puts p) t)
-publication_keeps means xs t None kept = kept
-publication_keeps means xs t (Some p) kept = kept_after means xs (publication_puts (Some p)) t (tt, tt) kept
+pub publication_keeps : (readings : Readings) (xs : List Given) (t : Tables) (p : Option ReleaseRow) → IsKept readings xs t
+    → IsKept readings xs (after_puts (publication_puts p) t)
+publication_keeps readings xs t None kept = kept
+publication_keeps readings xs t (Some p) kept = kept_after readings xs (publication_puts (Some p)) t (tt, tt) kept

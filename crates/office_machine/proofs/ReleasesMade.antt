@@ -14,14 +14,14 @@ use Rattle.office_base.proofs.ExactKeys.{equal_ids, same_itself}
 use Rattle.office_base.proofs.Orders.{same_key}
 use Rattle.office_base.proofs.RowLaws.{all-put}
 use Rattle.office_machine.specs.Machine.{Means, Given, Reaches, publication, release_row, next}
-use Rattle.office_machine.specs.Publications.{published_for, releases_in}
+use Rattle.office_machine.specs.Publications.{published_for}
+use Rattle.office_machine.specs.Counted.{releases_in}
 use Rattle.office_machine.specs.Releases.{is_for, published_by, ReleasesArePublished}
 use Rattle.office_machine.proofs.Keyed as keyed
 use Rattle.office_machine.proofs.SortedTables.{sorted}
 use Rattle.office_machine.proofs.ParentsThere.{parents_there}
 use Rattle.office_machine.proofs.ReleasesCounted.{Counts, published}
-use Rattle.office_machine.proofs.Passed.{allowed_by}
-use Rattle.office_machine.proofs.ReleasesNumbered.{releases_after, with_release}
+use Rattle.office_machine.proofs.NextIs.{with_release, next_is}
 
 abbrev is_of : List ℕ → ReleaseRow → Bool
 is_of notice r = same_id r.notice notice
@@ -181,9 +181,10 @@ are_made : (means : Means) (xs : List Given) (t : Tables) → Reaches means xs t
 are_made means [] t reached = subst (AreMade means []) (sym reached) (record { are = λ notice. refl; within = tt })
 are_made means (x ∷ xs) t reached =
     let order = sorted means xs x.before reached.reached in
+    let is = next_is means x (parents_there means xs x.before reached.reached) reached.allowed in
     let counts : Counts x.before.notices (next means x).notices (published_for x.before x.command) =
-    published means x.before x.moment x.caller (parents_there means xs x.before reached.reached) x.command (allowed_by x reached.allowed) in
-    let h = next_made means xs x order (are_made means xs x.before reached.reached) counts (releases_after means x.before x.moment x.caller x.command) in
+    published means x is in
+    let h = next_made means xs x order (are_made means xs x.before reached.reached) counts is.releases in
     subst (AreMade means (x ∷ xs)) (sym reached.is) (record { are = h.are; within = h.within })
 
 pub releases_published : ReleasesArePublished

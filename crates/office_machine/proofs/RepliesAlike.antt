@@ -19,12 +19,13 @@ use Rattle.office_base.specs.declared.records.ClockRow.{ClockRow}
 use Rattle.tender_core.specs.Rules.Open.{is_sealed_envelope}
 use Rattle.award_core.specs.Rules.Award.{winner}
 use Rattle.office_base.specs.Tables.{Tables, find_envelope, notice_at, envelope_at, contract_at, envelopes_of_notice, envelopes_of_lot, lots_of_notice}
-use Rattle.office_machine.specs.Machine.{Means}
+use Rattle.office_machine.specs.Readings.{Readings}
 use Rattle.office_machine.specs.Worlds.{Theirs, is_theirs, is_of_lot, AlikeRows, Pairs, AlikeOffices, SameBut, Same, Presented, Modified, OpensAlike}
 use Rattle.office_acts.specs.declared.queries.Query.{Query}
 use Rattle.office_acts.specs.declared.queries.Query.TheVariants as queries
 use Rattle.office_acts.specs.Queries.{kind_of}
-use Rattle.office_machine.specs.Replies.{Reply, Refused, OpenedAll, Received, Awarded, OfContract, Tender, Registry, Minutes, release_of, contract_release, left_of, modify_reply, winning, reply_for}
+use Rattle.office_machine.specs.Replies.{Reply, Refused, OpenedAll, Received, Awarded, OfContract, Tender, Registry, Minutes, release_of, contract_release, left_of, modify_reply, winning}
+use Rattle.office_machine.specs.Machine.{reply_for}
 use Rattle.office_machine.specs.Sights.{Packages, tender_told, registered, register_told, minuted, is_read_envelope, minutes_told, package_told, shown, told}
 use Rattle.office_machine.specs.Seals.{ButDigest, SeesBlindly, without_digest, ToldAlike}
 use Rattle.office_base.proofs.ExactKeys.{equal_ids, same_itself}
@@ -89,12 +90,12 @@ module _ (th : Theirs) (W : ℕ → Bool) where
       ap (λ rows. cond (is_opened n.state) (Minutes n lots rows) (Refused Rattle.office_values.specs.declared.refusal.Refusal.TheVariants.NotOpened))
       (pairs-same (minuted tenderers) (λ _ _. refl) (filter is_read_envelope es) (filter is_read_envelope es') (pairs-filter th W is_read_envelope (λ _ _. refl) es es' all))
 
-  modified_told : (means : Means) (clock : ClockRow) (t : ℕ) (bytes bytes' : List ℕ) (o o' : Option EnvelopeRow) → AlikeOptions th W o o'
-      → without_digest (modify_reply means clock t bytes' o') ≡ without_digest (modify_reply means clock t bytes o)
-  modified_told means clock t bytes bytes' None None a = refl
-  modified_told means clock t bytes bytes' None (Some e') a = absurd a
-  modified_told means clock t bytes bytes' (Some e) None a = absurd a
-  modified_told means clock t bytes bytes' (Some e) (Some e') a = ap (λ (e : EnvelopeRow). Received [] (clock.receipts + 1) e.security envelope_states.Sealed t) a.rows.but_digest
+  modified_told : (readings : Readings) (clock : ClockRow) (t : ℕ) (bytes bytes' : List ℕ) (o o' : Option EnvelopeRow) → AlikeOptions th W o o'
+      → without_digest (modify_reply readings clock t bytes' o') ≡ without_digest (modify_reply readings clock t bytes o)
+  modified_told readings clock t bytes bytes' None None a = refl
+  modified_told readings clock t bytes bytes' None (Some e') a = absurd a
+  modified_told readings clock t bytes bytes' (Some e) None a = absurd a
+  modified_told readings clock t bytes bytes' (Some e) (Some e') a = ap (λ (e : EnvelopeRow). Received [] (clock.receipts + 1) e.security envelope_states.Sealed t) a.rows.but_digest
 
   module _ (s : Tables) (es' : List EnvelopeRow) (ss' : List SealRow) (all : Pairs (Alike th W) s.envelopes es') where
     abbrev other : Tables
@@ -137,7 +138,7 @@ module _ (th : Theirs) (W : ℕ → Bool) where
     query_told packages blindly rows caller query =
         told_if caller (may_look caller (kind_of query)) (shown packages s caller query) (shown packages other caller query) (shown_alike packages blindly rows caller query)
 
-    module _ (means : Means) (u u' : Tables) (t : ℕ) (caller : Caller) where
+    module _ (readings : Readings) (u u' : Tables) (t : ℕ) (caller : Caller) where
       abbrev LeavesAlike : Command → Type 0
       LeavesAlike command = OpensAlike command s other → AlikeOffices th u u'
 
@@ -145,7 +146,7 @@ module _ (th : Theirs) (W : ℕ → Bool) where
       left_same contract release a = ap (λ (v : Tables). OfContract contract (left_of (contract_at contract v) v.entries) release t) a.but_sealed
 
       -- the same command
-      same_reply : (command : Command) → LeavesAlike command → reply_for means other u' t caller command ≡ reply_for means s u t caller command
+      same_reply : (command : Command) → LeavesAlike command → reply_for readings other u' t caller command ≡ reply_for readings s u t caller command
       same_reply (commands.Import batch rows) after = refl
       same_reply (commands.Register tenderer name address key) after = refl
       same_reply (commands.Publish notice content) after = refl
@@ -155,7 +156,7 @@ module _ (th : Theirs) (W : ℕ → Bool) where
           ap (λ n. OpenedAll notice n (release_of s.notices notice) t) (pairs-length (filter is_sealed_envelope (envelopes_of_notice notice s)) (filter is_sealed_envelope (envelopes_of_notice notice other))
           (pairs-filter th W is_sealed_envelope (λ _ _. refl) (envelopes_of_notice notice s) (envelopes_of_notice notice other) (of_notice notice)))
       same_reply (commands.Present notice lot security bytes) after = refl
-      same_reply (commands.Modify receipt bytes) after = blind-option th W (modify_reply means s.clock t bytes) (λ _ _. refl) (envelope_at receipt s) (find_envelope es' receipt) (found receipt)
+      same_reply (commands.Modify receipt bytes) after = blind-option th W (modify_reply readings s.clock t bytes) (λ _ _. refl) (envelope_at receipt s) (find_envelope es' receipt) (found receipt)
       same_reply (commands.Withdraw receipt) after = refl
       same_reply (commands.Examine receipt responsive quality) after = refl
       same_reply (commands.Award notice lot) after =
@@ -168,15 +169,15 @@ module _ (th : Theirs) (W : ℕ → Bool) where
       same_reply (commands.End contract how) after = left_same contract (contract_release (contract_at contract s) s.notices) (after tt)
 
       -- two that differ in such bytes
-      pub command_told : (command command' : Command) → SameBut th s caller command command' → LeavesAlike command → ToldAlike th caller (reply_for means s u t caller command) (reply_for means other u' t caller command')
+      pub command_told : (command command' : Command) → SameBut th s caller command command' → LeavesAlike command → ToldAlike th caller (reply_for readings s u t caller command) (reply_for readings other u' t caller command')
       command_told command command' (Same e) after =
-          subst (λ c. ToldAlike th caller (reply_for means s u t caller command) (reply_for means other u' t caller c)) e
-          (told_same th caller (reply_for means s u t caller command) (reply_for means other u' t caller command) (same_reply command after))
+          subst (λ c. ToldAlike th caller (reply_for readings s u t caller command) (reply_for readings other u' t caller c)) e
+          (told_same th caller (reply_for readings s u t caller command) (reply_for readings other u' t caller command) (same_reply command after))
       command_told command command' (Presented security bytes bytes' len who is is') after =
-          subst (λ c. ToldAlike th caller (reply_for means s u t caller c) (reply_for means other u' t caller command')) is
-          (subst (λ c. ToldAlike th caller (reply_for means s u t caller (commands.Present th.notice th.lot security bytes)) (reply_for means other u' t caller c)) is'
+          subst (λ c. ToldAlike th caller (reply_for readings s u t caller c) (reply_for readings other u' t caller command')) is
+          (subst (λ c. ToldAlike th caller (reply_for readings s u t caller (commands.Present th.notice th.lot security bytes)) (reply_for readings other u' t caller c)) is'
           (record { others = λ out. own_call th caller who out; but_digest = refl }))
       command_told command command' (Modified receipt bytes bytes' len who lot is is') after =
-          subst (λ c. ToldAlike th caller (reply_for means s u t caller c) (reply_for means other u' t caller command')) is
-          (subst (λ c. ToldAlike th caller (reply_for means s u t caller (commands.Modify receipt bytes)) (reply_for means other u' t caller c)) is'
-          (record { others = λ out. own_call th caller who out; but_digest = modified_told means s.clock t bytes bytes' (envelope_at receipt s) (find_envelope es' receipt) (found receipt) }))
+          subst (λ c. ToldAlike th caller (reply_for readings s u t caller c) (reply_for readings other u' t caller command')) is
+          (subst (λ c. ToldAlike th caller (reply_for readings s u t caller (commands.Modify receipt bytes)) (reply_for readings other u' t caller c)) is'
+          (record { others = λ out. own_call th caller who out; but_digest = modified_told readings s.clock t bytes bytes' (envelope_at receipt s) (find_envelope es' receipt) (found receipt) }))

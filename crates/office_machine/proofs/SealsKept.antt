@@ -10,10 +10,11 @@ use Rattle.office_acts.specs.declared.commands.Command.{Command}
 use Rattle.office_acts.specs.declared.commands.Command.TheVariants as commands
 use Rattle.office_base.specs.declared.records.EnvelopeRow.{EnvelopeRow}
 use Rattle.office_base.specs.declared.records.SealRow.{SealRow}
-use Rattle.office_machine.specs.Publications.{published_for, releases_in}
+use Rattle.office_machine.specs.Publications.{published_for}
+use Rattle.office_machine.specs.Counted.{releases_in}
 use Rattle.office_base.specs.Tables.{Tables, notice_at, find_seal, envelope_at, seal_at, after_puts}
 use Rattle.office_base.specs.declared.records.ReleaseRow.{ReleaseRow}
-use Rattle.office_machine.specs.Machine.{Means, Given, IsCommand, CanBeGiven, Reaches, time_of, refusal_of, effect, next, publication_puts, publication, release_of_notice}
+use Rattle.office_machine.specs.Machine.{Means, Given, IsCommand, CanBeGiven, Reaches, time_of, refusal_of, effect, done, next, publication_puts, publication, release_of_notice}
 use Rattle.office_machine.specs.Worlds.{Theirs, is_theirs, AlikeRows, Pairs, AlikeOffices, IsNext, SameBut, Same, Presented, Modified, OpensAlike}
 use Rattle.office_machine.specs.Requests.{Demand, Asks, Looks, Request, asked, reply_by, office_by, joined_by, reply_to, office_after, joined, IsDemand, AreRequests}
 use Rattle.office_machine.specs.Replies.{Refused}
@@ -33,20 +34,20 @@ use Rattle.office_machine.proofs.RepliesAlike.{told_same, but_digests, query_tol
 
 -- nothing has the next receipt's number
 next_free : (means : Means) (xs : List Given) (s : Tables) → Reaches means xs s → IsNext s
-next_free means xs s reached = let kept = all_kept means xs s reached in record { envelope = no_envelope_yet means xs s kept; seal = (nothing_yet means xs s kept).no_seal }
+next_free means xs s reached = let kept = all_kept means xs s reached in record { envelope = no_envelope_yet means.readings xs s kept; seal = (nothing_yet means.readings xs s kept).no_seal }
 
 -- a publication leaves two worlds alike
 published : (th : Theirs) (p : Option ReleaseRow) (u u' : Tables) → AlikeOffices th u u' → AlikeOffices th (after_puts (publication_puts p) u) (after_puts (publication_puts p) u')
 published th None u u' a = a
 published th (Some p) u u' a = record { but_sealed = ap (after_puts (publication_puts (Some p))) a.but_sealed; envelopes = a.envelopes; seals = a.seals }
 
-next_alike : (th : Theirs) (means : Means) (x x' : Given) → AlikeOffices th (after_puts (effect means x) x.before) (after_puts (effect means x') x'.before) → publication means x' ≡ publication means x
+next_alike : (th : Theirs) (means : Means) (x x' : Given) → AlikeOffices th (after_puts (effect means.readings x) x.before) (after_puts (effect means.readings x') x'.before) → publication means x' ≡ publication means x
     → AlikeOffices th (next means x) (next means x')
 next_alike th means x x' a same =
-    subst (λ u. AlikeOffices th u (next means x')) (sym (after-append (effect means x) (publication_puts (publication means x)) x.before))
-    (subst (λ u. AlikeOffices th (after_puts (publication_puts (publication means x)) (after_puts (effect means x) x.before)) u)
-    (sym (after-append (effect means x') (publication_puts (publication means x')) x'.before ∙ ap (λ p. after_puts (publication_puts p) (after_puts (effect means x') x'.before)) same))
-    (published th (publication means x) (after_puts (effect means x) x.before) (after_puts (effect means x') x'.before) a))
+    subst (λ u. AlikeOffices th u (next means x')) (sym (after-append (effect means.readings x) (publication_puts (publication means x)) x.before))
+    (subst (λ u. AlikeOffices th (after_puts (publication_puts (publication means x)) (after_puts (effect means.readings x) x.before)) u)
+    (sym (after-append (effect means.readings x') (publication_puts (publication means x')) x'.before ∙ ap (λ p. after_puts (publication_puts p) (after_puts (effect means.readings x') x'.before)) same))
+    (published th (publication means x) (after_puts (effect means.readings x) x.before) (after_puts (effect means.readings x') x'.before) a))
 
 -- what can be given still can with other bytes
 given_too : (th : Theirs) (s : Tables) (caller : Caller) (command command' : Command) → SameBut th s caller command command' → IsCommand command → IsCommand command'
@@ -125,10 +126,10 @@ module _ (means : Means) (packages : Packages) (publishes : PublishesBlindly mea
 
       one : (command command' : Command) → CanBeGiven (given command) → SameBut th s caller command command' → (o o' : Option Refusal) → refusal_of (given command) ≡ o → refusal_of (given' command') ≡ o' → o' ≡ o → OneAlike command command' o o'
       one command command' own same None None allowed allowed' e =
-          let step = steps_stay th means s other moment caller command command' (sorted means xs s reached) (sorted means ys other reached') (next_free means xs s reached) (next_free means ys other reached') here same in
+          let step = steps_stay th means.readings s other moment caller command command' (sorted means xs s reached) (sorted means ys other reached') (next_free means xs s reached) (next_free means ys other reached') here same in
           let after : OpensAlike command s other → AlikeOffices th (next means (given command)) (next means (given' command')) = λ opens. next_alike th means (given command) (given' command') (step.alike allowed opens) (same_publication command command' same opens) in
           record {
-            told = command_told th W s es' ss' all means (next means (given command)) (next means (given' command')) (time_of (given command)) caller command command' same after;
+            told = command_told th W s es' ss' all means.readings (done means.readings (given command)) (done means.readings (given' command')) (time_of (given command)) caller command command' same (step.alike allowed);
             first = steps_reach means xs (given command) reached own allowed;
             second = steps_reach means ys (given' command') reached' (given_too th s caller command command' same own.0, own.1) allowed';
             alike = λ opens. after (opens refl);
@@ -155,7 +156,7 @@ module _ (means : Means) (packages : Packages) (publishes : PublishesBlindly mea
         alike = λ _. here;
       }
       step_by false (Asks command) (Asks command') own same =
-          let step = steps_stay th means s other moment caller command command' (sorted means xs s reached) (sorted means ys other reached') (next_free means xs s reached) (next_free means ys other reached') here same in
+          let step = steps_stay th means.readings s other moment caller command command' (sorted means xs s reached) (sorted means ys other reached') (next_free means xs s reached) (next_free means ys other reached') here same in
           let it = one command command' own same (refusal_of (given command)) (refusal_of (given' command')) refl refl step.refused in
           record { told = it.told; reached = it.first; reached' = it.second; alike = λ finds. it.alike (λ allowed. finds command refl refl allowed) }
 

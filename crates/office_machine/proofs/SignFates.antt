@@ -18,17 +18,18 @@ use Rattle.office_base.specs.declared.records.LotState.TheVariants as lot
 use Rattle.office_base.specs.declared.puts.Put.TheVariants as puts
 use Rattle.office_base.specs.declared.puts.Put.{Put}
 use Rattle.office_base.specs.Rules.{first_of}
-use Rattle.office_base.specs.RuleParts.{clock_put, released, is_held_security, security_returned}
-use Rattle.award_core.specs.Rules.Sign.{signed_award, contracted_lot, contract_row, tenderer_in, sign_tests, sign_puts}
+use Rattle.office_base.specs.RuleParts.{clock_put, released, is_held_security, security_returned, returned}
+use Rattle.award_core.specs.Rules.Sign.{signed_award, contracted_lot, contract_row, tenderer_in, sign_conditions, sign_effect}
 use Rattle.office_base.specs.Tables.{Tables, award_key, security_key, award_at, lot_at, notice_at, envelope_at, securities_of_lot, after_puts}
 use Rattle.office_base.specs.Parents.{notice_of_award, lot_of_award, envelope_of_award, securities_of_award}
-use Rattle.office_machine.specs.Machine.{Given, Means}
+use Rattle.office_machine.specs.Machine.{Given}
+use Rattle.office_machine.specs.Readings.{Readings}
 use Rattle.office_machine.specs.Fates.{came, is_of_award}
 use Rattle.office_machine.proofs.Passed.{none_holds}
 use Rattle.office_machine.proofs.RowsChanged.{rows_put, found_key, row_at-changed_put}
 use Rattle.office_machine.proofs.Views.{AwardFits}
 use Rattle.office_machine.proofs.Matched.{same_itself}
-use Rattle.office_machine.proofs.Steps.{choose, cond_keeps, returned}
+use Rattle.office_machine.proofs.Steps.{choose, cond_keeps}
 use Rattle.office_machine.proofs.Seen.{seen, notices-same, LotFits, AreInOrder, OnLines, lines-puts, order-puts, after_securities}
 use Rattle.office_machine.proofs.FatesHold.{IsKept, Keeps, given}
 use Rattle.office_machine.proofs.QuietFates.{notice_stands, all_of_map}
@@ -36,7 +37,7 @@ use Rattle.office_machine.proofs.States.{lots_put, active_state}
 use Rattle.office_machine.proofs.FailFates.{rows_there, on_line}
 use Rattle.office_machine.proofs.LotClosed.{closing_kept, securities_go_back}
 
-module _ (means : Means) (number : ℕ) (xs : List Given) (t : Tables) (m : ℕ) (caller : Caller) (kept : IsKept means xs t)
+module _ (readings : Readings) (number : ℕ) (xs : List Given) (t : Tables) (m : ℕ) (caller : Caller) (kept : IsKept readings xs t)
     (w : AwardRow) (found : award_at number t ≡ Some w) (active : w.state ≡ award.Active) where
   abbrev T : ℕ
   T = max m t.clock.moment
@@ -65,7 +66,7 @@ module _ (means : Means) (number : ℕ) (xs : List Given) (t : Tables) (m : ℕ)
   module _ (n : NoticeRow) (notice_found : notice_at w.notice t ≡ Some n) (l : LotRow) (lot_found : lot_at (w.notice, w.lot) t ≡ Some l)
       (e : EnvelopeRow) where
     abbrev ps : List Put
-    ps = sign_puts t.clock T (Some w) (Some n) (Some l) (Some e) (securities_of_lot w.notice w.lot t)
+    ps = sign_effect t.clock T (Some w) (Some n) (Some l) (Some e) (securities_of_lot w.notice w.lot t)
 
     abbrev first : Tables
     first =
@@ -82,11 +83,11 @@ module _ (means : Means) (number : ℕ) (xs : List Given) (t : Tables) (m : ℕ)
 
     fit : AllByRecursion (LotFits t.lines) ps
     fit =
-        (tt, (on_line means xs t kept (w.notice, w.lot) l lot_found, (tt, (tt, (tt, all_of_map (LotFits t.lines) security_returned (filter is_held_security (securities_of_lot w.notice w.lot t)) (λ s. tt))))))
+        (tt, (on_line readings xs t kept (w.notice, w.lot) l lot_found, (tt, (tt, (tt, all_of_map (LotFits t.lines) security_returned (filter is_held_security (securities_of_lot w.notice w.lot t)) (λ s. tt))))))
 
-    after_kept : IsKept means (x ∷ xs) after
+    after_kept : IsKept readings (x ∷ xs) after
     after_kept =
-        closing_kept means xs x t after kept w.notice w.lot lot.Contracted refl award_to
+        closing_kept readings xs x t after kept w.notice w.lot lot.Contracted refl award_to
         (λ h r. let no : lot.Awarded ≡ lot.Undecided = let both : Some lot.Awarded ≡ Some lot.Undecided = sym fits.awarded ∙ h in cc in cc)
         (λ a v. cond_keeps (λ (w : AwardRow). w.notice) (eq_by_cmp nat_cmp a number) (signed_award v) v refl)
         (λ a v. cond_keeps (λ (w : AwardRow). w.lot) (eq_by_cmp nat_cmp a number) (signed_award v) v refl)
@@ -106,27 +107,27 @@ module _ (means : Means) (number : ℕ) (xs : List Given) (t : Tables) (m : ℕ)
         (subst (λ (u : Tables). OnLines u.lines u.lots) after_is (lines-puts ps t kept.lines fit))
         (subst (λ (u : Tables). AreInOrder u) after_is (order-puts ps t kept.order))
 
-    signed_kept : IsKept means (x ∷ xs) (after_puts ps t)
-    signed_kept = subst (IsKept means (x ∷ xs)) (sym after_is) after_kept
+    signed_kept : IsKept readings (x ∷ xs) (after_puts ps t)
+    signed_kept = subst (IsKept readings (x ∷ xs)) (sym after_is) after_kept
 
-  sign_kept : IsKept means (x ∷ xs) (after_puts (sign_puts t.clock T (Some w) (notice_at w.notice t) (lot_at (w.notice, w.lot) t) (envelope_at w.receipt t) (securities_of_lot w.notice w.lot t)) t)
+  sign_kept : IsKept readings (x ∷ xs) (after_puts (sign_effect t.clock T (Some w) (notice_at w.notice t) (lot_at (w.notice, w.lot) t) (envelope_at w.receipt t) (securities_of_lot w.notice w.lot t)) t)
   sign_kept =
-      rows_there means number xs t m caller kept w found active
-      (λ n l o. IsKept means (x ∷ xs) (after_puts (sign_puts t.clock T (Some w) n l o (securities_of_lot w.notice w.lot t)) t))
+      rows_there readings number xs t m caller kept w found active
+      (λ n l o. IsKept readings (x ∷ xs) (after_puts (sign_effect t.clock T (Some w) n l o (securities_of_lot w.notice w.lot t)) t))
       (λ n n_is l l_is. signed_kept n n_is l l_is fits.tender)
 
-sign_by : (means : Means) (number : ℕ) (xs : List Given) (t : Tables) (m : ℕ) (caller : Caller) (kept : IsKept means xs t) (o : Option AwardRow)
+sign_by : (readings : Readings) (number : ℕ) (xs : List Given) (t : Tables) (m : ℕ) (caller : Caller) (kept : IsKept readings xs t) (o : Option AwardRow)
     → award_at number t ≡ o
-    → first_of (sign_tests (max m t.clock.moment) o (notice_of_award o t)) ≡ None
-    → IsKept means (given t m caller (Sign number) ∷ xs)
-    (after_puts (sign_puts t.clock (max m t.clock.moment) o (notice_of_award o t) (lot_of_award o t) (envelope_of_award o t) (securities_of_award o t)) t)
-sign_by means number xs t m caller kept None found allowed =
-    let passes : AllByRecursion (λ (test : Bool × Refusal). test.0 ≡ false) (sign_tests (max m t.clock.moment) None None) = none_holds (sign_tests (max m t.clock.moment) None None) allowed in
+    → first_of (sign_conditions (max m t.clock.moment) o (notice_of_award o t)) ≡ None
+    → IsKept readings (given t m caller (Sign number) ∷ xs)
+    (after_puts (sign_effect t.clock (max m t.clock.moment) o (notice_of_award o t) (lot_of_award o t) (envelope_of_award o t) (securities_of_award o t)) t)
+sign_by readings number xs t m caller kept None found allowed =
+    let passes : AllByRecursion (λ (test : Bool × Refusal). test.0 ≡ false) (sign_conditions (max m t.clock.moment) None None) = none_holds (sign_conditions (max m t.clock.moment) None None) allowed in
     let no : true ≡ false = passes.0 in absurd cc
-sign_by means number xs t m caller kept (Some w) found allowed =
-    let tests = sign_tests (max m t.clock.moment) (Some w) (notice_at w.notice t) in
+sign_by readings number xs t m caller kept (Some w) found allowed =
+    let tests = sign_conditions (max m t.clock.moment) (Some w) (notice_at w.notice t) in
     let passes : AllByRecursion (λ (test : Bool × Refusal). test.0 ≡ false) tests = none_holds tests allowed in
-    sign_kept means number xs t m caller kept w found (active_state w.state passes.1.0)
+    sign_kept readings number xs t m caller kept w found (active_state w.state passes.1.0)
 
-pub sign_keeps : (means : Means) (award : ℕ) → Keeps means (Sign award)
-sign_keeps means number xs t m caller kept _ allowed = sign_by means number xs t m caller kept (award_at number t) refl allowed
+pub sign_keeps : (readings : Readings) (award : ℕ) → Keeps readings (Sign award)
+sign_keeps readings number xs t m caller kept _ allowed = sign_by readings number xs t m caller kept (award_at number t) refl allowed

@@ -15,13 +15,14 @@ use Rattle.office_base.specs.declared.records.LotRow.{LotRow}
 use Rattle.office_base.specs.declared.records.ContractRow.{ContractRow}
 use Rattle.office_base.specs.Joined.{plus, minus, paid_under}
 use Rattle.office_base.specs.Parents.{notice_of_award, lot_of_award, envelope_of_award, securities_of_award}
-use Rattle.office_machine.specs.Machine.{Given, Means, time_of, command_tests, effect}
+use Rattle.office_machine.specs.Machine.{Given, time_of, command_tests, effect}
+use Rattle.office_machine.specs.Readings.{Readings}
 use Rattle.office_machine.specs.Moves.{moves, held_for, line_in, lot_in_award}
 use Rattle.office_acts.specs.declared.commands.Command.TheVariants as commands
 use Rattle.office_base.specs.declared.puts.Put.TheVariants as puts
 use Rattle.office_machine.proofs.Aside.{kept_aside, aside-securities}
 use Rattle.office_base.proofs.ExactKeys.{other_keys}
-use Rattle.office_machine.proofs.Keyed.{found_key, found, found_put, elsewhere, still_there, none_before, own_key}
+use Rattle.office_machine.proofs.Keyed.{found_key, found, found_put, still_there, none_before, own_key}
 use Rattle.office_machine.proofs.Keyed as keyed
 use Rattle.office_machine.proofs.Kept.{IsKept, PotsAre, LotIs, AwardIs, ContractIs, NoContractIs, over_contracts}
 use Rattle.office_machine.proofs.Passed.{none_holds, not_false, witness, test_of, is_there, no_zero}
@@ -30,7 +31,7 @@ use Rattle.office_base.specs.States.{is_open, is_awarded, is_active}
 use Rattle.office_base.specs.declared.records.LotState.{LotState}
 use Rattle.office_base.specs.declared.records.LotState.TheVariants as lot_states
 use Rattle.award_core.specs.Rules.Fail.{isnt_active}
-use Rattle.award_core.specs.Rules.Sign.{signed_award, contracted_lot, contract_row, tenderer_in, sign_puts}
+use Rattle.award_core.specs.Rules.Sign.{signed_award, contracted_lot, contract_row, tenderer_in, sign_effect}
 use Rattle.office_base.specs.declared.records.AwardState.TheVariants as award_states
 use Rattle.office_machine.proofs.LotChanged.{joined, reserved_after, lots_are, awards_are, one_active, award_of}
 use Rattle.office_machine.proofs.Joins.{over_contracts-new}
@@ -42,7 +43,7 @@ open_too lot_states.Contracted e = cc
 open_too lot_states.Unsuccessful e = cc
 open_too lot_states.Cancelled e = cc
 
-module _ (means : Means) (xs : List Given) (s : Tables) (moment : ℕ) (caller : Caller) (a : ℕ) (kept : IsKept xs s) (order : IsSorted s) where
+module _ (readings : Readings) (xs : List Given) (s : Tables) (moment : ℕ) (caller : Caller) (a : ℕ) (kept : IsKept xs s) (order : IsSorted s) where
   abbrev x : Given
   x = record { before = s; moment = moment; caller = caller; command = commands.Sign a }
 
@@ -190,10 +191,10 @@ module _ (means : Means) (xs : List Given) (s : Tables) (moment : ℕ) (caller :
       no_contract = no_contract;
     }
 
-    effect_is : sign_puts s.clock (time_of x) (Some w) (Some n) (Some l) (envelope_of_award (award_at a s) s) (securities_of_award (award_at a s) s) ≡ effect means x
-    effect_is = λ i. sign_puts s.clock (time_of x) (sym is i) (sym (ap (λ o. notice_of_award o s) is ∙ notice) i) (sym (ap (λ o. lot_of_award o s) is ∙ lot) i) (envelope_of_award (award_at a s) s) (securities_of_award (award_at a s) s)
+    effect_is : sign_effect s.clock (time_of x) (Some w) (Some n) (Some l) (envelope_of_award (award_at a s) s) (securities_of_award (award_at a s) s) ≡ effect readings x
+    effect_is = λ i. sign_effect s.clock (time_of x) (sym is i) (sym (ap (λ o. notice_of_award o s) is ∙ notice) i) (sym (ap (λ o. lot_of_award o s) is ∙ lot) i) (envelope_of_award (award_at a s) s) (securities_of_award (award_at a s) s)
 
-    keeps : IsKept (x ∷ xs) (after_puts (effect means x) s)
+    keeps : IsKept (x ∷ xs) (after_puts (effect readings x) s)
     keeps = subst (λ ps. IsKept (x ∷ xs) (after_puts ps s)) effect_is
         (kept_aside (x ∷ xs) (puts.Notice (released n) ∷ clock_put s.clock (time_of x) ∷ securities_returned (securities_of_award (award_at a s) s)) s' (tt, (omega arith, aside-securities s.clock.awards (securities_of_award (award_at a s) s))) signed_keeps)
 
@@ -201,7 +202,7 @@ module _ (means : Means) (xs : List Given) (s : Tables) (moment : ℕ) (caller :
     passes : AllByRecursion (λ (test : Bool × Refusal). test.0 ≡ false) (command_tests x)
     passes = none_holds (command_tests x) allowed
 
-    pub sign_keeps : IsKept (x ∷ xs) (after_puts (effect means x) s)
+    pub sign_keeps : IsKept (x ∷ xs) (after_puts (effect readings x) s)
     sign_keeps =
         let found = witness (award_at a s) (not_false _ passes.0) in
         let w = found.0 in

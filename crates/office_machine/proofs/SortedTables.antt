@@ -1,9 +1,10 @@
 -- The tables stay in the order of their keys.
-use Rattle.std.proofs.Common.{List, [], ◌∷◌, sym, subst}
+use Rattle.std.proofs.Common.{List, [], ◌∷◌}
 use Rattle.office_base.specs.Tables.{Tables, IsSorted, line_key, batch_key, tenderer_key, notice_key, lot_key, envelope_key, seal_key, security_key, award_key, contract_key, entry_key, release_key, compiled_key, after_put, after_puts}
 use Rattle.office_base.specs.declared.puts.Put.{Put}
 use Rattle.office_base.specs.declared.puts.Put.TheVariants as puts
 use Rattle.office_machine.specs.Machine.{Means, Given, Reaches, puts_of}
+use Rattle.office_machine.proofs.Runs.{along}
 use Rattle.office_machine.proofs.Keyed as keyed
 use Rattle.office_machine.proofs.Lists.{in_order-drop}
 use Rattle.office_base.proofs.RowLaws.{in_order-put}
@@ -30,7 +31,6 @@ sorted-puts [] t h = h
 sorted-puts (p ∷ ps) t h = sorted-puts ps (after_put p t) (sorted-put p t h)
 
 pub sorted : (means : Means) (xs : List Given) (t : Tables) → Reaches means xs t → IsSorted t
-sorted means [] t reached = subst IsSorted (sym reached) (record { lines = tt; batches = tt; tenderers = tt; notices = tt; lots = tt; envelopes = tt; seals = tt; securities = tt; awards = tt; contracts = tt; entries = tt; releases = tt; compiled = tt })
-sorted means (x ∷ xs) t reached =
-    let h = sorted-puts (puts_of means x) x.before (sorted means xs x.before reached.reached) in
-    subst IsSorted (sym reached.is) (record { lines = h.lines; batches = h.batches; tenderers = h.tenderers; notices = h.notices; lots = h.lots; envelopes = h.envelopes; seals = h.seals; securities = h.securities; awards = h.awards; contracts = h.contracts; entries = h.entries; releases = h.releases; compiled = reached.in_order })
+sorted means = along means (λ xs t. IsSorted t) (record { lines = tt; batches = tt; tenderers = tt; notices = tt; lots = tt; envelopes = tt; seals = tt; securities = tt; awards = tt; contracts = tt; entries = tt; releases = tt; compiled = tt })
+    (λ trees in_order xs t h. record { lines = h.lines; batches = h.batches; tenderers = h.tenderers; notices = h.notices; lots = h.lots; envelopes = h.envelopes; seals = h.seals; securities = h.securities; awards = h.awards; contracts = h.contracts; entries = h.entries; releases = h.releases; compiled = in_order })
+    (λ xs x accepted h. sorted-puts (puts_of means x) x.before h)

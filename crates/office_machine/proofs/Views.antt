@@ -2,7 +2,7 @@
 use Rattle.std.specs.Prelude.{◌≡◌, ℕ, true, false, List, Option, Some, None, is_some, option_map}
 use Rattle.std.proofs.Common.{refl, sym, ap, ◌∙◌, subst}
 use Rattle.office_machine.specs.Fates.{is_kept}
-use Rattle.office_machine.proofs.Counting.{is_live, counts}
+use Rattle.office_machine.proofs.Counting.{is_live}
 use Rattle.office_base.specs.declared.records.EnvelopeRow.{EnvelopeRow}
 use Rattle.office_base.specs.declared.records.EnvelopeState.TheVariants as envelope
 use Rattle.office_base.specs.declared.records.SecurityRow.{SecurityRow}
@@ -21,36 +21,29 @@ pub record View : Type 0 where
   pub lot_at : List ℕ × List ℕ → Option LotState
   pub notice_at : List ℕ → Option NoticeState
 
--- the security that a tender carries is there, of its lot, and held while the tender counts and its lot is live
+-- the security that a tender carries is there, and of its lot
 pub record IsSecured (V : View) (e : EnvelopeRow) (s : ℕ) : Type 0 where
   pub row : SecurityRow
   pub found : V.security_at s ≡ Some row
   pub of_notice : row.notice ≡ e.notice
   pub of_lot : row.lot ≡ e.lot
-  pub held : counts e ≡ true → is_live (V.lot_at (e.notice, e.lot)) ≡ true → row.state ≡ security.Held
 
 pub record EnvelopeFits (V : View) (e : EnvelopeRow) : Type 0 where
   pub noticed : is_some (V.notice_at e.notice) ≡ true
   pub housed : is_some (V.lot_at (e.notice, e.lot)) ≡ true
   pub receiving : e.state ≡ envelope.Sealed → V.notice_at e.notice ≡ Some notice.Receiving
-  pub willing : e.state ≡ envelope.Sealed → e.failed ≡ false
   pub secured : (s : ℕ) → e.security ≡ Some s → IsSecured V e s
 
 pub record AwardFits (V : View) (w : AwardRow) : Type 0 where
   pub tender : EnvelopeRow
   pub found : V.envelope_at w.receipt ≡ Some tender
   pub opened : tender.state ≡ envelope.Opened
-  pub willing : tender.failed ≡ false
   pub of_notice : tender.notice ≡ w.notice
   pub of_lot : tender.lot ≡ w.lot
   pub awarded : V.lot_at (w.notice, w.lot) ≡ Some lot.Awarded
 
 pub record IsSound (V : View) : Type 0 where
   pub envelopes : (r : ℕ) (e : EnvelopeRow) → V.envelope_at r ≡ Some e → EnvelopeFits V e
-  -- of the tenders that are kept, one alone carries a security
-  pub one_carrier : (q r : ℕ) (d e : EnvelopeRow) (s : ℕ) → V.envelope_at q ≡ Some d → V.envelope_at r ≡ Some e → is_kept d.state ≡ true
-      → is_kept e.state ≡ true
-      → d.security ≡ Some s → e.security ≡ Some s → q ≡ r
   pub homed : (k : List ℕ × List ℕ) (l : LotState) → V.lot_at k ≡ Some l → is_some (V.notice_at k.0) ≡ true
   pub undecided : (k : List ℕ × List ℕ) (l : LotState) → V.notice_at k.0 ≡ Some notice.Receiving → V.lot_at k ≡ Some l → l ≡ lot.Undecided
   pub securities : (s : ℕ) (w : SecurityRow) → V.security_at s ≡ Some w → w.state ≡ security.Held → is_live (V.lot_at (w.notice, w.lot)) ≡ true
@@ -94,13 +87,8 @@ pub record IsFair (c : Change) (V : View) : Type 0 where
   pub keeps : Keeps c
   -- a tender that is sealed was sealed, and its notice goes on receiving
   pub sealed : (r : ℕ) (e : EnvelopeRow) → V.envelope_at r ≡ Some e → (c.envelope_to r e).state ≡ envelope.Sealed → e.state ≡ envelope.Sealed
-  pub sealed_failed : (r : ℕ) (e : EnvelopeRow) → V.envelope_at r ≡ Some e → (c.envelope_to r e).state ≡ envelope.Sealed
-      → (c.envelope_to r e).failed ≡ e.failed
   pub sealed_notice : (r : ℕ) (e : EnvelopeRow) → V.envelope_at r ≡ Some e → (c.envelope_to r e).state ≡ envelope.Sealed
       → c.notice_to e.notice notice.Receiving ≡ notice.Receiving
-  pub kept : (r : ℕ) (e : EnvelopeRow) → V.envelope_at r ≡ Some e → is_kept (c.envelope_to r e).state ≡ true → is_kept e.state ≡ true
-  pub count : (r : ℕ) (e : EnvelopeRow) → V.envelope_at r ≡ Some e → counts (c.envelope_to r e) ≡ true → counts e ≡ true
-  pub live : (k : List ℕ × List ℕ) (l : LotState) → V.lot_at k ≡ Some l → is_live (Some (c.lot_to k l)) ≡ true → is_live (Some l) ≡ true
   pub receive : (n : List ℕ) (x : NoticeState) → V.notice_at n ≡ Some x → c.notice_to n x ≡ notice.Receiving → x ≡ notice.Receiving
   pub undecided : (k : List ℕ × List ℕ) → V.lot_at k ≡ Some lot.Undecided → V.notice_at k.0 ≡ Some notice.Receiving
       → c.notice_to k.0 notice.Receiving ≡ notice.Receiving
@@ -110,15 +98,10 @@ pub record IsFair (c : Change) (V : View) : Type 0 where
   pub held_live : (s : ℕ) (w : SecurityRow) (l : LotState) → V.security_at s ≡ Some w → (c.security_to s w).state ≡ security.Held
       → V.lot_at (w.notice, w.lot) ≡ Some l
       → is_live (Some l) ≡ true → is_live (Some (c.lot_to (w.notice, w.lot) l)) ≡ true
-  -- a tender that still counts, in a lot that is live still, keeps its security held
-  pub still_held : (r : ℕ) (e : EnvelopeRow) (s : ℕ) (w : SecurityRow) (l : LotState) → V.envelope_at r ≡ Some e → e.security ≡ Some s
-      → V.security_at s ≡ Some w
-      → w.notice ≡ e.notice → w.lot ≡ e.lot → w.state ≡ security.Held → counts (c.envelope_to r e) ≡ true → V.lot_at (e.notice, e.lot) ≡ Some l
-      → is_live (Some (c.lot_to (e.notice, e.lot) l)) ≡ true → (c.security_to s w).state ≡ security.Held
   pub active : (a : ℕ) (w : AwardRow) → V.award_at a ≡ Some w → (c.award_to a w).state ≡ award.Active → w.state ≡ award.Active
   pub active_tender : (a : ℕ) (w : AwardRow) (e : EnvelopeRow) → V.award_at a ≡ Some w → (c.award_to a w).state ≡ award.Active
       → V.envelope_at w.receipt ≡ Some e
-      → e.state ≡ envelope.Opened → e.failed ≡ false → ((c.envelope_to w.receipt e).state ≡ envelope.Opened) × ((c.envelope_to w.receipt e).failed ≡ false)
+      → e.state ≡ envelope.Opened → (c.envelope_to w.receipt e).state ≡ envelope.Opened
   pub active_lot : (a : ℕ) (w : AwardRow) → V.award_at a ≡ Some w → (c.award_to a w).state ≡ award.Active
       → V.lot_at (w.notice, w.lot) ≡ Some lot.Awarded
       → c.lot_to (w.notice, w.lot) lot.Awarded ≡ lot.Awarded
@@ -145,16 +128,6 @@ module _ (c : Change) (V : View) (sound : IsSound V) (fair : IsFair c V) where
   abbrev W : View
   W = after_change c V
 
-  -- at a lot that is live afterwards
-  module _ (k : List ℕ × List ℕ) (live : is_live (W.lot_at k) ≡ true) where
-    lot_by : (o : Option LotState) → V.lot_at k ≡ o → is_live (option_map (c.lot_to k) o) ≡ true
-        → (l : LotState) × (V.lot_at k ≡ Some l) × (is_live (Some (c.lot_to k l)) ≡ true) × (is_live (Some l) ≡ true)
-    lot_by None e h = cc
-    lot_by (Some l) e h = (l, e, h, fair.live k l e h)
-
-    lot_before : (l : LotState) × (V.lot_at k ≡ Some l) × (is_live (Some (c.lot_to k l)) ≡ true) × (is_live (Some l) ≡ true)
-    lot_before = lot_by (V.lot_at k) refl live
-
   secured_of : (r : ℕ) (e : EnvelopeRow) → V.envelope_at r ≡ Some e → (s : ℕ) → e.security ≡ Some s → IsSecured V e s
       → IsSecured W (c.envelope_to r e) s
   secured_of r e found s carries old = record {
@@ -162,12 +135,6 @@ module _ (c : Change) (V : View) (sound : IsSound V) (fair : IsFair c V) where
     found = ap (option_map (c.security_to s)) old.found;
     of_notice = fair.keeps.s_notice s old.row ∙ old.of_notice ∙ sym (fair.keeps.e_notice r e);
     of_lot = fair.keeps.s_lot s old.row ∙ old.of_lot ∙ sym (fair.keeps.e_lot r e);
-    held = λ counted live.
-        let here : is_live (W.lot_at (e.notice, e.lot)) ≡ true = subst (λ n. is_live (W.lot_at (n, e.lot)) ≡ true) (fair.keeps.e_notice r e) (subst (λ l. is_live (W.lot_at ((c.envelope_to r e).notice, l)) ≡ true) (fair.keeps.e_lot r e) live) in
-        let l = lot_before (e.notice, e.lot) here in
-        fair.still_held r e s old.row l.0 found carries old.found old.of_notice old.of_lot
-        (old.held (fair.count r e found counted) (ap is_live l.1 ∙ l.3))
-        counted l.1 l.2;
   }
 
   envelope_fits : (r : ℕ) (e : EnvelopeRow) → V.envelope_at r ≡ Some e → EnvelopeFits V e → EnvelopeFits W (c.envelope_to r e)
@@ -179,18 +146,15 @@ module _ (c : Change) (V : View) (sound : IsSound V) (fair : IsFair c V) where
     receiving = λ h.
         subst (λ n. W.notice_at n ≡ Some notice.Receiving) (sym (fair.keeps.e_notice r e))
         (ap (option_map (c.notice_to e.notice)) (old.receiving (fair.sealed r e found h)) ∙ ap Some (fair.sealed_notice r e found h));
-    willing = λ h. fair.sealed_failed r e found h ∙ old.willing (fair.sealed r e found h);
     secured = λ s h. let carries = sym (fair.keeps.e_security r e) ∙ h in secured_of r e found s carries (old.secured s carries);
   }
 
   award_fits : (a : ℕ) (w : AwardRow) → V.award_at a ≡ Some w → (c.award_to a w).state ≡ award.Active → AwardFits V w → AwardFits W (c.award_to a w)
   award_fits a w found active old =
-      let both = fair.active_tender a w old.tender found active old.found old.opened old.willing in
       record {
         tender = c.envelope_to w.receipt old.tender;
         found = ap W.envelope_at (fair.keeps.a_receipt a w) ∙ ap (option_map (c.envelope_to w.receipt)) old.found;
-        opened = both.0;
-        willing = both.1;
+        opened = fair.active_tender a w old.tender found active old.found old.opened;
         of_notice = fair.keeps.e_notice w.receipt old.tender ∙ old.of_notice ∙ sym (fair.keeps.a_notice a w);
         of_lot = fair.keeps.e_lot w.receipt old.tender ∙ old.of_lot ∙ sym (fair.keeps.a_lot a w);
         awarded =
@@ -214,14 +178,6 @@ module _ (c : Change) (V : View) (sound : IsSound V) (fair : IsFair c V) where
     envelopes = λ r e h.
         let b = before (c.envelope_to r) (V.envelope_at r) e h in
         subst (EnvelopeFits W) b.is (envelope_fits r b.old b.was (sound.envelopes r b.old b.was));
-    one_carrier = λ q r d e s hd he kd ke sd se.
-        let a = before (c.envelope_to q) (V.envelope_at q) d hd in
-        let b = before (c.envelope_to r) (V.envelope_at r) e he in
-        sound.one_carrier q r a.old b.old s a.was b.was
-        (fair.kept q a.old a.was (ap (λ (x : EnvelopeRow). is_kept x.state) a.is ∙ kd))
-        (fair.kept r b.old b.was (ap (λ (x : EnvelopeRow). is_kept x.state) b.is ∙ ke))
-        (sym (fair.keeps.e_security q a.old) ∙ ap (λ (x : EnvelopeRow). x.security) a.is ∙ sd)
-        (sym (fair.keeps.e_security r b.old) ∙ ap (λ (x : EnvelopeRow). x.security) b.is ∙ se);
     homed = λ k l h. let b = before (c.lot_to k) (V.lot_at k) l h in is_some-map (c.notice_to k.0) (V.notice_at k.0) (sound.homed k b.old b.was);
     undecided = λ k l receiving h.
         let b = before (c.lot_to k) (V.lot_at k) l h in

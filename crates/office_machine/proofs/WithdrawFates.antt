@@ -17,24 +17,29 @@ use Rattle.office_base.specs.declared.records.SecurityState.TheVariants as secur
 use Rattle.office_base.specs.declared.puts.Put.TheVariants as puts
 use Rattle.office_base.specs.States.{is_sealed, is_held}
 use Rattle.office_base.specs.Rules.{first_of}
-use Rattle.office_base.specs.RuleParts.{clock_put, is_past_deadline, security_returned, put_if}
+use Rattle.office_base.specs.RuleParts.{clock_put, is_past_deadline, settled, security_settled, put_if}
 use Rattle.tender_core.specs.Rules.Modify.{withdrawn}
-use Rattle.tender_core.specs.Rules.Withdraw.{withdraw_tests, withdraw_puts}
+use Rattle.tender_core.specs.Rules.Withdraw.{withdraw_conditions, withdraw_effect}
 use Rattle.office_base.specs.Tables.{Tables, envelope_key, seal_key, envelope_at, seal_at, security_at, notice_at, after_puts}
 use Rattle.office_base.specs.Parents.{notice_of_envelope, security_of_envelope}
-use Rattle.office_machine.specs.Machine.{Given, Means}
+use Rattle.office_machine.specs.Machine.{Given}
+use Rattle.office_machine.specs.Readings.{Readings}
 use Rattle.office_machine.specs.Fates.{Reception, came, tender_decided, fate_of_tender, security_decided, fate_of_security, is_kept, has_number, carries, is_effective, EnvelopeIs, SecurityIs}
 use Rattle.office_machine.proofs.Passed.{none_holds}
 use Rattle.office_machine.proofs.RowsChanged.{found_key, row_at-changed_put, row_at-row_drop}
 use Rattle.office_machine.proofs.Views.{EnvelopeFits, Change, after_change}
 use Rattle.office_machine.proofs.Added.{equal_numbers}
 use Rattle.office_machine.proofs.Matched.{EnvelopeStands}
-use Rattle.office_machine.proofs.Steps.{cond_keeps, has_number_it, returned, withdrawal, fair_withdrawal}
+use Rattle.office_machine.proofs.Steps.{cond_keeps, settled_keep, settled_goes, taking_back, fair_withdrawal}
 use Rattle.office_machine.proofs.Seen.{seen, alike, LotFits, lines-puts, order-puts}
 use Rattle.office_machine.proofs.FatesHold.{IsKept, Keeps, given, still_sealed, still_held}
-use Rattle.office_machine.proofs.FatesChanged.{kept_by_change, is_sealed_state, sealed_held, securities_put, securities_left, effective}
+use Rattle.office_machine.proofs.FatesChanged.{kept_by_change, is_sealed_state, securities_put, securities_left, effective}
 
-module _ (means : Means) (receipt : ℕ) (xs : List Given) (t : Tables) (m : ℕ) (caller : Caller) (kept : IsKept means xs t) where
+and_true : (b : Bool) → (b && true) ≡ b
+and_true true = refl
+and_true false = refl
+
+module _ (readings : Readings) (receipt : ℕ) (xs : List Given) (t : Tables) (m : ℕ) (caller : Caller) (kept : IsKept readings xs t) where
   abbrev T : ℕ
   T = max m t.clock.moment
 
@@ -46,21 +51,21 @@ module _ (means : Means) (receipt : ℕ) (xs : List Given) (t : Tables) (m : ℕ
     abbrev fits : EnvelopeFits (seen t) e
     fits = kept.sound.envelopes receipt e found
 
-    abbrev stands : EnvelopeStands means.digest receipt (came xs receipt) (fate_of_tender xs receipt) e (seal_at receipt t)
+    abbrev stands : EnvelopeStands readings.digest receipt (came xs receipt) (fate_of_tender xs receipt) e (seal_at receipt t)
     stands = kept.tenders.received receipt e found
 
     own : e.receipt ≡ receipt
     own = found_key nat_cmp_total nat_cmp-IsAntisymmetric envelope_key t.envelopes receipt e found
 
     abbrev c : Change
-    c = withdrawal (seen t) kept.sound receipt e found sealed e.security (λ s h. h)
+    c = taking_back (seen t) receipt withdrawn security.Returned e.security
 
     in_time : is_effective x (came xs receipt) ≡ true
-    in_time = effective means.digest xs x receipt e stands.came fits stands.came_is stands.stands.of_notice not_late
+    in_time = effective readings.digest xs x receipt e stands.came fits stands.came_is stands.stands.of_notice not_late
 
     -- the tables, with the security's row as it is put
     abbrev after : Option SecurityRow → Tables
-    after so = after_puts (puts.Envelope (withdrawn e) ∷ puts.DropSeal e.receipt ∷ clock_put t.clock T ∷ put_if security_returned so) t
+    after so = after_puts (puts.Envelope (withdrawn e) ∷ puts.DropSeal e.receipt ∷ clock_put t.clock T ∷ put_if (security_settled security.Returned) so) t
 
     seal_is : (r : ℕ) → seal_at r (after None) ≡ cond (eq_by_cmp nat_cmp r receipt) None (seal_at r t)
     seal_is r =
@@ -68,7 +73,7 @@ module _ (means : Means) (receipt : ℕ) (xs : List Given) (t : Tables) (m : ℕ
         ∙ ap (λ k. cond (eq_by_cmp nat_cmp r k) None (seal_at r t)) own
 
     tender_goes : (r : ℕ) (d : EnvelopeRow) (a : Reception) → envelope_at r t ≡ Some d → came xs r ≡ Some a
-        → EnvelopeIs means.digest r a (fate_of_tender xs r) d (seal_at r t)
+        → EnvelopeIs readings.digest r a (fate_of_tender xs r) d (seal_at r t)
         → (c.envelope_to r d).state ≡ cond (is_sealed d.state) (tender_decided (Withdraw receipt) x (came xs) r) d.state
     tender_goes r d a at came_is is =
         by (eq_by_cmp nat_cmp r receipt) refl
@@ -85,7 +90,7 @@ module _ (means : Means) (receipt : ℕ) (xs : List Given) (t : Tables) (m : ℕ
         by false other = still_sealed d.state
 
     seal_goes : (r : ℕ) (d : EnvelopeRow) (a : Reception) → envelope_at r t ≡ Some d
-        → EnvelopeIs means.digest r a (fate_of_tender xs r) d (seal_at r t)
+        → EnvelopeIs readings.digest r a (fate_of_tender xs r) d (seal_at r t)
         → seal_at r (after None) ≡ cond (is_kept (c.envelope_to r d).state) (Some (record { receipt = r; bytes = a.bytes })) None
     seal_goes r d a at is = seal_is r ∙ by (eq_by_cmp nat_cmp r receipt)
       where
@@ -105,27 +110,21 @@ module _ (means : Means) (receipt : ℕ) (xs : List Given) (t : Tables) (m : ℕ
         → SecurityIs s a named (fate_of_security xs s) w
         → (c.security_to s w).state ≡ cond (is_held w.state) (security_decided (Withdraw receipt) x (came xs) s) w.state
     security_goes s w a named at came_is is =
-        by (has_number s e.security) refl
+        settled_goes security.Returned w (has_number s e.security)
         ∙ sym (ap (λ b. cond (is_held w.state) (cond (b && is_effective x (came xs receipt)) security.Returned security.Held) w.state) carried
-        ∙ ap (λ b. cond (is_held w.state) (cond (has_number s e.security && b) security.Returned security.Held) w.state) in_time)
+        ∙ ap (λ b. cond (is_held w.state) (cond (has_number s e.security && b) security.Returned security.Held) w.state) in_time
+        ∙ ap (λ b. cond (is_held w.state) (cond b security.Returned security.Held) w.state) (and_true (has_number s e.security)))
       where
         carried : carries s (came xs receipt) ≡ has_number s e.security
         carried = ap (carries s) stands.came_is ∙ ap (has_number s) (sym stands.stands.security_is)
 
-        by : (b : Bool) → has_number s e.security ≡ b
-            → (let w' : SecurityRow = cond b (returned w) w in w'.state) ≡ cond (is_held w.state) (cond (b && true) security.Returned security.Held) w.state
-        by true has =
-            let held = sealed_held (seen t) kept.sound receipt e found sealed s w (has_number_it s e.security has) at in
-            sym (ap (λ st. cond (is_held st) security.Returned st) held)
-        by false other = still_held w.state
-
     -- the tables afterwards are those of the change
     module _ (so : Option SecurityRow) (envelopes_are : (r : ℕ) → envelope_at r (after so) ≡ envelope_at r (after None))
         (seals_are : (r : ℕ) → seal_at r (after so) ≡ seal_at r (after None))
-        (back : (s : ℕ) → security_at s (after so) ≡ option_map (λ w. cond (has_number s e.security) (returned w) w) (security_at s t))
+        (back : (s : ℕ) → security_at s (after so) ≡ option_map (λ w. cond (has_number s e.security) (settled security.Returned w) w) (security_at s t))
         (rest : (seen (after so)) ≡ record (seen t) { envelope_at = λ r. envelope_at r (after so); security_at = λ s. security_at s (after so) })
         (receipts_are : (after so).clock.receipts ≡ t.clock.receipts)
-        (fit : AllByRecursion (LotFits t.lines) (puts.Envelope (withdrawn e) ∷ puts.DropSeal e.receipt ∷ clock_put t.clock T ∷ put_if security_returned so)) where
+        (fit : AllByRecursion (LotFits t.lines) (puts.Envelope (withdrawn e) ∷ puts.DropSeal e.receipt ∷ clock_put t.clock T ∷ put_if (security_settled security.Returned) so)) where
       map_same : {X : Type 0} (o : Option X) → o ≡ option_map (λ x. x) o
       map_same None = refl
       map_same (Some x) = refl
@@ -140,9 +139,9 @@ module _ (means : Means) (receipt : ℕ) (xs : List Given) (t : Tables) (m : ℕ
           (λ k. map_same ((seen t).lot_at k))
           (λ n. map_same ((seen t).notice_at n))
 
-      withdrawn_kept : IsKept means (x ∷ xs) (after so)
+      withdrawn_kept : IsKept readings (x ∷ xs) (after so)
       withdrawn_kept =
-          kept_by_change means xs x t (after so) c kept (fair_withdrawal (seen t) kept.sound receipt e found sealed e.security (λ s h. h))
+          kept_by_change readings xs x t (after so) c kept (fair_withdrawal (seen t) receipt e found sealed security.Returned e.security)
           (record {
             none = refl;
             seen_is = seen_is;
@@ -155,40 +154,33 @@ module _ (means : Means) (receipt : ℕ) (xs : List Given) (t : Tables) (m : ℕ
               len = λ r d. cond_keeps (λ (e : EnvelopeRow). e.length) (eq_by_cmp nat_cmp r receipt) (withdrawn d) d refl;
               digest = λ r d. cond_keeps (λ (e : EnvelopeRow). e.digest) (eq_by_cmp nat_cmp r receipt) (withdrawn d) d refl;
             };
-            s_keeps = record {
-              number = λ s w. cond_keeps (λ (w : SecurityRow). w.security) (has_number s e.security) (returned w) w refl;
-              notice = λ s w. cond_keeps (λ (w : SecurityRow). w.notice) (has_number s e.security) (returned w) w refl;
-              lot = λ s w. cond_keeps (λ (w : SecurityRow). w.lot) (has_number s e.security) (returned w) w refl;
-              tenderer = λ s w. cond_keeps (λ (w : SecurityRow). w.tenderer) (has_number s e.security) (returned w) w refl;
-              reference = λ s w. cond_keeps (λ (w : SecurityRow). w.reference) (has_number s e.security) (returned w) w refl;
-              amount = λ s w. cond_keeps (λ (w : SecurityRow). w.amount) (has_number s e.security) (returned w) w refl;
-            };
+            s_keeps = settled_keep e.security security.Returned;
             tender_goes = tender_goes;
             seal_goes = λ r d a at is. seals_are r ∙ seal_goes r d a at is;
             no_seal = λ r at none. seals_are r ∙ no_seal r at none;
             security_goes = security_goes;
           })
-          (lines-puts (puts.Envelope (withdrawn e) ∷ puts.DropSeal e.receipt ∷ clock_put t.clock T ∷ put_if security_returned so) t kept.lines fit)
-          (order-puts (puts.Envelope (withdrawn e) ∷ puts.DropSeal e.receipt ∷ clock_put t.clock T ∷ put_if security_returned so) t kept.order)
+          (lines-puts (puts.Envelope (withdrawn e) ∷ puts.DropSeal e.receipt ∷ clock_put t.clock T ∷ put_if (security_settled security.Returned) so) t kept.lines fit)
+          (order-puts (puts.Envelope (withdrawn e) ∷ puts.DropSeal e.receipt ∷ clock_put t.clock T ∷ put_if (security_settled security.Returned) so) t kept.order)
 
-    by_security : (sec : Option ℕ) → e.security ≡ sec → IsKept means (x ∷ xs) (after (option_and_then (λ n. security_at n t) sec))
+    by_security : (sec : Option ℕ) → e.security ≡ sec → IsKept readings (x ∷ xs) (after (option_and_then (λ n. security_at n t) sec))
     by_security None none =
-        withdrawn_kept None (λ r. refl) (λ r. refl) (λ s. securities_left returned t.securities s ∙ ap (λ o. option_map (λ w. cond (has_number s o) (returned w) w) (security_at s t)) (sym none)) refl refl (tt, (tt, (tt, tt)))
+        withdrawn_kept None (λ r. refl) (λ r. refl) (λ s. securities_left (settled security.Returned) t.securities s ∙ ap (λ o. option_map (λ w. cond (has_number s o) (settled security.Returned w) w) (security_at s t)) (sym none)) refl refl (tt, (tt, (tt, tt)))
     by_security (Some n) carried =
         let is = fits.secured n carried in
-        subst (λ so. IsKept means (x ∷ xs) (after so)) (sym is.found)
+        subst (λ so. IsKept readings (x ∷ xs) (after so)) (sym is.found)
         (withdrawn_kept (Some is.row) (λ r. refl) (λ r. refl)
-        (λ s. securities_put returned t.securities n is.row is.found refl s ∙ ap (λ o. option_map (λ w. cond (has_number s o) (returned w) w) (security_at s t)) (sym carried))
+        (λ s. securities_put (settled security.Returned) t.securities n is.row is.found refl s ∙ ap (λ o. option_map (λ w. cond (has_number s o) (settled security.Returned w) w) (security_at s t)) (sym carried))
         refl refl (tt, (tt, (tt, (tt, tt)))))
 
-  by_envelope : (o : Option EnvelopeRow) → envelope_at receipt t ≡ o → first_of (withdraw_tests T caller o (notice_of_envelope o t)) ≡ None
-      → IsKept means (x ∷ xs) (after_puts (withdraw_puts t.clock T o (security_of_envelope o t)) t)
+  by_envelope : (o : Option EnvelopeRow) → envelope_at receipt t ≡ o → first_of (withdraw_conditions T caller o (notice_of_envelope o t)) ≡ None
+      → IsKept readings (x ∷ xs) (after_puts (withdraw_effect t.clock T o (security_of_envelope o t)) t)
   by_envelope None found allowed =
-      let passes : AllByRecursion (λ (test : Bool × Refusal). test.0 ≡ false) (withdraw_tests T caller None None) = none_holds (withdraw_tests T caller None None) allowed in
+      let passes : AllByRecursion (λ (test : Bool × Refusal). test.0 ≡ false) (withdraw_conditions T caller None None) = none_holds (withdraw_conditions T caller None None) allowed in
       let no : true ≡ false = passes.0 in cc
   by_envelope (Some e) found allowed =
-      let passes : AllByRecursion (λ (test : Bool × Refusal). test.0 ≡ false) (withdraw_tests T caller (Some e) (notice_at e.notice t)) = none_holds (withdraw_tests T caller (Some e) (notice_at e.notice t)) allowed in
+      let passes : AllByRecursion (λ (test : Bool × Refusal). test.0 ≡ false) (withdraw_conditions T caller (Some e) (notice_at e.notice t)) = none_holds (withdraw_conditions T caller (Some e) (notice_at e.notice t)) allowed in
       by_security e found passes.1.1.0 (is_sealed_state e.state passes.1.1.1.0) e.security refl
 
-pub withdraw_keeps : (means : Means) (receipt : ℕ) → Keeps means (Withdraw receipt)
-withdraw_keeps means receipt xs t m caller kept _ allowed = by_envelope means receipt xs t m caller kept (envelope_at receipt t) refl allowed
+pub withdraw_keeps : (readings : Readings) (receipt : ℕ) → Keeps readings (Withdraw receipt)
+withdraw_keeps readings receipt xs t m caller kept _ allowed = by_envelope readings receipt xs t m caller kept (envelope_at receipt t) refl allowed

@@ -9,7 +9,8 @@ use Rattle.office_acts.specs.declared.command.Caller.{Caller}
 use Rattle.office_values.specs.declared.refusal.Refusal.TheVariants.{Forbidden}
 use Rattle.office_base.specs.Rules.{first_of}
 use Rattle.office_acts.specs.declared.commands.Command.{Command}
-use Rattle.office_machine.specs.Machine.{may_give, Means, Given, time_of, effect}
+use Rattle.office_machine.specs.Machine.{may_give, Given, time_of, effect}
+use Rattle.office_machine.specs.Readings.{Readings}
 use Rattle.office_base.specs.declared.records.EnvelopeRow.{EnvelopeRow}
 use Rattle.office_base.specs.declared.records.SealRow.{SealRow}
 use Rattle.office_base.specs.Tables.{Tables, IsSorted, envelope_key, envelope_at, seal_at, after_puts}
@@ -100,7 +101,7 @@ quiet_too th W s es' ss' all seals order (commands.AmendContract contract entry 
 quiet_too th W s es' ss' all seals order (commands.Pay contract entry amount) q opens = tt
 quiet_too th W s es' ss' all seals order (commands.End contract how) q opens = tt
 
-module _ (th : Theirs) (means : Means) (s : Tables) (es' : List EnvelopeRow) (ss' : List SealRow) (moment : ℕ) (caller : Caller) (command : Command) (order : IsSorted s) where
+module _ (th : Theirs) (readings : Readings) (s : Tables) (es' : List EnvelopeRow) (ss' : List SealRow) (moment : ℕ) (caller : Caller) (command : Command) (order : IsSorted s) where
   abbrev W : ℕ → Bool
   W n = holds_of (is_theirs th) (envelope_at n s)
 
@@ -113,13 +114,13 @@ module _ (th : Theirs) (means : Means) (s : Tables) (es' : List EnvelopeRow) (ss
   abbrev x' : Given
   x' = record { before = other; moment = moment; caller = caller; command = command }
 
-  pub quiet_step : IsSorted other → Pairs (AlikeRows th) s.envelopes es' → ((n : ℕ) → W n ≡ false → seal_at n s ≡ seal_at n other) → GivesNone command → AcceptedAlike th means x x'
+  pub quiet_step : IsSorted other → Pairs (AlikeRows th) s.envelopes es' → ((n : ℕ) → W n ≡ false → seal_at n s ≡ seal_at n other) → GivesNone command → AcceptedAlike th readings x x'
   quiet_step order' rows seals quiet =
       let all : Pairs (Alike th W) s.envelopes es' = with_own th s s.envelopes es' (each_found keyed.envelopes s.envelopes order.envelopes) rows in
       record {
         refused = ap (λ tests. first_of ((not (may_give caller command), Forbidden) ∷ tests)) (tests_same th W s es' ss' all seals (time_of x) caller command);
-        alike = λ _ opens. offices_of th W (after_puts (effect means x) s) (after_puts (effect means x') other)
-            (λ n e. (grows-puts (effect means x) s).envelopes n (is_there th (envelope_at n s) e))
-            (pair_puts th W (effect means x) (effect means x') s other (puts_pair th W s es' ss' all seals means (time_of x) caller command (quiet_too th W s es' ss' all seals order command quiet opens))
+        alike = λ _ opens. offices_of th W (after_puts (effect readings x) s) (after_puts (effect readings x') other)
+            (λ n e. (grows-puts (effect readings x) s).envelopes n (is_there th (envelope_at n s) e))
+            (pair_puts th W (effect readings x) (effect readings x') s other (puts_pair th W s es' ss' all seals readings (time_of x) caller command (quiet_too th W s es' ss' all seals order command quiet opens))
             (record { but_sealed = refl; envelopes = all; seals = seals }) order order');
       }

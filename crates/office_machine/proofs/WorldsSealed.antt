@@ -13,14 +13,15 @@ use Rattle.office_values.specs.declared.refusal.Refusal.TheVariants.{Forbidden}
 use Rattle.office_base.specs.Rules.{first_of}
 use Rattle.office_base.specs.RuleParts.{is_in_time, receipt_clock, put_if}
 use Rattle.office_acts.specs.declared.commands.Command.{Command}
-use Rattle.office_machine.specs.Machine.{may_give, Means, Given, time_of, command_tests, effect, refusal_of}
+use Rattle.office_machine.specs.Machine.{may_give, Given, time_of, command_tests, effect, refusal_of}
+use Rattle.office_machine.specs.Readings.{Readings}
 use Rattle.office_acts.specs.declared.commands.Command.TheVariants as commands
 use Rattle.office_base.specs.declared.records.EnvelopeRow.{EnvelopeRow}
 use Rattle.office_base.specs.declared.records.SealRow.{SealRow}
 use Rattle.office_base.specs.declared.puts.Put.{Put}
 use Rattle.office_base.specs.declared.puts.Put.TheVariants as puts
 use Rattle.tender_core.specs.Rules.Present.{received, seal_puts, security_put}
-use Rattle.tender_core.specs.Rules.Modify.{is_anothers, modify_puts, replacing, withdrawn}
+use Rattle.tender_core.specs.Rules.Modify.{is_anothers, modify_effect, replacing, withdrawn}
 use Rattle.office_machine.specs.Worlds.{Theirs, is_of_lot, is_theirs, AlikeRows, Pairs, IsNext, SameBut, Same, Presented, Modified, AcceptedAlike, StepsStayAlike}
 use Rattle.office_base.proofs.ExactKeys.{equal_keys, equal_ids, same_itself}
 use Rattle.office_machine.proofs.Keyed.{each_found, found_put, own_key}
@@ -36,7 +37,7 @@ use Rattle.office_machine.proofs.WorldsKept.{GivesNone, offices_of, is_there, qu
 put_first : (e : EnvelopeRow) (rest : List Put) (s : Tables) → is_some (envelope_at e.receipt (after_puts (puts.Envelope e ∷ rest) s)) ≡ true
 put_first e rest s = (grows-puts rest (after_put (puts.Envelope e) s)).envelopes e.receipt (ap is_some (found_put keyed.envelopes s.envelopes e))
 
-module _ (th : Theirs) (means : Means) (s : Tables) (es' : List EnvelopeRow) (ss' : List SealRow) (moment : ℕ) (caller : Caller) (order : IsSorted s) (next : IsNext s) (fresh : Bool) where
+module _ (th : Theirs) (readings : Readings) (s : Tables) (es' : List EnvelopeRow) (ss' : List SealRow) (moment : ℕ) (caller : Caller) (order : IsSorted s) (next : IsNext s) (fresh : Bool) where
   abbrev other : Tables
   other = record s { envelopes = es'; seals = ss' }
 
@@ -86,39 +87,39 @@ module _ (th : Theirs) (means : Means) (s : Tables) (es' : List EnvelopeRow) (ss
     refused_alike : (command : Command) → refusal_of (given' command) ≡ refusal_of (given command)
     refused_alike command = ap (λ tests. first_of ((not (may_give caller command), Forbidden) ∷ tests)) (tests_same th W s es' ss' all same_seals (time_of (given command)) caller command)
 
-    present_envelope : (notice lot : List ℕ) (security : Option NamedSecurity) (bytes : List ℕ) → is_some (envelope_at last (after_puts (effect means (given (commands.Present notice lot security bytes))) s)) ≡ true
+    present_envelope : (notice lot : List ℕ) (security : Option NamedSecurity) (bytes : List ℕ) → is_some (envelope_at last (after_puts (effect readings (given (commands.Present notice lot security bytes))) s)) ≡ true
     present_envelope notice lot security bytes =
         let t : ℕ = time_of (given (commands.Present notice lot security bytes)) in
         let in_time : Bool = holds_of (is_in_time t) (notice_at notice s) in
-        put_first (received means.digest s.clock t caller notice lot security bytes in_time) (receipt_clock s.clock t ∷ seal_puts s.clock bytes in_time ++ put_if (security_put s.clock caller notice lot in_time) security) s
+        put_first (received readings.digest s.clock t caller notice lot security bytes in_time) (receipt_clock s.clock t ∷ seal_puts s.clock bytes in_time ++ put_if (security_put s.clock caller notice lot in_time) security) s
 
     pub presented : (notice lot : List ℕ) (security : Option NamedSecurity) (bytes bytes' : List ℕ) → length bytes ≡ length bytes'
         → same_id (Rattle.office_acts.specs.Callers.tenderer_of caller) th.who && (same_id notice th.notice && same_id lot th.lot) ≡ fresh → (fresh ≡ false → bytes ≡ bytes')
-        → AcceptedAlike th means (given (commands.Present notice lot security bytes)) (given' (commands.Present notice lot security bytes'))
+        → AcceptedAlike th readings (given (commands.Present notice lot security bytes)) (given' (commands.Present notice lot security bytes'))
     presented notice lot security bytes bytes' len is same = record {
       refused = refused_alike (commands.Present notice lot security bytes);
       alike = λ _ _.
-          offices_of th W (after_puts (effect means (given (commands.Present notice lot security bytes))) s) (after_puts (effect means (given' (commands.Present notice lot security bytes'))) other)
-          (λ n e. there_by (after_puts (effect means (given (commands.Present notice lot security bytes))) s) (λ _. present_envelope notice lot security bytes) (grows-puts (effect means (given (commands.Present notice lot security bytes))) s).envelopes n (same_number n last) refl e)
-          (pair_puts th W (effect means (given (commands.Present notice lot security bytes))) (effect means (given' (commands.Present notice lot security bytes'))) s other
-          (present_pairs th W means.digest s.clock (time_of (given (commands.Present notice lot security bytes))) bytes bytes' len caller notice lot security (holds_of (is_in_time (time_of (given (commands.Present notice lot security bytes)))) (notice_at notice s)) (is ∙ sym W_last) (λ out. same (sym is ∙ out)))
+          offices_of th W (after_puts (effect readings (given (commands.Present notice lot security bytes))) s) (after_puts (effect readings (given' (commands.Present notice lot security bytes'))) other)
+          (λ n e. there_by (after_puts (effect readings (given (commands.Present notice lot security bytes))) s) (λ _. present_envelope notice lot security bytes) (grows-puts (effect readings (given (commands.Present notice lot security bytes))) s).envelopes n (same_number n last) refl e)
+          (pair_puts th W (effect readings (given (commands.Present notice lot security bytes))) (effect readings (given' (commands.Present notice lot security bytes'))) s other
+          (present_pairs th W readings.digest s.clock (time_of (given (commands.Present notice lot security bytes))) bytes bytes' len caller notice lot security (holds_of (is_in_time (time_of (given (commands.Present notice lot security bytes)))) (notice_at notice s)) (is ∙ sym W_last) (λ out. same (sym is ∙ out)))
           (record { but_sealed = refl; envelopes = all; seals = same_seals }) order order');
     }
 
-    modify_there : (t : ℕ) (bytes : List ℕ) (o : Option EnvelopeRow) → holds_of (is_theirs th) o ≡ true → is_some (envelope_at last (after_puts (modify_puts means.digest s.clock t o bytes) s)) ≡ true
+    modify_there : (t : ℕ) (bytes : List ℕ) (o : Option EnvelopeRow) → holds_of (is_theirs th) o ≡ true → is_some (envelope_at last (after_puts (modify_effect readings.digest s.clock t o bytes) s)) ≡ true
     modify_there t bytes None e = cc
-    modify_there t bytes (Some x) e = ap is_some (found_put keyed.envelopes (Rattle.office_base.specs.Tables.put_envelope s.envelopes (withdrawn x)) (replacing means.digest s.clock t x bytes))
+    modify_there t bytes (Some x) e = ap is_some (found_put keyed.envelopes (Rattle.office_base.specs.Tables.put_envelope s.envelopes (withdrawn x)) (replacing readings.digest s.clock t x bytes))
 
     pub modified : (receipt : ℕ) (bytes bytes' : List ℕ) → length bytes ≡ length bytes' → holds_of (is_theirs th) (envelope_at receipt s) ≡ fresh
         → (refusal_of (given (commands.Modify receipt bytes)) ≡ None → fresh ≡ false → bytes ≡ bytes')
-        → AcceptedAlike th means (given (commands.Modify receipt bytes)) (given' (commands.Modify receipt bytes'))
+        → AcceptedAlike th readings (given (commands.Modify receipt bytes)) (given' (commands.Modify receipt bytes'))
     modified receipt bytes bytes' len is same = record {
       refused = refused_alike (commands.Modify receipt bytes);
       alike = λ allowed _.
-          offices_of th W (after_puts (effect means (given (commands.Modify receipt bytes))) s) (after_puts (effect means (given' (commands.Modify receipt bytes'))) other)
-          (λ n e. there_by (after_puts (effect means (given (commands.Modify receipt bytes))) s) (λ f. modify_there (time_of (given (commands.Modify receipt bytes))) bytes (envelope_at receipt s) (is ∙ f)) (grows-puts (effect means (given (commands.Modify receipt bytes))) s).envelopes n (same_number n last) refl e)
-          (pair_puts th W (effect means (given (commands.Modify receipt bytes))) (effect means (given' (commands.Modify receipt bytes'))) s other
-          (modify_pairs th W means.digest s.clock (time_of (given (commands.Modify receipt bytes))) bytes bytes' len (envelope_at receipt s) (find_envelope es' receipt) (pairs-found th W s.envelopes es' receipt all) (is ∙ sym W_last) (λ out. same allowed (sym is ∙ out)))
+          offices_of th W (after_puts (effect readings (given (commands.Modify receipt bytes))) s) (after_puts (effect readings (given' (commands.Modify receipt bytes'))) other)
+          (λ n e. there_by (after_puts (effect readings (given (commands.Modify receipt bytes))) s) (λ f. modify_there (time_of (given (commands.Modify receipt bytes))) bytes (envelope_at receipt s) (is ∙ f)) (grows-puts (effect readings (given (commands.Modify receipt bytes))) s).envelopes n (same_number n last) refl e)
+          (pair_puts th W (effect readings (given (commands.Modify receipt bytes))) (effect readings (given' (commands.Modify receipt bytes'))) s other
+          (modify_pairs th W readings.digest s.clock (time_of (given (commands.Modify receipt bytes))) bytes bytes' len (envelope_at receipt s) (find_envelope es' receipt) (pairs-found th W s.envelopes es' receipt all) (is ∙ sym W_last) (λ out. same allowed (sym is ∙ out)))
           (record { but_sealed = refl; envelopes = all; seals = same_seals }) order order');
     }
 
@@ -134,23 +135,23 @@ owns th (Some e) lot mine =
     by true h = refl
     by false h = cc
 
-module _ (th : Theirs) (means : Means) (s : Tables) (es' : List EnvelopeRow) (ss' : List SealRow) (moment : ℕ) (order : IsSorted s) (next : IsNext s)
+module _ (th : Theirs) (readings : Readings) (s : Tables) (es' : List EnvelopeRow) (ss' : List SealRow) (moment : ℕ) (order : IsSorted s) (next : IsNext s)
     (order' : IsSorted (record s { envelopes = es'; seals = ss' })) (none : find_seal ss' (s.clock.receipts + 1) ≡ None) (rows : Pairs (AlikeRows th) s.envelopes es') (seals : (n : ℕ) → holds_of (is_theirs th) (envelope_at n s) ≡ false → seal_at n s ≡ find_seal ss' n) where
   abbrev world : Tables
   world = record s { envelopes = es'; seals = ss' }
 
   abbrev Alike_after : Caller → Command → Command → Type 0
-  Alike_after caller command command' = AcceptedAlike th means (record { before = s; moment = moment; caller = caller; command = command }) (record { before = world; moment = moment; caller = caller; command = command' })
+  Alike_after caller command command' = AcceptedAlike th readings (record { before = s; moment = moment; caller = caller; command = command }) (record { before = world; moment = moment; caller = caller; command = command' })
 
   quietly : (caller : Caller) (command : Command) → GivesNone command → Alike_after caller command command
-  quietly caller command quiet = quiet_step th means s es' ss' moment caller command order order' rows seals quiet
+  quietly caller command quiet = quiet_step th readings s es' ss' moment caller command order order' rows seals quiet
 
   -- the same command
   same_command : (caller : Caller) (command : Command) → Alike_after caller command command
   same_command caller (commands.Present notice lot security bytes) =
-      presented th means s es' ss' moment caller order next (same_id (Rattle.office_acts.specs.Callers.tenderer_of caller) th.who && (same_id notice th.notice && same_id lot th.lot)) order' none rows seals notice lot security bytes bytes refl refl (λ _. refl)
+      presented th readings s es' ss' moment caller order next (same_id (Rattle.office_acts.specs.Callers.tenderer_of caller) th.who && (same_id notice th.notice && same_id lot th.lot)) order' none rows seals notice lot security bytes bytes refl refl (λ _. refl)
   same_command caller (commands.Modify receipt bytes) =
-      modified th means s es' ss' moment caller order next (holds_of (is_theirs th) (envelope_at receipt s)) order' none rows seals receipt bytes bytes refl refl (λ _ _. refl)
+      modified th readings s es' ss' moment caller order next (holds_of (is_theirs th) (envelope_at receipt s)) order' none rows seals receipt bytes bytes refl refl (λ _ _. refl)
   same_command caller (commands.Open notice) = quietly caller (commands.Open notice) tt
   same_command caller (commands.Import batch rows) = quietly caller (commands.Import batch rows) tt
   same_command caller (commands.Register tenderer name address key) = quietly caller (commands.Register tenderer name address key) tt
@@ -169,12 +170,12 @@ module _ (th : Theirs) (means : Means) (s : Tables) (es' : List EnvelopeRow) (ss
   -- other bytes of this tenderer for this lot
   other_bytes : (security : Option NamedSecurity) (bytes bytes' : List ℕ) → length bytes ≡ length bytes' → Alike_after (Tenderer th.who) (commands.Present th.notice th.lot security bytes) (commands.Present th.notice th.lot security bytes')
   other_bytes security bytes bytes' len =
-      presented th means s es' ss' moment (Tenderer th.who) order next true order' none rows seals th.notice th.lot security bytes bytes' len
+      presented th readings s es' ss' moment (Tenderer th.who) order next true order' none rows seals th.notice th.lot security bytes bytes' len
       (λ i. same_itself th.who i && (same_itself th.notice i && same_itself th.lot i)) (λ e. cc)
 
   other_tender : (receipt : ℕ) (bytes bytes' : List ℕ) → length bytes ≡ length bytes' → holds_of (is_of_lot th) (envelope_at receipt s) ≡ true → Alike_after (Tenderer th.who) (commands.Modify receipt bytes) (commands.Modify receipt bytes')
   other_tender receipt bytes bytes' len lot =
-      modified th means s es' ss' moment (Tenderer th.who) order next (holds_of (is_theirs th) (envelope_at receipt s)) order' none rows seals receipt bytes bytes' len refl
+      modified th readings s es' ss' moment (Tenderer th.who) order next (holds_of (is_theirs th) (envelope_at receipt s)) order' none rows seals receipt bytes bytes' len refl
       (λ allowed out.
       let x : Given = record { before = s; moment = moment; caller = Tenderer th.who; command = commands.Modify receipt bytes } in
       let passes = none_holds (command_tests x) (allowed_by x allowed) in
@@ -189,8 +190,8 @@ module _ (th : Theirs) (means : Means) (s : Tables) (es' : List EnvelopeRow) (ss
       subst (λ c. Alike_after c command command') who (subst (λ c. Alike_after (Tenderer th.who) c command') is (subst (Alike_after (Tenderer th.who) (commands.Modify receipt bytes)) is' (other_tender receipt bytes bytes' len lot)))
 
 pub steps_stay : StepsStayAlike
-steps_stay th means s s' moment caller command command' order order' next next' alike same =
+steps_stay th readings s s' moment caller command command' order order' next next' alike same =
     let other : s' ≡ record s { envelopes = s'.envelopes; seals = s'.seals } = alike.but_sealed in
     let none : find_seal s'.seals (s.clock.receipts + 1) ≡ None = ap (λ (u : Tables). find_seal s'.seals (u.clock.receipts + 1)) (sym other) ∙ next'.seal in
-    subst (λ u. AcceptedAlike th means (record { before = s; moment = moment; caller = caller; command = command }) (record { before = u; moment = moment; caller = caller; command = command' })) (sym other)
-    (step th means s s'.envelopes s'.seals moment order next (subst IsSorted other order') none alike.envelopes alike.seals caller command command' same)
+    subst (λ u. AcceptedAlike th readings (record { before = s; moment = moment; caller = caller; command = command }) (record { before = u; moment = moment; caller = caller; command = command' })) (sym other)
+    (step th readings s s'.envelopes s'.seals moment order next (subst IsSorted other order') none alike.envelopes alike.seals caller command command' same)

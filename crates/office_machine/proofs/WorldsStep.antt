@@ -24,19 +24,21 @@ use Rattle.office_base.specs.Standings.{standings}
 use Rattle.tender_core.specs.Rules.Import.{after_rows, line_put as import_line}
 use Rattle.tender_core.specs.Rules.Publish.{line_put, lot_put}
 use Rattle.tender_core.specs.Rules.Present.{is_sealed_by}
-use Rattle.tender_core.specs.Rules.Modify.{modify_tests}
-use Rattle.tender_core.specs.Rules.Withdraw.{withdraw_tests}
-use Rattle.award_core.specs.Rules.Examine.{examine_tests}
-use Rattle.tender_core.specs.Rules.AmendNotice.{amend_notice_puts}
-use Rattle.tender_core.specs.Rules.Open.{is_sealed_envelope, opened_envelope, opened_put, open_puts}
-use Rattle.award_core.specs.Rules.Award.{is_admissible, isnt_examined, is_above, winner, award_tests}
-use Rattle.award_core.specs.Rules.Fail.{fail_tests, fail_puts}
-use Rattle.award_core.specs.Rules.AmendContract.{amend_contract_tests, amend_contract_puts}
-use Rattle.award_core.specs.Rules.Pay.{pay_tests, pay_puts}
-use Rattle.award_core.specs.Rules.End.{end_tests, end_puts}
-use Rattle.award_core.specs.Rules.Sign.{sign_puts, tenderer_in, signed_award, contracted_lot, contract_row}
+use Rattle.tender_core.specs.Rules.Modify.{modify_conditions}
+use Rattle.tender_core.specs.Rules.Withdraw.{withdraw_conditions}
+use Rattle.award_core.specs.Rules.Examine.{examine_conditions}
+use Rattle.tender_core.specs.Rules.AmendNotice.{amend_notice_effect}
+use Rattle.tender_core.specs.Rules.Open.{is_sealed_envelope, opened_envelope, opened_put, open_effect}
+use Rattle.award_core.specs.Rules.Award.{is_admissible, isnt_examined, is_above, winner, award_conditions}
+use Rattle.award_core.specs.Rules.Fail.{fail_conditions, fail_effect}
+use Rattle.award_core.specs.Rules.AmendContract.{amend_contract_conditions, amend_contract_effect}
+use Rattle.award_core.specs.Rules.Pay.{pay_conditions, pay_effect}
+use Rattle.award_core.specs.Rules.End.{end_conditions, end_effect}
+use Rattle.award_core.specs.Rules.Sign.{sign_effect, tenderer_in, signed_award, contracted_lot, contract_row}
 use Rattle.office_base.specs.Parents.{notice_of_envelope, lot_of_envelope, security_of_envelope, envelope_of_award, lot_of_award, notice_of_award, securities_of_award, notice_of_contract, lot_of_contract, line_of_lot}
-use Rattle.office_machine.specs.Machine.{Means, tests_for, puts_for, sealed_tender, sealed_tenders, bytes_in, items_in}
+use Rattle.office_machine.specs.Readings.{Readings}
+use Rattle.office_machine.specs.Machine.{tests_for, puts_for}
+use Rattle.office_machine.specs.Rule.{sealed_tender, sealed_tenders, bytes_in, items_in}
 use Rattle.office_machine.specs.Worlds.{Theirs, Pairs}
 use Rattle.office_machine.proofs.WorldsPut.{Alike, IsPlain, PutPair, Plain, Envelopes, AlikeOptions, receipt_is, pairs-found, pairs-filter, pairs-any, blind, blind-option, plain_pairs, pairs-append}
 use Rattle.office_machine.proofs.WorldsEffects.{plain-map, plain-append, pairs-winner, withdraw_pairs, examine_pairs, fail_pairs, cancel_pairs, award_pairs}
@@ -94,7 +96,7 @@ module _ (th : Theirs) (W : ℕ → Bool) (s : Tables) (es' : List EnvelopeRow) 
   contract_line : (o : Option ContractRow) → line_of_lot (lot_of_contract o s') s' ≡ line_of_lot (lot_of_contract o s) s
   contract_line o = lot_line (lot_of_contract o s') ∙ ap (λ l. line_of_lot l s) (contract_lot o)
 
-  awards_alike : (t : ℕ) (n : Option NoticeRow) (l : Option LotRow) (w : Option Rattle.office_base.specs.declared.records.LineRow.LineRow) (es es'' : List EnvelopeRow) → Pairs (Alike th W) es es'' → award_tests t n l w es'' ≡ award_tests t n l w es
+  awards_alike : (t : ℕ) (n : Option NoticeRow) (l : Option LotRow) (w : Option Rattle.office_base.specs.declared.records.LineRow.LineRow) (es es'' : List EnvelopeRow) → Pairs (Alike th W) es es'' → award_conditions t n l w es'' ≡ award_conditions t n l w es
   awards_alike t n l w es es'' all =
       rw (
         pairs-any th W isnt_examined (λ _ _. refl) es es'' all,
@@ -106,16 +108,16 @@ module _ (th : Theirs) (W : ℕ → Bool) (s : Tables) (es' : List EnvelopeRow) 
   pub tests_same : (t : ℕ) (caller : Caller) (command : Command) → tests_for s' t caller command ≡ tests_for s t caller command
   tests_same t caller (Present notice lot security bytes) = rw (pairs-any th W (is_sealed_by caller) (λ _ _. refl) (envelopes_of_lot notice lot s) (envelopes_of_lot notice lot s') (of_lot notice lot)) refl
   tests_same t caller (Modify receipt bytes) =
-      ap (modify_tests s.clock t caller (find_envelope es' receipt)) (envelope_notice (find_envelope es' receipt))
-      ∙ blind-option th W (λ o. modify_tests s.clock t caller o (notice_of_envelope o s)) (λ _ _. refl) (envelope_at receipt s) (find_envelope es' receipt) (found receipt)
+      ap (modify_conditions s.clock t caller (find_envelope es' receipt)) (envelope_notice (find_envelope es' receipt))
+      ∙ blind-option th W (λ o. modify_conditions s.clock t caller o (notice_of_envelope o s)) (λ _ _. refl) (envelope_at receipt s) (find_envelope es' receipt) (found receipt)
   tests_same t caller (Withdraw receipt) =
-      ap (withdraw_tests t caller (find_envelope es' receipt)) (envelope_notice (find_envelope es' receipt))
-      ∙ blind-option th W (λ o. withdraw_tests t caller o (notice_of_envelope o s)) (λ _ _. refl) (envelope_at receipt s) (find_envelope es' receipt) (found receipt)
+      ap (withdraw_conditions t caller (find_envelope es' receipt)) (envelope_notice (find_envelope es' receipt))
+      ∙ blind-option th W (λ o. withdraw_conditions t caller o (notice_of_envelope o s)) (λ _ _. refl) (envelope_at receipt s) (find_envelope es' receipt) (found receipt)
   tests_same t caller (Examine receipt responsive quality) =
-      (λ i. examine_tests (find_envelope es' receipt) (envelope_notice (find_envelope es' receipt) i) (envelope_lot (find_envelope es' receipt) i) responsive quality)
-      ∙ blind-option th W (λ o. examine_tests o (notice_of_envelope o s) (lot_of_envelope o s) responsive quality) (λ _ _. refl) (envelope_at receipt s) (find_envelope es' receipt) (found receipt)
+      (λ i. examine_conditions (find_envelope es' receipt) (envelope_notice (find_envelope es' receipt) i) (envelope_lot (find_envelope es' receipt) i) responsive quality)
+      ∙ blind-option th W (λ o. examine_conditions o (notice_of_envelope o s) (lot_of_envelope o s) responsive quality) (λ _ _. refl) (envelope_at receipt s) (find_envelope es' receipt) (found receipt)
   tests_same t caller (Award notice lot) =
-      ap (λ w. award_tests t (notice_at notice s) (lot_at (notice, lot) s) w (envelopes_of_lot notice lot s')) (lot_line (lot_at (notice, lot) s))
+      ap (λ w. award_conditions t (notice_at notice s) (lot_at (notice, lot) s) w (envelopes_of_lot notice lot s')) (lot_line (lot_at (notice, lot) s))
       ∙ awards_alike t (notice_at notice s) (lot_at (notice, lot) s) (line_of_lot (lot_at (notice, lot) s) s) (envelopes_of_lot notice lot s) (envelopes_of_lot notice lot s') (of_lot notice lot)
   tests_same t caller (Import batch rows) = refl
   tests_same t caller (Register tenderer name address key) = refl
@@ -123,11 +125,11 @@ module _ (th : Theirs) (W : ℕ → Bool) (s : Tables) (es' : List EnvelopeRow) 
   tests_same t caller (AmendNotice notice deadline rationale) = refl
   tests_same t caller (Cancel notice rationale) = refl
   tests_same t caller (Open notice) = refl
-  tests_same t caller (Fail award) = ap (fail_tests t (award_at award s)) (award_notice (award_at award s))
-  tests_same t caller (Sign award) = ap (fail_tests t (award_at award s)) (award_notice (award_at award s))
-  tests_same t caller (AmendContract contract entry kind amount rationale) = λ i. amend_contract_tests (contract_at contract s) (entries_of_contract contract s) (contract_notice (contract_at contract s) i) (contract_line (contract_at contract s) i) entry kind amount
-  tests_same t caller (Pay contract entry amount) = ap (λ n. pay_tests (contract_at contract s) (entries_of_contract contract s) n entry amount) (contract_notice (contract_at contract s))
-  tests_same t caller (End contract how) = ap (end_tests (contract_at contract s)) (contract_notice (contract_at contract s))
+  tests_same t caller (Fail award) = ap (fail_conditions t (award_at award s)) (award_notice (award_at award s))
+  tests_same t caller (Sign award) = ap (fail_conditions t (award_at award s)) (award_notice (award_at award s))
+  tests_same t caller (AmendContract contract entry kind amount rationale) = λ i. amend_contract_conditions (contract_at contract s) (entries_of_contract contract s) (contract_notice (contract_at contract s) i) (contract_line (contract_at contract s) i) entry kind amount
+  tests_same t caller (Pay contract entry amount) = ap (λ n. pay_conditions (contract_at contract s) (entries_of_contract contract s) n entry amount) (contract_notice (contract_at contract s))
+  tests_same t caller (End contract how) = ap (end_conditions (contract_at contract s)) (contract_notice (contract_at contract s))
 
   -- tenders with equal seals are opened alike
   abbrev pub SealsAlike : List EnvelopeRow → Type 0
@@ -149,7 +151,7 @@ module _ (th : Theirs) (W : ℕ → Bool) (s : Tables) (es' : List EnvelopeRow) 
   opened_pairs read (e ∷ es) [] all same = absurd all
   opened_pairs read (e ∷ es) (e' ∷ es'') all same = (opened_pair read e e' all.0 same.0, opened_pairs read es es'' all.1 same.1)
 
-  open_pairs : (read : List ℕ → List Item → Reading) (clock : ClockRow) (t : ℕ) (notice : List ℕ) (n : Option NoticeRow) → SealsAlike (filter is_sealed_envelope (envelopes_of_notice notice s)) → Pairs (PutPair th W) (open_puts read clock t n (sealed_tenders notice s)) (open_puts read clock t n (sealed_tenders notice s'))
+  open_pairs : (read : List ℕ → List Item → Reading) (clock : ClockRow) (t : ℕ) (notice : List ℕ) (n : Option NoticeRow) → SealsAlike (filter is_sealed_envelope (envelopes_of_notice notice s)) → Pairs (PutPair th W) (open_effect read clock t n (sealed_tenders notice s)) (open_effect read clock t n (sealed_tenders notice s'))
   open_pairs read clock t notice None same = tt
   open_pairs read clock t notice (Some n) same =
       pairs-append th W (map (opened_put read) (sealed_tenders notice s)) (map (opened_put read) (sealed_tenders notice s')) _ _
@@ -157,35 +159,35 @@ module _ (th : Theirs) (W : ℕ → Bool) (s : Tables) (es' : List EnvelopeRow) 
       (pairs-filter th W is_sealed_envelope (λ _ _. refl) (envelopes_of_notice notice s) (envelopes_of_notice notice s') (of_notice notice)) same)
       (Plain tt refl, (Plain tt refl, tt))
 
-  plain_options : (clock : ClockRow) (t : ℕ) (notice : Option NoticeRow) (deadline : ℕ) → AllByRecursion IsPlain (amend_notice_puts clock t notice deadline)
+  plain_options : (clock : ClockRow) (t : ℕ) (notice : Option NoticeRow) (deadline : ℕ) → AllByRecursion IsPlain (amend_notice_effect clock t notice deadline)
   plain_options clock t None deadline = tt
   plain_options clock t (Some n) deadline = (tt, (tt, tt))
 
-  sign_plain : (clock : ClockRow) (t : ℕ) (w : Option AwardRow) (n : Option NoticeRow) (l : Option LotRow) (o : Option EnvelopeRow) (r : List Rattle.office_base.specs.declared.records.SecurityRow.SecurityRow) → AllByRecursion IsPlain (sign_puts clock t w n l o r)
+  sign_plain : (clock : ClockRow) (t : ℕ) (w : Option AwardRow) (n : Option NoticeRow) (l : Option LotRow) (o : Option EnvelopeRow) (r : List Rattle.office_base.specs.declared.records.SecurityRow.SecurityRow) → AllByRecursion IsPlain (sign_effect clock t w n l o r)
   sign_plain clock t (Some w) (Some n) (Some l) o r = (tt, (tt, (tt, (tt, (tt, plain-map security_returned (filter is_held_security r) (λ _. tt))))))
   sign_plain clock t None n l o r = tt
   sign_plain clock t (Some w) None l o r = tt
   sign_plain clock t (Some w) (Some n) None o r = tt
 
-  sign_blind : (clock : ClockRow) (t : ℕ) (w : Option AwardRow) (n : Option NoticeRow) (l : Option LotRow) (o o' : Option EnvelopeRow) (r : List Rattle.office_base.specs.declared.records.SecurityRow.SecurityRow) → tenderer_in o' ≡ tenderer_in o → sign_puts clock t w n l o' r ≡ sign_puts clock t w n l o r
+  sign_blind : (clock : ClockRow) (t : ℕ) (w : Option AwardRow) (n : Option NoticeRow) (l : Option LotRow) (o o' : Option EnvelopeRow) (r : List Rattle.office_base.specs.declared.records.SecurityRow.SecurityRow) → tenderer_in o' ≡ tenderer_in o → sign_effect clock t w n l o' r ≡ sign_effect clock t w n l o r
   sign_blind clock t (Some w) (Some n) (Some l) o o' r e =
       ap (λ x. puts.Award (signed_award w) ∷ puts.Lot (contracted_lot l) ∷ puts.Contract (contract_row t w x) ∷ puts.Notice (released n) ∷ clock_put clock t ∷ securities_returned r) e
   sign_blind clock t None n l o o' r e = refl
   sign_blind clock t (Some w) None l o o' r e = refl
   sign_blind clock t (Some w) (Some n) None o o' r e = refl
 
-  amend_plain : (clock : ClockRow) (t : ℕ) (c : Option ContractRow) (n : Option NoticeRow) (w : Option Rattle.office_base.specs.declared.records.LineRow.LineRow) (entry : List ℕ) (kind : ChangeKind) (amount : ℕ) (rationale : List ℕ) → AllByRecursion IsPlain (amend_contract_puts clock t c n w entry kind amount rationale)
+  amend_plain : (clock : ClockRow) (t : ℕ) (c : Option ContractRow) (n : Option NoticeRow) (w : Option Rattle.office_base.specs.declared.records.LineRow.LineRow) (entry : List ℕ) (kind : ChangeKind) (amount : ℕ) (rationale : List ℕ) → AllByRecursion IsPlain (amend_contract_effect clock t c n w entry kind amount rationale)
   amend_plain clock t (Some c) (Some n) (Some w) entry kind amount rationale = (tt, (tt, (tt, (tt, tt))))
   amend_plain clock t None n w entry kind amount rationale = tt
   amend_plain clock t (Some c) None w entry kind amount rationale = tt
   amend_plain clock t (Some c) (Some n) None entry kind amount rationale = tt
 
-  pay_plain : (clock : ClockRow) (t : ℕ) (c : Option ContractRow) (n : Option NoticeRow) (entry : List ℕ) (amount : ℕ) → AllByRecursion IsPlain (pay_puts clock t c n entry amount)
+  pay_plain : (clock : ClockRow) (t : ℕ) (c : Option ContractRow) (n : Option NoticeRow) (entry : List ℕ) (amount : ℕ) → AllByRecursion IsPlain (pay_effect clock t c n entry amount)
   pay_plain clock t (Some c) (Some n) entry amount = (tt, (tt, (tt, tt)))
   pay_plain clock t None n entry amount = tt
   pay_plain clock t (Some c) None entry amount = tt
 
-  end_plain : (clock : ClockRow) (t : ℕ) (how : Rattle.office_acts.specs.declared.contract.How.How) (c : Option ContractRow) (es : List Rattle.office_base.specs.declared.records.EntryRow.EntryRow) (n : Option NoticeRow) (w : Option Rattle.office_base.specs.declared.records.LineRow.LineRow) → AllByRecursion IsPlain (end_puts clock t how c es n w)
+  end_plain : (clock : ClockRow) (t : ℕ) (how : Rattle.office_acts.specs.declared.contract.How.How) (c : Option ContractRow) (es : List Rattle.office_base.specs.declared.records.EntryRow.EntryRow) (n : Option NoticeRow) (w : Option Rattle.office_base.specs.declared.records.LineRow.LineRow) → AllByRecursion IsPlain (end_effect clock t how c es n w)
   end_plain clock t how (Some c) es (Some n) (Some w) = (tt, (tt, (tt, (tt, tt))))
   end_plain clock t how None es n w = tt
   end_plain clock t how (Some c) es None w = tt
@@ -206,45 +208,45 @@ module _ (th : Theirs) (W : ℕ → Bool) (s : Tables) (es' : List EnvelopeRow) 
   IsQuiet command = Unit {0}
 
   -- what a command puts that gives no receipt
-  pub puts_pair : (means : Means) (t : ℕ) (caller : Caller) (command : Command) → IsQuiet command → Pairs (PutPair th W) (puts_for means s t caller command) (puts_for means s' t caller command)
-  puts_pair means t caller (Present notice lot security bytes) quiet = absurd quiet
-  puts_pair means t caller (Modify receipt bytes) quiet = absurd quiet
-  puts_pair means t caller (Import batch rows) quiet = plain_pairs th W (puts_for means s t caller (Import batch rows))
+  pub puts_pair : (readings : Readings) (t : ℕ) (caller : Caller) (command : Command) → IsQuiet command → Pairs (PutPair th W) (puts_for readings s t caller command) (puts_for readings s' t caller command)
+  puts_pair readings t caller (Present notice lot security bytes) quiet = absurd quiet
+  puts_pair readings t caller (Modify receipt bytes) quiet = absurd quiet
+  puts_pair readings t caller (Import batch rows) quiet = plain_pairs th W (puts_for readings s t caller (Import batch rows))
       (plain-append (map (import_line (after_rows (standings s) rows)) rows) _ (plain-map (import_line (after_rows (standings s) rows)) rows (λ _. tt)) (tt, (tt, tt)))
-  puts_pair means t caller (Register tenderer name address key) quiet = (Plain tt refl, (Plain tt refl, tt))
-  puts_pair means t caller (Publish notice content) quiet = plain_pairs th W (puts_for means s t caller (Publish notice content))
+  puts_pair readings t caller (Register tenderer name address key) quiet = (Plain tt refl, (Plain tt refl, tt))
+  puts_pair readings t caller (Publish notice content) quiet = plain_pairs th W (puts_for readings s t caller (Publish notice content))
       (plain-append (map (line_put s.lines content.lots) content.lots ++ map (lot_put notice) content.lots) _
       (plain-append (map (line_put s.lines content.lots) content.lots) (map (lot_put notice) content.lots) (plain-map (line_put s.lines content.lots) content.lots (λ _. tt)) (plain-map (lot_put notice) content.lots (λ _. tt))) (tt, (tt, tt)))
-  puts_pair means t caller (AmendNotice notice deadline rationale) quiet = plain_pairs th W (amend_notice_puts s.clock t (notice_at notice s) deadline) (plain_options s.clock t (notice_at notice s) deadline)
-  puts_pair means t caller (Cancel notice rationale) quiet = cancel_pairs th W s.clock t s.lines (notice_at notice s) (lots_of_notice notice s) (awards_of_notice notice s) (envelopes_of_notice notice s) (envelopes_of_notice notice s') (securities_of_notice notice s) (of_notice notice)
-  puts_pair means t caller (Open notice) quiet = open_pairs means.read s.clock t notice (notice_at notice s) quiet
-  puts_pair means t caller (Withdraw receipt) quiet = withdraw_pairs th W s.clock t (envelope_at receipt s) (find_envelope es' receipt) (security_of_envelope (envelope_at receipt s) s) (security_of_envelope (find_envelope es' receipt) s') (found receipt) (envelope_security (find_envelope es' receipt) ∙ security_of (envelope_at receipt s) (find_envelope es' receipt) (found receipt))
-  puts_pair means t caller (Examine receipt responsive quality) quiet = examine_pairs th W s.clock t responsive quality (envelope_at receipt s) (find_envelope es' receipt) (found receipt)
-  puts_pair means t caller (Award notice lot) quiet =
-      subst (λ w. Pairs (PutPair th W) (puts_for means s t caller (Award notice lot)) (Rattle.award_core.specs.Rules.Award.award_puts s.clock t (notice_at notice s) (lot_at (notice, lot) s) w (envelopes_of_lot notice lot s') (securities_of_lot notice lot s)))
+  puts_pair readings t caller (AmendNotice notice deadline rationale) quiet = plain_pairs th W (amend_notice_effect s.clock t (notice_at notice s) deadline) (plain_options s.clock t (notice_at notice s) deadline)
+  puts_pair readings t caller (Cancel notice rationale) quiet = cancel_pairs th W s.clock t s.lines (notice_at notice s) (lots_of_notice notice s) (awards_of_notice notice s) (envelopes_of_notice notice s) (envelopes_of_notice notice s') (securities_of_notice notice s) (of_notice notice)
+  puts_pair readings t caller (Open notice) quiet = open_pairs readings.read s.clock t notice (notice_at notice s) quiet
+  puts_pair readings t caller (Withdraw receipt) quiet = withdraw_pairs th W s.clock t (envelope_at receipt s) (find_envelope es' receipt) (security_of_envelope (envelope_at receipt s) s) (security_of_envelope (find_envelope es' receipt) s') (found receipt) (envelope_security (find_envelope es' receipt) ∙ security_of (envelope_at receipt s) (find_envelope es' receipt) (found receipt))
+  puts_pair readings t caller (Examine receipt responsive quality) quiet = examine_pairs th W s.clock t responsive quality (envelope_at receipt s) (find_envelope es' receipt) (found receipt)
+  puts_pair readings t caller (Award notice lot) quiet =
+      subst (λ w. Pairs (PutPair th W) (puts_for readings s t caller (Award notice lot)) (Rattle.award_core.specs.Rules.Award.award_effect s.clock t (notice_at notice s) (lot_at (notice, lot) s) w (envelopes_of_lot notice lot s') (securities_of_lot notice lot s)))
       (sym (lot_line (lot_at (notice, lot) s)))
       (award_pairs th W s.clock t (notice_at notice s) (lot_at (notice, lot) s) (line_of_lot (lot_at (notice, lot) s) s) (envelopes_of_lot notice lot s) (envelopes_of_lot notice lot s') (securities_of_lot notice lot s) (of_lot notice lot))
-  puts_pair means t caller (Fail award) quiet =
+  puts_pair readings t caller (Fail award) quiet =
       let o : Option EnvelopeRow = envelope_of_award (award_at award s) s in
       let o' : Option EnvelopeRow = envelope_of_award (award_at award s) s' in
-      subst (λ ps. Pairs (PutPair th W) (puts_for means s t caller (Fail award)) ps)
-      (λ i. fail_puts s.clock t (award_at award s) (sym (award_notice (award_at award s)) i) (sym (award_lot (award_at award s)) i) o' (security_of_envelope o' s'))
+      subst (λ ps. Pairs (PutPair th W) (puts_for readings s t caller (Fail award)) ps)
+      (λ i. fail_effect s.clock t (award_at award s) (sym (award_notice (award_at award s)) i) (sym (award_lot (award_at award s)) i) o' (security_of_envelope o' s'))
       (fail_pairs th W s.clock t (award_at award s) (notice_of_award (award_at award s) s) (lot_of_award (award_at award s) s) o o' (security_of_envelope o s) (security_of_envelope o' s') (envelope_of (award_at award s)) (envelope_security o' ∙ security_of o o' (envelope_of (award_at award s))))
-  puts_pair means t caller (Sign award) quiet =
+  puts_pair readings t caller (Sign award) quiet =
       let o : Option EnvelopeRow = envelope_of_award (award_at award s) s in
       let o' : Option EnvelopeRow = envelope_of_award (award_at award s) s' in
-      subst (λ ps. Pairs (PutPair th W) (puts_for means s t caller (Sign award)) ps)
+      subst (λ ps. Pairs (PutPair th W) (puts_for readings s t caller (Sign award)) ps)
       (sym (sign_blind s.clock t (award_at award s) (notice_of_award (award_at award s) s) (lot_of_award (award_at award s) s) o o' (securities_of_award (award_at award s) s) (blind-option th W tenderer_in (λ _ _. refl) o o' (envelope_of (award_at award s))))
-      ∙ (λ i. sign_puts s.clock t (award_at award s) (sym (award_notice (award_at award s)) i) (sym (award_lot (award_at award s)) i) o' (sym (award_securities (award_at award s)) i)))
-      (plain_pairs th W (puts_for means s t caller (Sign award)) (sign_plain s.clock t (award_at award s) (notice_of_award (award_at award s) s) (lot_of_award (award_at award s) s) o (securities_of_award (award_at award s) s)))
-  puts_pair means t caller (AmendContract contract entry kind amount rationale) quiet =
-      subst (λ ps. Pairs (PutPair th W) (puts_for means s t caller (AmendContract contract entry kind amount rationale)) ps)
-      (λ i. amend_contract_puts s.clock t (contract_at contract s) (sym (contract_notice (contract_at contract s)) i) (sym (contract_line (contract_at contract s)) i) entry kind amount rationale)
-      (plain_pairs th W (puts_for means s t caller (AmendContract contract entry kind amount rationale)) (amend_plain s.clock t (contract_at contract s) (notice_of_contract (contract_at contract s) s) (line_of_lot (lot_of_contract (contract_at contract s) s) s) entry kind amount rationale))
-  puts_pair means t caller (Pay contract entry amount) quiet =
-      subst (λ n. Pairs (PutPair th W) (puts_for means s t caller (Pay contract entry amount)) (pay_puts s.clock t (contract_at contract s) n entry amount)) (sym (contract_notice (contract_at contract s)))
-      (plain_pairs th W (puts_for means s t caller (Pay contract entry amount)) (pay_plain s.clock t (contract_at contract s) (notice_of_contract (contract_at contract s) s) entry amount))
-  puts_pair means t caller (End contract how) quiet =
-      subst (λ ps. Pairs (PutPair th W) (puts_for means s t caller (End contract how)) ps)
-      (λ i. end_puts s.clock t how (contract_at contract s) (entries_of_contract contract s) (sym (contract_notice (contract_at contract s)) i) (sym (contract_line (contract_at contract s)) i))
-      (plain_pairs th W (puts_for means s t caller (End contract how)) (end_plain s.clock t how (contract_at contract s) (entries_of_contract contract s) (notice_of_contract (contract_at contract s) s) (line_of_lot (lot_of_contract (contract_at contract s) s) s)))
+      ∙ (λ i. sign_effect s.clock t (award_at award s) (sym (award_notice (award_at award s)) i) (sym (award_lot (award_at award s)) i) o' (sym (award_securities (award_at award s)) i)))
+      (plain_pairs th W (puts_for readings s t caller (Sign award)) (sign_plain s.clock t (award_at award s) (notice_of_award (award_at award s) s) (lot_of_award (award_at award s) s) o (securities_of_award (award_at award s) s)))
+  puts_pair readings t caller (AmendContract contract entry kind amount rationale) quiet =
+      subst (λ ps. Pairs (PutPair th W) (puts_for readings s t caller (AmendContract contract entry kind amount rationale)) ps)
+      (λ i. amend_contract_effect s.clock t (contract_at contract s) (sym (contract_notice (contract_at contract s)) i) (sym (contract_line (contract_at contract s)) i) entry kind amount rationale)
+      (plain_pairs th W (puts_for readings s t caller (AmendContract contract entry kind amount rationale)) (amend_plain s.clock t (contract_at contract s) (notice_of_contract (contract_at contract s) s) (line_of_lot (lot_of_contract (contract_at contract s) s) s) entry kind amount rationale))
+  puts_pair readings t caller (Pay contract entry amount) quiet =
+      subst (λ n. Pairs (PutPair th W) (puts_for readings s t caller (Pay contract entry amount)) (pay_effect s.clock t (contract_at contract s) n entry amount)) (sym (contract_notice (contract_at contract s)))
+      (plain_pairs th W (puts_for readings s t caller (Pay contract entry amount)) (pay_plain s.clock t (contract_at contract s) (notice_of_contract (contract_at contract s) s) entry amount))
+  puts_pair readings t caller (End contract how) quiet =
+      subst (λ ps. Pairs (PutPair th W) (puts_for readings s t caller (End contract how)) ps)
+      (λ i. end_effect s.clock t how (contract_at contract s) (entries_of_contract contract s) (sym (contract_notice (contract_at contract s)) i) (sym (contract_line (contract_at contract s)) i))
+      (plain_pairs th W (puts_for readings s t caller (End contract how)) (end_plain s.clock t how (contract_at contract s) (entries_of_contract contract s) (notice_of_contract (contract_at contract s) s) (line_of_lot (lot_of_contract (contract_at contract s) s) s)))

@@ -215,7 +215,7 @@ numbers from (suc n) = from ∷ numbers (from + 1) n
 -- the state of its fate
 pub record TendersHaveFates (means : Means) (xs : List Given) (t : Tables) : Type 0 where
   pub numbered : map envelope_key t.envelopes ≡ numbers 1 t.clock.receipts
-  pub each : (r : ℕ) → TenderIs means.digest r (came xs r) (fate_of_tender xs r) (envelope_at r t) (seal_at r t)
+  pub each : (r : ℕ) → TenderIs means.readings.digest r (came xs r) (fate_of_tender xs r) (envelope_at r t) (seal_at r t)
   pub seals_in_order : IsInOrder nat_cmp seal_key t.seals
 
 -- the securities are those named at accepted receptions, each in the state of its fate

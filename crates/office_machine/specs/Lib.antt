@@ -1,9 +1,14 @@
 pub mod Filtered
+pub mod Counted
+pub mod Readings
+pub mod Replies
+pub mod Rule
+pub mod Commands
+pub mod Rules
 pub mod Publications
 pub mod Machine
 pub mod Clock
 pub mod OfficeMeans
-pub mod Decided
 pub mod Moves
 pub mod Accounts
 pub mod Fits
@@ -12,7 +17,6 @@ pub mod Releases
 pub mod Order
 pub mod Worlds
 pub mod Fates
-pub mod Replies
 pub mod Outstanding
 pub mod Sights
 pub mod Requests

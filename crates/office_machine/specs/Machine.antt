@@ -1,8 +1,6 @@
 -- The office machine: when a command is refused, and the office after it.
-use Rattle.std.specs.Prelude.{◌≡◌, ℕ, ◌+◌, Bool, false, not, List, [], ◌∷◌, ◌++◌, map, filter, Option, Some, None, is_some, IsSome, max, option_map, option_and_then}
+use Rattle.std.specs.Prelude.{◌≡◌, ℕ, ◌+◌, Bool, false, not, List, [], ◌∷◌, ◌++◌, Option, Some, None, IsSome, max, option_map, option_and_then}
 use Rattle.office_acts.specs.Identified.{repeats_id}
-use Rattle.office_acts.specs.declared.item.Item.{Item}
-use Rattle.office_base.specs.declared.reading.Reading.{Reading}
 use Rattle.office_acts.specs.declared.command.Caller.{Caller}
 use Rattle.office_acts.specs.declared.command.Caller.TheVariants.{Tenderer}
 use Rattle.office_base.specs.declared.records.TendererRow.{TendererRow}
@@ -10,39 +8,22 @@ use Rattle.office_acts.specs.Lots.{lot_id}
 use Rattle.office_acts.specs.declared.commands.Command.{Command}
 use Rattle.office_acts.specs.Rights.{may}
 use Rattle.office_acts.specs.Commands.{kind_of}
-use Rattle.office_acts.specs.declared.commands.Command.TheVariants.{Import, Register, Publish, AmendNotice, Cancel, Open, Present, Modify, Withdraw, Examine, Award, Fail, Sign, AmendContract, Pay, End}
+use Rattle.office_acts.specs.declared.commands.Command.TheVariants.{Publish}
 use Rattle.office_values.specs.declared.refusal.Refusal.{Refusal}
 use Rattle.office_values.specs.declared.refusal.Refusal.TheVariants.{Forbidden}
-use Rattle.office_base.specs.declared.records.LotRow.{LotRow}
-use Rattle.office_base.specs.declared.records.EnvelopeRow.{EnvelopeRow}
-use Rattle.office_base.specs.declared.records.SealRow.{SealRow}
 use Rattle.office_base.specs.declared.records.ReleaseRow.{ReleaseRow}
 use Rattle.office_base.specs.declared.records.CompiledRow.{CompiledRow}
 use Rattle.office_base.specs.Rows.{IsInOrder}
 use Rattle.office_values.specs.Ids.{id_cmp}
-use Rattle.office_base.specs.Tables.{Tables, no_tables, compiled_key, find_tenderer, batch_at, tenderer_at, notice_at, lot_at, envelope_at, seal_at, award_at, contract_at, lots_of_notice, envelopes_of_notice, envelopes_of_lot, securities_of_notice, securities_of_lot, awards_of_notice, entries_of_contract, after_puts}
+use Rattle.office_base.specs.Tables.{Tables, no_tables, compiled_key, find_tenderer, notice_at, after_puts}
 use Rattle.office_base.specs.declared.puts.Put.TheVariants as puts
 use Rattle.office_base.specs.declared.puts.Put.{Put}
-use Rattle.office_base.specs.Parents.{notice_of_envelope, lot_of_envelope, security_of_envelope, line_of_lot, notice_of_award, lot_of_award, envelope_of_award, securities_of_award, notice_of_contract, lot_of_contract}
-use Rattle.office_base.specs.Standings.{standings}
 use Rattle.office_base.specs.Rules.{first_of}
-use Rattle.office_machine.specs.Publications.{published_for, releases_in}
-use Rattle.tender_core.specs.Rules.Import.{import_tests, import_puts}
-use Rattle.tender_core.specs.Rules.Register.{register_tests, register_puts}
-use Rattle.tender_core.specs.Rules.Publish.{publish_tests, publish_puts}
-use Rattle.tender_core.specs.Rules.AmendNotice.{amend_notice_tests, amend_notice_puts}
-use Rattle.tender_core.specs.Rules.Cancel.{cancel_tests, cancel_puts}
-use Rattle.tender_core.specs.Rules.Open.{SealedTender, is_sealed_envelope, open_tests, open_puts}
-use Rattle.tender_core.specs.Rules.Present.{present_tests, present_puts}
-use Rattle.tender_core.specs.Rules.Modify.{modify_tests, modify_puts}
-use Rattle.tender_core.specs.Rules.Withdraw.{withdraw_tests, withdraw_puts}
-use Rattle.award_core.specs.Rules.Examine.{examine_tests, examine_puts}
-use Rattle.award_core.specs.Rules.Award.{award_tests, award_puts}
-use Rattle.award_core.specs.Rules.Fail.{fail_tests, fail_puts}
-use Rattle.award_core.specs.Rules.Sign.{sign_tests, sign_puts}
-use Rattle.award_core.specs.Rules.AmendContract.{amend_contract_tests, amend_contract_puts}
-use Rattle.award_core.specs.Rules.Pay.{pay_tests, pay_puts}
-use Rattle.award_core.specs.Rules.End.{end_tests, end_puts}
+use Rattle.office_machine.specs.Publications.{published_for}
+use Rattle.office_machine.specs.Counted.{releases_in}
+use Rattle.office_machine.specs.Readings.{Readings}
+use Rattle.office_machine.specs.Replies.{Reply}
+use Rattle.office_machine.specs.Rules.{rule_of}
 
 -- a command that was given, with the office before it
 pub record Given : Type 0 where
@@ -59,46 +40,9 @@ may_give caller command = may caller (kind_of command)
 abbrev pub time_of : Given → ℕ
 time_of x = max x.moment x.before.clock.moment
 
--- the bytes of a seal, and the items of a lot; none where it isn't there
-abbrev pub bytes_in : Option SealRow → List ℕ
-bytes_in None = []
-bytes_in (Some seal) = seal.bytes
-
-abbrev pub items_in : Option LotRow → List Item
-items_in None = []
-items_in (Some l) = l.items
-
--- the sealed tenders of a notice, each with its bytes and the items of its lot
-abbrev pub sealed_tender : Tables → EnvelopeRow → SealedTender
-sealed_tender s e = record { envelope = e; bytes = bytes_in (seal_at e.receipt s); items = items_in (lot_at (e.notice, e.lot) s) }
-
-abbrev pub sealed_tenders : List ℕ → Tables → List SealedTender
-sealed_tenders notice s = map (sealed_tender s) (filter is_sealed_envelope (envelopes_of_notice notice s))
-
 -- the conditions of the command's refusals, in their order
 abbrev pub tests_for : Tables → ℕ → Caller → Command → List (Bool × Refusal)
-tests_for s t caller (Import batch rows) = import_tests (standings s) (is_some (batch_at batch s)) rows
-tests_for s t caller (Register tenderer name address key) = register_tests (tenderer_at tenderer s) tenderer
-tests_for s t caller (Publish notice content) = publish_tests s.lines (is_some (notice_at notice s)) t content
-tests_for s t caller (AmendNotice notice deadline rationale) = amend_notice_tests (notice_at notice s) t deadline
-tests_for s t caller (Cancel notice rationale) = cancel_tests (notice_at notice s) (lots_of_notice notice s)
-tests_for s t caller (Open notice) = open_tests t (notice_at notice s)
-tests_for s t caller (Present notice lot security bytes) =
-    present_tests s.clock t caller (notice_at notice s) (lot_at (notice, lot) s) (envelopes_of_lot notice lot s) security
-tests_for s t caller (Modify receipt bytes) = modify_tests s.clock t caller (envelope_at receipt s) (notice_of_envelope (envelope_at receipt s) s)
-tests_for s t caller (Withdraw receipt) = withdraw_tests t caller (envelope_at receipt s) (notice_of_envelope (envelope_at receipt s) s)
-tests_for s t caller (Examine receipt responsive quality) =
-    examine_tests (envelope_at receipt s) (notice_of_envelope (envelope_at receipt s) s) (lot_of_envelope (envelope_at receipt s) s) responsive quality
-tests_for s t caller (Award notice lot) =
-    award_tests t (notice_at notice s) (lot_at (notice, lot) s) (line_of_lot (lot_at (notice, lot) s) s) (envelopes_of_lot notice lot s)
-tests_for s t caller (Fail award) = fail_tests t (award_at award s) (notice_of_award (award_at award s) s)
-tests_for s t caller (Sign award) = sign_tests t (award_at award s) (notice_of_award (award_at award s) s)
-tests_for s t caller (AmendContract contract entry kind amount rationale) =
-    amend_contract_tests (contract_at contract s) (entries_of_contract contract s) (notice_of_contract (contract_at contract s) s)
-    (line_of_lot (lot_of_contract (contract_at contract s) s) s) entry kind amount
-tests_for s t caller (Pay contract entry amount) =
-    pay_tests (contract_at contract s) (entries_of_contract contract s) (notice_of_contract (contract_at contract s) s) entry amount
-tests_for s t caller (End contract how) = end_tests (contract_at contract s) (notice_of_contract (contract_at contract s) s)
+tests_for s t caller command = (rule_of command).tests s t caller
 
 abbrev pub command_tests : Given → List (Bool × Refusal)
 command_tests x = tests_for x.before (time_of x) x.caller x.command
@@ -110,11 +54,9 @@ tests x = (not (may_give x.caller x.command), Forbidden) ∷ command_tests x
 abbrev pub refusal_of : Given → Option Refusal
 refusal_of x = first_of (tests x)
 
--- what the machine takes from elsewhere: how a tender reads, the digest of bytes, and the text of a command's release; none where
--- releases aren't made
+-- what the machine takes from elsewhere, with the text of a command's release; none where releases aren't made
 pub record Means : Type 0 where
-  pub read : List ℕ → List Item → Reading
-  pub digest : List ℕ → List ℕ
+  pub readings : Readings
   pub release : Given → Option (List ℕ)
 
 -- what a command publishes: a release of its notice, under the next number
@@ -132,42 +74,22 @@ publication_puts None = []
 publication_puts (Some release) = puts.Release release ∷ []
 
 -- what an accepted command puts, but for its publication
-abbrev pub puts_for : Means → Tables → ℕ → Caller → Command → List Put
-puts_for means s t caller (Import batch rows) = import_puts s.clock t batch (standings s) rows
-puts_for means s t caller (Register tenderer name address key) = register_puts s.clock t tenderer name address key
-puts_for means s t caller (Publish notice content) = publish_puts s.clock t notice s.lines content
-puts_for means s t caller (AmendNotice notice deadline rationale) = amend_notice_puts s.clock t (notice_at notice s) deadline
-puts_for means s t caller (Cancel notice rationale) =
-    cancel_puts s.clock t s.lines (notice_at notice s) (lots_of_notice notice s) (awards_of_notice notice s) (envelopes_of_notice notice s) (securities_of_notice notice s)
-puts_for means s t caller (Open notice) = open_puts means.read s.clock t (notice_at notice s) (sealed_tenders notice s)
-puts_for means s t caller (Present notice lot security bytes) =
-    present_puts means.digest s.clock t caller notice lot (notice_at notice s) security bytes
-puts_for means s t caller (Modify receipt bytes) = modify_puts means.digest s.clock t (envelope_at receipt s) bytes
-puts_for means s t caller (Withdraw receipt) = withdraw_puts s.clock t (envelope_at receipt s) (security_of_envelope (envelope_at receipt s) s)
-puts_for means s t caller (Examine receipt responsive quality) = examine_puts s.clock t (envelope_at receipt s) responsive quality
-puts_for means s t caller (Award notice lot) =
-    award_puts s.clock t (notice_at notice s) (lot_at (notice, lot) s) (line_of_lot (lot_at (notice, lot) s) s)
-    (envelopes_of_lot notice lot s) (securities_of_lot notice lot s)
-puts_for means s t caller (Fail award) =
-    fail_puts s.clock t (award_at award s) (notice_of_award (award_at award s) s) (lot_of_award (award_at award s) s)
-    (envelope_of_award (award_at award s) s) (security_of_envelope (envelope_of_award (award_at award s) s) s)
-puts_for means s t caller (Sign award) =
-    sign_puts s.clock t (award_at award s) (notice_of_award (award_at award s) s) (lot_of_award (award_at award s) s)
-    (envelope_of_award (award_at award s) s) (securities_of_award (award_at award s) s)
-puts_for means s t caller (AmendContract contract entry kind amount rationale) =
-    amend_contract_puts s.clock t (contract_at contract s) (notice_of_contract (contract_at contract s) s)
-    (line_of_lot (lot_of_contract (contract_at contract s) s) s) entry kind amount rationale
-puts_for means s t caller (Pay contract entry amount) =
-    pay_puts s.clock t (contract_at contract s) (notice_of_contract (contract_at contract s) s) entry amount
-puts_for means s t caller (End contract how) =
-    end_puts s.clock t how (contract_at contract s) (entries_of_contract contract s) (notice_of_contract (contract_at contract s) s)
-    (line_of_lot (lot_of_contract (contract_at contract s) s) s)
+abbrev pub puts_for : Readings → Tables → ℕ → Caller → Command → List Put
+puts_for readings s t caller command = (rule_of command).puts readings s t caller
 
-abbrev pub effect : Means → Given → List Put
-effect means x = puts_for means x.before (time_of x) x.caller x.command
+-- the reply to it, with the office before it and the office after it
+abbrev pub reply_for : Readings → Tables → Tables → ℕ → Caller → Command → Reply
+reply_for readings s u t caller command = (rule_of command).reply readings s u t caller
+
+abbrev pub effect : Readings → Given → List Put
+effect readings x = puts_for readings x.before (time_of x) x.caller x.command
+
+-- the office once a command has its effect
+abbrev pub done : Readings → Given → Tables
+done readings x = after_puts (effect readings x) x.before
 
 abbrev pub puts_of : Means → Given → List Put
-puts_of means x = effect means x ++ publication_puts (publication means x)
+puts_of means x = effect means.readings x ++ publication_puts (publication means x)
 
 -- the office after an accepted command
 abbrev pub next : Means → Given → Tables

@@ -11,7 +11,8 @@ use Rattle.office_base.specs.declared.records.LineRow.{LineRow}
 use Rattle.office_base.specs.declared.records.NoticeRow.{NoticeRow}
 use Rattle.office_base.specs.declared.records.ContractRow.{ContractRow}
 use Rattle.office_base.specs.declared.records.EntryRow.{EntryRow}
-use Rattle.office_machine.specs.Machine.{Means, Given, Reaches, refusal_of, next}
+use Rattle.office_machine.specs.Readings.{Readings}
+use Rattle.office_machine.specs.Machine.{Means, Given, Reaches, refusal_of, done}
 use Rattle.office_machine.specs.Replies.{left_of}
 
 -- what is outstanding once so much more has come and gone
@@ -38,8 +39,8 @@ left_by_end (Some c) entries (Some n) (Some w) = left_with entries c c.released 
 left_by_end contract entries notice line = left_of contract entries
 
 -- what is outstanding of a contract after a command
-abbrev pub left_after : Means → Given → ℕ → ℕ
-left_after means x contract = left_of (contract_at contract (next means x)) (next means x).entries
+abbrev pub left_after : Readings → Given → ℕ → ℕ
+left_after readings x contract = left_of (contract_at contract (done readings x)) (done readings x).entries
 
 -- and before it, by the contract's own entries
 abbrev pub left_before : Tables → ℕ → ℕ
@@ -53,27 +54,27 @@ abbrev pub line_under : ℕ → Tables → Option LineRow
 line_under contract s = line_of_lot (lot_of_contract (contract_at contract s) s) s
 
 -- after an accepted command, by the rows that it looks at, in any office
-abbrev pub IsLeft : Means → Given → Tables → Command → Type 0
-IsLeft means x s (AmendContract contract entry kind amount rationale) =
-    left_after means x contract
+abbrev pub IsLeft : Readings → Given → Tables → Command → Type 0
+IsLeft readings x s (AmendContract contract entry kind amount rationale) =
+    left_after readings x contract
     ≡ left_by_change kind (contract_at contract s) (entries_of_contract contract s) (notice_under contract s) (line_under contract s) amount
-IsLeft means x s (Pay contract entry amount) =
-    left_after means x contract ≡ left_by_payment (contract_at contract s) (entries_of_contract contract s) (notice_under contract s) amount
-IsLeft means x s (End contract how) =
-    left_after means x contract ≡ left_by_end (contract_at contract s) (entries_of_contract contract s) (notice_under contract s) (line_under contract s)
-IsLeft means x s command = Unit {0}
+IsLeft readings x s (Pay contract entry amount) =
+    left_after readings x contract ≡ left_by_payment (contract_at contract s) (entries_of_contract contract s) (notice_under contract s) amount
+IsLeft readings x s (End contract how) =
+    left_after readings x contract ≡ left_by_end (contract_at contract s) (entries_of_contract contract s) (notice_under contract s) (line_under contract s)
+IsLeft readings x s command = Unit {0}
 
 abbrev pub LeftIsKnown : Type 0
-LeftIsKnown = (means : Means) (x : Given) → refusal_of x ≡ None → IsLeft means x x.before x.command
+LeftIsKnown = (readings : Readings) (x : Given) → refusal_of x ≡ None → IsLeft readings x x.before x.command
 
 -- in an office that commands reach: a raise adds its amount, a cut or a payment takes its amount off, and at most what is outstanding;
 -- an end leaves nothing
-abbrev pub IsBooked : Means → Given → Tables → Command → Type 0
-IsBooked means x s (AmendContract contract entry change_kinds.Raise amount rationale) = left_after means x contract ≡ left_before s contract + amount
-IsBooked means x s (AmendContract contract entry change_kinds.Cut amount rationale) = left_after means x contract + amount ≡ left_before s contract
-IsBooked means x s (Pay contract entry amount) = left_after means x contract + amount ≡ left_before s contract
-IsBooked means x s (End contract how) = left_after means x contract ≡ 0
-IsBooked means x s command = Unit {0}
+abbrev pub IsBooked : Readings → Given → Tables → Command → Type 0
+IsBooked readings x s (AmendContract contract entry change_kinds.Raise amount rationale) = left_after readings x contract ≡ left_before s contract + amount
+IsBooked readings x s (AmendContract contract entry change_kinds.Cut amount rationale) = left_after readings x contract + amount ≡ left_before s contract
+IsBooked readings x s (Pay contract entry amount) = left_after readings x contract + amount ≡ left_before s contract
+IsBooked readings x s (End contract how) = left_after readings x contract ≡ 0
+IsBooked readings x s command = Unit {0}
 
 abbrev pub LeftIsBooked : Type 0
-LeftIsBooked = (means : Means) (xs : List Given) (x : Given) → Reaches means xs x.before → refusal_of x ≡ None → IsBooked means x x.before x.command
+LeftIsBooked = (means : Means) (xs : List Given) (x : Given) → Reaches means xs x.before → refusal_of x ≡ None → IsBooked means.readings x x.before x.command

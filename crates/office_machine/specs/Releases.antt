@@ -5,7 +5,8 @@ use Rattle.office_base.specs.Limits.{release_limit}
 use Rattle.office_base.specs.Rows.{holds_of}
 use Rattle.office_base.specs.Tables.{Tables, notice_at, release_at, releases_of_notice}
 use Rattle.office_base.specs.declared.records.ReleaseRow.{ReleaseRow}
-use Rattle.office_machine.specs.Publications.{published_for, releases_in}
+use Rattle.office_machine.specs.Publications.{published_for}
+use Rattle.office_machine.specs.Counted.{releases_in}
 use Rattle.office_machine.specs.Machine.{Means, Given, Reaches, publication}
 
 abbrev pub is_for : List ℕ → Option (List ℕ) → Bool

@@ -1,11 +1,8 @@
 -- What the office answers: replies to commands, and what queries see.
-use Rattle.std.specs.Prelude.{ℕ, ◌+◌, Bool, List, length, filter, Option, Some, None, option_map}
-use Rattle.office_acts.specs.declared.command.Caller.{Caller}
+use Rattle.std.specs.Prelude.{ℕ, ◌+◌, Bool, List, length, Option, Some, None}
 use Rattle.office_values.specs.declared.refusal.Thing.TheVariants as things
 use Rattle.office_values.specs.declared.refusal.Refusal.{Refusal}
 use Rattle.office_values.specs.declared.refusal.Refusal.TheVariants.{NoSuch}
-use Rattle.office_acts.specs.declared.commands.Command.{Command}
-use Rattle.office_acts.specs.declared.commands.Command.TheVariants.{Import, Register, Publish, AmendNotice, Cancel, Open, Present, Modify, Withdraw, Examine, Award, Fail, Sign, AmendContract, Pay, End}
 use Rattle.office_base.specs.declared.reading.Reading.{Reading}
 use Rattle.office_base.specs.declared.ledger.Pots.{Pots}
 use Rattle.office_base.specs.declared.ledger.LedgerRow.{LedgerRow}
@@ -20,15 +17,11 @@ use Rattle.office_base.specs.declared.records.ContractRow.{ContractRow}
 use Rattle.office_base.specs.declared.records.EntryRow.{EntryRow}
 use Rattle.office_base.specs.declared.records.ClockRow.{ClockRow}
 use Rattle.office_base.specs.Joined.{outstanding}
-use Rattle.office_base.specs.Rows.{holds_of}
-use Rattle.office_base.specs.RuleParts.{is_in_time}
-use Rattle.office_base.specs.Tables.{Tables, find_notice, notice_at, envelope_at, award_at, contract_at, envelopes_of_notice, envelopes_of_lot}
-use Rattle.tender_core.specs.Rules.Open.{is_sealed_envelope}
-use Rattle.tender_core.specs.Rules.Present.{received}
+use Rattle.office_base.specs.Tables.{find_notice}
 use Rattle.tender_core.specs.Rules.Modify.{replacing}
 use Rattle.award_core.specs.Rules.Award.{price_of, winner}
-use Rattle.office_machine.specs.Publications.{releases_in}
-use Rattle.office_machine.specs.Machine.{Means}
+use Rattle.office_machine.specs.Counted.{releases_in}
+use Rattle.office_machine.specs.Readings.{Readings}
 
 -- a line of a register and one of minutes
 pub record Registered : Type 0 where
@@ -93,33 +86,9 @@ left_of (Some c) entries = outstanding entries c
 abbrev pub received_reply : EnvelopeRow → Reply
 received_reply e = Received e.digest e.receipt e.security e.state e.moment
 
-abbrev pub modify_reply : Means → ClockRow → ℕ → List ℕ → Option EnvelopeRow → Reply
-modify_reply means clock t bytes None = Refused (NoSuch things.Tender)
-modify_reply means clock t bytes (Some e) = received_reply (replacing means.digest clock t e bytes)
+abbrev pub modify_reply : Readings → ClockRow → ℕ → List ℕ → Option EnvelopeRow → Reply
+modify_reply readings clock t bytes None = Refused (NoSuch things.Tender)
+modify_reply readings clock t bytes (Some e) = received_reply (replacing readings.digest clock t e bytes)
 
 abbrev pub winning : ClockRow → EnvelopeRow → Winning
 winning clock e = record { award = clock.awards + 1; price = price_of e; tender = e.receipt }
-
--- with the office before it and the office after it
-abbrev pub reply_for : Means → Tables → Tables → ℕ → Caller → Command → Reply
-reply_for means s u t caller (Import batch rows) = Imported batch (length rows) t
-reply_for means s u t caller (Register tenderer name address key) = Enrolled tenderer t
-reply_for means s u t caller (Publish notice content) = OfNotice notice (release_of s.notices notice) t
-reply_for means s u t caller (AmendNotice notice deadline rationale) = OfNotice notice (release_of s.notices notice) t
-reply_for means s u t caller (Cancel notice rationale) = OfNotice notice (release_of s.notices notice) t
-reply_for means s u t caller (Open notice) = OpenedAll notice (length (filter is_sealed_envelope (envelopes_of_notice notice s))) (release_of s.notices notice) t
-reply_for means s u t caller (Present notice lot security bytes) =
-    received_reply (received means.digest s.clock t caller notice lot security bytes (holds_of (is_in_time t) (notice_at notice s)))
-reply_for means s u t caller (Modify receipt bytes) = modify_reply means s.clock t bytes (envelope_at receipt s)
-reply_for means s u t caller (Withdraw receipt) = Withdrew receipt t
-reply_for means s u t caller (Examine receipt responsive quality) = Examined receipt responsive t
-reply_for means s u t caller (Award notice lot) =
-    Awarded lot (option_map (winning s.clock) (winner (notice_at notice s) (envelopes_of_lot notice lot s))) (release_of s.notices notice) t
-reply_for means s u t caller (Fail award) = Failed award (award_release (award_at award s) s.notices) t
-reply_for means s u t caller (Sign award) = Signed award (award_release (award_at award s) s.notices) t
-reply_for means s u t caller (AmendContract contract entry kind amount rationale) =
-    OfContract contract (left_of (contract_at contract u) u.entries) (contract_release (contract_at contract s) s.notices) t
-reply_for means s u t caller (Pay contract entry amount) =
-    OfContract contract (left_of (contract_at contract u) u.entries) (contract_release (contract_at contract s) s.notices) t
-reply_for means s u t caller (End contract how) =
-    OfContract contract (left_of (contract_at contract u) u.entries) (contract_release (contract_at contract s) s.notices) t

@@ -6,8 +6,8 @@ use Rattle.office_acts.specs.declared.queries.Query.{Query}
 use Rattle.office_values.specs.declared.refusal.Refusal.{Refusal}
 use Rattle.office_values.specs.declared.refusal.Refusal.TheVariants.{Unavailable}
 use Rattle.office_base.specs.Tables.{Tables}
-use Rattle.office_machine.specs.Machine.{Means, Given, CanBeGiven, Reaches, time_of, refusal_of, next}
-use Rattle.office_machine.specs.Replies.{Reply, Refused, reply_for}
+use Rattle.office_machine.specs.Machine.{Means, Given, CanBeGiven, Reaches, time_of, refusal_of, done, next, reply_for}
+use Rattle.office_machine.specs.Replies.{Reply, Refused}
 use Rattle.office_machine.specs.Sights.{Packages, told}
 
 -- what is asked: a command or a query
@@ -26,7 +26,7 @@ abbrev pub asked : Tables → Request → Command → Given
 asked s a command = record { before = s; moment = a.moment; caller = a.caller; command = command }
 
 abbrev pub reply_by : Option Refusal → Means → Given → Reply
-reply_by None means x = reply_for means x.before (next means x) (time_of x) x.caller x.command
+reply_by None means x = reply_for means.readings x.before (done means.readings x) (time_of x) x.caller x.command
 reply_by (Some why) means x = Refused why
 
 abbrev pub office_by : Option Refusal → Means → Given → Tables

@@ -10,7 +10,8 @@ use Rattle.office_acts.specs.declared.commands.Command.TheVariants.{Present, Mod
 use Rattle.office_base.specs.declared.records.EnvelopeRow.{EnvelopeRow}
 use Rattle.office_base.specs.Tables.{Tables, IsSorted, envelope_at, seal_at, after_puts}
 use Rattle.tender_core.specs.Rules.Open.{is_sealed_envelope}
-use Rattle.office_machine.specs.Machine.{Means, Given, refusal_of, effect}
+use Rattle.office_machine.specs.Readings.{Readings}
+use Rattle.office_machine.specs.Machine.{Given, refusal_of, effect}
 
 -- a tenderer and a lot
 pub record Theirs : Type 0 where
@@ -61,12 +62,12 @@ OpensAlike (Open notice) s s' = (r : ℕ) (e : EnvelopeRow) → envelope_at r s 
 OpensAlike command s s' = Unit {0}
 
 -- refused alike, and where accepted, the offices are alike after it
-pub record AcceptedAlike (th : Theirs) (means : Means) (x x' : Given) : Type 0 where
+pub record AcceptedAlike (th : Theirs) (readings : Readings) (x x' : Given) : Type 0 where
   pub refused : refusal_of x' ≡ refusal_of x
-  pub alike : refusal_of x ≡ None → OpensAlike x.command x.before x'.before → AlikeOffices th (after_puts (effect means x) x.before) (after_puts (effect means x') x'.before)
+  pub alike : refusal_of x ≡ None → OpensAlike x.command x.before x'.before → AlikeOffices th (after_puts (effect readings x) x.before) (after_puts (effect readings x') x'.before)
 
 -- two commands that differ in such sealed bytes alone are answered alike and leave the two worlds alike, where an opening finds equal seals
 abbrev pub StepsStayAlike : Type 0
-StepsStayAlike = (th : Theirs) (means : Means) (s s' : Tables) (moment : ℕ) (caller : Caller) (command command' : Command) → IsSorted s → IsSorted s' → IsNext s → IsNext s' → AlikeOffices th s s'
+StepsStayAlike = (th : Theirs) (readings : Readings) (s s' : Tables) (moment : ℕ) (caller : Caller) (command command' : Command) → IsSorted s → IsSorted s' → IsNext s → IsNext s' → AlikeOffices th s s'
     → SameBut th s caller command command'
-    → AcceptedAlike th means (record { before = s; moment = moment; caller = caller; command = command }) (record { before = s'; moment = moment; caller = caller; command = command' })
+    → AcceptedAlike th readings (record { before = s; moment = moment; caller = caller; command = command }) (record { before = s'; moment = moment; caller = caller; command = command' })

@@ -1,8 +1,6 @@
 ghost use Rattle.office_machine.specs.Accounts.{AccountsAreKept, TablesAreInOrder};
 ghost use Rattle.office_machine.specs.Clock.{ClockIsSet, ClockNeverRunsBack};
-ghost use Rattle.office_machine.specs.Decided.{RulesAreTheMachines};
 ghost use Rattle.office_machine.specs.Fits.{SumsFit};
-ghost use Rattle.office_machine.specs.OfficeMeans.{NothingIsPublished};
 ghost use Rattle.office_machine.specs.Order.{LeastIsAnswered, NumbersNeverFall};
 ghost use Rattle.office_machine.specs.Outstanding.{LeftIsBooked, LeftIsKnown};
 ghost use Rattle.office_machine.specs.Parents.{ParentsAreThere};
@@ -25,12 +23,6 @@ pub fn order()
 pub fn clock()
     ensures set { ClockIsSet }
     ensures forward { ClockNeverRunsBack }
-{}
-
-/// A command's tests and puts in an office are those of its rule over the rows that the rule speaks of, and so what is decided over these
-/// rows is what the machine does.
-pub fn decisions()
-    ensures { RulesAreTheMachines }
 {}
 
 /// The refusals of each command are tried in the order of their numbers, so that the one answered is the least whose condition
@@ -78,9 +70,4 @@ pub fn releases()
 /// that were: they differ in digests and seals of such envelopes alone. An opening has to find equal seals.
 pub fn worlds()
     ensures { StepsStayAlike }
-{}
-
-/// Where no releases are made, a command puts its effect and nothing else.
-pub fn nothing_published()
-    ensures { NothingIsPublished }
 {}

@@ -6,16 +6,16 @@ use Rattle.office_base.specs.Tables.{Tables}
 use Rattle.office_base.specs.declared.records.EnvelopeRow.{EnvelopeRow}
 use Rattle.tender_core.specs.Rules.Open.{with_reading}
 use Rattle.tender_core.specs.declared.opening.OpenedTender.{OpenedTender}
-use Rattle.office_machine.specs.Machine.{sealed_tender, sealed_tenders}
-use Rattle.office_machine.specs.OfficeMeans.{unpublished_means}
+use Rattle.office_machine.specs.Rule.{sealed_tender, sealed_tenders}
+use Rattle.office_machine.specs.OfficeMeans.{office_readings}
 use Rattle.office_plans.specs.Opening.{tender_read, sealed_of_notice, tenders_read}
 
-each_read : (s : Tables) (es : List EnvelopeRow) → map (tender_read s) es ≡ map (with_reading unpublished_means.read) (map (sealed_tender s) es)
+each_read : (s : Tables) (es : List EnvelopeRow) → map (tender_read s) es ≡ map (with_reading office_readings.read) (map (sealed_tender s) es)
 each_read s [] = refl
 each_read s (e ∷ es) = ap (λ (rest : List OpenedTender). tender_read s e ∷ rest) (each_read s es)
 
 -- they are the sealed tenders, each with its reading
-pub tenders_are : (notice : List ℕ) (s : Tables) → tenders_read notice s ≡ map (with_reading unpublished_means.read) (sealed_tenders notice s)
+pub tenders_are : (notice : List ℕ) (s : Tables) → tenders_read notice s ≡ map (with_reading office_readings.read) (sealed_tenders notice s)
 tenders_are notice s = each_read s (sealed_of_notice notice s)
 
 -- one tender more

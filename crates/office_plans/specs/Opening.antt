@@ -5,8 +5,8 @@ use Rattle.office_base.specs.declared.records.EnvelopeRow.{EnvelopeRow}
 use Rattle.office_base.specs.declared.records.LotRow.{LotRow}
 use Rattle.tender_core.specs.Rules.Open.{is_sealed_envelope, with_reading}
 use Rattle.tender_core.specs.declared.opening.OpenedTender.{OpenedTender}
-use Rattle.office_machine.specs.Machine.{sealed_tender}
-use Rattle.office_machine.specs.OfficeMeans.{unpublished_means}
+use Rattle.office_machine.specs.Rule.{sealed_tender}
+use Rattle.office_machine.specs.OfficeMeans.{office_readings}
 use Rattle.office_plans.specs.LookedUp.{IsAsIn, with_row}
 
 -- the lots with the office's lot of this key, where it isn't there yet
@@ -19,7 +19,7 @@ HasLotOf s lots e = IsAsIn lot_cmp lot_key s.lots lots (e.notice, e.lot)
 
 -- the tender with what is read in the bytes of its seal
 abbrev pub tender_read : Tables → EnvelopeRow → OpenedTender
-tender_read s e = with_reading unpublished_means.read (sealed_tender s e)
+tender_read s e = with_reading office_readings.read (sealed_tender s e)
 
 -- the sealed ones of a notice's tenders, which alone are opened
 abbrev pub sealed_of_notice : List ℕ → Tables → List EnvelopeRow

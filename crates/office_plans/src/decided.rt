@@ -3,14 +3,13 @@ ghost use Rattle.std.specs.Prelude.{◌≡◌, true, None};
 ghost use Rattle.office_base.specs.Deciding.{Decides};
 ghost use Rattle.office_base.specs.Rules.{first_of};
 ghost use Rattle.office_machine.specs.Machine.{Given, IsCommand, command_tests, effect, may_give, refusal_of};
-ghost use Rattle.office_machine.specs.OfficeMeans.{unpublished_means};
+ghost use Rattle.office_machine.specs.OfficeMeans.{office_readings};
 ghost use Rattle.office_plans.specs.Replies.{said};
-ghost use Rattle.office_plans.specs.Effects.{HasEffect, effect_reply};
+ghost use Rattle.office_plans.specs.Effects.{HasEffect, accepted_reply};
 
 use crate::planned::Planned;
 use crate::reply::{Reply, reply_text};
 use office_base::puts::Put;
-use office_machine::laws;
 use office_values::refusal::Refusal;
 use std::alloc::Global;
 
@@ -21,10 +20,9 @@ pub fn planned(
     decided: Result<Vec<Put>, Refusal>,
     reply: &Reply,
 ) -> Result<Planned, Refusal>
-    ensures { (x : Given) → IsCommand x.command → may_give x.caller x.command ≡ true → Decides decided (first_of (command_tests x)) (effect unpublished_means x)
-        → (refusal_of x ≡ None → said reply.now ≡ effect_reply x) → HasEffect x result }
+    ensures { (x : Given) → IsCommand x.command → may_give x.caller x.command ≡ true → Decides decided (first_of (command_tests x)) (effect office_readings x)
+        → (refusal_of x ≡ None → said reply.now ≡ accepted_reply x) → HasEffect x result }
 {
-    laws::nothing_published();
     let puts = decided?;
     let text = reply_text(alloc, reply)?;
     Ok(Planned::new(puts, text))

@@ -3,7 +3,7 @@ ghost use Rattle.std.specs.Prelude.{◌≡◌, IfOk, IfErr, OnOk, map, option_ma
 ghost use Rattle.office_values.specs.declared.refusal.Refusal.TheVariants.{Unavailable};
 ghost use Rattle.office_base.specs.Shelves.{Looks};
 ghost use Rattle.office_plans.specs.Opening.{HasLotOf, tender_read, tenders_read, with_lot};
-ghost use Rattle.office_machine.specs.Machine.{bytes_in, items_in};
+ghost use Rattle.office_machine.specs.Rule.{bytes_in, items_in};
 
 use crate::looked_up::put_found;
 use keyed_table::table::Table;

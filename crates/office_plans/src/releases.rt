@@ -2,7 +2,7 @@
 ghost use Rattle.std.specs.Prelude.{◌≡◌, ◌+◌};
 ghost use Rattle.office_base.specs.Parents.{notice_of_award};
 ghost use Rattle.office_base.specs.Tables.{Tables};
-ghost use Rattle.office_machine.specs.Publications.{releases_in};
+ghost use Rattle.office_machine.specs.Counted.{releases_in};
 ghost use Rattle.office_machine.specs.Replies.{award_release};
 
 use office_base::records::{AwardRow, NoticeRow};

@@ -11,17 +11,16 @@ use Rattle.office_base.specs.Tables.{Tables, ChangesKeepOrder, after_puts, find_
 use Rattle.office_base.specs.declared.records.CompiledRow.{CompiledRow}
 use Rattle.office_base.specs.declared.records.ReleaseRow.{ReleaseRow}
 use Rattle.office_machine.specs.Accounts.{TablesAreInOrder}
-use Rattle.office_machine.specs.Machine.{Given, Means, effect, publication, publication_puts, puts_of}
+use Rattle.office_machine.specs.Machine.{Given, Means, next, publication, puts_of}
 use Rattle.office_machine.specs.Releases.{ReleasesArePublished, published_of}
 use Rattle.office_machine.proofs.Aside.{after-append}
-use Rattle.office_publications.specs.Keeping.{KeepsReleases, PublicationReadsBack, kept_puts, kept_next, merge_puts, merged_row}
-use Rattle.office_publications.specs.Keeping.{KeptStepsReach, ReleasesStayKept, NothingIsKeptAtFirst}
+use Rattle.office_machine.proofs.NextIs.{next_is}
+use Rattle.office_machine.proofs.ParentsThere.{parents_there}
+use Rattle.office_publications.specs.Keeping.{KeepsReleases, PublicationReadsBack, kept_puts, kept_next, merge_puts, merged_row, KeptStepsReach, ReleasesStayKept, NothingIsKeptAtFirst}
 use Rattle.office_publications.specs.Merges.{AreMerged, CanBeMerged, body_in}
 use Rattle.office_publications.specs.Publishing.{publishing}
-use Rattle.office_publications.proofs.EffectsPutNoMerge.{no_merge}
 use Rattle.office_publications.proofs.KeptPuts.{merges_stand_beside}
 use Rattle.office_publications.proofs.MergesKept.{merges_stay}
-use Rattle.office_publications.proofs.NoMerges as no_merges
 
 pub reaches : ChangesKeepOrder → TablesAreInOrder → KeptStepsReach
 reaches keep sorted settings xs x reached given allowed = record {
@@ -38,12 +37,12 @@ abbrev with_merge : Tables → Option ReleaseRow → List CompiledRow → List C
 with_merge s None rows = rows
 with_merge s (Some r) rows = put_compiled rows (merged_row s r)
 
-put_beside : (s : Tables) (p : Option ReleaseRow) (u : Tables)
-    → (after_puts (merge_puts s p) (after_puts (publication_puts p) u)).compiled ≡ with_merge s p u.compiled
+put_beside : (s : Tables) (p : Option ReleaseRow) (u : Tables) → (after_puts (merge_puts s p) u).compiled ≡ with_merge s p u.compiled
 put_beside s None u = refl
 put_beside s (Some r) u = refl
 
-module _ (settings : Settings) (x : Given) where
+-- where the machine puts no merge itself
+module _ (settings : Settings) (x : Given) (no_merge : (next (publishing settings) x).compiled ≡ x.before.compiled) where
   abbrev means : Means
   means = publishing settings
 
@@ -53,11 +52,8 @@ module _ (settings : Settings) (x : Given) where
   merges_are : kept.compiled ≡ with_merge x.before (publication means x) x.before.compiled
   merges_are =
       ap (λ (u : Tables). u.compiled) (after-append (puts_of means x) (merge_puts x.before (publication means x)) x.before)
-      ∙ ap (λ (u : Tables). (after_puts (merge_puts x.before (publication means x)) u).compiled)
-      (after-append (effect means x) (publication_puts (publication means x)) x.before)
-      ∙ put_beside x.before (publication means x) (after_puts (effect means x) x.before)
-      ∙ ap (with_merge x.before (publication means x))
-      (no_merges.merges_stay (effect means x) x.before (no_merge means x))
+      ∙ put_beside x.before (publication means x) (next means x)
+      ∙ ap (with_merge x.before (publication means x)) no_merge
 
   module _ (keeps : KeepsReleases x.before)
       (releases : (n : List ℕ) → releases_of_notice n kept ≡ releases_of_notice n x.before ++ published_of means x n) where
@@ -108,7 +104,7 @@ stays reach published settings xs x reached given allowed back keeps =
     let releases : (n : List ℕ) → releases_of_notice n (kept_next settings x) ≡ releases_of_notice n x.before ++ published_of (publishing settings) x n = λ n.
     published (publishing settings) (x ∷ xs) (kept_next settings x) (reach settings xs x reached given allowed) n
     ∙ ap (λ rows. rows ++ published_of (publishing settings) x n) (sym (published (publishing settings) xs x.before reached n)) in
-    kept_by settings x keeps releases (publication (publishing settings) x) refl back
+    kept_by settings x (next_is (publishing settings) x (parents_there (publishing settings) xs x.before reached) allowed).compiled keeps releases (publication (publishing settings) x) refl back
 
 pub starts : NothingIsKeptAtFirst
 unfolding row_at

@@ -6,9 +6,6 @@ pub mod RecordsTold
 pub mod MergesKept
 pub mod ReleasesMade
 pub mod ReleasesStay
-pub mod NoMerges
-pub mod EffectsPutNoMerge
 pub mod KeptPuts
 pub mod KeptReleases
-pub mod RepliesAlike
 pub mod NoSealsTold

@@ -1,14 +1,12 @@
 -- Events and packages are the same whatever the digests of envelopes and the seals.
-use Rattle.std.specs.Prelude.{◌≡◌, ℕ, ◌+◌, Bool, true, false, cond, ◌&&◌, ◌||◌, List, [], ◌∷◌, map, filter}
-use Rattle.std.specs.Prelude.{Option, Some, None, unwrap_or, option_map, option_and_then}
+use Rattle.std.specs.Prelude.{◌≡◌, ℕ, ◌+◌, Bool, true, false, cond, ◌&&◌, ◌||◌, List, [], ◌∷◌, map, filter, Option, Some, None, unwrap_or, option_map, option_and_then}
 use Rattle.std.specs.List.{list_any}
 use Rattle.std.proofs.Common.{refl, sym, ◌∙◌, ap}
 use Rattle.serde_json.specs.Written.{compact_text}
 use Rattle.office_values.specs.Ids.{same_id}
 use Rattle.office_values.specs.declared.settings.Settings.{Settings}
 use Rattle.office_acts.specs.declared.commands.Command.{Command}
-use Rattle.office_acts.specs.declared.commands.Command.TheVariants.{Import, Register, Publish, AmendNotice, Cancel, Open, Present, Modify}
-use Rattle.office_acts.specs.declared.commands.Command.TheVariants.{Withdraw, Examine, Award, Fail, Sign, AmendContract, Pay, End}
+use Rattle.office_acts.specs.declared.commands.Command.TheVariants.{Import, Register, Publish, AmendNotice, Cancel, Open, Present, Modify, Withdraw, Examine, Award, Fail, Sign, AmendContract, Pay, End}
 use Rattle.office_acts.specs.declared.queries.Query.TheVariants as queries
 use Rattle.office_base.specs.declared.records.EnvelopeRow.{EnvelopeRow}
 use Rattle.office_base.specs.declared.records.NoticeRow.{NoticeRow}
@@ -22,7 +20,8 @@ use Rattle.ocds_release.specs.Tenderers.{tenderer_of}
 use Rattle.ocds_release.specs.declared.event.Event.{Event}
 use Rattle.ocds_release.specs.declared.event.Event.TheVariants as events
 use Rattle.office_machine.specs.Machine.{Given, time_of}
-use Rattle.office_machine.specs.Publications.{published_for, releases_in}
+use Rattle.office_machine.specs.Publications.{published_for}
+use Rattle.office_machine.specs.Counted.{releases_in}
 use Rattle.office_machine.specs.Seals.{ButDigest}
 use Rattle.office_machine.specs.Worlds.{Pairs}
 use Rattle.office_publications.specs.AwardEvents.{awarded}

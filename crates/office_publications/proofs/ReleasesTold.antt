@@ -17,7 +17,8 @@ use Rattle.office_values.specs.declared.settings.Settings.{Settings}
 use Rattle.office_base.specs.Tables.{Tables, releases_of_notice}
 use Rattle.office_base.specs.declared.records.ReleaseRow.{ReleaseRow}
 use Rattle.office_machine.specs.Machine.{Given, publication, release_row}
-use Rattle.office_machine.specs.Publications.{published_for, releases_in}
+use Rattle.office_machine.specs.Publications.{published_for}
+use Rattle.office_machine.specs.Counted.{releases_in}
 use Rattle.office_machine.specs.Releases.{ReleasesArePublished, published_by, published_of}
 use Rattle.office_publications.specs.Events.{event_of}
 use Rattle.office_publications.specs.Merges.{CanBeMerged, data_in}

@@ -11,7 +11,7 @@ use Rattle.office_base.specs.declared.records.CompiledRow.{CompiledRow}
 use Rattle.office_base.specs.declared.records.ReleaseRow.{ReleaseRow}
 use Rattle.office_base.specs.Tables.{Tables, no_tables, after_puts}
 use Rattle.office_machine.specs.Machine.{Given, CanBeGiven, Reaches, effect, next, publication, puts_of, refusal_of, release_row, with_trees}
-use Rattle.office_machine.specs.OfficeMeans.{unpublished_means}
+use Rattle.office_machine.specs.OfficeMeans.{office_readings}
 use Rattle.office_machine.specs.Publications.{published_for}
 use Rattle.office_publications.specs.Events.{event_of}
 use Rattle.office_publications.specs.Merges.{CanBeMerged, AreMerged, AreReleases, bodies, body_in}
@@ -61,16 +61,12 @@ EventsAreReleased = (settings : Settings) (x : Given) (e : Event) (notice : List
 
 -- a command that is no event puts its effect alone
 abbrev pub NoEventPutsItsEffect : Type 0
-NoEventPutsItsEffect = (settings : Settings) (x : Given) → event_of x.before x.command ≡ None → kept_puts settings x ≡ effect (publishing settings) x
-
--- an effect is the same, whether or not releases are made
-abbrev pub EffectsAreTheSame : Type 0
-EffectsAreTheSame = (settings : Settings) (x : Given) → effect (publishing settings) x ≡ effect unpublished_means x
+NoEventPutsItsEffect = (settings : Settings) (x : Given) → event_of x.before x.command ≡ None → kept_puts settings x ≡ effect office_readings x
 
 -- a command that is an event of a notice puts its effect, its release, and the merge that this joins
 abbrev pub EventsPutReleases : Type 0
 EventsPutReleases = (settings : Settings) (x : Given) (e : Event) (notice : List ℕ) → event_of x.before x.command ≡ Some e
-    → published_for x.before x.command ≡ Some notice → kept_puts settings x ≡ effect (publishing settings) x
+    → published_for x.before x.command ≡ Some notice → kept_puts settings x ≡ effect office_readings x
     ++ (puts.Release (release_row x notice (text_by settings x e)) ∷ puts.Compiled (merged_row x.before (release_row x notice (text_by settings x e))) ∷ [])
 
 -- the office after it is the machine's, with the merges beside it

@@ -9,5 +9,4 @@ pub mod Keeping
 pub mod Packages
 pub mod Standing
 pub mod Told
-pub mod Replies
 pub mod Sealed

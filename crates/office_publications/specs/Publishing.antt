@@ -7,7 +7,8 @@ use Rattle.office_base.specs.Tables.{notice_at}
 use Rattle.office_base.specs.declared.records.NoticeRow.{NoticeRow}
 use Rattle.office_machine.specs.Machine.{Given, Means, time_of}
 use Rattle.office_machine.specs.OfficeMeans.{office_means}
-use Rattle.office_machine.specs.Publications.{published_for, releases_in}
+use Rattle.office_machine.specs.Publications.{published_for}
+use Rattle.office_machine.specs.Counted.{releases_in}
 use Rattle.office_machine.specs.Releases.{MakesReleases}
 use Rattle.ocds_release.specs.EventReleases.{release_of_event}
 use Rattle.ocds_release.specs.declared.event.Event.{Event}

@@ -1,10 +1,9 @@
 //! Laws of what an office publishes: each function does nothing, and its contract is the law.
 ghost use Rattle.office_publications.specs.Keeping.{NoEventPublishesNothing, EventsAreReleased};
-ghost use Rattle.office_publications.specs.Keeping.{NoEventPutsItsEffect, EffectsAreTheSame, EventsPutReleases};
+ghost use Rattle.office_publications.specs.Keeping.{NoEventPutsItsEffect, EventsPutReleases};
 ghost use Rattle.office_publications.specs.Keeping.{MergesStandBeside, KeptStepsReach, ReleasesStayKept, NothingIsKeptAtFirst};
 ghost use Rattle.office_publications.specs.Merges.{BodiesAreStorable, MergesStay, ReleasesStay};
 ghost use Rattle.office_publications.specs.Publishing.{ReleasesAreMade};
-ghost use Rattle.office_publications.specs.Replies.{RepliesAreTheSame};
 ghost use Rattle.office_publications.specs.Told.{RecordsAreCompiled, ReleasesAreTold};
 
 use ocds_merge::{dates_order_releases, merge_stays_storable};
@@ -30,7 +29,7 @@ pub fn releases()
 {}
 
 /// A command that is an event of a notice publishes its release, and puts its effect, that release, and the merge that this joins; another
-/// publishes nothing and puts its effect alone. The effect is the same whether or not releases are made.
+/// publishes nothing and puts its effect alone.
 ///
 /// The office afterwards is the machine's, with the merges beside it, and so accepted commands lead there. Where releases and merges can be
 /// read, they can be read afterwards, if what the command published can be, as all that `publication::keep_release` makes.
@@ -38,7 +37,6 @@ pub fn keeping()
     ensures silent { NoEventPublishesNothing }
     ensures released { EventsAreReleased }
     ensures unpublished { NoEventPutsItsEffect }
-    ensures effects { EffectsAreTheSame }
     ensures published { EventsPutReleases }
     ensures beside { MergesStandBeside }
     ensures reaches { KeptStepsReach }
@@ -49,11 +47,6 @@ pub fn keeping()
     office_machine::laws::order();
     office_machine::laws::releases();
 }
-
-/// The reply to a command is the same whether or not releases are made.
-pub fn replies()
-    ensures { RepliesAreTheSame }
-{}
 
 /// In an office that stands as its commands left it, the text of each release that is kept is that of the release that is told of it, and its
 /// moment that release's date. What a notice's releases compile to is their merge, as it is kept, under a head.

@@ -8,7 +8,8 @@ use Rattle.ocds_release.specs.declared.event.Event.{Event}
 use Rattle.office_base.specs.Tables.{notice_at}
 use Rattle.office_base.specs.declared.records.ReleaseRow.{ReleaseRow}
 use Rattle.office_machine.specs.Machine.{Given, publication, time_of}
-use Rattle.office_machine.specs.Publications.{published_for, releases_in}
+use Rattle.office_machine.specs.Publications.{published_for}
+use Rattle.office_machine.specs.Counted.{releases_in}
 use Rattle.office_publications.specs.Events.{event_of}
 use Rattle.office_publications.specs.Keeping.{EventsAreReleased}
 use Rattle.office_publications.specs.Publishing.{publishing}

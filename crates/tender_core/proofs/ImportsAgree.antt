@@ -10,7 +10,7 @@ use Rattle.office_acts.specs.declared.budget.BudgetRow.{BudgetRow}
 use Rattle.office_base.specs.Rows.{by_order, row_at}
 use Rattle.office_base.specs.Tables.{Tables, find_line, line_at}
 use Rattle.office_base.specs.Standings.{find_standing, columns_at, columns_of_row, standing_key, standing_of, standings}
-use Rattle.tender_core.specs.Rules.Import.{columns_after, after_row, after_rows, some_row, line_put, appropriation_of, free_of, cuts_nothing, cuts_too_much, passes_limit, import_tests, import_puts}
+use Rattle.tender_core.specs.Rules.Import.{columns_after, after_row, after_rows, some_row, line_put, appropriation_of, free_of, cuts_nothing, cuts_too_much, passes_limit, import_conditions, import_effect}
 use Rattle.tender_core.specs.Agreeing.{AgreeOnRows, ImportsAgree}
 use Rattle.office_base.specs.declared.records.LineRow.{LineRow}
 use Rattle.office_base.specs.declared.records.ClockRow.{ClockRow}
@@ -64,12 +64,12 @@ lines_put-agree m n (row ∷ rows) h =
     ∙ ap (λ ps. line_put n row ∷ ps) (lines_put-agree m n rows h.1)
 
 -- the import is refused alike, and puts the same
-pub tests-agree : (m n : List Standing) (exists : Bool) (rows : List BudgetRow) → AgreeOnRows m n rows → import_tests m exists rows ≡ import_tests n exists rows
+pub tests-agree : (m n : List Standing) (exists : Bool) (rows : List BudgetRow) → AgreeOnRows m n rows → import_conditions m exists rows ≡ import_conditions n exists rows
 tests-agree m n exists rows h =
     rw (some_row-agree cuts_nothing m n rows h, some_row-agree cuts_too_much m n rows h, some_row-agree passes_limit m n rows h) refl
 
 pub puts-agree : (clock : ClockRow) (t : ℕ) (batch : List ℕ) (m n : List Standing) (rows : List BudgetRow) → AgreeOnRows m n rows
-    → import_puts clock t batch m rows ≡ import_puts clock t batch n rows
+    → import_effect clock t batch m rows ≡ import_effect clock t batch n rows
 puts-agree clock t batch m n rows h =
     ap (λ ps. ps ++ (puts.Batch (record { batch = batch; moment = t; rows = length rows }) ∷ puts.Clock (record clock { moment = t }) ∷ []))
     (lines_put-agree (after_rows m rows) (after_rows n rows) rows (agree_after_rows m n rows rows h h))

@@ -10,10 +10,10 @@ use Rattle.office_base.specs.declared.records.LotRow.{LotRow}
 use Rattle.office_base.specs.declared.records.ClockRow.{ClockRow}
 use Rattle.office_base.specs.declared.puts.Put.{Put}
 use Rattle.office_base.specs.declared.puts.Put.TheVariants as puts
-use Rattle.tender_core.specs.Rules.Publish.{wanted, is_on_no_line, is_short, publish_tests, publish_puts, notice_put, no_line}
+use Rattle.tender_core.specs.Rules.Publish.{wanted, is_on_no_line, is_short, publish_conditions, publish_effect, notice_put, no_line}
 use Rattle.tender_core.specs.Rules.Publish as published
 use Rattle.tender_core.specs.Rules.Cancel as cancelled
-use Rattle.tender_core.specs.Rules.Cancel.{is_open_lot, cancel_puts}
+use Rattle.tender_core.specs.Rules.Cancel.{is_open_lot, cancel_effect}
 use Rattle.tender_core.specs.Agreeing.{AgreeOnNewLots, AgreeOnLots, PublishesAgree, CancelsAgree}
 
 no_line-agree : (m n : List LineRow) (lots : List NewLot) → AgreeOnNewLots m n lots → list_any (is_on_no_line m) lots ≡ list_any (is_on_no_line n) lots
@@ -38,11 +38,11 @@ published-agree m n all (lot ∷ lots) h =
     ∙ ap (λ ps. published.line_put n all lot ∷ ps) (published-agree m n all lots h.1)
 
 publish_tests-agree : (m n : List LineRow) (exists : Bool) (t : ℕ) (content : NewNotice) → AgreeOnNewLots m n content.lots
-    → publish_tests m exists t content ≡ publish_tests n exists t content
+    → publish_conditions m exists t content ≡ publish_conditions n exists t content
 publish_tests-agree m n exists t content h = rw (no_line-agree m n content.lots h, short-agree m n content.lots content.lots h) refl
 
 publish_puts-agree : (clock : ClockRow) (t : ℕ) (notice : List ℕ) (m n : List LineRow) (content : NewNotice) → AgreeOnNewLots m n content.lots
-    → publish_puts clock t notice m content ≡ publish_puts clock t notice n content
+    → publish_effect clock t notice m content ≡ publish_effect clock t notice n content
 publish_puts-agree clock t notice m n content h = rw (published-agree m n content.lots content.lots h) refl
 
 pub publishes_agree : PublishesAgree

@@ -15,9 +15,9 @@ use Rattle.office_base.specs.declared.records.EnvelopeRow.{EnvelopeRow}
 use Rattle.office_base.specs.declared.records.SecurityRow.{SecurityRow}
 use Rattle.office_base.specs.declared.records.AwardRow.{AwardRow}
 use Rattle.office_base.specs.declared.records.ClockRow.{ClockRow}
-use Rattle.tender_core.specs.Rules.Import.{import_tests, import_puts}
-use Rattle.tender_core.specs.Rules.Publish.{publish_tests, publish_puts}
-use Rattle.tender_core.specs.Rules.Cancel.{is_open_lot, cancel_puts}
+use Rattle.tender_core.specs.Rules.Import.{import_conditions, import_effect}
+use Rattle.tender_core.specs.Rules.Publish.{publish_conditions, publish_effect}
+use Rattle.tender_core.specs.Rules.Cancel.{is_open_lot, cancel_effect}
 
 -- the same columns at each line that the rows of a file name
 abbrev pub AgreeOnRows : List Standing → List Standing → List BudgetRow → Type 0
@@ -33,17 +33,17 @@ AgreeOnLots m n lots = AllByRecursion (λ (l : LotRow). find_line m l.line ≡ f
 
 pub record ImportsAgree : Type 0 where
   pub tests : (m n : List Standing) (exists : Bool) (rows : List BudgetRow) → AgreeOnRows m n rows
-      → import_tests m exists rows ≡ import_tests n exists rows
+      → import_conditions m exists rows ≡ import_conditions n exists rows
   pub puts : (clock : ClockRow) (t : ℕ) (batch : List ℕ) (m n : List Standing) (rows : List BudgetRow) → AgreeOnRows m n rows
-      → import_puts clock t batch m rows ≡ import_puts clock t batch n rows
+      → import_effect clock t batch m rows ≡ import_effect clock t batch n rows
   -- the columns of a line in the office are those of its row
   pub columns : (s : Tables) (line : List ℕ) → columns_at (standings s) line ≡ option_map columns_of_row (line_at line s)
 
 pub record PublishesAgree : Type 0 where
   pub tests : (m n : List LineRow) (exists : Bool) (t : ℕ) (content : NewNotice) → AgreeOnNewLots m n content.lots
-      → publish_tests m exists t content ≡ publish_tests n exists t content
+      → publish_conditions m exists t content ≡ publish_conditions n exists t content
   pub puts : (clock : ClockRow) (t : ℕ) (notice : List ℕ) (m n : List LineRow) (content : NewNotice) → AgreeOnNewLots m n content.lots
-      → publish_puts clock t notice m content ≡ publish_puts clock t notice n content
+      → publish_effect clock t notice m content ≡ publish_effect clock t notice n content
 
 -- of a cancellation, the lines of the lots that are still open
 abbrev pub CancelsAgree : Type 0
@@ -51,4 +51,4 @@ CancelsAgree =
     (clock : ClockRow) (t : ℕ) (m n : List LineRow) (notice : Option NoticeRow) (lots : List LotRow) (awards : List AwardRow)
     (envelopes : List EnvelopeRow) (securities : List SecurityRow)
     → AgreeOnLots m n (filter is_open_lot lots)
-    → cancel_puts clock t m notice lots awards envelopes securities ≡ cancel_puts clock t n notice lots awards envelopes securities
+    → cancel_effect clock t m notice lots awards envelopes securities ≡ cancel_effect clock t n notice lots awards envelopes securities

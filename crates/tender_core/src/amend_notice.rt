@@ -44,7 +44,7 @@ pub fn decide_amend_notice(
     rows: AmendNoticeRows,
     deadline: Moment,
 ) -> Result<Vec<Put>, Refusal>
-    ensures { Decides result (first_of (amend_notice_tests rows.notice t deadline)) (amend_notice_puts rows.clock t rows.notice deadline) }
+    ensures { Decides result (first_of (amend_notice_tests rows t deadline)) (amend_notice_puts rows t deadline) }
 {
     let AmendNoticeRows { notice, clock } = rows;
     let Some(row) = notice else {

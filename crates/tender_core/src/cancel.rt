@@ -6,7 +6,7 @@ ghost use Rattle.office_base.specs.Deciding.{Decides};
 ghost use Rattle.office_base.specs.Rules.{first_of};
 ghost use Rattle.office_base.specs.RuleParts.{has_all_releases, clock_put};
 ghost use Rattle.office_base.specs.declared.puts.Put.TheVariants as puts;
-ghost use Rattle.tender_core.specs.Rules.Cancel.{is_open_lot, cancelled_notice, cancel_tests, cancel_puts};
+ghost use Rattle.tender_core.specs.Rules.Cancel.{is_open_lot, cancelled_notice, cancel_tests, cancel_puts, cancel_effect};
 
 use crate::ended::{
     is_open, push_awards, push_drops, push_envelopes, push_lines, push_lots, push_securities,
@@ -46,7 +46,7 @@ fn some_is_open(lots: &[LotRow]) -> bool
 
 // The first refusal whose condition holds.
 fn refusal_of(rows: &CancelRows) -> Option<Refusal>
-    ensures { result ≡ first_of (cancel_tests rows.now.notice rows.now.lots) }
+    ensures { result ≡ first_of (cancel_tests rows.now) }
 {
     if rows.notice.is_none() {
         return Some(Refusal::NoSuch(Thing::Notice));
@@ -101,7 +101,7 @@ fn cancel_puts(
     rows: &CancelRows,
     notice: &NoticeRow,
 ) -> Result<Vec<Put>, Refusal>
-    ensures puts { IfOk result (λ made. made.items ≡ cancel_puts rows.now.clock t rows.now.lines (Some notice.now) rows.now.lots rows.now.awards rows.now.envelopes rows.now.securities) }
+    ensures puts { IfOk result (λ made. made.items ≡ cancel_effect rows.now.clock t rows.now.lines (Some notice.now) rows.now.lots rows.now.awards rows.now.envelopes rows.now.securities) }
     ensures fault { IfErr result (λ e. e ≡ Unavailable) }
 {
     let lots = rows.lots.as_slice();
@@ -119,7 +119,7 @@ fn cancel_puts(
 /// Decides the cancellation of a notice: its refusal, or what it puts. Of the lines, those of the lots that are open are looked at.
 #[tactic(auto, unfolding(office_base::specs::Deciding::Decides))]
 pub fn decide_cancel(alloc: Global, t: Moment, rows: CancelRows) -> Result<Vec<Put>, Refusal>
-    ensures { Decides result (first_of (cancel_tests rows.notice rows.lots)) (cancel_puts rows.clock t rows.lines rows.notice rows.lots rows.awards rows.envelopes rows.securities) }
+    ensures { Decides result (first_of (cancel_tests rows)) (cancel_puts rows t) }
 {
     if let Some(why) = refusal_of(&rows) {
         return Err(why);

@@ -205,7 +205,7 @@ pub fn decide_import(
     rows: ImportRows,
     batch: Id,
 ) -> Result<Vec<Put>, Refusal>
-    ensures { Decides result (first_of (import_tests rows.file.lines (is_some rows.batch) rows.file.rows)) (import_puts rows.clock t batch rows.file.lines rows.file.rows) }
+    ensures { Decides result (first_of (import_tests rows)) (import_puts rows t batch) }
 {
     let ImportRows {
         batch: held,

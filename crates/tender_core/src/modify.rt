@@ -4,7 +4,7 @@ ghost use Rattle.office_values.specs.declared.refusal.Refusal.TheVariants.{Unava
 ghost use Rattle.sha2.specs.Sha256.{sha256};
 ghost use Rattle.office_base.specs.Deciding.{Decides};
 ghost use Rattle.office_base.specs.Rules.{first_of};
-ghost use Rattle.tender_core.specs.Rules.Modify.{replacing, modify_tests, modify_puts};
+ghost use Rattle.tender_core.specs.Rules.Modify.{replacing, modify_tests, modify_puts, modify_effect};
 
 use crate::receipts::{length_of, next_receipt, receipt_clock};
 use crate::tenders::{is_by, is_past_deadline, withdrawn};
@@ -63,7 +63,7 @@ fn modify_puts(
     sealed: &Sealed<'_>,
 ) -> Result<Vec<Put>, Refusal>
     requires { receipt ≡ clock.receipts + 1 }
-    ensures puts { IfOk result (λ made. made.items ≡ modify_puts sha256 clock t (Some row) sealed.now) }
+    ensures puts { IfOk result (λ made. made.items ≡ modify_effect sha256 clock t (Some row) sealed.now) }
     ensures fault { IfErr result (λ e. e ≡ Unavailable) }
 {
     let old = row.receipt;
@@ -89,7 +89,7 @@ pub fn decide_modify(
     rows: ModifyRows,
     sealed: &Sealed<'_>,
 ) -> Result<Vec<Put>, Refusal>
-    ensures { Decides result (first_of (modify_tests rows.clock t caller.now rows.envelope rows.notice)) (modify_puts sha256 rows.clock t rows.envelope sealed.now) }
+    ensures { Decides result (first_of (modify_tests rows t caller.now)) (modify_puts sha256 rows t sealed.now) }
 {
     let ModifyRows {
         envelope,

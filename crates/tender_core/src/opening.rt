@@ -95,7 +95,7 @@ pub fn decide_open(
     rows: OpenRows,
     tenders: Rows<OpenedTender>,
 ) -> Result<Vec<Put>, Refusal>
-    ensures { Decides result (first_of (open_tests t rows.notice)) (opened_with rows.clock t rows.notice tenders) }
+    ensures { Decides result (first_of (open_tests rows t)) (opened_with rows.clock t rows.notice tenders) }
 {
     let OpenRows { notice, clock } = rows;
     let Some(row) = notice else {

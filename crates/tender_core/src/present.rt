@@ -88,7 +88,7 @@ fn refusal_of(
     caller: &Caller,
     security: &Option<NamedSecurity>,
 ) -> Option<Refusal>
-    ensures { result ≡ first_of (present_tests rows.now.clock t caller.now rows.now.notice rows.now.lot rows.now.envelopes security.now) }
+    ensures { result ≡ first_of (present_tests rows.now t caller.now security.now) }
 {
     let Some(notice) = &rows.notice else {
         return Some(Refusal::NoSuch(Thing::Notice));
@@ -241,7 +241,7 @@ pub fn decide_present(
     security: Option<NamedSecurity>,
     sealed: &Sealed<'_>,
 ) -> Result<Vec<Put>, Refusal>
-    ensures { Decides result (first_of (present_tests rows.clock t caller.now rows.notice rows.lot rows.envelopes security)) (present_puts sha256 rows.clock t caller.now notice lot rows.notice security sealed.now) }
+    ensures { Decides result (first_of (present_tests rows t caller.now security)) (present_puts sha256 rows t caller.now notice lot security sealed.now) }
 {
     if let Some(why) = refusal_of(&rows, t, caller, &security) {
         return Err(why);

@@ -7,7 +7,7 @@ ghost use Rattle.office_base.specs.Joined.{free_in};
 ghost use Rattle.office_base.specs.Deciding.{Decides};
 ghost use Rattle.office_base.specs.Rules.{first_of};
 ghost use Rattle.office_base.specs.RuleParts.{clock_put};
-ghost use Rattle.tender_core.specs.Rules.Publish.{wanted, is_on_no_line, is_short, has_too_many_items, publish_tests, publish_puts, line_put, lot_put, notice_put};
+ghost use Rattle.tender_core.specs.Rules.Publish.{wanted, is_on_no_line, is_short, has_too_many_items, publish_tests, publish_puts, line_put, lot_put, notice_put, publish_conditions};
 
 use keyed_table::table::Table;
 use office_acts::amounts::amount_of;
@@ -98,7 +98,7 @@ fn is_too_long(lots: &[NewLot]) -> bool
 
 // The first refusal whose condition holds.
 fn refusal_of(lines: &Table<LineRow>, exists: bool, t: Moment, new: &NewNotice) -> Option<Refusal>
-    ensures { result ≡ first_of (publish_tests lines.now exists t new.now) }
+    ensures { result ≡ first_of (publish_conditions lines.now exists t new.now) }
 {
     let lots = new.lots.as_slice();
     if is_on_no_line(lines, lots) {
@@ -212,7 +212,7 @@ fn publish_puts(
     notice: Id,
     new: NewNotice,
 ) -> Result<Vec<Put>, Refusal>
-    ensures puts { IfOk result (λ made. made.items ≡ publish_puts rows.now.clock t notice rows.now.lines new) }
+    ensures puts { IfOk result (λ made. made.items ≡ publish_puts rows.now t notice new) }
     ensures fault { IfErr result (λ e. e ≡ Unavailable) }
 {
     let lots = new.lots.as_slice();
@@ -231,7 +231,7 @@ pub fn decide_publish(
     notice: Id,
     new: NewNotice,
 ) -> Result<Vec<Put>, Refusal>
-    ensures { Decides result (first_of (publish_tests rows.lines (is_some rows.notice) t new)) (publish_puts rows.clock t notice rows.lines new) }
+    ensures { Decides result (first_of (publish_tests rows t new)) (publish_puts rows t notice new) }
 {
     match refusal_of(&rows.lines, rows.notice.is_some(), t, &new) {
         Some(why) => Err(why),

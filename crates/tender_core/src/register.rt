@@ -31,7 +31,7 @@ pub fn decide_register(
     address: TextLine,
     key: [u8; 32],
 ) -> Result<Vec<Put>, Refusal>
-    ensures { Decides result (first_of (register_tests rows.tenderer tenderer)) (register_puts rows.clock t tenderer name address key) }
+    ensures { Decides result (first_of (register_tests rows tenderer)) (register_puts rows t tenderer name address key) }
 {
     let RegisterRows {
         tenderer: held,

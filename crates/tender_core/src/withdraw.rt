@@ -3,14 +3,17 @@ ghost use Rattle.std.specs.Prelude.{◌≡◌, ◌++◌, IfErr, OnOk};
 ghost use Rattle.office_values.specs.declared.refusal.Refusal.TheVariants.{Unavailable};
 ghost use Rattle.office_base.specs.Deciding.{Decides};
 ghost use Rattle.office_base.specs.Rules.{first_of};
-ghost use Rattle.office_base.specs.RuleParts.{put_if, security_returned};
+ghost use Rattle.office_base.specs.RuleParts.{put_if, security_settled};
+ghost use Rattle.office_base.specs.declared.records.SecurityState.TheVariants.{Returned};
 ghost use Rattle.tender_core.specs.Rules.Withdraw.{withdraw_tests, withdraw_puts};
 
 use crate::tenders::{is_by, is_past_deadline, withdrawn};
 use office_acts::command::Caller;
-use office_base::parts::{at_moment, returned};
+use office_base::parts::{at_moment, settled};
 use office_base::puts::Put;
-use office_base::records::{ClockRow, EnvelopeRow, EnvelopeState, NoticeRow, SecurityRow};
+use office_base::records::{
+    ClockRow, EnvelopeRow, EnvelopeState, NoticeRow, SecurityRow, SecurityState,
+};
 use office_values::moment::Moment;
 use office_values::refusal::{Refusal, Thing};
 use std::alloc::Global;
@@ -26,11 +29,11 @@ pub struct WithdrawRows {
 
 // The security that came with the tender goes back.
 fn push_returned(made: &mut Vec<Put>, security: Option<SecurityRow>) -> Result<(), Refusal>
-    ensures puts { OnOk result (made.new.items ≡ made.old.items ++ put_if security_returned security) }
+    ensures puts { OnOk result (made.new.items ≡ made.old.items ++ put_if (security_settled Returned) security) }
     ensures fault { IfErr result (λ e. e ≡ Unavailable) }
 {
     if let Some(row) = security {
-        made.push(Put::Security(returned(row)))?;
+        made.push(Put::Security(settled(row, SecurityState::Returned)))?;
     }
     Ok(())
 }
@@ -43,7 +46,7 @@ pub fn decide_withdraw(
     caller: &Caller,
     rows: WithdrawRows,
 ) -> Result<Vec<Put>, Refusal>
-    ensures { Decides result (first_of (withdraw_tests t caller.now rows.envelope rows.notice)) (withdraw_puts rows.clock t rows.envelope rows.security) }
+    ensures { Decides result (first_of (withdraw_tests rows t caller.now)) (withdraw_puts rows t) }
 {
     let WithdrawRows {
         envelope,

@@ -50,8 +50,8 @@ entry_kind change_kinds.Raise = entry_kinds.Raise
 entry_kind change_kinds.Cut = entry_kinds.Cut
 
 -- the contract, its entries, its notice, and its lot's line
-abbrev pub amend_contract_tests : Option ContractRow → List EntryRow → Option NoticeRow → Option LineRow → List ℕ → ChangeKind → ℕ → List (Bool × Refusal)
-amend_contract_tests contract entries notice line entry kind amount =
+abbrev pub amend_contract_conditions : Option ContractRow → List EntryRow → Option NoticeRow → Option LineRow → List ℕ → ChangeKind → ℕ → List (Bool × Refusal)
+amend_contract_conditions contract entries notice line entry kind amount =
     (not (is_some contract), NoSuch things.Contract)
     ∷ (list_any (is_taken entry) entries, Exists)
     ∷ (holds_of is_running contract && is_raising kind && nat_lt (free_in line) amount, InsufficientFunds)
@@ -69,14 +69,14 @@ abbrev pub change_row : ℕ → ContractRow → List ℕ → ChangeKind → ℕ 
 change_row t c entry kind amount rationale =
     record { contract = c.contract; entry = entry; kind = entry_kind kind; amount = amount; moment = t; rationale = Some rationale }
 
-abbrev pub amend_contract_puts : ClockRow → ℕ → Option ContractRow → Option NoticeRow → Option LineRow → List ℕ → ChangeKind → ℕ → List ℕ → List Put
-amend_contract_puts clock t (Some c) (Some n) (Some r) entry kind amount rationale =
+abbrev pub amend_contract_effect : ClockRow → ℕ → Option ContractRow → Option NoticeRow → Option LineRow → List ℕ → ChangeKind → ℕ → List ℕ → List Put
+amend_contract_effect clock t (Some c) (Some n) (Some r) entry kind amount rationale =
     puts.Entry (change_row t c entry kind amount rationale)
     ∷ puts.Line (line_after kind amount r)
     ∷ puts.Notice (released n)
     ∷ clock_put clock t
     ∷ []
-amend_contract_puts clock t contract notice line entry kind amount rationale = []
+amend_contract_effect clock t contract notice line entry kind amount rationale = []
 
 -- the rows that the amendment of a contract looks at
 abbrev pub amend_contract_rows : Tables → ℕ → AmendContractRows
@@ -87,3 +87,10 @@ amend_contract_rows s contract = record {
   line = line_of_lot (lot_of_contract (contract_at contract s) s) s;
   clock = s.clock;
 }
+
+-- when it is refused, by these rows, and what it puts
+abbrev pub amend_contract_tests : AmendContractRows → List ℕ → ChangeKind → ℕ → List (Bool × Refusal)
+amend_contract_tests rows entry kind amount = amend_contract_conditions rows.contract rows.entries rows.notice rows.line entry kind amount
+
+abbrev pub amend_contract_puts : AmendContractRows → ℕ → List ℕ → ChangeKind → ℕ → List ℕ → List Put
+amend_contract_puts rows t entry kind amount rationale = amend_contract_effect rows.clock t rows.contract rows.notice rows.line entry kind amount rationale

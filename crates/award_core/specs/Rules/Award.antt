@@ -98,8 +98,8 @@ abbrev pub is_above : ℕ → EnvelopeRow → Bool
 is_above funds e = nat_lt funds (price_of e)
 
 -- the notice, the lot, its line, its envelopes
-abbrev pub award_tests : ℕ → Option NoticeRow → Option LotRow → Option LineRow → List EnvelopeRow → List (Bool × Refusal)
-award_tests t notice lot line envelopes =
+abbrev pub award_conditions : ℕ → Option NoticeRow → Option LotRow → Option LineRow → List EnvelopeRow → List (Bool × Refusal)
+award_conditions t notice lot line envelopes =
     (not (is_some notice), NoSuch things.Notice)
     ∷ (not (is_some lot), NoSuch things.Lot)
     ∷ (holds_of (λ (n : NoticeRow). not (is_opened n.state)) notice, NotOpened)
@@ -145,10 +145,10 @@ decision_puts clock t n l r (Some e) securities =
     ∷ []
 
 -- with the lot's securities
-abbrev pub award_puts : ClockRow → ℕ → Option NoticeRow → Option LotRow → Option LineRow → List EnvelopeRow → List SecurityRow → List Put
-award_puts clock t (Some n) (Some l) (Some r) envelopes securities =
+abbrev pub award_effect : ClockRow → ℕ → Option NoticeRow → Option LotRow → Option LineRow → List EnvelopeRow → List SecurityRow → List Put
+award_effect clock t (Some n) (Some l) (Some r) envelopes securities =
     decision_puts clock t n l r (winner (Some n) envelopes) securities
-award_puts clock t notice lot line envelopes securities = []
+award_effect clock t notice lot line envelopes securities = []
 
 -- the rows that an award looks at
 abbrev pub award_rows : Tables → List ℕ → List ℕ → AwardRows
@@ -160,3 +160,10 @@ award_rows s notice lot = record {
   securities = securities_of_lot notice lot s;
   clock = s.clock;
 }
+
+-- when it is refused, by these rows, and what it puts
+abbrev pub award_tests : AwardRows → ℕ → List (Bool × Refusal)
+award_tests rows t = award_conditions t rows.notice rows.lot rows.line rows.envelopes
+
+abbrev pub award_puts : AwardRows → ℕ → List Put
+award_puts rows t = award_effect rows.clock t rows.notice rows.lot rows.line rows.envelopes rows.securities

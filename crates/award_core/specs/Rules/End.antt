@@ -20,8 +20,8 @@ use Rattle.office_base.specs.Parents.{notice_of_contract, lot_of_contract, line_
 use Rattle.award_core.specs.declared.end.EndRows.{EndRows}
 
 -- the contract, and its notice
-abbrev pub end_tests : Option ContractRow → Option NoticeRow → List (Bool × Refusal)
-end_tests contract notice =
+abbrev pub end_conditions : Option ContractRow → Option NoticeRow → List (Bool × Refusal)
+end_conditions contract notice =
     (not (is_some contract), NoSuch things.Contract)
     ∷ (holds_of has_ended contract, ContractEnded)
     ∷ (has_all_releases notice, LimitReached)
@@ -31,14 +31,14 @@ abbrev pub ended_contract : ℕ → How → List EntryRow → ContractRow → Co
 ended_contract t how entries c = record c { ended = Some t; how = Some how; released = outstanding entries c }
 
 -- with its entries, and its lot's line
-abbrev pub end_puts : ClockRow → ℕ → How → Option ContractRow → List EntryRow → Option NoticeRow → Option LineRow → List Put
-end_puts clock t how (Some c) entries (Some n) (Some r) =
+abbrev pub end_effect : ClockRow → ℕ → How → Option ContractRow → List EntryRow → Option NoticeRow → Option LineRow → List Put
+end_effect clock t how (Some c) entries (Some n) (Some r) =
     puts.Contract (ended_contract t how entries c)
     ∷ puts.Line (record r { free = r.free + outstanding entries c })
     ∷ puts.Notice (released n)
     ∷ clock_put clock t
     ∷ []
-end_puts clock t how contract entries notice line = []
+end_effect clock t how contract entries notice line = []
 
 -- the rows that the end of a contract looks at
 abbrev pub end_rows : Tables → ℕ → EndRows
@@ -49,3 +49,10 @@ end_rows s contract = record {
   line = line_of_lot (lot_of_contract (contract_at contract s) s) s;
   clock = s.clock;
 }
+
+-- when it is refused, by these rows, and what it puts
+abbrev pub end_tests : EndRows → List (Bool × Refusal)
+end_tests rows = end_conditions rows.contract rows.notice
+
+abbrev pub end_puts : EndRows → ℕ → How → List Put
+end_puts rows t how = end_effect rows.clock t how rows.contract rows.entries rows.notice rows.line

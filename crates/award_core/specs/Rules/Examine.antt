@@ -39,8 +39,8 @@ abbrev pub cant_be_examined : EnvelopeRow → Bool
 cant_be_examined e = not (is_priced e.reading) || is_some e.responsive
 
 -- the envelope, its notice and its lot
-abbrev pub examine_tests : Option EnvelopeRow → Option NoticeRow → Option LotRow → Bool → Option ℕ → List (Bool × Refusal)
-examine_tests envelope notice lot responsive quality =
+abbrev pub examine_conditions : Option EnvelopeRow → Option NoticeRow → Option LotRow → Bool → Option ℕ → List (Bool × Refusal)
+examine_conditions envelope notice lot responsive quality =
     (is_some envelope && holds_of (is_bad_quality responsive quality) notice, (BadBody (Field Quality)))
     ∷ (not (is_some envelope), NoSuch things.Tender)
     ∷ (holds_of isnt_read envelope, NotOpened)
@@ -55,9 +55,9 @@ quality_after (Some quality) held = Some quality
 abbrev pub examined : Bool → Option ℕ → EnvelopeRow → EnvelopeRow
 examined responsive quality e = record e { responsive = Some responsive; quality = quality_after quality e.quality }
 
-abbrev pub examine_puts : ClockRow → ℕ → Option EnvelopeRow → Bool → Option ℕ → List Put
-examine_puts clock t None responsive quality = []
-examine_puts clock t (Some e) responsive quality = puts.Envelope (examined responsive quality e) ∷ clock_put clock t ∷ []
+abbrev pub examine_effect : ClockRow → ℕ → Option EnvelopeRow → Bool → Option ℕ → List Put
+examine_effect clock t None responsive quality = []
+examine_effect clock t (Some e) responsive quality = puts.Envelope (examined responsive quality e) ∷ clock_put clock t ∷ []
 
 -- the rows that an examination looks at
 abbrev pub examine_rows : Tables → ℕ → ExamineRows
@@ -67,3 +67,10 @@ examine_rows s receipt = record {
   lot = lot_of_envelope (envelope_at receipt s) s;
   clock = s.clock;
 }
+
+-- when it is refused, by these rows, and what it puts
+abbrev pub examine_tests : ExamineRows → Bool → Option ℕ → List (Bool × Refusal)
+examine_tests rows responsive quality = examine_conditions rows.envelope rows.notice rows.lot responsive quality
+
+abbrev pub examine_puts : ExamineRows → ℕ → Bool → Option ℕ → List Put
+examine_puts rows t responsive quality = examine_effect rows.clock t rows.envelope responsive quality

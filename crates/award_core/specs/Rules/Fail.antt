@@ -5,10 +5,11 @@ use Rattle.office_values.specs.declared.refusal.Thing.TheVariants as things
 use Rattle.office_values.specs.declared.refusal.Refusal.{Refusal}
 use Rattle.office_values.specs.declared.refusal.Refusal.TheVariants.{NoSuch, AlreadyDecided, Expired, Standstill, LimitReached}
 use Rattle.office_base.specs.Rows.{holds_of}
-use Rattle.office_base.specs.RuleParts.{clock_put, released, has_all_releases, is_expired, security_forfeited, put_if}
+use Rattle.office_base.specs.RuleParts.{clock_put, released, has_all_releases, is_expired, passed_over, security_settled, put_if}
 use Rattle.office_base.specs.States.{is_active}
 use Rattle.office_base.specs.declared.records.LotState.TheVariants as lot_states
 use Rattle.office_base.specs.declared.records.AwardState.TheVariants as award_states
+use Rattle.office_base.specs.declared.records.SecurityState.TheVariants.{Forfeited}
 use Rattle.office_base.specs.declared.records.NoticeRow.{NoticeRow}
 use Rattle.office_base.specs.declared.records.LotRow.{LotRow}
 use Rattle.office_base.specs.declared.records.EnvelopeRow.{EnvelopeRow}
@@ -32,8 +33,8 @@ abbrev pub is_standing_still : ℕ → Option NoticeRow → AwardRow → Bool
 is_standing_still t notice a = holds_of (λ (n : NoticeRow). stands_still t n a) notice
 
 -- the award, and its notice
-abbrev pub fail_tests : ℕ → Option AwardRow → Option NoticeRow → List (Bool × Refusal)
-fail_tests t award notice =
+abbrev pub fail_conditions : ℕ → Option AwardRow → Option NoticeRow → List (Bool × Refusal)
+fail_conditions t award notice =
     (not (is_some award), NoSuch things.Award)
     ∷ (holds_of isnt_active award, AlreadyDecided)
     ∷ (holds_of (is_expired t) notice, Expired)
@@ -44,23 +45,20 @@ fail_tests t award notice =
 abbrev pub failed_award : AwardRow → AwardRow
 failed_award a = record a { state = award_states.Failed }
 
-abbrev pub failed_envelope : EnvelopeRow → EnvelopeRow
-failed_envelope e = record e { failed = true }
-
 -- what was reserved stays so
 abbrev pub undecided_again : LotRow → LotRow
 undecided_again l = record l { state = lot_states.Undecided }
 
 -- the award, its notice, its lot, its tender, and that tender's security
-abbrev pub fail_puts : ClockRow → ℕ → Option AwardRow → Option NoticeRow → Option LotRow → Option EnvelopeRow → Option SecurityRow → List Put
-fail_puts clock t (Some a) (Some n) (Some l) envelope security =
+abbrev pub fail_effect : ClockRow → ℕ → Option AwardRow → Option NoticeRow → Option LotRow → Option EnvelopeRow → Option SecurityRow → List Put
+fail_effect clock t (Some a) (Some n) (Some l) envelope security =
     puts.Award (failed_award a)
     ∷ puts.Lot (undecided_again l)
     ∷ puts.Notice (released n)
     ∷ clock_put clock t
-    ∷ put_if (λ e. puts.Envelope (failed_envelope e)) envelope
-    ++ put_if security_forfeited security
-fail_puts clock t award notice lot envelope security = []
+    ∷ put_if (λ e. puts.Envelope (passed_over e)) envelope
+    ++ put_if (security_settled Forfeited) security
+fail_effect clock t award notice lot envelope security = []
 
 -- the rows that the failing of an award looks at
 abbrev pub fail_rows : Tables → ℕ → FailRows
@@ -72,3 +70,10 @@ fail_rows s award = record {
   security = security_of_envelope (envelope_of_award (award_at award s) s) s;
   clock = s.clock;
 }
+
+-- when it is refused, by these rows, and what it puts
+abbrev pub fail_tests : FailRows → ℕ → List (Bool × Refusal)
+fail_tests rows t = fail_conditions t rows.award rows.notice
+
+abbrev pub fail_puts : FailRows → ℕ → List Put
+fail_puts rows t = fail_effect rows.clock t rows.award rows.notice rows.lot rows.envelope rows.security

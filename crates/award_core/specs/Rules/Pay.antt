@@ -19,8 +19,8 @@ use Rattle.office_base.specs.Parents.{notice_of_contract}
 use Rattle.award_core.specs.declared.pay.PayRows.{PayRows}
 
 -- the contract, its entries, and its notice
-abbrev pub pay_tests : Option ContractRow → List EntryRow → Option NoticeRow → List ℕ → ℕ → List (Bool × Refusal)
-pay_tests contract entries notice entry amount =
+abbrev pub pay_conditions : Option ContractRow → List EntryRow → Option NoticeRow → List ℕ → ℕ → List (Bool × Refusal)
+pay_conditions contract entries notice entry amount =
     (not (is_some contract), NoSuch things.Contract)
     ∷ (list_any (is_taken entry) entries, Exists)
     ∷ (holds_of (is_beyond entries amount) contract, MoreThanOutstanding)
@@ -32,10 +32,10 @@ abbrev pub payment_row : ℕ → ContractRow → List ℕ → ℕ → EntryRow
 payment_row t c entry amount =
     record { contract = c.contract; entry = entry; kind = entry_kinds.Payment; amount = amount; moment = t; rationale = None }
 
-abbrev pub pay_puts : ClockRow → ℕ → Option ContractRow → Option NoticeRow → List ℕ → ℕ → List Put
-pay_puts clock t (Some c) (Some n) entry amount =
+abbrev pub pay_effect : ClockRow → ℕ → Option ContractRow → Option NoticeRow → List ℕ → ℕ → List Put
+pay_effect clock t (Some c) (Some n) entry amount =
     puts.Entry (payment_row t c entry amount) ∷ puts.Notice (released n) ∷ clock_put clock t ∷ []
-pay_puts clock t contract notice entry amount = []
+pay_effect clock t contract notice entry amount = []
 
 -- the rows that a payment looks at
 abbrev pub pay_rows : Tables → ℕ → PayRows
@@ -45,3 +45,10 @@ pay_rows s contract = record {
   notice = notice_of_contract (contract_at contract s) s;
   clock = s.clock;
 }
+
+-- when it is refused, by these rows, and what it puts
+abbrev pub pay_tests : PayRows → List ℕ → ℕ → List (Bool × Refusal)
+pay_tests rows entry amount = pay_conditions rows.contract rows.entries rows.notice entry amount
+
+abbrev pub pay_puts : PayRows → ℕ → List ℕ → ℕ → List Put
+pay_puts rows t entry amount = pay_effect rows.clock t rows.contract rows.notice entry amount

@@ -57,7 +57,7 @@ reading_of (c ∷ rest) = cond (nat_eq c 45) Nonconforming (price_from None 0 (c
 
 -- a digest here is the bytes themselves, and releases and packages have no text
 abbrev pub means : Means
-means = record { read = λ bytes items. reading_of bytes; digest = λ bytes. bytes; release = λ x. Some [] }
+means = record { readings = record { read = λ bytes items. reading_of bytes; digest = λ bytes. bytes }; release = λ x. Some [] }
 
 abbrev pub packages : Packages
 packages query s = []

@@ -10,7 +10,7 @@ ghost use Rattle.office_machine.specs.Machine.{refusal_of};
 ghost use Rattle.office_values.specs.declared.refusal.Refusal.TheVariants.{Unavailable};
 ghost use Rattle.office_plans.specs.Asking.{given_by};
 ghost use Rattle.office_plans.specs.Replies.{said};
-ghost use Rattle.office_plans.specs.Effects.{HasEffect, effect_reply};
+ghost use Rattle.office_plans.specs.Effects.{HasEffect, accepted_reply};
 ghost use Rattle.award_core.specs.Rules.End.{end_rows};
 
 use crate::contract_release::contract_release;
@@ -51,7 +51,7 @@ fn load<H: Lookups>(shelf: &mut H, contract: AskedNumber) -> Result<EndRows, She
 // The reply, should the end be accepted.
 fn reply_to(asking: &Asking, rows: &EndRows, contract: AskedNumber) -> Result<Reply, Refusal>
     ensures said { IfOk result (λ reply. (s : Tables) (how : How) → rows.now ≡ end_rows s contract → refusal_of (given_by asking.now s (End contract how)) ≡ None
-        → said reply ≡ effect_reply (given_by asking.now s (End contract how))) }
+        → said reply ≡ accepted_reply (given_by asking.now s (End contract how))) }
     ensures none { IfErr result (λ why. why ≡ Unavailable) }
 {
     laws::outstanding();

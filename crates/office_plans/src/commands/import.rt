@@ -1,5 +1,5 @@
 //! The import of a budget file, planned.
-ghost use Rattle.std.specs.Prelude.{◌≡◌, IfOk, List, is_some, true};
+ghost use Rattle.std.specs.Prelude.{◌≡◌, IfOk, List, true};
 ghost use Rattle.office_acts.specs.Rights.{may};
 ghost use Rattle.office_acts.specs.declared.command.CommandKind.TheVariants as kinds;
 ghost use Rattle.office_acts.specs.declared.commands.Command.TheVariants.{Import};
@@ -7,12 +7,11 @@ ghost use Rattle.office_acts.specs.declared.budget.BudgetRow.{BudgetRow};
 ghost use Rattle.office_base.specs.Deciding.{Decides};
 ghost use Rattle.office_base.specs.Rules.{first_of};
 ghost use Rattle.office_base.specs.Shelves.{Looks};
-ghost use Rattle.office_base.specs.Standings.{standings};
-ghost use Rattle.office_base.specs.Tables.{Tables, batch_at};
+ghost use Rattle.office_base.specs.Tables.{Tables};
 ghost use Rattle.office_plans.specs.Asking.{given_by};
 ghost use Rattle.office_plans.specs.Named.{import_named};
 ghost use Rattle.office_plans.specs.Effects.{HasEffect};
-ghost use Rattle.tender_core.specs.Rules.Import.{import_tests, import_puts};
+ghost use Rattle.tender_core.specs.Rules.Import.{import_rows, import_tests, import_puts};
 
 use crate::decided::planned;
 use crate::planned::Planned;
@@ -54,7 +53,7 @@ fn load<H: Lookups>(
 // The decision, which is the same on the lines that the file names as on all lines of the office.
 fn decide(alloc: Global, t: Moment, rows: ImportRows, batch: Id) -> Result<Vec<Put>, Refusal>
     ensures { (s : Tables) (budget : List BudgetRow) → rows ≡ import_named s batch budget
-        → Decides result (first_of (import_tests (standings s) (is_some (batch_at batch s)) budget)) (import_puts s.clock t batch (standings s) budget) }
+        → Decides result (first_of (import_tests (import_rows s batch budget))) (import_puts (import_rows s batch budget) t batch) }
 {
     rows_are_kept::<Standing>();
     imports_agree();

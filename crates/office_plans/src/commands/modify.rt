@@ -7,7 +7,7 @@ ghost use Rattle.office_base.specs.Shelves.{Looks, LooksUp};
 ghost use Rattle.office_plans.specs.Asking.{given_by};
 ghost use Rattle.office_plans.specs.Replies.{said};
 ghost use Rattle.office_plans.specs.Effects.{HasEffect};
-ghost use Rattle.office_machine.specs.OfficeMeans.{unpublished_means};
+ghost use Rattle.office_machine.specs.OfficeMeans.{office_readings};
 ghost use Rattle.office_machine.specs.Replies.{modify_reply};
 ghost use Rattle.tender_core.specs.Rules.Modify.{modify_rows};
 
@@ -41,7 +41,7 @@ fn load<H: Lookups>(shelf: &mut H, receipt: AskedNumber) -> Result<ModifyRows, S
 
 // The reply: the receipt of the tender that comes in the place of the other, with the same security.
 fn reply_of(t: Moment, rows: &ModifyRows, sealed: &Sealed<'_>) -> Reply
-    ensures { said result ≡ modify_reply unpublished_means rows.now.clock t sealed.now rows.now.envelope }
+    ensures { said result ≡ modify_reply office_readings rows.now.clock t sealed.now rows.now.envelope }
 {
     let Some(row) = &rows.envelope else {
         return Reply::Refused {

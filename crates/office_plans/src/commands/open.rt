@@ -6,12 +6,12 @@ ghost use Rattle.office_acts.specs.declared.commands.Command.TheVariants.{Open};
 ghost use Rattle.office_base.specs.Deciding.{Decides};
 ghost use Rattle.office_base.specs.Rules.{first_of};
 ghost use Rattle.office_base.specs.Shelves.{Looks, LooksUp};
-ghost use Rattle.office_base.specs.Tables.{Tables, notice_at};
+ghost use Rattle.office_base.specs.Tables.{Tables};
 ghost use Rattle.office_plans.specs.Asking.{given_by};
 ghost use Rattle.office_plans.specs.Opening.{tenders_read};
 ghost use Rattle.office_plans.specs.Effects.{HasEffect};
-ghost use Rattle.office_machine.specs.Machine.{sealed_tenders};
-ghost use Rattle.office_machine.specs.OfficeMeans.{unpublished_means};
+ghost use Rattle.office_machine.specs.Rule.{sealed_tenders};
+ghost use Rattle.office_machine.specs.OfficeMeans.{office_readings};
 ghost use Rattle.tender_core.specs.Rules.Open.{open_rows, open_tests, open_puts};
 
 use crate::decided::planned;
@@ -44,7 +44,7 @@ fn load<H: Lookups>(shelf: &mut H, notice: &Id) -> Result<OpenRows, ShelfFault>
 
 // Its refusal, which doesn't depend on the tenders: so a refused opening reads none.
 fn refusal_of(t: Moment, rows: &OpenRows) -> Option<Refusal>
-    ensures { result ≡ first_of (open_tests t rows.now.notice) }
+    ensures { result ≡ first_of (open_tests rows.now t) }
 {
     let Some(row) = &rows.notice else {
         return Some(Refusal::NoSuch(Thing::Notice));
@@ -72,7 +72,7 @@ fn decide(
     tenders: Rows<OpenedTender>,
 ) -> Result<Vec<Put>, Refusal>
     ensures { (s : Tables) (notice : List ℕ) → rows ≡ open_rows s notice → tenders ≡ tenders_read notice s
-        → Decides result (first_of (open_tests t (notice_at notice s))) (open_puts unpublished_means.read s.clock t (notice_at notice s) (sealed_tenders notice s)) }
+        → Decides result (first_of (open_tests (open_rows s notice) t)) (open_puts office_readings.read (open_rows s notice) t (sealed_tenders notice s)) }
 {
     readings_are_put();
     decide_open(alloc, t, rows, tenders)

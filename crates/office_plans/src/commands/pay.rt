@@ -9,7 +9,7 @@ ghost use Rattle.office_machine.specs.Machine.{refusal_of};
 ghost use Rattle.office_values.specs.declared.refusal.Refusal.TheVariants.{Unavailable};
 ghost use Rattle.office_plans.specs.Asking.{given_by};
 ghost use Rattle.office_plans.specs.Replies.{said};
-ghost use Rattle.office_plans.specs.Effects.{HasEffect, effect_reply};
+ghost use Rattle.office_plans.specs.Effects.{HasEffect, accepted_reply};
 ghost use Rattle.award_core.specs.Rules.Pay.{pay_rows};
 
 use crate::contract_release::contract_release;
@@ -54,7 +54,7 @@ fn reply_to(
 ) -> Result<Reply, Refusal>
     ensures said { IfOk result (λ reply. (s : Tables) (entry : List ℕ) → rows.now ≡ pay_rows s contract
         → refusal_of (given_by asking.now s (Pay contract entry amount)) ≡ None
-        → said reply ≡ effect_reply (given_by asking.now s (Pay contract entry amount))) }
+        → said reply ≡ accepted_reply (given_by asking.now s (Pay contract entry amount))) }
     ensures none { IfErr result (λ why. why ≡ Unavailable) }
 {
     laws::outstanding();

@@ -1,16 +1,16 @@
 //! The publication of a notice, planned.
-ghost use Rattle.std.specs.Prelude.{◌≡◌, IfOk, is_some, map, true};
+ghost use Rattle.std.specs.Prelude.{◌≡◌, IfOk, map, true};
 ghost use Rattle.office_acts.specs.Rights.{may};
 ghost use Rattle.office_acts.specs.declared.command.CommandKind.TheVariants as kinds;
 ghost use Rattle.office_acts.specs.declared.commands.Command.TheVariants.{Publish};
 ghost use Rattle.office_base.specs.Deciding.{Decides};
 ghost use Rattle.office_base.specs.Rules.{first_of};
 ghost use Rattle.office_base.specs.Shelves.{Looks};
-ghost use Rattle.office_base.specs.Tables.{Tables, notice_at};
+ghost use Rattle.office_base.specs.Tables.{Tables};
 ghost use Rattle.office_plans.specs.Asking.{given_by};
 ghost use Rattle.office_plans.specs.Named.{line_of_new, lines_named, publish_named};
 ghost use Rattle.office_plans.specs.Effects.{HasEffect};
-ghost use Rattle.tender_core.specs.Rules.Publish.{publish_tests, publish_puts};
+ghost use Rattle.tender_core.specs.Rules.Publish.{publish_rows, publish_tests, publish_puts};
 
 use crate::decided::planned;
 use crate::lines::load_line;
@@ -73,7 +73,7 @@ fn decide(
     content: NewNotice,
 ) -> Result<Vec<Put>, Refusal>
     ensures { (s : Tables) → rows ≡ publish_named s notice content.lots
-        → Decides result (first_of (publish_tests s.lines (is_some (notice_at notice s)) t content)) (publish_puts s.clock t notice s.lines content) }
+        → Decides result (first_of (publish_tests (publish_rows s notice) t content)) (publish_puts (publish_rows s notice) t notice content) }
 {
     rows_are_kept::<LineRow>();
     publishes_agree();

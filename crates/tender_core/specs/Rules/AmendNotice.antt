@@ -17,8 +17,8 @@ use Rattle.tender_core.specs.declared.amend_notice.AmendNoticeRows.{AmendNoticeR
 abbrev pub has_all_amendments : NoticeRow → Bool
 has_all_amendments n = nat_le amendment_limit n.amendments
 
-abbrev pub amend_notice_tests : Option NoticeRow → ℕ → ℕ → List (Bool × Refusal)
-amend_notice_tests notice t deadline =
+abbrev pub amend_notice_conditions : Option NoticeRow → ℕ → ℕ → List (Bool × Refusal)
+amend_notice_conditions notice t deadline =
     (not (is_some notice), NoSuch things.Notice)
     ∷ (holds_of (is_past_deadline t) notice, DeadlinePassed)
     ∷ (holds_of (λ (n : NoticeRow). nat_lt deadline n.deadline) notice, DeadlineEarlier)
@@ -29,10 +29,17 @@ amend_notice_tests notice t deadline =
 abbrev pub amended : ℕ → NoticeRow → NoticeRow
 amended deadline n = record n { deadline = deadline; amendments = n.amendments + 1; releases = n.releases + 1 }
 
-abbrev pub amend_notice_puts : ClockRow → ℕ → Option NoticeRow → ℕ → List Put
-amend_notice_puts clock t None deadline = []
-amend_notice_puts clock t (Some n) deadline = puts.Notice (amended deadline n) ∷ clock_put clock t ∷ []
+abbrev pub amend_notice_effect : ClockRow → ℕ → Option NoticeRow → ℕ → List Put
+amend_notice_effect clock t None deadline = []
+amend_notice_effect clock t (Some n) deadline = puts.Notice (amended deadline n) ∷ clock_put clock t ∷ []
 
 -- the rows of an office that the amendment of a notice looks at
 abbrev pub amend_notice_rows : Tables → List ℕ → AmendNoticeRows
 amend_notice_rows s notice = record { notice = notice_at notice s; clock = s.clock }
+
+-- when it is refused, by these rows, and what it puts
+abbrev pub amend_notice_tests : AmendNoticeRows → ℕ → ℕ → List (Bool × Refusal)
+amend_notice_tests rows t deadline = amend_notice_conditions rows.notice t deadline
+
+abbrev pub amend_notice_puts : AmendNoticeRows → ℕ → ℕ → List Put
+amend_notice_puts rows t deadline = amend_notice_effect rows.clock t rows.notice deadline

@@ -31,8 +31,8 @@ abbrev pub is_open_lot : LotRow → Bool
 is_open_lot l = is_open l.state
 
 -- the notice, and its lots
-abbrev pub cancel_tests : Option NoticeRow → List LotRow → List (Bool × Refusal)
-cancel_tests notice lots =
+abbrev pub cancel_conditions : Option NoticeRow → List LotRow → List (Bool × Refusal)
+cancel_conditions notice lots =
     (not (is_some notice), NoSuch things.Notice)
     ∷ (not (list_any is_open_lot lots), NothingToCancel)
     ∷ (has_all_releases notice, LimitReached)
@@ -91,9 +91,9 @@ abbrev pub cancelled_notice : NoticeRow → NoticeRow
 cancelled_notice n = record n { state = cond (is_receiving n.state) notice_states.Cancelled n.state; releases = n.releases + 1 }
 
 -- the lines, the notice, and its lots, awards, envelopes and securities
-abbrev pub cancel_puts : ClockRow → ℕ → List LineRow → Option NoticeRow → List LotRow → List AwardRow → List EnvelopeRow → List SecurityRow → List Put
-cancel_puts clock t lines None lots awards envelopes securities = []
-cancel_puts clock t lines (Some n) lots awards envelopes securities =
+abbrev pub cancel_effect : ClockRow → ℕ → List LineRow → Option NoticeRow → List LotRow → List AwardRow → List EnvelopeRow → List SecurityRow → List Put
+cancel_effect clock t lines None lots awards envelopes securities = []
+cancel_effect clock t lines (Some n) lots awards envelopes securities =
     map (line_put lines (filter is_open_lot lots)) (filter is_open_lot lots)
     ++ (map lot_put (filter is_open_lot lots)
     ++ (map award_put (filter (is_ended_award lots) awards)
@@ -113,3 +113,10 @@ cancel_rows s notice = record {
   securities = securities_of_notice notice s;
   clock = s.clock;
 }
+
+-- when it is refused, by these rows, and what it puts
+abbrev pub cancel_tests : CancelRows → List (Bool × Refusal)
+cancel_tests rows = cancel_conditions rows.notice rows.lots
+
+abbrev pub cancel_puts : CancelRows → ℕ → List Put
+cancel_puts rows t = cancel_effect rows.clock t rows.lines rows.notice rows.lots rows.awards rows.envelopes rows.securities

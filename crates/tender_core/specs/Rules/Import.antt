@@ -66,8 +66,8 @@ abbrev pub passes_limit : Option Columns → BudgetRow → Bool
 passes_limit held row = not (is_cut row.kind) && nat_lt total_limit (appropriation_of held + row.amount)
 
 -- when an import is refused, in the order of the refusals
-abbrev pub import_tests : List Standing → Bool → List BudgetRow → List (Bool × Refusal)
-import_tests m exists rows =
+abbrev pub import_conditions : List Standing → Bool → List BudgetRow → List (Bool × Refusal)
+import_conditions m exists rows =
     (some_row cuts_nothing m rows, NoSuch things.Line)
     ∷ (exists, Exists)
     ∷ (some_row cuts_too_much m rows, InsufficientFunds)
@@ -92,9 +92,16 @@ puts_after clock t batch after rows =
     map (line_put after) rows ++ (puts.Batch (record { batch = batch; moment = t; rows = length rows }) ∷ puts.Clock (record clock { moment = t }) ∷ [])
 
 -- what an import puts
-abbrev pub import_puts : ClockRow → ℕ → List ℕ → List Standing → List BudgetRow → List Put
-import_puts clock t batch m rows = puts_after clock t batch (after_rows m rows) rows
+abbrev pub import_effect : ClockRow → ℕ → List ℕ → List Standing → List BudgetRow → List Put
+import_effect clock t batch m rows = puts_after clock t batch (after_rows m rows) rows
 
 -- the rows of an office that the import of a file looks at
 abbrev pub import_rows : Tables → List ℕ → List BudgetRow → ImportRows
 import_rows s batch budget = record { batch = batch_at batch s; file = record { lines = standings s; rows = budget }; clock = s.clock }
+
+-- when it is refused, by these rows, and what it puts
+abbrev pub import_tests : ImportRows → List (Bool × Refusal)
+import_tests rows = import_conditions rows.file.lines (is_some rows.batch) rows.file.rows
+
+abbrev pub import_puts : ImportRows → ℕ → List ℕ → List Put
+import_puts rows t batch = import_effect rows.clock t batch rows.file.lines rows.file.rows

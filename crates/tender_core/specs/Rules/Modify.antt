@@ -25,8 +25,8 @@ abbrev pub isnt_sealed : EnvelopeRow → Bool
 isnt_sealed e = not (is_sealed e.state)
 
 -- the envelope, and its notice
-abbrev pub modify_tests : ClockRow → ℕ → Caller → Option EnvelopeRow → Option NoticeRow → List (Bool × Refusal)
-modify_tests clock t caller envelope notice =
+abbrev pub modify_conditions : ClockRow → ℕ → Caller → Option EnvelopeRow → Option NoticeRow → List (Bool × Refusal)
+modify_conditions clock t caller envelope notice =
     (not (is_some envelope), NoSuch things.Tender)
     ∷ (holds_of (is_anothers caller) envelope, NotYourTender)
     ∷ (holds_of (is_past_deadline t) notice, DeadlinePassed)
@@ -55,9 +55,9 @@ replacing digest clock t e bytes = record {
   failed = false;
 }
 
-abbrev pub modify_puts : (List ℕ → List ℕ) → ClockRow → ℕ → Option EnvelopeRow → List ℕ → List Put
-modify_puts digest clock t None bytes = []
-modify_puts digest clock t (Some e) bytes =
+abbrev pub modify_effect : (List ℕ → List ℕ) → ClockRow → ℕ → Option EnvelopeRow → List ℕ → List Put
+modify_effect digest clock t None bytes = []
+modify_effect digest clock t (Some e) bytes =
     puts.Envelope (withdrawn e)
     ∷ puts.DropSeal e.receipt
     ∷ puts.Envelope (replacing digest clock t e bytes)
@@ -68,3 +68,10 @@ modify_puts digest clock t (Some e) bytes =
 -- the rows of an office that a modification looks at
 abbrev pub modify_rows : Tables → ℕ → ModifyRows
 modify_rows s receipt = record { envelope = envelope_at receipt s; notice = notice_of_envelope (envelope_at receipt s) s; clock = s.clock }
+
+-- when it is refused, by these rows, and what it puts
+abbrev pub modify_tests : ModifyRows → ℕ → Caller → List (Bool × Refusal)
+modify_tests rows t caller = modify_conditions rows.clock t caller rows.envelope rows.notice
+
+abbrev pub modify_puts : (List ℕ → List ℕ) → ModifyRows → ℕ → List ℕ → List Put
+modify_puts digest rows t bytes = modify_effect digest rows.clock t rows.envelope bytes

@@ -19,8 +19,8 @@ use Rattle.office_base.specs.Tables.{Tables, notice_at}
 use Rattle.tender_core.specs.declared.opening.OpenRows.{OpenRows}
 use Rattle.tender_core.specs.declared.opening.OpenedTender.{OpenedTender}
 
-abbrev pub open_tests : ℕ → Option NoticeRow → List (Bool × Refusal)
-open_tests t notice =
+abbrev pub open_conditions : ℕ → Option NoticeRow → List (Bool × Refusal)
+open_conditions t notice =
     (not (is_some notice), NoSuch things.Notice)
     ∷ (holds_of (λ (n : NoticeRow). is_cancelled n.state) notice, NotOpenForTenders)
     ∷ (holds_of (λ (n : NoticeRow). nat_lt t n.deadline) notice, TooEarlyToOpen)
@@ -47,9 +47,9 @@ abbrev pub opened_notice : ℕ → NoticeRow → NoticeRow
 opened_notice t n = record n { state = notice_states.Opened; opened = Some t; releases = n.releases + 1 }
 
 -- the sealed tenders of the notice
-abbrev pub open_puts : (List ℕ → List Item → Reading) → ClockRow → ℕ → Option NoticeRow → List SealedTender → List Put
-open_puts read clock t None tenders = []
-open_puts read clock t (Some n) tenders =
+abbrev pub open_effect : (List ℕ → List Item → Reading) → ClockRow → ℕ → Option NoticeRow → List SealedTender → List Put
+open_effect read clock t None tenders = []
+open_effect read clock t (Some n) tenders =
     map (opened_put read) tenders ++ (puts.Notice (opened_notice t n) ∷ clock_put clock t ∷ [])
 
 -- a sealed tender with what is read in it
@@ -71,8 +71,15 @@ opened_with clock t (Some n) tenders = map read_put tenders ++ (puts.Notice (ope
 abbrev pub ReadingsArePut : Type 0
 ReadingsArePut =
     (read : List ℕ → List Item → Reading) (clock : ClockRow) (t : ℕ) (notice : Option NoticeRow) (tenders : List SealedTender)
-    → open_puts read clock t notice tenders ≡ opened_with clock t notice (map (with_reading read) tenders)
+    → open_effect read clock t notice tenders ≡ opened_with clock t notice (map (with_reading read) tenders)
 
 -- the rows of an office that an opening looks at, beside the sealed tenders
 abbrev pub open_rows : Tables → List ℕ → OpenRows
 open_rows s notice = record { notice = notice_at notice s; clock = s.clock }
+
+-- when it is refused, by these rows, and what it puts
+abbrev pub open_tests : OpenRows → ℕ → List (Bool × Refusal)
+open_tests rows t = open_conditions t rows.notice
+
+abbrev pub open_puts : (List ℕ → List Item → Reading) → OpenRows → ℕ → List SealedTender → List Put
+open_puts read rows t tenders = open_effect read rows.clock t rows.notice tenders

@@ -33,8 +33,8 @@ abbrev pub is_too_small : LotRow → NamedSecurity → Bool
 is_too_small l named = nat_lt named.amount l.security
 
 -- the notice, the lot, the envelopes of the lot
-abbrev pub present_tests : ClockRow → ℕ → Caller → Option NoticeRow → Option LotRow → List EnvelopeRow → Option NamedSecurity → List (Bool × Refusal)
-present_tests clock t caller notice lot envelopes security =
+abbrev pub present_conditions : ClockRow → ℕ → Caller → Option NoticeRow → Option LotRow → List EnvelopeRow → Option NamedSecurity → List (Bool × Refusal)
+present_conditions clock t caller notice lot envelopes security =
     (not (is_some notice), NoSuch things.Notice)
     ∷ (not (is_some lot), NoSuch things.Lot)
     ∷ (holds_of (λ (n : NoticeRow). is_cancelled n.state) notice, NotOpenForTenders)
@@ -88,8 +88,8 @@ received_puts digest clock t caller notice lot security bytes in_time =
     ∷ seal_puts clock bytes in_time
     ++ put_if (security_put clock caller notice lot in_time) security
 
-abbrev pub present_puts : (List ℕ → List ℕ) → ClockRow → ℕ → Caller → List ℕ → List ℕ → Option NoticeRow → Option NamedSecurity → List ℕ → List Put
-present_puts digest clock t caller notice lot row security bytes =
+abbrev pub present_effect : (List ℕ → List ℕ) → ClockRow → ℕ → Caller → List ℕ → List ℕ → Option NoticeRow → Option NamedSecurity → List ℕ → List Put
+present_effect digest clock t caller notice lot row security bytes =
     received_puts digest clock t caller notice lot security bytes (holds_of (is_in_time t) row)
 
 -- the rows of an office that a presentation looks at
@@ -100,3 +100,10 @@ present_rows s notice lot = record {
   envelopes = envelopes_of_lot notice lot s;
   clock = s.clock;
 }
+
+-- when it is refused, by these rows, and what it puts
+abbrev pub present_tests : PresentRows → ℕ → Caller → Option NamedSecurity → List (Bool × Refusal)
+present_tests rows t caller security = present_conditions rows.clock t caller rows.notice rows.lot rows.envelopes security
+
+abbrev pub present_puts : (List ℕ → List ℕ) → PresentRows → ℕ → Caller → List ℕ → List ℕ → Option NamedSecurity → List ℕ → List Put
+present_puts digest rows t caller notice lot security bytes = present_effect digest rows.clock t caller notice lot rows.notice security bytes

@@ -45,8 +45,8 @@ abbrev pub has_too_many_items : NewLot → Bool
 has_too_many_items lot = nat_lt item_limit (length lot.items)
 
 -- when a publication is refused, in the order of the refusals; a new notice has no releases, so their limit isn't reached
-abbrev pub publish_tests : List LineRow → Bool → ℕ → NewNotice → List (Bool × Refusal)
-publish_tests lines exists t notice =
+abbrev pub publish_conditions : List LineRow → Bool → ℕ → NewNotice → List (Bool × Refusal)
+publish_conditions lines exists t notice =
     (list_any (is_on_no_line lines) notice.lots, NoSuch things.Line)
     ∷ (exists, Exists)
     ∷ (nat_le notice.deadline t, DeadlinePassed)
@@ -104,10 +104,17 @@ abbrev pub notice_put : ℕ → List ℕ → NewNotice → Put
 notice_put t notice new = puts.Notice (notice_row t notice new)
 
 -- what a publication puts: the lines of its lots, the lots, the notice and the clock
-abbrev pub publish_puts : ClockRow → ℕ → List ℕ → List LineRow → NewNotice → List Put
-publish_puts clock t notice lines new =
+abbrev pub publish_effect : ClockRow → ℕ → List ℕ → List LineRow → NewNotice → List Put
+publish_effect clock t notice lines new =
     map (line_put lines new.lots) new.lots ++ map (lot_put notice) new.lots ++ (notice_put t notice new ∷ puts.Clock (record clock { moment = t }) ∷ [])
 
 -- the rows of an office that a publication looks at
 abbrev pub publish_rows : Tables → List ℕ → PublishRows
 publish_rows s notice = record { notice = notice_at notice s; lines = s.lines; clock = s.clock }
+
+-- when it is refused, by these rows, and what it puts
+abbrev pub publish_tests : PublishRows → ℕ → NewNotice → List (Bool × Refusal)
+publish_tests rows t new = publish_conditions rows.lines (is_some rows.notice) t new
+
+abbrev pub publish_puts : PublishRows → ℕ → List ℕ → NewNotice → List Put
+publish_puts rows t notice new = publish_effect rows.clock t notice rows.lines new

@@ -15,13 +15,20 @@ use Rattle.tender_core.specs.declared.register.RegisterRows.{RegisterRows}
 abbrev pub clerk_id : List ℕ
 clerk_id = codes "clerk"
 
-abbrev pub register_tests : Option TendererRow → List ℕ → List (Bool × Refusal)
-register_tests held tenderer = (is_some held || same_id tenderer clerk_id, Exists) ∷ []
+abbrev pub register_conditions : Option TendererRow → List ℕ → List (Bool × Refusal)
+register_conditions held tenderer = (is_some held || same_id tenderer clerk_id, Exists) ∷ []
 
-abbrev pub register_puts : ClockRow → ℕ → List ℕ → List ℕ → List ℕ → List ℕ → List Put
-register_puts clock t tenderer name address key =
+abbrev pub register_effect : ClockRow → ℕ → List ℕ → List ℕ → List ℕ → List ℕ → List Put
+register_effect clock t tenderer name address key =
     puts.Tenderer (record { tenderer = tenderer; name = name; address = address; key = key }) ∷ clock_put clock t ∷ []
 
 -- the rows of an office that a registration looks at
 abbrev pub register_rows : Tables → List ℕ → RegisterRows
 register_rows s tenderer = record { tenderer = tenderer_at tenderer s; clock = s.clock }
+
+-- when it is refused, by these rows, and what it puts
+abbrev pub register_tests : RegisterRows → List ℕ → List (Bool × Refusal)
+register_tests rows tenderer = register_conditions rows.tenderer tenderer
+
+abbrev pub register_puts : RegisterRows → ℕ → List ℕ → List ℕ → List ℕ → List ℕ → List Put
+register_puts rows t tenderer name address key = register_effect rows.clock t tenderer name address key

@@ -1,5 +1,4 @@
-use Rattle.office_publications.proofs.KeptPuts.{no_event_publishes_nothing, events_are_released}
-use Rattle.office_publications.proofs.KeptPuts.{no_event_puts_its_effect, effects_are_the_same, events_put_releases, merges_stand_beside}
+use Rattle.office_publications.proofs.KeptPuts.{no_event_publishes_nothing, events_are_released, no_event_puts_its_effect, events_put_releases, merges_stand_beside}
 use Rattle.office_publications.proofs.KeptReleases.{reaches, stays, starts}
 use Rattle.office_publications.proofs.laws.keeping.Goals as goal
 
@@ -11,9 +10,6 @@ returns-clause-released c = events_are_released
 
 pub returns-clause-unpublished : goal.returns-clause-unpublished
 returns-clause-unpublished c = no_event_puts_its_effect
-
-pub returns-clause-effects : goal.returns-clause-effects
-returns-clause-effects c = effects_are_the_same
 
 pub returns-clause-published : goal.returns-clause-published
 returns-clause-published c = events_put_releases

@@ -15,9 +15,7 @@ returns g c = (
       let x = given_by c.args.asking.now s (AmendContract c.args.contract c.args.entry c.args.kind c.args.amount c.args.rationale) in
       let are : c.in_ok-rows.rows ≡ amend_contract_rows s c.args.contract = c.in_ok-rows.ensures.0.1 honest s held in
       let time : c.time-t.result ≡ time_of x = c.time-t.ensures ∙ ap (λ (rows : AmendContractRows). max c.args.asking.now.moment rows.clock.moment) are in
-      let tests = λ (rows : AmendContractRows).
-      amend_contract_tests rows.contract rows.entries rows.notice rows.line c.args.entry c.args.kind c.args.amount in
-      let puts = λ (rows : AmendContractRows) (t : ℕ).
-      amend_contract_puts rows.clock t rows.contract rows.notice rows.line c.args.entry c.args.kind c.args.amount c.args.rationale in
+      let tests = λ (rows : AmendContractRows). amend_contract_tests rows c.args.entry c.args.kind c.args.amount in
+      let puts = λ (rows : AmendContractRows) (t : ℕ). amend_contract_puts rows t c.args.entry c.args.kind c.args.amount c.args.rationale in
       c.planned.ensures x tt c.requires (decides_at tests puts _ _ _ _ _ are time c.decide_amend_contract-decided.ensures) (c.in_ok-reply.ensures.said s c.args.entry c.args.rationale are),
 )

@@ -15,7 +15,6 @@ returns g c = (
       let x = given_by c.args.asking.now s (End c.args.contract c.args.how) in
       let are : c.in_ok-rows.rows ≡ end_rows s c.args.contract = c.in_ok-rows.ensures.0.1 honest s held in
       let time : c.time-t.result ≡ time_of x = c.time-t.ensures ∙ ap (λ (rows : EndRows). max c.args.asking.now.moment rows.clock.moment) are in
-      let tests = λ (rows : EndRows). end_tests rows.contract rows.notice in
-      let puts = λ (rows : EndRows) (t : ℕ). end_puts rows.clock t c.args.how rows.contract rows.entries rows.notice rows.line in
-      c.planned.ensures x tt c.requires (decides_at tests puts _ _ _ _ _ are time c.decide_end-decided.ensures) (c.in_ok-reply.ensures.said s c.args.how are),
+      let puts = λ (rows : EndRows) (t : ℕ). end_puts rows t c.args.how in
+      c.planned.ensures x tt c.requires (decides_at end_tests puts _ _ _ _ _ are time c.decide_end-decided.ensures) (c.in_ok-reply.ensures.said s c.args.how are),
 )

@@ -3,7 +3,7 @@ use Rattle.std.proofs.Common.{◌∙◌, ap, sym}
 use Rattle.office_acts.specs.declared.commands.Command.TheVariants.{End}
 use Rattle.office_base.specs.Parents.{notice_of_contract}
 use Rattle.award_core.specs.declared.end.EndRows.{EndRows}
-use Rattle.office_machine.specs.OfficeMeans.{unpublished_means}
+use Rattle.office_machine.specs.OfficeMeans.{office_readings}
 use Rattle.office_machine.specs.Outstanding.{left_by_end}
 use Rattle.office_machine.specs.Replies.{contract_release}
 use Rattle.office_plans.specs.Asking.{given_by}
@@ -13,7 +13,7 @@ use Rattle.office_plans.proofs.commands.end.reply_to.Goals as goal
 pub returns-clause-said : goal.returns-clause-said
 returns-clause-said c = λ s how are none.
     let x = given_by c.args.asking.now s (End c.args.contract how) in
-    let known = c.outstanding.ensures.known unpublished_means x none in
+    let known = c.outstanding.ensures.known office_readings x none in
     let left =
     c.in_ok-left.ensures.left
     ∙ ap (λ (rows : EndRows). left_by_end rows.contract rows.entries rows.notice rows.line) are ∙ sym known in

@@ -15,7 +15,7 @@ returns g c = (
       let x = given_by c.args.asking.now s (Pay c.args.contract c.args.entry c.args.amount) in
       let are : c.in_ok-rows.rows ≡ pay_rows s c.args.contract = c.in_ok-rows.ensures.0.1 honest s held in
       let time : c.time-t.result ≡ time_of x = c.time-t.ensures ∙ ap (λ (rows : PayRows). max c.args.asking.now.moment rows.clock.moment) are in
-      let tests = λ (rows : PayRows). pay_tests rows.contract rows.entries rows.notice c.args.entry c.args.amount in
-      let puts = λ (rows : PayRows) (t : ℕ). pay_puts rows.clock t rows.contract rows.notice c.args.entry c.args.amount in
+      let tests = λ (rows : PayRows). pay_tests rows c.args.entry c.args.amount in
+      let puts = λ (rows : PayRows) (t : ℕ). pay_puts rows t c.args.entry c.args.amount in
       c.planned.ensures x tt c.requires (decides_at tests puts _ _ _ _ _ are time c.decide_pay-decided.ensures) (c.in_ok-reply.ensures.said s c.args.entry are),
 )

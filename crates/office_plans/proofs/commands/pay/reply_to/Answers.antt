@@ -3,7 +3,7 @@ use Rattle.std.proofs.Common.{◌∙◌, ap, sym}
 use Rattle.office_acts.specs.declared.commands.Command.TheVariants.{Pay}
 use Rattle.office_base.specs.Parents.{notice_of_contract}
 use Rattle.award_core.specs.declared.pay.PayRows.{PayRows}
-use Rattle.office_machine.specs.OfficeMeans.{unpublished_means}
+use Rattle.office_machine.specs.OfficeMeans.{office_readings}
 use Rattle.office_machine.specs.Outstanding.{left_by_payment}
 use Rattle.office_machine.specs.Replies.{contract_release}
 use Rattle.office_plans.specs.Asking.{given_by}
@@ -13,7 +13,7 @@ use Rattle.office_plans.proofs.commands.pay.reply_to.Goals as goal
 pub returns-clause-said : goal.returns-clause-said
 returns-clause-said c = λ s entry are none.
     let x = given_by c.args.asking.now s (Pay c.args.contract entry c.args.amount) in
-    let known = c.outstanding.ensures.known unpublished_means x none in
+    let known = c.outstanding.ensures.known office_readings x none in
     let left =
     c.in_ok-left.ensures.left
     ∙ ap (λ (rows : PayRows). left_by_payment rows.contract rows.entries rows.notice c.args.amount) are ∙ sym known in

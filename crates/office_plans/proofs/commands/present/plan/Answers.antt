@@ -24,8 +24,8 @@ returns g c = (
       let are : c.in_ok-rows.rows ≡ present_rows s a.notice a.lot = c.in_ok-rows.ensures.0.1 honest s held in
       let time : c.time-t.result ≡ time_of x = c.time-t.ensures ∙ ap (λ (rows : PresentRows). max a.asking.now.moment rows.clock.moment) are in
       let decides : PresentRows → ℕ → Type 0 = λ rows t. Decides c.decide_present-decided.result
-      (first_of (present_tests rows.clock t caller rows.notice rows.lot rows.envelopes a.security))
-      (present_puts sha256 rows.clock t caller a.notice a.lot rows.notice a.security a.sealed) in
+      (first_of (present_tests rows t caller a.security))
+      (present_puts sha256 rows t caller a.notice a.lot a.security a.sealed) in
       let replies : PresentRows → ℕ → Type 0 = λ rows t. said c.reply_of-reply.result
       ≡ received_reply (received sha256 rows.clock t caller a.notice a.lot a.security a.sealed (holds_of (is_in_time t) rows.notice)) in
       let here = subst (λ rows. decides rows c.time-t.result × replies rows c.time-t.result) are

@@ -1,0 +1,3 @@
+pub mod Pay
+pub mod Withdraw
+pub mod Award

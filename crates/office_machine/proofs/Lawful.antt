@@ -1,0 +1,31 @@
+-- What the laws of the office need of one command.
+use Rattle.std.specs.Prelude.{◌≡◌, ℕ, max, List, ◌∷◌, None}
+use Rattle.office_acts.specs.declared.command.Caller.{Caller}
+use Rattle.office_acts.specs.declared.commands.Command.{Command}
+use Rattle.office_base.specs.Rules.{first_of}
+use Rattle.office_base.specs.Tables.{Tables, IsSorted, after_puts}
+use Rattle.office_machine.specs.Readings.{Readings}
+use Rattle.office_machine.specs.Machine.{Given, IsCommand, tests_for, puts_for}
+use Rattle.office_machine.specs.Order.{NeverFall}
+use Rattle.office_machine.specs.Parents.{HaveParents}
+use Rattle.office_machine.specs.Publications.{published_for}
+use Rattle.office_machine.proofs.Kept.{IsKept}
+use Rattle.office_machine.proofs.FatesHold.{Keeps}
+use Rattle.office_machine.proofs.Tail.{HasTail}
+
+abbrev pub given : Tables → ℕ → Caller → Command → Given
+given s moment caller command = record { before = s; moment = moment; caller = caller; command = command }
+
+pub record Lawful (command : Command) : Type 0 where
+  -- its refusals are tried in the order of their numbers
+  pub in_order : (s : Tables) (t : ℕ) (caller : Caller) → NeverFall 7 (tests_for s t caller command)
+  -- the books stay balanced
+  pub accounts : (readings : Readings) (xs : List Given) (s : Tables) (moment : ℕ) (caller : Caller) → IsKept xs s → IsSorted s → IsCommand command
+      → first_of (tests_for s (max moment s.clock.moment) caller command) ≡ None
+      → IsKept (given s moment caller command ∷ xs) (after_puts (puts_for readings s (max moment s.clock.moment) caller command) s)
+  -- tenders and securities go on as told
+  pub fates : (readings : Readings) → Keeps readings command
+  -- it puts rows of its own, its notice with one release more where it publishes, and the clock at its moment
+  pub tail : (readings : Readings) (s : Tables) (moment : ℕ) (caller : Caller) → HaveParents s s
+      → first_of (tests_for s (max moment s.clock.moment) caller command) ≡ None
+      → HasTail s (max moment s.clock.moment) (published_for s command) (puts_for readings s (max moment s.clock.moment) caller command)
