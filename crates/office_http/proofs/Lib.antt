@@ -6,3 +6,4 @@ pub mod WorkedRequests
 pub mod AskedCommands
 pub mod MeantSteps
 pub mod KeptSteps
+pub mod SealedSteps

@@ -3,4 +3,5 @@ pub mod Credentials
 pub mod Meaning
 pub mod Answering
 pub mod Joined
+pub mod Sealed
 pub mod Inside

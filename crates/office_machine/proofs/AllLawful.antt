@@ -32,48 +32,56 @@ lawful (Import batch rows) = record {
   accounts = λ readings xs s moment caller kept order own allowed. import_keeps readings xs s moment caller batch rows kept order allowed;
   fates = λ readings. quiet_fates.import_keeps readings batch rows;
   tail = λ readings s moment caller have. importing readings s moment caller have batch rows;
+  apart = λ before after. refl;
 }
 lawful (Register tenderer name address key) = record {
   in_order = λ s t caller. (omega arith, tt);
   accounts = λ readings xs s moment caller kept order own allowed. register_keeps readings xs s moment caller kept tenderer name address key;
   fates = λ readings. quiet_fates.register_keeps readings tenderer name address key;
   tail = λ readings s moment caller have allowed. front (puts.Tenderer _ ∷ []) (refl, tt) (quiet _ [] tt refl);
+  apart = λ before after. refl;
 }
 lawful (Publish notice content) = record {
   in_order = λ s t caller. (omega arith, (omega arith, (omega arith, (omega arith, (omega arith, tt)))));
   accounts = λ readings xs s moment caller kept order own allowed. publish_keeps readings xs s moment caller notice content kept order own allowed;
   fates = λ readings. publish_fates.publish_keeps readings notice content;
   tail = λ readings s moment caller have. publishing readings s moment caller have notice content;
+  apart = λ before after. refl;
 }
 lawful (AmendNotice notice deadline rationale) = record {
   in_order = λ s t caller. (omega arith, (omega arith, (omega arith, (omega arith, (omega arith, tt)))));
   accounts = λ readings xs s moment caller kept order own allowed. amend_notice_keeps readings xs s moment caller kept notice deadline rationale;
   fates = λ readings. quiet_fates.amend_notice_keeps readings notice deadline rationale;
   tail = λ readings s moment caller have. amending_notice readings s moment caller have notice deadline rationale;
+  apart = λ before after. refl;
 }
 lawful (Cancel notice rationale) = record {
   in_order = λ s t caller. (omega arith, (omega arith, (omega arith, tt)));
   accounts = λ readings xs s moment caller kept order own allowed. cancel_keeps readings xs s moment caller notice rationale kept order allowed;
   fates = λ readings. cancel_fates.cancel_keeps readings notice rationale;
   tail = λ readings s moment caller have. cancelling readings s moment caller have notice rationale;
+  apart = λ before after. refl;
 }
 lawful (Open notice) = record {
   in_order = λ s t caller. (omega arith, (omega arith, (omega arith, (omega arith, (omega arith, tt)))));
   accounts = λ readings xs s moment caller kept order own allowed. open_keeps readings xs s moment caller kept notice;
   fates = λ readings. open_fates.open_keeps readings notice;
   tail = λ readings s moment caller have. opening readings s moment caller have notice;
+  apart = λ before after. refl;
 }
 lawful (Present notice lot security bytes) = record {
   in_order = λ s t caller. (omega arith, (omega arith, (omega arith, (omega arith, (omega arith, (omega arith, (omega arith, (omega arith, tt))))))));
   accounts = λ readings xs s moment caller kept order own allowed. present_keeps readings xs s moment caller kept notice lot security bytes;
   fates = λ readings. present_fates.present_keeps readings notice lot security bytes;
   tail = λ readings s moment caller have. presenting readings s moment caller have notice lot security bytes;
+  apart = λ before after. refl;
 }
 lawful (Modify receipt bytes) = record {
   in_order = λ s t caller. (omega arith, (omega arith, (omega arith, (omega arith, (omega arith, tt)))));
   accounts = λ readings xs s moment caller kept order own allowed. modify_keeps readings xs s moment caller kept receipt bytes;
   fates = λ readings. modify_fates.modify_keeps readings receipt bytes;
   tail = λ readings s moment caller have. modifying readings s moment caller have receipt bytes;
+  apart = λ before after. refl;
 }
 lawful (Withdraw receipt) = withdraw receipt
 lawful (Examine receipt responsive quality) = record {
@@ -81,6 +89,7 @@ lawful (Examine receipt responsive quality) = record {
   accounts = λ readings xs s moment caller kept order own allowed. examine_keeps readings xs s moment caller kept receipt responsive quality;
   fates = λ readings. open_fates.examine_keeps readings receipt responsive quality;
   tail = λ readings s moment caller have. examining readings s moment caller have receipt responsive quality;
+  apart = λ before after. refl;
 }
 lawful (Award notice lot) = award notice lot
 lawful (Fail award) = record {
@@ -88,18 +97,21 @@ lawful (Fail award) = record {
   accounts = λ readings xs s moment caller kept order own allowed. fail_keeps readings xs s moment caller award kept allowed;
   fates = λ readings. fail_fates.fail_keeps readings award;
   tail = λ readings s moment caller have. failing readings s moment caller have award;
+  apart = λ before after. refl;
 }
 lawful (Sign award) = record {
   in_order = λ s t caller. (omega arith, (omega arith, (omega arith, (omega arith, (omega arith, tt)))));
   accounts = λ readings xs s moment caller kept order own allowed. sign_keeps readings xs s moment caller award kept order allowed;
   fates = λ readings. sign_fates.sign_keeps readings award;
   tail = λ readings s moment caller have. signing readings s moment caller have award;
+  apart = λ before after. refl;
 }
 lawful (AmendContract contract entry kind amount rationale) = record {
   in_order = λ s t caller. (omega arith, (omega arith, (omega arith, (omega arith, (omega arith, (omega arith, tt))))));
   accounts = λ readings xs s moment caller kept order own allowed. amend_contract_keeps readings xs s moment caller contract entry kind amount rationale kept order allowed;
   fates = λ readings. quiet_fates.amend_contract_keeps readings contract entry kind amount rationale;
   tail = λ readings s moment caller have. amending_contract readings s moment caller have contract entry kind amount rationale;
+  apart = λ before after. refl;
 }
 lawful (Pay contract entry amount) = pay contract entry amount
 lawful (End contract how) = record {
@@ -107,4 +119,5 @@ lawful (End contract how) = record {
   accounts = λ readings xs s moment caller kept order own allowed. end_keeps readings xs s moment caller contract how kept order allowed;
   fates = λ readings. quiet_fates.end_keeps readings contract how;
   tail = λ readings s moment caller have. ending_contract readings s moment caller have contract how;
+  apart = λ before after. refl;
 }

@@ -4,17 +4,29 @@ use Rattle.office_acts.specs.declared.command.Caller.{Caller}
 use Rattle.office_acts.specs.declared.commands.Command.{Command}
 use Rattle.office_base.specs.Rules.{first_of}
 use Rattle.office_base.specs.Tables.{Tables, IsSorted, after_puts}
+use Rattle.office_base.specs.declared.records.CompiledRow.{CompiledRow}
 use Rattle.office_machine.specs.Readings.{Readings}
-use Rattle.office_machine.specs.Machine.{Given, IsCommand, tests_for, puts_for}
+use Rattle.office_machine.specs.Machine.{Given, IsCommand, tests_for, puts_for, with_trees}
 use Rattle.office_machine.specs.Order.{NeverFall}
 use Rattle.office_machine.specs.Parents.{HaveParents}
 use Rattle.office_machine.specs.Publications.{published_for}
+use Rattle.office_machine.specs.Rule.{Rule}
+use Rattle.office_machine.specs.Rules.{rule_of}
 use Rattle.office_machine.proofs.Kept.{IsKept}
 use Rattle.office_machine.proofs.FatesHold.{Keeps}
 use Rattle.office_machine.proofs.Tail.{HasTail}
 
 abbrev pub given : Tables → ℕ → Caller → Command → Given
 given s moment caller command = record { before = s; moment = moment; caller = caller; command = command }
+
+-- a rule that is asked with these merges beside the office before it, and with those beside the office after it
+abbrev pub past_merges : List CompiledRow → List CompiledRow → Rule → Rule
+past_merges before after rule = record {
+  tests = λ s. rule.tests (with_trees before s);
+  puts = λ readings s. rule.puts readings (with_trees before s);
+  publishes = λ s. rule.publishes (with_trees before s);
+  reply = λ readings s u. rule.reply readings (with_trees before s) (with_trees after u);
+}
 
 pub record Lawful (command : Command) : Type 0 where
   -- its refusals are tried in the order of their numbers
@@ -29,3 +41,5 @@ pub record Lawful (command : Command) : Type 0 where
   pub tail : (readings : Readings) (s : Tables) (moment : ℕ) (caller : Caller) → HaveParents s s
       → first_of (tests_for s (max moment s.clock.moment) caller command) ≡ None
       → HasTail s (max moment s.clock.moment) (published_for s command) (puts_for readings s (max moment s.clock.moment) caller command)
+  -- it reads no merge that stands beside the office
+  pub apart : (before after : List CompiledRow) → past_merges before after (rule_of command) ≡ rule_of command

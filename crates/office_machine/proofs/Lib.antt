@@ -78,3 +78,4 @@ pub mod RepliesAlike
 pub mod SealsKept
 pub mod WholeRuns
 pub mod Outstanding
+pub mod MergesApart

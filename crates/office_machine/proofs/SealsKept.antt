@@ -19,7 +19,7 @@ use Rattle.office_machine.specs.Worlds.{Theirs, is_theirs, AlikeRows, Pairs, Ali
 use Rattle.office_machine.specs.Requests.{Demand, Asks, Looks, Request, asked, reply_by, office_by, joined_by, reply_to, office_after, joined, IsDemand, AreRequests}
 use Rattle.office_machine.specs.Replies.{Refused}
 use Rattle.office_machine.specs.Sights.{Packages}
-use Rattle.office_machine.specs.Seals.{PublishesBlindly, SeesBlindly, SameDemand, SameRequest, SameButSeals, ToldAlike, opens_it, demand_opens, is_opening, AlikeUntilOpening, SealsAreKept}
+use Rattle.office_machine.specs.Seals.{PublishesBlindly, SeesBlindly, SameDemand, SameRequest, SameButSeals, ToldAlike, opens_it, demand_opens, is_opening, KnowAlike, AlikeUntilOpening, SealsAreKept}
 use Rattle.office_base.proofs.ExactKeys.{equal_ids}
 use Rattle.office_machine.proofs.Reached.{steps_reach}
 use Rattle.office_machine.proofs.FatesKept.{all_kept}
@@ -48,6 +48,10 @@ next_alike th means x x' a same =
     (subst (λ u. AlikeOffices th (after_puts (publication_puts (publication means x)) (after_puts (effect means.readings x) x.before)) u)
     (sym (after-append (effect means.readings x') (publication_puts (publication means x')) x'.before ∙ ap (λ p. after_puts (publication_puts p) (after_puts (effect means.readings x') x'.before)) same))
     (published th (publication means x) (after_puts (effect means.readings x) x.before) (after_puts (effect means.readings x') x'.before) a))
+
+-- the tenderers of two worlds are the same
+pub know_alike : (th : Theirs) (s s' : Tables) → AlikeOffices th s s' → KnowAlike s s'
+know_alike th s s' alike = ap (λ (u : Tables). u.tenderers) alike.but_sealed
 
 -- what can be given still can with other bytes
 given_too : (th : Theirs) (s : Tables) (caller : Caller) (command command' : Command) → SameBut th s caller command command' → IsCommand command → IsCommand command'
@@ -190,12 +194,12 @@ module _ (means : Means) (packages : Packages) (publishes : PublishesBlindly mea
       opens_others s s' alike command (isnt_opened (opens_it th command) (refusal_of (asked s a command)) now allowed)
 
   run : (xs ys : List Given) (s s' : Tables) → Reaches means xs s → Reaches means ys s' → AlikeOffices th s s' → (rest rest' : List Request) → AreRequests means s rest → SameButSeals means th s rest rest' → AlikeUntilOpening means packages th s s' rest rest'
-  run xs ys s s' reached reached' alike [] [] own same = tt
+  run xs ys s s' reached reached' alike [] [] own same = know_alike th s s' alike
   run xs ys s s' reached reached' alike [] (b ∷ rest') own same = absurd same
   run xs ys s s' reached reached' alike (a ∷ rest) [] own same = absurd same
   run xs ys s s' reached reached' alike (a ∷ rest) (b ∷ rest') own same =
       let it = step xs ys s s' reached reached' alike a b own.0 same.0 in
-      (it.told, λ closed. run (joined s a xs) (joined s' b ys) (office_after means s a) (office_after means s' b) it.reached it.reached' (it.alike (finds s s' alike a closed)) rest rest' own.1 same.1)
+      (know_alike th s s' alike, it.told, λ closed. run (joined s a xs) (joined s' b ys) (office_after means s a) (office_after means s' b) it.reached it.reached' (it.alike (finds s s' alike a closed)) rest rest' own.1 same.1)
 
 pub itself : (th : Theirs) (s : Tables) → AlikeOffices th s s
 itself th s = record { but_sealed = refl; envelopes = rows s.envelopes; seals = λ n out. refl }

@@ -24,7 +24,7 @@ use Rattle.office_machine.proofs.NextReceipt.{came_old}
 use Rattle.office_machine.proofs.SortedTables.{sorted}
 use Rattle.office_machine.proofs.WorldsPut.{AlikeOptions, pairs-found}
 use Rattle.office_machine.proofs.WorldsKept.{with_own}
-use Rattle.office_machine.proofs.SealsKept.{FindsAlike, step, itself}
+use Rattle.office_machine.proofs.SealsKept.{FindsAlike, step, itself, know_alike}
 
 -- what further commands leave stays so through a run
 module _ (P : List Given → Type 0) (on : (x : Given) (xs : List Given) → P xs → P (x ∷ xs)) where
@@ -123,13 +123,14 @@ module _ (means : Means) (th : Theirs) (xs ys : List Given) (s s' : Tables) (rea
 module _ (means : Means) (packages : Packages) (publishes : PublishesBlindly means) (sees : SeesBlindly packages) (th : Theirs) where
   run : (xs ys : List Given) (s s' : Tables) → Reaches means xs s → Reaches means ys s' → AlikeOffices th s s' → (rest rest' : List Request) → AreRequests means s rest → SameButSeals means th s rest rest'
       → DifferingAreGone (all_joined means s xs rest) (all_joined means s' ys rest') → AlikeThroughout means packages th s s' rest rest'
-  run xs ys s s' reached reached' alike [] [] own same gone = tt
+  run xs ys s s' reached reached' alike [] [] own same gone = know_alike th s s' alike
   run xs ys s s' reached reached' alike [] (b ∷ rest') own same gone = absurd same
   run xs ys s s' reached reached' alike (a ∷ rest) [] own same gone = absurd same
   run xs ys s s' reached reached' alike (a ∷ rest) (b ∷ rest') own same gone =
       let it = step means packages publishes sees th xs ys s s' reached reached' alike a b own.0 same.0 in (
+        know_alike th s s' alike,
         it.told,
-        run (joined s a xs) (joined s' b ys) (office_after means s a) (office_after means s' b) it.reached it.reached'
+        λ goes_on. run (joined s a xs) (joined s' b ys) (office_after means s a) (office_after means s' b) it.reached it.reached'
             (it.alike (finds means th xs ys s s' reached reached' alike a b rest rest' gone)) rest rest' own.1 same.1 gone,
       )
 

@@ -20,5 +20,6 @@ pub mod Fates
 pub mod Outstanding
 pub mod Sights
 pub mod Requests
+pub mod MergesApart
 pub mod Seals
 pub mod Worked

@@ -89,20 +89,28 @@ demand_opens th s a (Looks query) = false
 abbrev pub is_opening : Theirs → Tables → Request → Bool
 is_opening th s a = not a.unavailable && demand_opens th s a a.demand
 
--- up to the opening of the notice, its own reply with the rest
+-- both know the same tenderers, so whoever may call the one may call the other
+abbrev pub KnowAlike : Tables → Tables → Type 0
+KnowAlike s s' = s'.tenderers ≡ s.tenderers
+
+-- request by request, up to one that stops it, its own reply with the rest
+abbrev pub AlikeUntil : Means → Packages → Theirs → (Tables → Request → Bool) → Tables → Tables → List Request → List Request → Type 0
+AlikeUntil means packages th stops s s' [] [] = KnowAlike s s'
+AlikeUntil means packages th stops s s' (a ∷ rest) (b ∷ rest') =
+    KnowAlike s s' × ToldAlike th a.caller (reply_to means packages s a) (reply_to means packages s' b)
+    × (stops s a ≡ false → AlikeUntil means packages th stops (office_after means s a) (office_after means s' b) rest rest')
+AlikeUntil means packages th stops s s' rest rest' = ⊥
+
+-- up to the opening of the notice
 abbrev pub AlikeUntilOpening : Means → Packages → Theirs → Tables → Tables → List Request → List Request → Type 0
-AlikeUntilOpening means packages th s s' [] [] = Unit {0}
-AlikeUntilOpening means packages th s s' (a ∷ rest) (b ∷ rest') =
-    ToldAlike th a.caller (reply_to means packages s a) (reply_to means packages s' b)
-    × (is_opening th s a ≡ false → AlikeUntilOpening means packages th (office_after means s a) (office_after means s' b) rest rest')
-AlikeUntilOpening means packages th s s' rest rest' = ⊥
+AlikeUntilOpening means packages th s s' rest rest' = AlikeUntil means packages th (is_opening th) s s' rest rest'
+
+-- to the end
+abbrev pub never : Tables → Request → Bool
+never s a = false
 
 abbrev pub AlikeThroughout : Means → Packages → Theirs → Tables → Tables → List Request → List Request → Type 0
-AlikeThroughout means packages th s s' [] [] = Unit {0}
-AlikeThroughout means packages th s s' (a ∷ rest) (b ∷ rest') =
-    ToldAlike th a.caller (reply_to means packages s a) (reply_to means packages s' b)
-    × AlikeThroughout means packages th (office_after means s a) (office_after means s' b) rest rest'
-AlikeThroughout means packages th s s' rest rest' = ⊥
+AlikeThroughout means packages th s s' rest rest' = AlikeUntil means packages th never s s' rest rest'
 
 -- the bytes that came in with a receipt
 abbrev pub bytes_of : Option Reception → Option (List ℕ)

@@ -1,6 +1,7 @@
 ghost use Rattle.office_machine.specs.Accounts.{AccountsAreKept, TablesAreInOrder};
 ghost use Rattle.office_machine.specs.Clock.{ClockIsSet, ClockNeverRunsBack};
 ghost use Rattle.office_machine.specs.Fits.{SumsFit};
+ghost use Rattle.office_machine.specs.MergesApart.{LooksReadNoMerges, NextReadsNoMerges, PutsReadNoMerges, RefusalsReadNoMerges, RepliesReadNoMerges};
 ghost use Rattle.office_machine.specs.Order.{LeastIsAnswered, NumbersNeverFall};
 ghost use Rattle.office_machine.specs.Outstanding.{LeftIsBooked, LeftIsKnown};
 ghost use Rattle.office_machine.specs.Parents.{ParentsAreThere};
@@ -70,4 +71,15 @@ pub fn releases()
 /// that were: they differ in digests and seals of such envelopes alone. An opening has to find equal seals.
 pub fn worlds()
     ensures { StepsStayAlike }
+{}
+
+/// The merges of releases stand beside an office and are no part of it: whatever merges there are, a command is refused for the same reason,
+/// told the same and puts the same, whoever looks sees the same, and the office after it is the same but for the merges, where releases and
+/// packages are told without them.
+pub fn merges()
+    ensures refusals { RefusalsReadNoMerges }
+    ensures replies { RepliesReadNoMerges }
+    ensures looks { LooksReadNoMerges }
+    ensures puts { PutsReadNoMerges }
+    ensures next { NextReadsNoMerges }
 {}

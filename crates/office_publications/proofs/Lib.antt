@@ -9,3 +9,4 @@ pub mod ReleasesStay
 pub mod KeptPuts
 pub mod KeptReleases
 pub mod NoSealsTold
+pub mod NoMergesTold

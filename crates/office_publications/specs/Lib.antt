@@ -10,3 +10,4 @@ pub mod Packages
 pub mod Standing
 pub mod Told
 pub mod Sealed
+pub mod MergesApart

@@ -3,6 +3,7 @@ ghost use Rattle.office_publications.specs.Keeping.{NoEventPublishesNothing, Eve
 ghost use Rattle.office_publications.specs.Keeping.{NoEventPutsItsEffect, EventsPutReleases};
 ghost use Rattle.office_publications.specs.Keeping.{MergesStandBeside, KeptStepsReach, ReleasesStayKept, NothingIsKeptAtFirst};
 ghost use Rattle.office_publications.specs.Merges.{BodiesAreStorable, MergesStay, ReleasesStay};
+ghost use Rattle.office_publications.specs.MergesApart.{KeptStepsReadNoMerges, PackagesTellNoMerges, PublishedLooksReadNoMerges, ReleasesTellNoMerges};
 ghost use Rattle.office_publications.specs.Publishing.{ReleasesAreMade};
 ghost use Rattle.office_publications.specs.Told.{RecordsAreCompiled, ReleasesAreTold};
 
@@ -46,6 +47,18 @@ pub fn keeping()
     changes_keep_order();
     office_machine::laws::order();
     office_machine::laws::releases();
+}
+
+/// The merges that stand beside the office are no part of what it tells and becomes: its releases and packages are told without them, whoever
+/// looks sees the same whatever merges there are, and an accepted command leads to the machine's next office, with some merges beside it.
+pub fn merges_apart()
+    ensures releases { ReleasesTellNoMerges }
+    ensures packages { PackagesTellNoMerges }
+    ensures looks { PublishedLooksReadNoMerges }
+    ensures kept { KeptStepsReadNoMerges }
+{
+    keeping();
+    office_machine::laws::merges();
 }
 
 /// In an office that stands as its commands left it, the text of each release that is kept is that of the release that is told of it, and its

@@ -26,4 +26,5 @@ pay contract entry amount = record {
       moved refl (λ i. pay_effect s.clock (max moment s.clock.moment) (of.is i) (of.notice i) entry amount)
       (front (puts.Entry _ ∷ []) (refl, tt)
       (on_contract readings s moment caller have contract of (neither _ (has_all_releases (notice_of_contract (contract_at contract s) s)) tests.1.1.1.1.0).1));
+  apart = λ before after. refl;
 }

@@ -26,4 +26,5 @@ withdraw receipt = record {
       let security = security_of_envelope (envelope_at receipt s) s in
       moved refl (λ i. withdraw_effect s.clock (max moment s.clock.moment) (e.1 i) security)
       (front (puts.Envelope _ ∷ puts.DropSeal _ ∷ []) (refl, (refl, tt)) (quiet _ _ (on-if is_own (security_settled Returned) security (λ _. refl)) refl));
+  apart = λ before after. refl;
 }
