@@ -33,13 +33,6 @@ is_undecided lot_states.Contracted = false
 is_undecided lot_states.Unsuccessful = false
 is_undecided lot_states.Cancelled = false
 
-abbrev pub is_awarded : LotState → Bool
-is_awarded lot_states.Undecided = false
-is_awarded lot_states.Awarded = true
-is_awarded lot_states.Contracted = false
-is_awarded lot_states.Unsuccessful = false
-is_awarded lot_states.Cancelled = false
-
 -- undecided or awarded: money is reserved for it
 abbrev pub is_open : LotState → Bool
 is_open lot_states.Undecided = true

@@ -24,14 +24,14 @@ use Rattle.office_machine.proofs.Aside.{kept_aside, aside-securities}
 use Rattle.office_base.proofs.ExactKeys.{other_keys, equal_ids, same_itself}
 use Rattle.office_machine.proofs.Keyed.{found_key, found, found_put, elsewhere, still_there, own_key}
 use Rattle.office_machine.proofs.Keyed as keyed
-use Rattle.office_machine.proofs.Kept.{IsKept, PotsAre, LotIs, AwardIs}
+use Rattle.office_machine.proofs.Kept.{IsKept, PotsAre, LotIs, AwardIs, is_awarded}
 use Rattle.office_machine.proofs.LotChanged.{lots_are, award_is, back, over, after_line}
 use Rattle.office_machine.proofs.Passed.{none_holds, not_false, at_least, witness, test_of}
 use Rattle.std.proofs.lemmas.Bool.Decides.{nat_tests}
 use Rattle.office_base.specs.declared.records.AwardRow.{AwardRow}
 use Rattle.office_base.specs.declared.records.EnvelopeRow.{EnvelopeRow}
 use Rattle.office_base.specs.declared.records.SecurityRow.{SecurityRow}
-use Rattle.office_base.specs.States.{is_open, is_undecided, is_awarded, is_active}
+use Rattle.office_base.specs.States.{is_open, is_undecided, is_active}
 use Rattle.office_base.specs.declared.records.LotState.{LotState}
 use Rattle.office_base.specs.declared.records.LotState.TheVariants as lot_states
 use Rattle.award_core.specs.Rules.Award.{price_of, winner, is_above, reserved_in, unsuccessful, awarded, award_row, decision_puts, award_effect}

@@ -23,17 +23,17 @@ use Rattle.office_machine.proofs.Aside.{kept_aside, AreAside, aside-append, asid
 use Rattle.office_base.proofs.ExactKeys.{equal_keys, ids_exact, same_id_is}
 use Rattle.office_machine.proofs.Keyed.{found_key, found, sum-found_agree}
 use Rattle.office_machine.proofs.Keyed as keyed
-use Rattle.office_machine.proofs.Kept.{IsKept, PotsAre, LotIs, AwardIs, over_contracts, reserved_by, reserved_over}
+use Rattle.office_machine.proofs.Kept.{IsKept, PotsAre, LotIs, AwardIs, over_contracts, reserved_by, reserved_over, is_awarded}
 use Rattle.office_machine.proofs.Passed.{none_holds, neither, not_false, witness}
 use Rattle.std.specs.Cmp.Lexicographic.{nat_list_cmp_total}
 use Rattle.std.specs.declared.cmp.Ordering.{Ordering}
-use Rattle.office_machine.specs.Filtered.{if_passes}
+use Rattle.office_machine.proofs.Filtered.{if_passes}
 use Rattle.office_base.specs.Sums.{sum_over}
 use Rattle.office_base.specs.declared.puts.Put.{Put}
 use Rattle.office_base.specs.declared.records.AwardRow.{AwardRow}
 use Rattle.office_base.specs.declared.records.EnvelopeRow.{EnvelopeRow}
 use Rattle.office_base.specs.declared.records.SecurityRow.{SecurityRow}
-use Rattle.office_base.specs.States.{is_awarded, is_active}
+use Rattle.office_base.specs.States.{is_active}
 use Rattle.tender_core.specs.Rules.Publish.{no_line}
 use Rattle.tender_core.specs.Rules.Cancel.{is_open_lot, cancelled_lot, freed, line_row, ends, is_ended_award, cancelled_award, is_ended_envelope, envelope_put, drop_put, is_ended_security, cancelled_notice, cancel_effect}
 use Rattle.office_machine.proofs.RowsPut.{rows_put, some_has, lines_put, lots_put, after_lines, after_lots, found_after, there_after}

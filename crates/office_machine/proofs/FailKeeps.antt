@@ -19,10 +19,10 @@ use Rattle.office_base.specs.declared.puts.Put.TheVariants as puts
 use Rattle.office_machine.proofs.Aside.{kept_aside, aside-append, aside-if}
 use Rattle.office_machine.proofs.Keyed.{found_key, found, still_there}
 use Rattle.office_machine.proofs.Keyed as keyed
-use Rattle.office_machine.proofs.Kept.{IsKept, PotsAre, AwardIs}
+use Rattle.office_machine.proofs.Kept.{IsKept, PotsAre, AwardIs, is_awarded}
 use Rattle.office_machine.proofs.Passed.{none_holds, not_false, witness, test_of}
 use Rattle.office_base.specs.declared.records.AwardRow.{AwardRow}
-use Rattle.office_base.specs.States.{is_awarded, is_active}
+use Rattle.office_base.specs.States.{is_active}
 use Rattle.award_core.specs.Rules.Fail.{isnt_active, failed_award, undecided_again, fail_effect}
 use Rattle.office_base.specs.declared.records.AwardState.TheVariants as award_states
 use Rattle.office_base.specs.declared.records.LotState.TheVariants as lot_states

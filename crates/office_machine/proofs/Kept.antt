@@ -1,10 +1,12 @@
 -- What holds of an office that accepted commands reach.
-use Rattle.std.specs.Prelude.{◌≡◌, ℕ, ◌+◌, ◌≤◌, true, false, cond, List, Some, None, IsSome, is_some}
+use Rattle.std.specs.Prelude.{◌≡◌, ℕ, ◌+◌, ◌≤◌, Bool, true, false, cond, List, Some, None, IsSome, is_some}
 use Rattle.office_values.specs.Ids.{same_id}
 use Rattle.office_base.specs.Sums.{sum_over}
-use Rattle.office_base.specs.States.{is_open, is_awarded, is_active}
+use Rattle.office_base.specs.States.{is_open, is_active}
 use Rattle.office_base.specs.EntryKinds.{is_raise, is_less, is_payment}
 use Rattle.office_base.specs.declared.records.LotRow.{LotRow}
+use Rattle.office_base.specs.declared.records.LotState.{LotState}
+use Rattle.office_base.specs.declared.records.LotState.TheVariants as lot_states
 use Rattle.office_base.specs.declared.records.AwardRow.{AwardRow}
 use Rattle.office_base.specs.declared.records.ContractRow.{ContractRow}
 use Rattle.office_base.specs.Tables.{Tables, find_line, find_lot, find_notice, find_award, find_contract}
@@ -12,6 +14,13 @@ use Rattle.office_base.specs.Joined.{entry_sum, plus, minus, paid_under, is_on_l
 use Rattle.office_machine.specs.Machine.{Given}
 use Rattle.office_machine.specs.Moves.{Move, Outside, Free, Reserved, Contracted, Paid, came, went, moves, held_for, brought, taken}
 use Rattle.office_machine.specs.Accounts.{appropriation, free}
+
+abbrev pub is_awarded : LotState → Bool
+is_awarded lot_states.Undecided = false
+is_awarded lot_states.Awarded = true
+is_awarded lot_states.Contracted = false
+is_awarded lot_states.Unsuccessful = false
+is_awarded lot_states.Cancelled = false
 
 -- what the lot has reserved of the line
 abbrev pub reserved_by : List ℕ → LotRow → ℕ

@@ -1,3 +1,4 @@
+pub mod Filtered
 pub mod RowsPut
 pub mod Passed
 pub mod Keyed

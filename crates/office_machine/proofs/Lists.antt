@@ -5,7 +5,7 @@ use Rattle.std.specs.Ordering.{is_eq, eq_by_cmp}
 use Rattle.std.specs.declared.cmp.Ordering.{Ordering}
 use Rattle.std.specs.declared.cmp.Ordering.TheVariants.{Less, Equal, Greater}
 use Rattle.office_base.specs.Rows.{by_order, row_at, row_drop, StartsAbove, IsInOrder}
-use Rattle.office_machine.specs.Filtered.{if_passes}
+use Rattle.office_machine.proofs.Filtered.{if_passes}
 use Rattle.office_base.proofs.ExactKeys.{equal_keys}
 use Rattle.office_machine.proofs.Keyed.{IsKeyed, all_above, none_below}
 

@@ -6,7 +6,7 @@ use Rattle.std.specs.Cmp.{nat_cmp_total}
 use Rattle.std.specs.Ordering.{nat_cmp, eq_by_cmp}
 use Rattle.office_values.specs.Ids.{same_id}
 use Rattle.office_base.specs.Tables.{same_number, Tables, lot_cmp, find_line, put_line, find_notice, find_lot, put_lot, find_award, put_award, find_contract}
-use Rattle.office_base.specs.States.{is_open, is_awarded, is_active}
+use Rattle.office_base.specs.States.{is_open, is_active}
 use Rattle.office_base.specs.declared.records.LotState.{LotState}
 use Rattle.office_base.specs.declared.records.AwardState.{AwardState}
 use Rattle.office_base.specs.declared.records.LineRow.{LineRow}
@@ -20,7 +20,7 @@ use Rattle.office_base.proofs.ExactKeys.{equal_keys, other_keys, lots_exact}
 use Rattle.office_machine.proofs.Joins.{over_contracts-lot_kept, reserved-replaced, free-replaced}
 use Rattle.office_machine.proofs.Keyed.{found, found_put, elsewhere, own_key}
 use Rattle.office_machine.proofs.Keyed as keyed
-use Rattle.office_machine.proofs.Kept.{IsKept, PotsAre, LotIs, AwardIs, reserved_over, over_contracts}
+use Rattle.office_machine.proofs.Kept.{IsKept, PotsAre, LotIs, AwardIs, reserved_over, over_contracts, is_awarded}
 use Rattle.office_machine.proofs.Passed.{split}
 
 module _ (xs : List Given) (s : Tables) (kept : IsKept xs s) (l : LotRow) (state : LotState) (amount : ℕ) (here : find_lot s.lots (l.notice, l.lot) ≡ Some l) where

@@ -24,10 +24,10 @@ use Rattle.office_machine.proofs.Aside.{kept_aside, aside-securities}
 use Rattle.office_base.proofs.ExactKeys.{other_keys}
 use Rattle.office_machine.proofs.Keyed.{found_key, found, found_put, still_there, none_before, own_key}
 use Rattle.office_machine.proofs.Keyed as keyed
-use Rattle.office_machine.proofs.Kept.{IsKept, PotsAre, LotIs, AwardIs, ContractIs, NoContractIs, over_contracts}
+use Rattle.office_machine.proofs.Kept.{IsKept, PotsAre, LotIs, AwardIs, ContractIs, NoContractIs, over_contracts, is_awarded}
 use Rattle.office_machine.proofs.Passed.{none_holds, not_false, witness, test_of, is_there, no_zero}
 use Rattle.office_base.specs.declared.records.AwardRow.{AwardRow}
-use Rattle.office_base.specs.States.{is_open, is_awarded, is_active}
+use Rattle.office_base.specs.States.{is_open, is_active}
 use Rattle.office_base.specs.declared.records.LotState.{LotState}
 use Rattle.office_base.specs.declared.records.LotState.TheVariants as lot_states
 use Rattle.award_core.specs.Rules.Fail.{isnt_active}

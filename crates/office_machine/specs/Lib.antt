@@ -1,4 +1,3 @@
-pub mod Filtered
 pub mod Counted
 pub mod Readings
 pub mod Replies

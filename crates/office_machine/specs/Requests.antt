@@ -68,15 +68,6 @@ abbrev pub all_joined : Means → Tables → List Given → List Request → Lis
 all_joined means s xs [] = xs
 all_joined means s xs (a ∷ rest) = all_joined means (office_after means s a) (joined s a xs) rest
 
-abbrev pub replies : Means → Packages → Tables → List Request → List Reply
-replies means packages s [] = []
-replies means packages s (a ∷ rest) = reply_to means packages s a ∷ replies means packages (office_after means s a) rest
-
--- the refusal of a request, if it is refused
-abbrev pub refusal_in : Reply → Option Refusal
-refusal_in (Refused why) = Some why
-refusal_in _ = None
-
 -- each command can be given to the office that the requests before it left
 abbrev pub IsDemand : Tables → Request → Demand → Type 0
 IsDemand s a (Asks command) = CanBeGiven (asked s a command)

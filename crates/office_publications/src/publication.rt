@@ -3,7 +3,6 @@ ghost use Rattle.std.specs.Prelude.{◌≡◌, IfOk, IfErr};
 ghost use Rattle.serde_json.specs.View.{view};
 ghost use Rattle.serde_json.specs.Written.{compact_text};
 ghost use Rattle.ocds_merge.specs.Stored.{IsStorable};
-ghost use Rattle.ocds_release.specs.EventReleases.{release_of_event};
 ghost use Rattle.office_base.specs.Tables.{Tables};
 ghost use Rattle.office_values.specs.declared.refusal.Refusal.TheVariants.{Unavailable};
 ghost use Rattle.office_publications.specs.Keeping.{KeepsReleases, ReadsBack, merged_row};
@@ -11,40 +10,20 @@ ghost use Rattle.office_publications.specs.Merges.{IsKeptOf};
 
 use crate::merges::{Kept, merge_with};
 use ocds_merge::{merge_stays_storable, without_head};
-use ocds_release::event::Event;
-use ocds_release::release_of::release_of;
 use office_base::counts::Sequence;
 use office_base::json_text::JsonText;
 use office_base::records::{CompiledRow, ReleaseRow};
 use office_values::id::Id;
 use office_values::moment::Moment;
 use office_values::refusal::Refusal;
-use office_values::settings::Settings;
 use serde_json::Value;
-use std::alloc::{AllocError, Global};
+use std::alloc::Global;
 
 /// A release and the merge that it joins, as they are kept.
 #[derive(Drop)]
 pub struct Publication {
     pub release: ReleaseRow,
     pub merge: CompiledRow,
-}
-
-/// The release of an event of a notice under a number, at a moment. `Unavailable` comes only for want of memory.
-pub fn release_by<'a>(
-    alloc: Global,
-    settings: &'a Settings,
-    seq: Sequence,
-    t: Moment,
-    event: &'a Event<'a>,
-) -> Result<Value, Refusal>
-    ensures release { IfOk result (λ release. view release ≡ release_of_event settings.now seq t event.now) }
-    ensures none { IfErr result (λ why. why ≡ Unavailable) }
-{
-    match release_of(alloc, settings, seq, t, event) {
-        Ok(release) => Ok(release),
-        Err(_) => Err(Refusal::Unavailable),
-    }
 }
 
 /// A release of a notice as it is kept, as compact text under a number, with its moment, and the merge that it joins. Time and memory grow

@@ -29,8 +29,8 @@ use Rattle.office_base.specs.declared.records.LotState.{LotState}
 use Rattle.office_base.specs.declared.records.SecurityRow.{SecurityRow}
 use Rattle.office_base.specs.declared.records.SecurityState.{SecurityState}
 use Rattle.office_machine.specs.Machine.{Given, Means}
-use Rattle.office_machine.specs.Replies.{Reply}
-use Rattle.office_machine.specs.Requests.{Asks, Looks, Request, all_joined, last_office, refusal_in, replies}
+use Rattle.office_machine.specs.Replies.{Refused, Reply}
+use Rattle.office_machine.specs.Requests.{Asks, Looks, Request, all_joined, last_office, office_after, reply_to}
 use Rattle.office_machine.specs.Sights.{Packages}
 
 -- How tenders read in these examples.
@@ -251,13 +251,18 @@ office asked = last_office means no_tables asked
 
 -- what these requests are told in an office
 abbrev pub told_in : Tables → List Request → List Reply
-told_in s asked = replies means packages s asked
+told_in s [] = []
+told_in s (a ∷ rest) = reply_to means packages s a ∷ told_in (office_after means s a) rest
 
 -- what these are told after those
 abbrev pub told : List Request → List Request → List Reply
 told earlier asked = told_in (office earlier) asked
 
--- the refusal of each
+-- the refusal of each, if it is refused
+abbrev pub refusal_in : Reply → Option Refusal
+refusal_in (Refused why) = Some why
+refusal_in _ = None
+
 abbrev pub refused : List Request → List Request → List (Option Refusal)
 refused earlier asked = map refusal_in (told earlier asked)
 
