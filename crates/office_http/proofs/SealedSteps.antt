@@ -12,12 +12,11 @@ use Rattle.office_base.specs.declared.records.CompiledRow.{CompiledRow}
 use Rattle.office_base.specs.Tables.{Tables, find_tenderer}
 use Rattle.office_machine.specs.Fates.{came, fate_of_tender}
 use Rattle.office_machine.specs.Machine.{Given, Means, Reaches, refusal_of, with_trees}
-use Rattle.office_machine.specs.MergesApart.{RefusalsReadNoMerges, RepliesReadNoMerges, beside}
+use Rattle.office_machine.specs.MergesApart.{FatesReadNoMerges, RefusalsReadNoMerges, RepliesReadNoMerges, bare, beside}
 use Rattle.office_machine.specs.Requests.{AreRequests, Asks, Demand, Looks, Request, all_joined, joined, joined_by, office_after, office_by, reply_to}
 use Rattle.office_machine.specs.Seals.{AlikeUntil, DifferingAreGone, KnowAlike, SameButSeals, ToldAlike, bytes_of, is_gone, is_opening, never, opens_it}
 use Rattle.office_machine.specs.Sights.{Packages}
 use Rattle.office_machine.specs.Worlds.{Modified, Presented, Same, SameBut, Theirs}
-use Rattle.office_machine.proofs.MergesApart.{bare, same_came, same_fate}
 use Rattle.office_publications.specs.MergesApart.{KeptStepsReadNoMerges, PublishedLooksReadNoMerges}
 use Rattle.office_publications.specs.Packages.{packages}
 use Rattle.office_publications.specs.Publishing.{publishing}
@@ -49,6 +48,7 @@ pub record Laws : Type 0 where
   pub replies : RepliesReadNoMerges
   pub looks : PublishedLooksReadNoMerges
   pub kept : KeptStepsReadNoMerges
+  pub fates : FatesReadNoMerges
 
 -- the machine's request of a block that means something to it
 abbrev request_of : Bool → ℕ → Caller → Demand → Request
@@ -304,12 +304,19 @@ module _ (laws : Laws) (settings : Settings) where
       ∙ ap bare (one_joined s x.busy x.block.moment (meaning trees s x) zs (run_asks (office_answers.after x.busy (held trees s) x.block) steps))
 
 -- lists that differ in what stood beside the offices alone have the same tenders gone
-same_gone : (as bs cs ds : List Given) → bare as ≡ bare cs → bare bs ≡ bare ds → DifferingAreGone as bs → DifferingAreGone cs ds
-same_gone as bs cs ds first second gone r =
-    elim (gone r) as (λ _. (bytes_of (came cs r) ≡ bytes_of (came ds r)) ⊎ (is_gone (fate_of_tender cs r) ≡ true)) [
-      | inl same ↦ inl (ap bytes_of (sym (same_came as cs first r)) ∙ same ∙ ap bytes_of (same_came bs ds second r))
-      | inr is ↦ inr (ap is_gone (sym (same_fate as cs first r)) ∙ is)
-    ]
+module _ (laws : Laws) where
+  same_came : (xs ys : List Given) → bare xs ≡ bare ys → (r : ℕ) → came xs r ≡ came ys r
+  same_came xs ys same r = sym (laws.fates xs r).0 ∙ ap (λ zs. came zs r) same ∙ (laws.fates ys r).0
+
+  same_fate : (xs ys : List Given) → bare xs ≡ bare ys → (r : ℕ) → fate_of_tender xs r ≡ fate_of_tender ys r
+  same_fate xs ys same r = sym (laws.fates xs r).1 ∙ ap (λ zs. fate_of_tender zs r) same ∙ (laws.fates ys r).1
+
+  same_gone : (as bs cs ds : List Given) → bare as ≡ bare cs → bare bs ≡ bare ds → DifferingAreGone as bs → DifferingAreGone cs ds
+  same_gone as bs cs ds first second gone r =
+      elim (gone r) as (λ _. (bytes_of (came cs r) ≡ bytes_of (came ds r)) ⊎ (is_gone (fate_of_tender cs r) ≡ true)) [
+        | inl same ↦ inl (ap bytes_of (sym (same_came as cs first r)) ∙ same ∙ ap bytes_of (same_came bs ds second r))
+        | inr is ↦ inr (ap is_gone (sym (same_fate as cs first r)) ∙ is)
+      ]
 
 opening_halts : Theirs → Tables → Bool → ℕ → Meant → Bool
 opening_halts th s busy moment m = not busy && meant_opens th s moment m
@@ -338,7 +345,7 @@ runs_alike laws th xs h reached steps steps' same gone =
     h.tables.compiled h.tables.compiled h.tables h.tables steps steps' same
     (laws.whole h.settings th xs h.tables reached (run_asks h steps) (run_asks h steps') (all_can laws h.settings h.tables.compiled h.tables steps)
     (all_same laws h.settings th h.tables.compiled h.tables.compiled h.tables h.tables steps steps' same)
-    (same_gone (joined_steps h steps xs) (joined_steps h steps' xs) (all_joined (publishing h.settings) h.tables xs (run_asks h steps)) (all_joined (publishing h.settings) h.tables xs (run_asks h steps'))
+    (same_gone laws (joined_steps h steps xs) (joined_steps h steps' xs) (all_joined (publishing h.settings) h.tables xs (run_asks h steps)) (all_joined (publishing h.settings) h.tables xs (run_asks h steps'))
     (all_bare laws h.settings h.tables.compiled h.tables xs xs refl steps) (all_bare laws h.settings h.tables.compiled h.tables xs xs refl steps') gone))
 
 -- Who calls is told by the tenderers that an office knows.

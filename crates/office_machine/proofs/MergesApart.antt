@@ -1,5 +1,5 @@
 -- Nothing reads the merges that stand beside the office.
-use Rattle.std.proofs.Common.{◌≡◌, ℕ, Bool, cond, not, ◌&&◌, List, [], ◌∷◌, ◌++◌, map, Option, Some, None, refl, sym, ◌∙◌, ap, subst}
+use Rattle.std.proofs.Common.{◌≡◌, ℕ, Bool, cond, not, ◌&&◌, List, [], ◌∷◌, ◌++◌, Option, Some, None, refl, sym, ◌∙◌, ap, subst}
 use Rattle.std.specs.Prelude.{option_and_then, option_map}
 use Rattle.office_acts.specs.declared.command.Caller.{Caller}
 use Rattle.office_acts.specs.declared.commands.Command.{Command}
@@ -18,7 +18,7 @@ use Rattle.office_base.specs.Rules.{first_of}
 use Rattle.office_base.specs.Tables.{Tables, same_number, notice_at, after_put, after_puts}
 use Rattle.office_machine.specs.Fates.{Reception, brought, came, came_after, fate_after, fate_of_tender, is_effective, tender_decided}
 use Rattle.office_machine.specs.Machine.{Given, Means, done, effect, may_give, next, publication, publication_puts, puts_of, refusal_of, release_of_notice, release_row, time_of, with_trees}
-use Rattle.office_machine.specs.MergesApart.{LooksReadNoMerges, NextReadsNoMerges, PublishesNoMerges, PutsReadNoMerges, RefusalsReadNoMerges, RepliesReadNoMerges, ShowsNoMerges, beside}
+use Rattle.office_machine.specs.MergesApart.{FatesReadNoMerges, LooksReadNoMerges, NextReadsNoMerges, PublishesNoMerges, PutsReadNoMerges, RefusalsReadNoMerges, RepliesReadNoMerges, ShowsNoMerges, bare, beside}
 use Rattle.office_machine.specs.Publications.{published_for}
 use Rattle.office_machine.specs.Readings.{Readings}
 use Rattle.office_machine.specs.Replies.{Reply, Refused}
@@ -139,10 +139,6 @@ module _ (trees : List CompiledRow) (x : Given) (earlier : ℕ → Option Recept
   decided_apart (Cancel notice rationale) r = refl
   decided_apart _ r = refl
 
--- the commands without what stood beside the offices before them
-abbrev pub bare : List Given → List Given
-bare xs = map (beside []) xs
-
 came_bare : (xs : List Given) (r : ℕ) → came (bare xs) r ≡ came xs r
 came_bare [] r = refl
 came_bare (x ∷ xs) r = λ i.
@@ -156,9 +152,5 @@ fate_bare (x ∷ xs) r = λ i.
     fate_after (fate_bare xs r i) (came_bare (x ∷ xs) r i)
     ((ap (λ earlier. tender_decided x.command (beside [] x) earlier r) (λ j q. came_bare xs q j) ∙ decided_apart [] x (came xs) x.command r) i)
 
--- so lists that differ in that alone took in the same, and decided the same
-pub same_came : (xs ys : List Given) → bare xs ≡ bare ys → (r : ℕ) → came xs r ≡ came ys r
-same_came xs ys same r = sym (came_bare xs r) ∙ ap (λ zs. came zs r) same ∙ came_bare ys r
-
-pub same_fate : (xs ys : List Given) → bare xs ≡ bare ys → (r : ℕ) → fate_of_tender xs r ≡ fate_of_tender ys r
-same_fate xs ys same r = sym (fate_bare xs r) ∙ ap (λ zs. fate_of_tender zs r) same ∙ fate_bare ys r
+pub fates_apart : FatesReadNoMerges
+fates_apart xs r = (came_bare xs r, fate_bare xs r)

@@ -1,9 +1,10 @@
 -- The merges of releases stand beside the office and are no part of it: nothing that it decides, puts, tells or becomes reads them.
-use Rattle.std.specs.Prelude.{◌≡◌, List}
+use Rattle.std.specs.Prelude.{◌≡◌, ℕ, List, [], map}
 use Rattle.office_acts.specs.declared.command.Caller.{Caller}
 use Rattle.office_acts.specs.declared.queries.Query.{Query}
 use Rattle.office_base.specs.declared.records.CompiledRow.{CompiledRow}
 use Rattle.office_base.specs.Tables.{Tables}
+use Rattle.office_machine.specs.Fates.{came, fate_of_tender}
 use Rattle.office_machine.specs.Machine.{Given, Means, next, puts_of, refusal_of, with_trees}
 use Rattle.office_machine.specs.Requests.{reply_by}
 use Rattle.office_machine.specs.Sights.{Packages, told}
@@ -18,6 +19,10 @@ PublishesNoMerges means = (trees : List CompiledRow) (x : Given) → means.relea
 
 abbrev pub ShowsNoMerges : Packages → Type 0
 ShowsNoMerges packages = (trees : List CompiledRow) (query : Query) (s : Tables) → packages query (with_trees trees s) ≡ packages query s
+
+-- commands, each without what stood beside the office before it
+abbrev pub bare : List Given → List Given
+bare xs = map (beside []) xs
 
 -- ---- laws
 
@@ -42,3 +47,7 @@ PutsReadNoMerges = (means : Means) → PublishesNoMerges means → (trees : List
 abbrev pub NextReadsNoMerges : Type 0
 NextReadsNoMerges = (means : Means) → PublishesNoMerges means → (trees : List CompiledRow) (x : Given)
     → next means (beside trees x) ≡ with_trees (next means (beside trees x)).compiled (next means x)
+
+-- what came in with a receipt, and what became of it, are told without them
+abbrev pub FatesReadNoMerges : Type 0
+FatesReadNoMerges = (xs : List Given) (r : ℕ) → (came (bare xs) r ≡ came xs r) × (fate_of_tender (bare xs) r ≡ fate_of_tender xs r)

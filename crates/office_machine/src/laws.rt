@@ -1,7 +1,7 @@
 ghost use Rattle.office_machine.specs.Accounts.{AccountsAreKept, TablesAreInOrder};
 ghost use Rattle.office_machine.specs.Clock.{ClockIsSet, ClockNeverRunsBack};
 ghost use Rattle.office_machine.specs.Fits.{SumsFit};
-ghost use Rattle.office_machine.specs.MergesApart.{LooksReadNoMerges, NextReadsNoMerges, PutsReadNoMerges, RefusalsReadNoMerges, RepliesReadNoMerges};
+ghost use Rattle.office_machine.specs.MergesApart.{FatesReadNoMerges, LooksReadNoMerges, NextReadsNoMerges, PutsReadNoMerges, RefusalsReadNoMerges, RepliesReadNoMerges};
 ghost use Rattle.office_machine.specs.Order.{LeastIsAnswered, NumbersNeverFall};
 ghost use Rattle.office_machine.specs.Outstanding.{LeftIsBooked, LeftIsKnown};
 ghost use Rattle.office_machine.specs.Parents.{ParentsAreThere};
@@ -75,11 +75,12 @@ pub fn worlds()
 
 /// The merges of releases stand beside an office and are no part of it: whatever merges there are, a command is refused for the same reason,
 /// told the same and puts the same, whoever looks sees the same, and the office after it is the same but for the merges, where releases and
-/// packages are told without them.
+/// packages are told without them; and so are the fates that commands give to tenders.
 pub fn merges()
     ensures refusals { RefusalsReadNoMerges }
     ensures replies { RepliesReadNoMerges }
     ensures looks { LooksReadNoMerges }
     ensures puts { PutsReadNoMerges }
     ensures next { NextReadsNoMerges }
+    ensures fates { FatesReadNoMerges }
 {}

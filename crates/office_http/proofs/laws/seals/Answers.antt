@@ -16,6 +16,7 @@ returns-clause-answers c =
       replies = c.merges.ensures.replies;
       looks = c.merges_apart.ensures.looks;
       kept = c.merges_apart.ensures.kept;
+      fates = c.merges.ensures.fates;
     })
 
 pub returns-clause-runs : goal.returns-clause-runs
@@ -27,6 +28,7 @@ returns-clause-runs c =
       replies = c.merges.ensures.replies;
       looks = c.merges_apart.ensures.looks;
       kept = c.merges_apart.ensures.kept;
+      fates = c.merges.ensures.fates;
     })
 
 pub returns-clause-meanings : goal.returns-clause-meanings

@@ -1,4 +1,4 @@
-use Rattle.office_machine.proofs.MergesApart.{looks_apart, next_apart, puts_apart, refusals_apart, replies_apart}
+use Rattle.office_machine.proofs.MergesApart.{fates_apart, looks_apart, next_apart, puts_apart, refusals_apart, replies_apart}
 use Rattle.office_machine.proofs.laws.merges.Goals as goal
 
 pub returns-clause-refusals : goal.returns-clause-refusals
@@ -15,3 +15,6 @@ returns-clause-puts c = puts_apart
 
 pub returns-clause-next : goal.returns-clause-next
 returns-clause-next c = next_apart
+
+pub returns-clause-fates : goal.returns-clause-fates
+returns-clause-fates c = fates_apart
