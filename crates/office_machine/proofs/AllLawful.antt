@@ -25,6 +25,18 @@ use Rattle.office_machine.proofs.Commands.Withdraw.{withdraw}
 use Rattle.office_machine.proofs.Commands.Award.{award}
 use Rattle.office_machine.proofs.Tail.{front, quiet}
 use Rattle.office_machine.proofs.Tails.{importing, publishing, amending_notice, cancelling, opening, presenting, modifying, examining, failing, signing, amending_contract, ending_contract}
+use Rattle.office_base.specs.Tables.{envelope_at, award_at, contract_at}
+use Rattle.std.specs.Prelude.{None, option_map}
+use Rattle.tender_core.specs.Rules.Modify.{modify_tests, modify_puts}
+use Rattle.office_machine.specs.Replies.{modify_reply, Examined, Failed, award_release, Signed, OfContract, contract_release, left_of}
+use Rattle.office_machine.proofs.RowsApart.{modify_rows_apart, examine_rows_apart, fail_rows_apart, sign_rows_apart, amend_contract_rows_apart, end_rows_apart}
+use Rattle.award_core.specs.Rules.Examine.{examine_tests, examine_puts}
+use Rattle.award_core.specs.Rules.Fail.{fail_tests, fail_puts}
+use Rattle.office_machine.specs.Rule.{notice_in_award, notice_in_contract}
+use Rattle.office_machine.specs.Commands.Award.{award}
+use Rattle.award_core.specs.Rules.Sign.{sign_tests, sign_puts}
+use Rattle.award_core.specs.Rules.AmendContract.{amend_contract_tests, amend_contract_puts}
+use Rattle.award_core.specs.Rules.End.{end_tests, end_puts}
 
 pub lawful : (command : Command) → Lawful command
 lawful (Import batch rows) = record {
@@ -81,7 +93,12 @@ lawful (Modify receipt bytes) = record {
   accounts = λ readings xs s moment caller kept order own allowed. modify_keeps readings xs s moment caller kept receipt bytes;
   fates = λ readings. modify_fates.modify_keeps readings receipt bytes;
   tail = λ readings s moment caller have. modifying readings s moment caller have receipt bytes;
-  apart = λ before after. refl;
+  apart = λ before after i. record {
+    tests = λ s t caller. modify_tests (modify_rows_apart before s receipt i) t caller;
+    puts = λ readings s t caller. modify_puts readings.digest (modify_rows_apart before s receipt i) t bytes;
+    publishes = λ s. None;
+    reply = λ readings s u t caller. modify_reply readings s.clock t bytes (envelope_at receipt s);
+  };
 }
 lawful (Withdraw receipt) = withdraw receipt
 lawful (Examine receipt responsive quality) = record {
@@ -89,7 +106,12 @@ lawful (Examine receipt responsive quality) = record {
   accounts = λ readings xs s moment caller kept order own allowed. examine_keeps readings xs s moment caller kept receipt responsive quality;
   fates = λ readings. open_fates.examine_keeps readings receipt responsive quality;
   tail = λ readings s moment caller have. examining readings s moment caller have receipt responsive quality;
-  apart = λ before after. refl;
+  apart = λ before after i. record {
+    tests = λ s t caller. examine_tests (examine_rows_apart before s receipt i) responsive quality;
+    puts = λ readings s t caller. examine_puts (examine_rows_apart before s receipt i) t responsive quality;
+    publishes = λ s. None;
+    reply = λ readings s u t caller. Examined receipt responsive t;
+  };
 }
 lawful (Award notice lot) = award notice lot
 lawful (Fail award) = record {
@@ -97,21 +119,36 @@ lawful (Fail award) = record {
   accounts = λ readings xs s moment caller kept order own allowed. fail_keeps readings xs s moment caller award kept allowed;
   fates = λ readings. fail_fates.fail_keeps readings award;
   tail = λ readings s moment caller have. failing readings s moment caller have award;
-  apart = λ before after. refl;
+  apart = λ before after i. record {
+    tests = λ s t caller. fail_tests (fail_rows_apart before s award i) t;
+    puts = λ readings s t caller. fail_puts (fail_rows_apart before s award i) t;
+    publishes = λ s. option_map notice_in_award (award_at award s);
+    reply = λ readings s u t caller. Failed award (award_release (award_at award s) s.notices) t;
+  };
 }
 lawful (Sign award) = record {
   in_order = λ s t caller. (omega arith, (omega arith, (omega arith, (omega arith, (omega arith, tt)))));
   accounts = λ readings xs s moment caller kept order own allowed. sign_keeps readings xs s moment caller award kept order allowed;
   fates = λ readings. sign_fates.sign_keeps readings award;
   tail = λ readings s moment caller have. signing readings s moment caller have award;
-  apart = λ before after. refl;
+  apart = λ before after i. record {
+    tests = λ s t caller. sign_tests (sign_rows_apart before s award i) t;
+    puts = λ readings s t caller. sign_puts (sign_rows_apart before s award i) t;
+    publishes = λ s. option_map notice_in_award (award_at award s);
+    reply = λ readings s u t caller. Signed award (award_release (award_at award s) s.notices) t;
+  };
 }
 lawful (AmendContract contract entry kind amount rationale) = record {
   in_order = λ s t caller. (omega arith, (omega arith, (omega arith, (omega arith, (omega arith, (omega arith, tt))))));
   accounts = λ readings xs s moment caller kept order own allowed. amend_contract_keeps readings xs s moment caller contract entry kind amount rationale kept order allowed;
   fates = λ readings. quiet_fates.amend_contract_keeps readings contract entry kind amount rationale;
   tail = λ readings s moment caller have. amending_contract readings s moment caller have contract entry kind amount rationale;
-  apart = λ before after. refl;
+  apart = λ before after i. record {
+    tests = λ s t caller. amend_contract_tests (amend_contract_rows_apart before s contract i) entry kind amount;
+    puts = λ readings s t caller. amend_contract_puts (amend_contract_rows_apart before s contract i) t entry kind amount rationale;
+    publishes = λ s. option_map notice_in_contract (contract_at contract s);
+    reply = λ readings s u t caller. OfContract contract (left_of (contract_at contract u) u.entries) (contract_release (contract_at contract s) s.notices) t;
+  };
 }
 lawful (Pay contract entry amount) = pay contract entry amount
 lawful (End contract how) = record {
@@ -119,5 +156,10 @@ lawful (End contract how) = record {
   accounts = λ readings xs s moment caller kept order own allowed. end_keeps readings xs s moment caller contract how kept order allowed;
   fates = λ readings. quiet_fates.end_keeps readings contract how;
   tail = λ readings s moment caller have. ending_contract readings s moment caller have contract how;
-  apart = λ before after. refl;
+  apart = λ before after i. record {
+    tests = λ s t caller. end_tests (end_rows_apart before s contract i);
+    puts = λ readings s t caller. end_puts (end_rows_apart before s contract i) t how;
+    publishes = λ s. option_map notice_in_contract (contract_at contract s);
+    reply = λ readings s u t caller. OfContract contract (left_of (contract_at contract u) u.entries) (contract_release (contract_at contract s) s.notices) t;
+  };
 }

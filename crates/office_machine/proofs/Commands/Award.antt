@@ -1,6 +1,6 @@
 -- The award of a lot keeps the laws of the office.
 use Rattle.std.proofs.Common.{arith, ◌≡◌, ℕ, false, List, [], ◌∷◌, Option, Some, None, refl, ◌∙◌, ap}
-use Rattle.std.specs.Prelude.{max}
+use Rattle.std.specs.Prelude.{max, Some, option_map}
 use Rattle.office_acts.specs.declared.commands.Command.TheVariants.{Award}
 use Rattle.office_base.specs.declared.records.LineRow.{LineRow}
 use Rattle.office_base.specs.declared.records.NoticeRow.{NoticeRow}
@@ -10,12 +10,14 @@ use Rattle.office_base.specs.declared.puts.Put.TheVariants as puts
 use Rattle.office_base.specs.RuleParts.{released, has_all_releases}
 use Rattle.office_base.specs.Parents.{line_of_lot}
 use Rattle.office_base.specs.Tables.{Tables, notice_at, lot_at, line_at, envelopes_of_lot, securities_of_lot}
-use Rattle.award_core.specs.Rules.Award.{winner, decision_puts, award_rows, award_tests, award_effect}
+use Rattle.award_core.specs.Rules.Award.{winner, decision_puts, award_rows, award_tests, award_effect, award_puts}
 use Rattle.office_machine.proofs.AwardFates as award_fates
 use Rattle.office_machine.proofs.AwardKeeps.{award_keeps}
 use Rattle.office_machine.proofs.Lawful.{Lawful}
 use Rattle.office_machine.proofs.Passed.{none_holds, not_false, witness}
 use Rattle.office_machine.proofs.Tail.{HasTail, moved, front, loud, returned_own}
+use Rattle.office_machine.specs.Replies.{Awarded, release_of, winning}
+use Rattle.office_machine.proofs.RowsApart.{award_rows_apart}
 
 module _ (s : Tables) (now : ℕ) (notice lot : List ℕ) (n : NoticeRow) (l : LotRow) (w : LineRow) (is : notice_at notice s ≡ Some n)
     (full : has_all_releases (notice_at notice s) ≡ false) where
@@ -37,5 +39,10 @@ award notice lot = record {
       let line : line_of_lot (lot_at (notice, lot) s) s ≡ Some w.0 = ap (λ o. line_of_lot o s) l.1 ∙ w.1 in
       moved refl (λ i. award_effect s.clock now (n.1 i) (l.1 i) (line i) (envelopes_of_lot notice lot s) (securities_of_lot notice lot s))
       (decided s now notice lot n.0 l.0 w.0 n.1 tests.1.1.1.1.1.1.1.0 (winner (Some n.0) (envelopes_of_lot notice lot s)));
-  apart = λ before after. refl;
+  apart = λ before after i. record {
+    tests = λ s t caller. award_tests (award_rows_apart before s notice lot i) t;
+    puts = λ readings s t caller. award_puts (award_rows_apart before s notice lot i) t;
+    publishes = λ s. Some notice;
+    reply = λ readings s u t caller. Awarded lot (option_map (winning s.clock) (winner (notice_at notice s) (envelopes_of_lot notice lot s))) (release_of s.notices notice) t;
+  };
 }
