@@ -33,7 +33,6 @@ use Rattle.office_machine.proofs.RowsApart.{modify_rows_apart, examine_rows_apar
 use Rattle.award_core.specs.Rules.Examine.{examine_tests, examine_puts}
 use Rattle.award_core.specs.Rules.Fail.{fail_tests, fail_puts}
 use Rattle.office_machine.specs.Rule.{notice_in_award, notice_in_contract}
-use Rattle.office_machine.specs.Commands.Award.{award}
 use Rattle.award_core.specs.Rules.Sign.{sign_tests, sign_puts}
 use Rattle.award_core.specs.Rules.AmendContract.{amend_contract_tests, amend_contract_puts}
 use Rattle.award_core.specs.Rules.End.{end_tests, end_puts}
