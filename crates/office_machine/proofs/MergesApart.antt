@@ -1,5 +1,5 @@
 -- Nothing reads the merges that stand beside the office.
-use Rattle.std.proofs.Common.{◌≡◌, ℕ, Bool, cond, not, ◌&&◌, List, [], ◌∷◌, ◌++◌, Option, Some, None, refl, sym, ◌∙◌, ap, subst}
+use Rattle.std.proofs.Common.{◌≡◌, ℕ, ◌+◌, Bool, cond, not, ◌&&◌, List, [], ◌∷◌, ◌++◌, Option, Some, None, refl, sym, ◌∙◌, ap, subst}
 use Rattle.std.specs.Prelude.{option_and_then, option_map}
 use Rattle.office_acts.specs.declared.command.Caller.{Caller}
 use Rattle.office_acts.specs.declared.commands.Command.{Command}
@@ -67,7 +67,7 @@ module _ (readings : Readings) (trees : List CompiledRow) (x : Given) where
   done_apart : done readings (beside trees x) ≡ with_trees (after_puts (effect readings x) (with_trees trees x.before)).compiled (done readings x)
   done_apart = ap (λ ps. after_puts ps (with_trees trees x.before)) effect_apart ∙ puts_beside (effect readings x) trees x.before
 
-  told_apart : (rule : Rule) → Reply
+  abbrev told_apart : Rule → Reply
   told_apart rule = rule.reply readings x.before (done readings x) (time_of x) x.caller
 
 module _ (means : Means) (trees : List CompiledRow) (x : Given) where
