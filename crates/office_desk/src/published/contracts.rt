@@ -10,6 +10,7 @@ ghost use Rattle.office_desk.specs.Steps.{IsPlanned};
 use super::with_release;
 use office_acts::amounts::EntryAmount;
 use office_acts::contract::{ChangeKind, How};
+use office_base::laws::looks_follow;
 use office_base::shelf::Lookups;
 use office_plans::commands::{amend_contract, end, pay};
 use office_plans::planned::Planned;
@@ -37,6 +38,7 @@ pub(crate) fn amend<H: Lookups>(
     requires { may asking.now.caller.now kinds.AmendContract ≡ true }
     ensures { Looks H.meaning shelf.old shelf.new (λ s. IsPlanned settings.now (given_by asking.now s (AmendContract contract entry kind amount rationale)) result) }
 {
+    looks_follow::<H>();
     let released = contracts::amended(
         alloc,
         shelf,
@@ -67,6 +69,7 @@ pub(crate) fn pay<H: Lookups>(
     requires { may asking.now.caller.now kinds.Pay ≡ true }
     ensures { Looks H.meaning shelf.old shelf.new (λ s. IsPlanned settings.now (given_by asking.now s (Pay contract entry amount)) result) }
 {
+    looks_follow::<H>();
     let planned = pay::plan(alloc, shelf, asking, contract, entry, amount)?;
     let released = contracts::paid(
         alloc,
@@ -92,6 +95,7 @@ pub(crate) fn end<H: Lookups>(
     requires { may asking.now.caller.now kinds.End ≡ true }
     ensures { Looks H.meaning shelf.old shelf.new (λ s. IsPlanned settings.now (given_by asking.now s (End contract how)) result) }
 {
+    looks_follow::<H>();
     let planned = end::plan(alloc, shelf, asking, contract, how)?;
     let released = contracts::ended(alloc, shelf, settings, asking.moment, contract)?;
     with_release(alloc, shelf, planned, released)
