@@ -257,8 +257,7 @@ module _ (laws : Laws) (settings : Settings) where
           (subst (λ h'. SameSteps th (held (merges_left trees s x) (office_left trees s x)) h' steps steps'
           → Alike (office_left trees s x) (office_left trees' s' y) (run_asks (held (merges_left trees s x) (office_left trees s x)) steps) (run_asks h' steps')
           → AnsweredAlikeUntil th ends (held (merges_left trees s x) (office_left trees s x)) h' steps steps') (sym is')
-          (all_sent (merges_left trees s x) (merges_left trees' s' y) (office_left trees s x) (office_left trees' s' y) steps steps')) in
-          (
+          (all_sent (merges_left trees s x) (merges_left trees' s' y) (office_left trees s x) (office_left trees' s' y) steps steps')) in (
             know s s' (run_asks (held trees s) (x ∷ steps)) (run_asks (held trees' s') (y ∷ steps')) alike,
             it.told,
             λ goes_on. more (office_answers.after x.busy (held trees s) x.block) (office_answers.after y.busy (held trees' s') y.block)
@@ -311,11 +310,11 @@ module _ (laws : Laws) where
   same_fate : (xs ys : List Given) → bare xs ≡ bare ys → (r : ℕ) → fate_of_tender xs r ≡ fate_of_tender ys r
   same_fate xs ys same r = sym (laws.fates xs r).1 ∙ ap (λ zs. fate_of_tender zs r) same ∙ (laws.fates ys r).1
 
-  same_gone : (as bs cs ds : List Given) → bare as ≡ bare cs → bare bs ≡ bare ds → DifferingAreGone as bs → DifferingAreGone cs ds
-  same_gone as bs cs ds first second gone r =
-      elim (gone r) as (λ _. (bytes_of (came cs r) ≡ bytes_of (came ds r)) ⊎ (is_gone (fate_of_tender cs r) ≡ true)) [
-        | inl same ↦ inl (ap bytes_of (sym (same_came as cs first r)) ∙ same ∙ ap bytes_of (same_came bs ds second r))
-        | inr is ↦ inr (ap is_gone (sym (same_fate as cs first r)) ∙ is)
+  same_gone : (xs ys zs ws : List Given) → bare xs ≡ bare zs → bare ys ≡ bare ws → DifferingAreGone xs ys → DifferingAreGone zs ws
+  same_gone xs ys zs ws first second gone r =
+      elim (gone r) as (λ _. (bytes_of (came zs r) ≡ bytes_of (came ws r)) ⊎ (is_gone (fate_of_tender zs r) ≡ true)) [
+        | inl same ↦ inl (ap bytes_of (sym (same_came xs zs first r)) ∙ same ∙ ap bytes_of (same_came ys ws second r))
+        | inr is ↦ inr (ap is_gone (sym (same_fate xs zs first r)) ∙ is)
       ]
 
 opening_halts : Theirs → Tables → Bool → ℕ → Meant → Bool
