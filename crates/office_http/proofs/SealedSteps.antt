@@ -4,7 +4,7 @@ use Rattle.std.specs.Prelude.{if◌then◌else◌}
 use Rattle.office_acts.specs.declared.command.Caller.{Caller}
 use Rattle.office_acts.specs.declared.commands.Command.{Command}
 use Rattle.office_acts.specs.declared.queries.Query.{Query}
-use Rattle.office_values.specs.Ids.{is_id}
+use Rattle.office_values.specs.Fields.{is_id}
 use Rattle.office_values.specs.declared.refusal.Refusal.{Refusal}
 use Rattle.office_values.specs.declared.refusal.Refusal.TheVariants.{BadKey}
 use Rattle.office_values.specs.declared.settings.Settings.{Settings}
@@ -55,13 +55,13 @@ abbrev request_of : Bool → ℕ → Caller → Demand → Request
 request_of busy moment caller demand = record { moment = moment; caller = caller; demand = demand; unavailable = busy }
 
 -- before the others; none where the block is refused before
-asks : Bool → ℕ → Meant → List Request → List Request
+abbrev asks : Bool → ℕ → Meant → List Request → List Request
 asks busy moment (Refuses why method) rest = rest
 asks busy moment (Gives caller command) rest = request_of busy moment caller (Asks command) ∷ rest
 asks busy moment (Sees caller query) rest = request_of busy moment caller (Looks query) ∷ rest
 
 -- those of a run
-run_asks : Held → List Step → List Request
+abbrev run_asks : Held → List Step → List Request
 run_asks h [] = []
 run_asks h (x ∷ steps) = asks x.busy x.block.moment (meant_in h x.block) (run_asks (office_answers.after x.busy h x.block) steps)
 
@@ -82,7 +82,7 @@ module _ (laws : Laws) (settings : Settings) where
 
   -- ---- the office after a block
 
-  machine_after : Tables → Bool → ℕ → Meant → Tables
+  abbrev machine_after : Tables → Bool → ℕ → Meant → Tables
   machine_after s busy moment (Refuses why method) = s
   machine_after s busy moment (Gives caller command) = office_after means s (request_of busy moment caller (Asks command))
   machine_after s busy moment (Sees caller query) = office_after means s (request_of busy moment caller (Looks query))
@@ -266,7 +266,7 @@ module _ (laws : Laws) (settings : Settings) where
 
   -- ---- the commands that a run accepts
 
-  machine_joined : Tables → Bool → ℕ → Meant → List Given → List Given
+  abbrev machine_joined : Tables → Bool → ℕ → Meant → List Given → List Given
   machine_joined s busy moment (Refuses why method) zs = zs
   machine_joined s busy moment (Gives caller command) zs = joined s (request_of busy moment caller (Asks command)) zs
   machine_joined s busy moment (Sees caller query) zs = joined s (request_of busy moment caller (Looks query)) zs
@@ -317,7 +317,7 @@ module _ (laws : Laws) where
         | inr is ↦ inr (ap is_gone (sym (same_fate xs zs first r)) ∙ is)
       ]
 
-opening_halts : Theirs → Tables → Bool → ℕ → Meant → Bool
+abbrev opening_halts : Theirs → Tables → Bool → ℕ → Meant → Bool
 opening_halts th s busy moment m = not busy && meant_opens th s moment m
 
 openings_agree : (laws : Laws) (settings : Settings) (th : Theirs) → AgreeOn laws settings th (opening_halts th) (is_opening th)
