@@ -224,16 +224,16 @@ module _ (laws : Laws) (settings : Settings) where
           })
       sent trees trees' s s' moment moment' busy busy' rest rest' same_busy (Gives caller command) (Refuses why method) same = absurd same
       sent trees trees' s s' moment moment' busy busy' rest rest' same_busy (Gives caller command) (Gives caller' command') same = λ alike. record {
-        told = alike_to caller _ _ _ _ (given_text trees s moment busy caller command) (given_text trees' s' moment' busy' caller' command') alike.1.0;
-        goes = λ goes_on. alike.1.1 (sym (agree.gives trees s busy moment caller command) ∙ goes_on);
+        told = alike_to caller _ _ _ _ (given_text trees s moment busy caller command) (given_text trees' s' moment' busy' caller' command') alike.1;
+        goes = λ goes_on. alike.2 (sym (agree.gives trees s busy moment caller command) ∙ goes_on);
       }
       sent trees trees' s s' moment moment' busy busy' rest rest' same_busy (Gives caller command) (Sees caller' query) same = absurd same
       sent trees trees' s s' moment moment' busy busy' rest rest' same_busy (Sees caller query) m' same =
           subst (λ (m' : Meant). Alike s s' (asks busy moment (Sees caller query) rest) (asks busy' moment' m' rest')
           → Sent trees trees' s s' moment moment' busy busy' rest rest' (Sees caller query) m') (sym same)
           (λ alike. record {
-            told = alike_to caller _ _ _ _ (seen_text trees s moment busy caller query) (seen_text trees' s' moment' busy' caller query) alike.1.0;
-            goes = λ goes_on. alike.1.1 (sym (agree.sees trees s busy moment caller query) ∙ goes_on);
+            told = alike_to caller _ _ _ _ (seen_text trees s moment busy caller query) (seen_text trees' s' moment' busy' caller query) alike.1;
+            goes = λ goes_on. alike.2 (sym (agree.sees trees s busy moment caller query) ∙ goes_on);
           })
 
       -- a block halts a run where its test holds
