@@ -11,11 +11,10 @@ use Rattle.office_values.specs.declared.settings.Settings.{Settings}
 use Rattle.office_base.specs.declared.records.CompiledRow.{CompiledRow}
 use Rattle.office_base.specs.Tables.{Tables, find_tenderer}
 use Rattle.office_machine.specs.Fates.{came, fate_of_tender}
-use Rattle.office_machine.specs.Machine.{Given, Means, Reaches, refusal_of, with_trees}
+use Rattle.office_machine.specs.Machine.{Given, Means, refusal_of, with_trees}
 use Rattle.office_machine.specs.MergesApart.{FatesReadNoMerges, RefusalsReadNoMerges, RepliesReadNoMerges, bare, beside}
 use Rattle.office_machine.specs.Requests.{AreRequests, Asks, Demand, Looks, Request, all_joined, joined, joined_by, office_after, office_by, reply_to}
 use Rattle.office_machine.specs.Seals.{AlikeUntil, DifferingAreGone, KnowAlike, SameButSeals, ToldAlike, bytes_of, is_gone, is_opening, never, opens_it}
-use Rattle.office_machine.specs.Sights.{Packages}
 use Rattle.office_machine.specs.Worlds.{Modified, Presented, Same, SameBut, Theirs}
 use Rattle.office_publications.specs.MergesApart.{KeptStepsReadNoMerges, PublishedLooksReadNoMerges}
 use Rattle.office_publications.specs.Packages.{packages}
@@ -36,7 +35,7 @@ use Rattle.office_http.specs.Joined.{joined_steps, joined_with}
 use Rattle.office_http.specs.Meaning.{Meant, Refuses, Gives, Sees, meant, meant_at, meant_by, who}
 use Rattle.office_http.specs.Response.{response_of}
 use Rattle.office_http.specs.Sealed as sealed
-use Rattle.office_http.specs.Sealed.{AlikeTo, AnsweredAlikeUntil, AnsweredRunsAreAlike, AnsweredSealsAreKept, AreAlike, MeaningsReadTenderers, MeansSame, SameStep, SameSteps, meant_opens, opens_lot}
+use Rattle.office_http.specs.Sealed.{AlikeTo, AnsweredAlikeUntil, AnsweredRunsAreAlike, AnsweredSealsAreKept, AreAlike, MeaningsReadTenderers, MeansSame, SameSteps, meant_opens}
 use Rattle.office_http.specs.declared.reply.Reply.TheVariants.{Refused}
 use Rattle.office_http.proofs.MeantSteps.{meant_can}
 

@@ -2,7 +2,6 @@
 use Rattle.std.specs.Prelude.{◌≡◌, ⊤, ℕ, Bool, false, not, ◌&&◌, List, [], ◌∷◌, is_some}
 use Rattle.office_acts.specs.Callers.{is_by}
 use Rattle.office_acts.specs.declared.command.Caller.{Caller}
-use Rattle.office_values.specs.declared.settings.Settings.{Settings}
 use Rattle.office_base.specs.Tables.{Tables}
 use Rattle.office_machine.specs.Machine.{Given, Reaches, refusal_of}
 use Rattle.office_machine.specs.Replies as machine

@@ -23,7 +23,6 @@ use Rattle.office_machine.proofs.Counting.{is_live}
 use Rattle.office_base.proofs.Orders.{lots_total, same_key}
 use Rattle.office_base.proofs.ExactKeys.{lots_exact, ids_exact, equal_keys}
 use Rattle.office_machine.proofs.Views.{View, EnvelopeFits, AwardFits, IsSound, Change, IsFair}
-use Rattle.office_machine.proofs.Added.{equal_numbers}
 use Rattle.office_machine.proofs.Matched.{same_itself}
 use Rattle.office_machine.proofs.Steps.{choose, cond_keeps, both_true, settled_held}
 

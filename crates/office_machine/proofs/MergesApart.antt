@@ -1,5 +1,5 @@
 -- Nothing reads the merges that stand beside the office.
-use Rattle.std.proofs.Common.{◌≡◌, ℕ, ◌+◌, Bool, cond, not, ◌&&◌, List, [], ◌∷◌, ◌++◌, Option, Some, None, refl, sym, ◌∙◌, ap, subst}
+use Rattle.std.proofs.Common.{◌≡◌, ℕ, ◌+◌, cond, not, ◌&&◌, List, [], ◌∷◌, ◌++◌, Option, Some, None, refl, sym, ◌∙◌, ap, subst}
 use Rattle.std.specs.Prelude.{option_and_then, option_map}
 use Rattle.office_acts.specs.declared.command.Caller.{Caller}
 use Rattle.office_acts.specs.declared.commands.Command.{Command}
@@ -25,7 +25,7 @@ use Rattle.office_machine.specs.Replies.{Reply, Refused}
 use Rattle.office_machine.specs.Requests.{reply_by}
 use Rattle.office_machine.specs.Rule.{Rule}
 use Rattle.office_machine.specs.Rules.{rule_of}
-use Rattle.office_machine.specs.Sights.{Packages, package_told, shown, told}
+use Rattle.office_machine.specs.Sights.{Packages, package_told, shown}
 use Rattle.office_machine.proofs.AllLawful.{lawful}
 
 -- A put leaves the rest of the office as it does without them.

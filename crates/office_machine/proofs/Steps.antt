@@ -1,5 +1,5 @@
 -- What commands change in place leaves an office sound.
-use Rattle.std.specs.Prelude.{◌≡◌, ℕ, Bool, true, false, cond, not, ◌&&◌, List, Option, Some, None}
+use Rattle.std.specs.Prelude.{◌≡◌, ℕ, Bool, true, false, cond, ◌&&◌, List, Option, Some, None}
 use Rattle.std.proofs.Common.{refl, sym, ap, ◌∙◌}
 use Rattle.std.specs.Ordering.{nat_cmp, eq_by_cmp}
 use Rattle.office_base.specs.declared.records.SecurityState.{SecurityState}
@@ -13,7 +13,7 @@ use Rattle.office_base.specs.declared.records.SecurityRow.{SecurityRow}
 use Rattle.office_base.specs.declared.records.SecurityState.TheVariants as security
 use Rattle.office_base.specs.declared.records.NoticeState.{NoticeState}
 use Rattle.office_base.specs.declared.records.NoticeState.TheVariants as notice
-use Rattle.office_machine.proofs.Views.{View, IsSound, Change, IsFair}
+use Rattle.office_machine.proofs.Views.{View, Change, IsFair}
 use Rattle.office_machine.proofs.Added.{equal_numbers}
 use Rattle.office_machine.proofs.Matched.{SecurityKeeps}
 use Rattle.office_machine.proofs.FatesHold.{still_held}

@@ -1,7 +1,6 @@
 -- What the fates look at: the rows by their keys, and how far lots and notices have come.
-use Rattle.std.specs.Prelude.{◌≡◌, ℕ, true, false, List, Option, Some, None, is_some, option_map}
+use Rattle.std.specs.Prelude.{◌≡◌, ℕ, true, List, Option, Some, None, is_some, option_map}
 use Rattle.std.proofs.Common.{refl, sym, ap, ◌∙◌, subst}
-use Rattle.office_machine.specs.Fates.{is_kept}
 use Rattle.office_machine.proofs.Counting.{is_live}
 use Rattle.office_base.specs.declared.records.EnvelopeRow.{EnvelopeRow}
 use Rattle.office_base.specs.declared.records.EnvelopeState.TheVariants as envelope

@@ -32,7 +32,7 @@ use Rattle.office_machine.proofs.Added.{equal_numbers}
 use Rattle.office_machine.proofs.Matched.{EnvelopeStands}
 use Rattle.office_machine.proofs.Steps.{cond_keeps, settled_keep, settled_goes, taking_back, fair_withdrawal}
 use Rattle.office_machine.proofs.Seen.{seen, alike, LotFits, lines-puts, order-puts}
-use Rattle.office_machine.proofs.FatesHold.{IsKept, Keeps, given, still_sealed, still_held}
+use Rattle.office_machine.proofs.FatesHold.{IsKept, Keeps, given, still_sealed}
 use Rattle.office_machine.proofs.FatesChanged.{kept_by_change, is_sealed_state, securities_put, securities_left, effective}
 
 and_true : (b : Bool) → (b && true) ≡ b

@@ -19,7 +19,7 @@ use Rattle.office_base.specs.declared.records.ClockRow.{ClockRow}
 use Rattle.office_base.specs.Joined.{outstanding}
 use Rattle.office_base.specs.Tables.{find_notice}
 use Rattle.tender_core.specs.Rules.Modify.{replacing}
-use Rattle.award_core.specs.Rules.Award.{price_of, winner}
+use Rattle.award_core.specs.Rules.Award.{price_of}
 use Rattle.office_machine.specs.Counted.{releases_in}
 use Rattle.office_machine.specs.Readings.{Readings}
 

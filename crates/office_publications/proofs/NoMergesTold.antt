@@ -1,5 +1,5 @@
 -- Releases and packages are the same whatever merges stand beside the office.
-use Rattle.std.proofs.Common.{◌≡◌, ℕ, List, refl, sym, ◌∙◌, ap, subst}
+use Rattle.std.proofs.Common.{◌≡◌, ℕ, List, refl, ◌∙◌, ap}
 use Rattle.office_acts.specs.declared.command.Caller.{Caller}
 use Rattle.office_acts.specs.declared.commands.Command.{Command}
 use Rattle.office_acts.specs.declared.commands.Command.TheVariants.{Publish, AmendNotice, Cancel, Open, Award, Fail, Sign, AmendContract, Pay, End}
@@ -7,7 +7,7 @@ use Rattle.office_acts.specs.declared.queries.Query.TheVariants as queries
 use Rattle.office_values.specs.declared.settings.Settings.{Settings}
 use Rattle.office_base.specs.declared.records.CompiledRow.{CompiledRow}
 use Rattle.office_base.specs.Tables.{Tables}
-use Rattle.office_machine.specs.Machine.{Given, next, with_trees}
+use Rattle.office_machine.specs.Machine.{Given, with_trees}
 use Rattle.office_machine.specs.MergesApart.{LooksReadNoMerges, NextReadsNoMerges, beside}
 use Rattle.office_publications.specs.Keeping.{MergesStandBeside, kept_next}
 use Rattle.office_publications.specs.MergesApart.{KeptStepsReadNoMerges, PackagesTellNoMerges, PublishedLooksReadNoMerges, ReleasesTellNoMerges}

@@ -1,5 +1,5 @@
 -- Publications and cancellations over lines that agree on the lines of their lots.
-use Rattle.std.specs.Prelude.{◌≡◌, ℕ, ◌+◌, ◌-◌, Bool, not, ◌||◌, nat_lt, List, [], ◌∷◌, ◌++◌, map, filter, is_some, Option, Some, None}
+use Rattle.std.specs.Prelude.{◌≡◌, ℕ, ◌+◌, ◌-◌, Bool, not, ◌||◌, nat_lt, List, [], ◌∷◌, map, filter, is_some, Option, Some, None}
 use Rattle.std.specs.List.{list_any}
 use Rattle.std.proofs.Common.{refl, ap, ◌∙◌}
 use Rattle.office_acts.specs.declared.lot.NewLot.{NewLot}
@@ -10,10 +10,10 @@ use Rattle.office_base.specs.declared.records.LotRow.{LotRow}
 use Rattle.office_base.specs.declared.records.ClockRow.{ClockRow}
 use Rattle.office_base.specs.declared.puts.Put.{Put}
 use Rattle.office_base.specs.declared.puts.Put.TheVariants as puts
-use Rattle.tender_core.specs.Rules.Publish.{wanted, is_on_no_line, is_short, publish_conditions, publish_effect, notice_put, no_line}
+use Rattle.tender_core.specs.Rules.Publish.{wanted, is_on_no_line, is_short, publish_conditions, publish_effect, no_line}
 use Rattle.tender_core.specs.Rules.Publish as published
 use Rattle.tender_core.specs.Rules.Cancel as cancelled
-use Rattle.tender_core.specs.Rules.Cancel.{is_open_lot, cancel_effect}
+use Rattle.tender_core.specs.Rules.Cancel.{is_open_lot}
 use Rattle.tender_core.specs.Agreeing.{AgreeOnNewLots, AgreeOnLots, PublishesAgree, CancelsAgree}
 
 no_line-agree : (m n : List LineRow) (lots : List NewLot) → AgreeOnNewLots m n lots → list_any (is_on_no_line m) lots ≡ list_any (is_on_no_line n) lots

@@ -1,5 +1,5 @@
 -- A winner who doesn't sign is passed over (Model Law, article 22): the award fails, and the security is forfeited.
-use Rattle.std.specs.Prelude.{ℕ, ◌+◌, Bool, true, not, List, [], ◌∷◌, ◌++◌, Option, Some, is_some, nat_lt}
+use Rattle.std.specs.Prelude.{ℕ, ◌+◌, Bool, not, List, [], ◌∷◌, ◌++◌, Option, Some, is_some, nat_lt}
 use Rattle.office_base.specs.Limits.{days}
 use Rattle.office_values.specs.declared.refusal.Thing.TheVariants as things
 use Rattle.office_values.specs.declared.refusal.Refusal.{Refusal}

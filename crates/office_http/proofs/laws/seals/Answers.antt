@@ -1,4 +1,4 @@
-use Rattle.office_http.proofs.SealedSteps.{Laws, meanings_read, runs_alike, seals_kept}
+use Rattle.office_http.proofs.SealedSteps.{meanings_read, runs_alike, seals_kept}
 use Rattle.office_http.proofs.laws.seals.Goals as goal
 
 pub returns-clause-seals : goal.returns-clause-seals
