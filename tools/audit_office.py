@@ -21,9 +21,9 @@ TABLES = {
 
 # Each table and index of version 1, with the first digits of the SHA-256 of the SQL that makes it.
 MADE = dict(it.split(":") for it in (
-    "lines:e4f278d6871f batches:f823b56fb3f0 tenderers:e429681bbc78 notices:d1f8ce1fb5a8 lots:72143f3de381 envelopes:29da61b418f7 "
-    "seals:3179c4e7e5c5 securities:e15e5b50bcb1 awards:a21edc8c9f2a contracts:ab7519203bd4 entries:8a6a7428858f releases:0a28d41b2c20 "
-    "compiled:f27d2fca5cdd office:ee0c848e0e81 lots_of_line:37f74644bf24 envelopes_of_notice:6275c73a902e securities_of_notice:b04554dff328 "
+    "lines:e4f278d6871f batches:f823b56fb3f0 tenderers:e429681bbc78 notices:d1f8ce1fb5a8 lots:72143f3de381 envelopes:a50cdf08cdcf "
+    "seals:8e885df67690 securities:b17f4e600e34 awards:6048d7d19a7d contracts:f9925bd6b77a entries:8a6a7428858f releases:0a28d41b2c20 "
+    "compiled:f27d2fca5cdd office:a457f3144f8d lots_of_line:37f74644bf24 envelopes_of_notice:a88cd83d7304 securities_of_notice:b04554dff328 "
     "awards_of_notice:daec4a3a20b9 contracts_of_notice:e57713968ea5").split())
 
 # What each contract gained and lost; the four pots of each line, summed from joined rows; the tenders that may win.

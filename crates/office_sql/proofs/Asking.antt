@@ -75,41 +75,38 @@ module _ {K X : Type 0} (R : K → K → Ordering) (total : IsTotalOrder R) (sam
       let two : k ≡ key y = equal_keys same k (key y) (sym (is y) ∙ b) in
       sym (ap is_lt (ap₂ (λ u v. R u v) (sym one) (sym two) ∙ tied_itself total k))
 
-  module _ (encode : X → Row) (read : Row → X) where
-    decode : Row → X
-    decode r = read (tail r)
-
+  module _ (form : Value → X → Row) (decode : Row → X) (encode : X → Row) (read : Row → X) (reads : (v : Value) (x : X) → decode (form v x) ≡ read (encode x)) where
     read_back : (sorts : X → Row) (xs : List X) → AllByRecursion (λ x. read (encode x) ≡ x) xs → map read (map (λ (o : Output). o.1) (map (λ x. (sorts x, encode x)) xs)) ≡ xs
     read_back sorts [] h = refl
     read_back sorts (x ∷ xs) h = λ i. h.0 i ∷ read_back sorts xs h.1 i
 
-    module _ (old new : State) (rows : List Row) (n : ℕ) (xs : List X) (stand : Stand R key encode (λ r. read (tail r)) (old.now.trees n) xs)
+    module _ (old new : State) (rows : List Row) (n : ℕ) (xs : List X) (stand : Stand R key form decode (old.now.trees n) xs)
         (text : List ℕ) (params : Row) (tests shown order : List ℕ) (names : List (List ℕ)) (means : Means old.now.schema text (Select (record { lets = []; body = select n tests shown order }) names))
-        (p : X → Bool) (passing : (v : Value) (x : X) → list_all (holds (params ∷ (v ∷ encode x) ∷ [])) (tested 0 tests) ≡ p x) where
+        (p : X → Bool) (passing : (v : Value) (x : X) → list_all (holds (params ∷ form v x ∷ [])) (tested 0 tests) ≡ p x) where
       -- what is shown of the rows that pass
-      pub shows_rows : (out : X → Output) → ((v : Value) (x : X) → output (select n tests shown order) (params ∷ (v ∷ encode x) ∷ []) ≡ out x)
+      pub shows_rows : (out : X → Output) → ((v : Value) (x : X) → output (select n tests shown order) (params ∷ form v x ∷ []) ≡ out x)
           → ((x y : X) → p x ≡ true → p y ≡ true → is_lt (output_cmp (select n tests shown order) (out x) (out y)) ≡ is_lt (R (key x) (key y)))
           → Shown text params old new rows → rows ≡ map (λ (o : Output). o.1) (map out (filter p xs))
       shows_rows out shows agrees h =
           let a : Answers old.now (record { lets = []; body = select n tests shown order }) params rows = reads_as text params old new old.now.schema refl _ means.is means.plain means.unlisted rows h in
           let here = a.answer Null in
-          selects R total same key encode (λ r. read (tail r)) (select n tests shown order) params p out passing shows agrees old.now.trees n rows stand.kept here
+          selects R total same key form decode (select n tests shown order) params p out passing shows agrees old.now.trees n rows stand.kept here
           (subst (λ tree. here.staged ≡ picked (passes_query (select n tests shown order) params) (λ r. params ∷ r ∷ []) tree) (overlaid old.now.trees n) here.grouped) here.distinct here.shown
           ∙ ap (λ ys. map (λ (o : Output). o.1) (map out (filter p ys))) stand.is
 
       back : AllByRecursion (λ x. read (encode x) ≡ x) (filter p xs)
-      back = all_filter _ p xs (subst (AllByRecursion (λ x. read (encode x) ≡ x)) stand.is (comes_back R total same key encode (λ r. read (tail r)) (old.now.trees n) stand.kept read (λ r y e. ap (λ z. read (tail z)) e)))
+      back = all_filter _ p xs (subst (AllByRecursion (λ x. read (encode x) ≡ x)) stand.is (comes_back R total same key form decode (old.now.trees n) stand.kept encode read reads))
 
       -- the records that pass, in the order of their keys
-      pub lists : (sorts : X → Row) → ((v : Value) (x : X) → output (select n tests shown order) (params ∷ (v ∷ encode x) ∷ []) ≡ (sorts x, encode x))
+      pub lists : (sorts : X → Row) → ((v : Value) (x : X) → output (select n tests shown order) (params ∷ form v x ∷ []) ≡ (sorts x, encode x))
           → ((x y : X) → is_lt (output_cmp (select n tests shown order) (sorts x, encode x) (sorts y, encode y)) ≡ is_lt (R (key x) (key y)))
           → Shown text params old new rows → map read rows ≡ filter p xs
       lists sorts shows agrees h = ap (map read) (shows_rows (λ x. (sorts x, encode x)) shows (λ x y a b. agrees x y) h) ∙ read_back sorts (filter p xs) back
 
       -- the record at a key
-      pub gets : (k : K) → ((x : X) → p x ≡ eq_by_cmp R k (key x)) → ((v : Value) (x : X) → output (select n tests shown order) (params ∷ (v ∷ encode x) ∷ []) ≡ ([], encode x))
+      pub gets : (k : K) → ((x : X) → p x ≡ eq_by_cmp R k (key x)) → ((v : Value) (x : X) → output (select n tests shown order) (params ∷ form v x ∷ []) ≡ ([], encode x))
           → ((a b : Output) → output_cmp (select n tests shown order) a b ≡ Equal) → Shown text params old new rows → option_map read (slice_get rows 0) ≡ row_at R key xs k
       gets k is shows unordered h =
           sym (slice_get-map read rows)
           ∙ ap (λ (l : List X). slice_get l 0) (ap (map read) (shows_rows (λ x. ([], encode x)) shows (λ x y a b. ap is_lt (unordered ([], encode x) ([], encode y)) ∙ tied_keys p k is x y a b) h) ∙ read_back (λ x. []) (filter p xs) back)
-          ∙ first_at p k is xs (subst (IsInOrder R key) stand.is (in_order-table_of R total same key encode (λ r. read (tail r)) (old.now.trees n)))
+          ∙ first_at p k is xs (subst (IsInOrder R key) stand.is (in_order-table_of R total same key form decode (old.now.trees n)))

@@ -28,7 +28,7 @@ use Rattle.office_sql.specs.Schema.{OfficeTable, table_of}
 use Rattle.office_sql.specs.Known.{at_tree, Places, HasTables}
 use Rattle.office_sql.specs.Standing.{Stand}
 use Rattle.office_sql.proofs.Childless.{IsOwn, writes}
-use Rattle.office_sql.proofs.Replaced.{went, same_value}
+use Rattle.office_sql.proofs.Upserted.{went, same_value}
 use Rattle.office_sql.proofs.RowsDropped as drop
 use Rattle.office_sql.proofs.Selected.{picked, passes_query}
 use Rattle.office_sql.proofs.Asking.{overlaid}
@@ -37,8 +37,8 @@ use Rattle.office_sql.proofs.Meanings.{Means}
 use Rattle.office_sql.proofs.Writes.{IsStored, IsBare, IsPut, own_table, changed}
 use Rattle.sqlite_sql.specs.Term.{Term}
 
-module _ (k : OfficeTable) (bare : (j : OfficeTable) → IsBare (table_of j)) {K X : Type 0} (R : K → K → Ordering) (key : X → K) (encode : X → Row) (decode : Row → X) (terms : List Term) (width : ℕ)
-    (it : IsStored k R key encode terms width) (old new : State) (p : Places) (tables : HasTables old.now.schema p) (tests : List ℕ) where
+module _ (k : OfficeTable) (bare : (j : OfficeTable) → IsBare (table_of j)) {K X : Type 0} (R : K → K → Ordering) (key : X → K) (encode : X → Row) (form : Value → X → Row) (decode : Row → X) (base : ℕ) (terms cells : List Term)
+    (it : IsStored k R key encode form base terms cells) (old new : State) (p : Places) (tables : HasTables old.now.schema p) (tests : List ℕ) where
   abbrev own : Table
   own = at_tree (table_of k) (p k)
 
@@ -57,8 +57,8 @@ module _ (k : OfficeTable) (bare : (j : OfficeTable) → IsBare (table_of j)) {K
       (done.0, done.1, ap (λ (p : Tally × Database). p.1) (same_value (went (went done.2).2).2), w.sound)
 
   pub drops_row : (text : List ℕ) (params : Row) (count : ℕ) (xs : List X) (q : K) → Means old.now.schema text (Delete (tables k).place (record { lets = []; body = select (p k) tests (0 ∷ []) [] }))
-      → ((v : Value) (x : X) → list_all (holds (params ∷ (v ∷ encode x) ∷ [])) (tested 0 tests) ≡ eq_by_cmp R q (key x)) → Stand R key encode decode (old.now.trees (p k)) xs → Executes text params old new (Ok count)
-      → IsPut k R key encode decode old.now new.now p (row_drop R key xs q)
+      → ((v : Value) (x : X) → list_all (holds (params ∷ form v x ∷ [])) (tested 0 tests) ≡ eq_by_cmp R q (key x)) → Stand R key form decode (old.now.trees (p k)) xs → Executes text params old new (Ok count)
+      → IsPut k R key form decode old.now new.now p (row_drop R key xs q)
   drops_row text params count xs q means passing was h =
       let w = deleted text params count means h in
       let db = old.now.trees in
@@ -71,14 +71,14 @@ module _ (k : OfficeTable) (bare : (j : OfficeTable) → IsBare (table_of j)) {K
       let trees : w.0.trees ≡ edited.0 = ap (λ (it : Written). it.trees) (same_value edited.2) in
       let query = select (p k) tests (0 ∷ []) [] in
       let staged : here.staged ≡ picked (passes_query query params) (λ r. params ∷ r ∷ []) rows = subst (λ tree. here.staged ≡ picked (passes_query query params) (λ r. params ∷ r ∷ []) tree) (overlaid db (p k)) here.grouped in
-      let passes : (r : Row) → Has rows r → passes_query query params r ≡ eq_by_cmp R q (key_of R key encode decode r) = λ r there.
+      let passes : (r : Row) → Has rows r → passes_query query params r ≡ eq_by_cmp R q (key_of R key form decode r) = λ r there.
       ap (passes_query query params) (all_has _ rows r was.kept.each there).1 ∙ passing (rowid r) (decode r) in
-      let stand = drop.drops R it.total it.exact key encode decode rows was.kept q (passes_query query params) passes (λ r. params ∷ r ∷ []) (output query) (λ r. refl) here.ordered
+      let stand = drop.drops R it.total it.exact key form decode rows was.kept q (passes_query query params) passes (λ r. params ∷ r ∷ []) (output query) (λ r. refl) here.ordered
       (subst (λ l. IsPermutation l here.ordered) (here.distinct ∙ ap (map (output query)) staged) here.same) xs was.is in
       let after : new.now.trees (p k) ≡ without_all rows (ids_of queried.0) = ap (λ (d : Database). d.trees (p k)) w.2 ∙ ap (λ (t : Trees). t (p k)) trees ∙ done.own (p k) (is_own k) ∙ done.applies.rows in
       record {
         schema = ap (λ (d : Database). d.schema) w.2;
         sound = w.3;
         rows = changed old.now.schema p tables db new.now.trees k (λ j other. ap (λ (d : Database). d.trees (p j)) w.2 ∙ ap (λ (t : Trees). t (p j)) trees ∙ done.others (p j) (is_own j) other);
-        stand = subst (λ rs. Stand R key encode decode rs (row_drop R key xs q)) (sym (after ∙ ap (λ l. without_all rows (ids_of l)) here.shown)) stand;
+        stand = subst (λ rs. Stand R key form decode rs (row_drop R key xs q)) (sym (after ∙ ap (λ l. without_all rows (ids_of l)) here.shown)) stand;
       }

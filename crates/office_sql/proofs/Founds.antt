@@ -21,7 +21,7 @@ use Rattle.sqlite_schema.specs.declared.schema.Table.{Table}
 use Rattle.sqlite_rules.specs.Lists.{Has}
 use Rattle.sqlite_rules.proofs.ListLemmas.{all_has}
 use Rattle.office_sql.proofs.Writes.{puts_row, puts_others, with_rows}
-use Rattle.office_sql.proofs.Stored.{bare, clock_terms, clock_stored}
+use Rattle.office_sql.proofs.Stored.{bare, clock_terms, clock_cells, clock_stored}
 use Rattle.office_sql.proofs.PutTexts.{put_office, put_office_means}
 
 abbrev pub Found : Database → OfficeTable → Type 0
@@ -45,8 +45,8 @@ found Compiled all = all.1.0
 found Office all = all.0
 
 -- no rows stand for no records
-nothing : {K X : Type 0} {R : K → K → Ordering} {key : X → K} {encode : X → Row} {decode : Row → X} {rows : List Row} → rows ≡ [] → Stand R key encode decode rows []
-nothing {R} {key} {encode} {decode} e = subst (λ r. Stand R key encode decode r []) (sym e) (record { kept = record { rising = tt; each = tt; one = λ a b h k s. absurd h }; is = refl })
+nothing : {K X : Type 0} {R : K → K → Ordering} {key : X → K} {form : Value → X → Row} {decode : Row → X} {rows : List Row} → rows ≡ [] → Stand R key form decode rows []
+nothing {R} {key} {form} {decode} e = subst (λ r. Stand R key form decode r []) (sym e) (record { kept = record { rising = tt; each = tt; one = λ a b h k s. absurd h }; is = refl })
 
 -- the clock's row among empty tables
 stands : (rows : OfficeTable → List Row) (changed : List Row) (x : ClockRow) → ((k : OfficeTable) → rows k ≡ []) → StandFor Office changed (record no_tables { clock = x })
@@ -72,7 +72,7 @@ pub first_others : (start : Database) (old new : State) (x : ClockRow) (count : 
 first_others start old new x count kept fresh was h t there =
     let places : Places = λ k. (found k was.each).0 in
     let tables : HasTables old.now.schema places = λ k. (found k was.each).1 in
-    let same = puts_others Office (bare Office) clock_cmp clock_key clock_row clock_in clock_terms 5 clock_stored old new places tables put_office x count (put_office_means old.now.schema (places Office) (tables Office)) (found Office was.each).2 h in
+    let same = puts_others Office bare clock_cmp clock_key clock_row (by_rowid clock_row) (read_by_rowid clock_read) 4 clock_terms clock_cells clock_stored old new places tables put_office x count (put_office_means old.now.schema (places Office) (tables Office)) (found Office was.each).2 h in
     let now = kept t there in
     let apart : t.tree ≢ places Office = λ e. fresh.0 t there (ap (λ (u : Table). u.name) ((tables Office).alone t now.0 e)) in
     (subst (λ (s : Schema). Has s.tables t) (sym same.0) now.0, all_has (λ (u : Table). u.tree ≢ places Office → new.now.trees u.tree ≡ old.now.trees u.tree) old.now.schema.tables t same.1 now.0 apart ∙ now.1)
@@ -82,8 +82,8 @@ unfolding row_put
 founds old new x count back was h =
     let places : Places = λ k. (found k was.each).0 in
     let tables : HasTables old.now.schema places = λ k. (found k was.each).1 in
-    let empty : Stand clock_cmp clock_key clock_row clock_in (old.now.trees (places Office)) [] = nothing (found Office was.each).2 in
-    let done = puts_row Office (bare Office) clock_cmp clock_key clock_row clock_in clock_terms 5 clock_stored old new places tables bare put_office x count [] (put_office_means old.now.schema (places Office) (tables Office)) (λ v. back.entry v x) empty h in
+    let empty : Stand clock_cmp clock_key (by_rowid clock_row) (read_by_rowid clock_read) (old.now.trees (places Office)) [] = nothing (found Office was.each).2 in
+    let done = puts_row Office bare clock_cmp clock_key clock_row (by_rowid clock_row) (read_by_rowid clock_read) 4 clock_terms clock_cells clock_stored old new places tables put_office x count [] (put_office_means old.now.schema (places Office) (tables Office)) (λ v. back.row x) empty h in
     record {
       sound = done.sound;
       places = places;

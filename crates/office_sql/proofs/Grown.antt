@@ -15,7 +15,8 @@ use Rattle.sqlite_catalog.proofs.StepLemmas.{table_below}
 use Rattle.sqlite_catalog.proofs.LayoutLemmas.{zipped_left, index_owner}
 use Rattle.sqlite_catalog.proofs.AlterLemmas.{place_has}
 use Rattle.sqlite.specs.Effect.{Database, IsDatabase}
-use Rattle.office_sql.specs.Known.{IsIn, at_tree}
+use Rattle.office_sql.specs.Known.{IsIn, at_tree, key_indexes}
+use Rattle.office_sql.proofs.Keyed.{HasKey, HasIndex, IsRowid}
 
 -- ---- lists with more behind
 
@@ -45,6 +46,10 @@ filter-append_none q (x ∷ xs) y h = ap (λ l. cond (q x) (x ∷ l) l) (filter-
 filter-append_one : {A : Type 0} (q : A → Bool) (xs : List A) (y : A) → ((x : A) → Has xs x → q x ≡ false) → q y ≡ true → filter q (xs ++ y ∷ []) ≡ y ∷ []
 filter-append_one q [] y none h = rw h
 filter-append_one q (x ∷ xs) y none h = rw (none x (inl refl)) (filter-append_one q xs y (λ z there. none z (inr there)) h)
+
+filter_none : {A : Type 0} (q : A → Bool) (xs : List A) → ((x : A) → Has xs x → q x ≡ false) → filter q xs ≡ []
+filter_none q [] none = refl
+filter_none q (x ∷ xs) none = rw (none x (inl refl)) (filter_none q xs (λ z there. none z (inr there)))
 
 named_last : {A : Type 0} (q : A → Bool) (from : ℕ) (xs : List A) (x : A) → position_from q from xs ≡ None → q x ≡ true → position_from q from (xs ++ x ∷ []) ≡ Some (from + length xs)
 named_last q from [] x h is = ap (λ b. cond b (Some from) None) is ∙ ap Some (omega arith)
@@ -87,7 +92,7 @@ created_keeps schema t more n key one it = record {
     below : n < next_tree schema
     below = table_below schema (at_tree t n) (place_has schema.tables it.place (at_tree t n) it.found)
 
-    guarded : filter (λ i. guards i (at_tree t n)) (created schema more).indexes ≡ automatic (at_tree t n) 0 t.primary it.index ∷ []
+    guarded : filter (λ i. guards i (at_tree t n)) (created schema more).indexes ≡ key_indexes t.key (at_tree t n) it.index
     guarded = elim one [
       | inl keyed ↦ (rw keyed (filter-append_none (λ i. guards i (at_tree t n)) schema.indexes _ (other (next_tree schema) n (λ e. omega (arith, below, e)))) ∙ it.guarded)
       | inr bare ↦ (rw (bare, append-nil schema.indexes) it.guarded)
@@ -120,9 +125,8 @@ owned db i sound h =
     let row = (zipped_left (IsIndexRow db.schema.tables) _ db.schema.indexes i sound.lists.listed.indexes h).2 in
     subst (λ n. n < next_tree db.schema) (sym (index_owner row.table i _ row.defined)) (table_below db.schema row.table row.listed)
 
-pub created_is : (db : Database) (t : Table) (key : List ℕ) → IsDatabase db → table_named db.schema t.name ≡ None → same_name t.name t.name ≡ true → t.uniques ≡ key ∷ [] → t.primary ≡ key → next_tree db.schema < 65536
-    → IsIn (created db.schema t) t (next_tree db.schema)
-created_is db t key sound none same keyed primary below = record {
+pub created_is : (db : Database) (t : Table) → HasKey t → IsDatabase db → table_named db.schema t.name ≡ None → same_name t.name t.name ≡ true → next_tree db.schema < 65536 → IsIn (created db.schema t) t (next_tree db.schema)
+created_is db t key sound none same below = record {
   place = length db.schema.tables;
   named = named_last _ 0 db.schema.tables _ none same ∙ ap Some (omega arith);
   found = get_last db.schema.tables _;
@@ -132,21 +136,24 @@ created_is db t key sound none same keyed primary below = record {
   ];
   stored = low (next_tree db.schema) below;
   index = next_tree db.schema + 1;
-  guarded = guarded;
+  guarded = elim key [ inl k ↦ by_index k | inr k ↦ by_rowid k ];
 }
   where
-    n : ℕ
-    n = next_tree db.schema
+    abbrev own : Table
+    own = at_tree t (next_tree db.schema)
 
-    guarded : filter (λ i. guards i (at_tree t (next_tree db.schema))) (created db.schema t).indexes ≡ automatic (at_tree t (next_tree db.schema)) 0 t.primary (next_tree db.schema + 1) ∷ []
-    guarded = rw (keyed, primary) (filter-append_one (λ i. guards i (at_tree t (next_tree db.schema))) db.schema.indexes _ (λ i h. guards_other i (owned db i sound h)) (eq-eqb (next_tree db.schema) (next_tree db.schema) refl))
+    guards_other : (i : Index) → i.table < next_tree db.schema → guards i own ≡ false
+    guards_other i h = by i.is_unique (other i.table (next_tree db.schema) (λ e. omega (arith, h, e)))
       where
-        guards_other : (i : Index) → i.table < next_tree db.schema → (i.is_unique && (i.table == next_tree db.schema)) ≡ false
-        guards_other i h = by i.is_unique (other i.table (next_tree db.schema) (λ e. omega (arith, h, e)))
-          where
-            by : (b : Bool) → (i.table == next_tree db.schema) ≡ false → (b && (i.table == next_tree db.schema)) ≡ false
-            by true e = e
-            by false e = refl
+        by : (b : Bool) → (i.table == next_tree db.schema) ≡ false → (b && (i.table == next_tree db.schema)) ≡ false
+        by true e = e
+        by false e = refl
+
+    by_index : HasIndex t → filter (λ i. guards i own) (created db.schema t).indexes ≡ key_indexes t.key own (next_tree db.schema + 1)
+    by_index k = rw (k.uniques, k.key) (filter-append_one (λ i. guards i own) db.schema.indexes _ (λ i h. guards_other i (owned db i sound h)) (eq-eqb (next_tree db.schema) (next_tree db.schema) refl))
+
+    by_rowid : IsRowid t → filter (λ i. guards i own) (created db.schema t).indexes ≡ key_indexes t.key own (next_tree db.schema + 1)
+    by_rowid k = rw (k.uniques, append-nil db.schema.indexes, k.key) (filter_none (λ i. guards i own) db.schema.indexes (λ i h. guards_other i (owned db i sound h)))
 
 pub has_last : {A : Type 0} (xs : List A) (x : A) → Has (xs ++ x ∷ []) x
 has_last [] x = inl refl

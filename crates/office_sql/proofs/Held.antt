@@ -1,6 +1,7 @@
 -- A database that held an office holds it after a change of one table.
 use Rattle.std.proofs.Common.{true, List, [], ◌∷◌, refl, sym, subst, IsTrue}
 use Rattle.std.specs.declared.cmp.Ordering.{Ordering}
+use Rattle.sqlite_value.specs.declared.value.Value.{Value}
 use Rattle.sqlite_value.specs.Order.{Row}
 use Rattle.sqlite.specs.Effect.{Database}
 use Rattle.sqlite.specs.State.{State, Shows}
@@ -12,10 +13,10 @@ use Rattle.office_sql.specs.Standing.{Stand, Stands, Holds}
 use Rattle.office_sql.specs.Steps.{Goes, Puts}
 use Rattle.office_sql.proofs.Writes.{IsPut, with_rows}
 
-pub holds_put : (k : OfficeTable) {K X : Type 0} (R : K → K → Ordering) (key : X → K) (encode : X → Row) (decode : Row → X) (old new : Database) (t after : Tables) (was : Holds old t) (xs : List X)
-    → IsPut k R key encode decode old new was.places xs → (Stand R key encode decode (new.trees (was.places k)) xs → Stands (with_rows (λ j. old.trees (was.places j)) k (new.trees (was.places k))) after)
+pub holds_put : (k : OfficeTable) {K X : Type 0} (R : K → K → Ordering) (key : X → K) (form : Value → X → Row) (decode : Row → X) (old new : Database) (t after : Tables) (was : Holds old t) (xs : List X)
+    → IsPut k R key form decode old new was.places xs → (Stand R key form decode (new.trees (was.places k)) xs → Stands (with_rows (λ j. old.trees (was.places j)) k (new.trees (was.places k))) after)
     → Holds new after
-holds_put k R key encode decode old new t after was xs it all = record {
+holds_put k R key form decode old new t after was xs it all = record {
   sound = it.sound;
   places = was.places;
   tables = subst (λ s. HasTables s was.places) (sym it.schema) was.tables;

@@ -7,6 +7,7 @@ use Rattle.std.specs.FinMap.{find, IsAntisymmetric}
 use Rattle.office_base.specs.Rows.{row_at, row_put, IsInOrder}
 use Rattle.office_base.proofs.RowLaws.{row_at-row_put, in_order-put}
 use Rattle.office_sql.proofs.Sorted.{same_rows}
+use Rattle.sqlite_value.specs.declared.value.Value.{Value}
 use Rattle.sqlite_value.specs.Order.{Row}
 use Rattle.sqlite_trees.specs.Tree.{rowid, IsTable}
 use Rattle.sqlite_trees.specs.View.{is_int}
@@ -19,13 +20,13 @@ equal_is Less h = absurd (cc)
 equal_is Equal h = refl
 equal_is Greater h = absurd (cc)
 
-module _ {K X : Type 0} (R : K → K → Ordering) (total : IsTotalOrder R) (same : IsAntisymmetric R) (key : X → K) (encode : X → Row) (decode : Row → X) where
+module _ {K X : Type 0} (R : K → K → Ordering) (total : IsTotalOrder R) (same : IsAntisymmetric R) (key : X → K) (form : Value → X → Row) (decode : Row → X) where
   abbrev pub Found : List Row → K → Option X → Type 0
   Found rows q o =
-      ((r : Row) × Has rows r × (key_of R key encode decode r ≡ q) × (o ≡ Some (decode r)))
-      ⊎ (((r : Row) → Has rows r → key_of R key encode decode r ≡ q → ⊥) × (o ≡ None))
+      ((r : Row) × Has rows r × (key_of R key form decode r ≡ q) × (o ≡ Some (decode r)))
+      ⊎ (((r : Row) → Has rows r → key_of R key form decode r ≡ q → ⊥) × (o ≡ None))
 
-  pub found : (rows : List Row) (q : K) → Found rows q (find R q (map (entry R key encode decode) rows))
+  pub found : (rows : List Row) (q : K) → Found rows q (find R q (map (entry R key form decode) rows))
   found [] q = inr (λ r none _. none, refl)
   found (r ∷ rows) q = elim (cases_Bool (eq_by_cmp R q (key (decode r)))) [
     | inl tie ↦ inl (r, inl refl, sym (same q (key (decode r)) (equal_is _ tie)), rw tie)
@@ -44,31 +45,31 @@ module _ {K X : Type 0} (R : K → K → Ordering) (total : IsTotalOrder R) (sam
   -- the rows after a put: the new row, and each old row with another key
   pub record IsPut (old new : List Row) (x : Row) : Type 0 where
     pub there : Has new x
-    pub from : (r : Row) → Has new r → (r ≡ x) ⊎ (Has old r × (key_of R key encode decode r ≡ key_of R key encode decode x → ⊥))
-    pub kept : (r : Row) → Has old r → (key_of R key encode decode r ≡ key_of R key encode decode x → ⊥) → Has new r
+    pub from : (r : Row) → Has new r → (r ≡ x) ⊎ (Has old r × (key_of R key form decode r ≡ key_of R key form decode x → ⊥))
+    pub kept : (r : Row) → Has old r → (key_of R key form decode r ≡ key_of R key form decode x → ⊥) → Has new r
 
-  pub kept_put : (old new : List Row) (x : Row) → AreKept R key encode decode old → IsTable new → is_int (rowid x) ≡ true → x ≡ rowid x ∷ encode (decode x) → IsPut old new x
-      → AreKept R key encode decode new
+  pub kept_put : (old new : List Row) (x : Row) → AreKept R key form decode old → IsTable new → is_int (rowid x) ≡ true → x ≡ form (rowid x) (decode x) → IsPut old new x
+      → AreKept R key form decode new
   kept_put old new x was up int form put = record {
     rising = up;
     each = all_from _ new (λ r h. elim (put.from r h) [
-      | inl is ↦ subst (λ y. (is_int (rowid y) ≡ true) × (y ≡ rowid y ∷ encode (decode y))) (sym is) (int, form)
+      | inl is ↦ subst (λ y. (is_int (rowid y) ≡ true) × (y ≡ form (rowid y) (decode y))) (sym is) (int, form)
       | inr old_row ↦ all_has _ old r was.each old_row.0
     ]);
     one = λ a b h k e. elim (put.from a h) [
       | inl is ↦ elim (put.from b k) [
         | inl also ↦ is ∙ sym also
-        | inr other ↦ absurd (other.1 (sym e ∙ ap (key_of R key encode decode) is))
+        | inr other ↦ absurd (other.1 (sym e ∙ ap (key_of R key form decode) is))
       ]
       | inr first ↦ elim (put.from b k) [
-        | inl also ↦ absurd (first.1 (e ∙ ap (key_of R key encode decode) also))
+        | inl also ↦ absurd (first.1 (e ∙ ap (key_of R key form decode) also))
         | inr second ↦ was.one a b first.0 second.0 e
       ]
     ];
   }
 
-  finds_put : (old new : List Row) (x : Row) → AreKept R key encode decode old → AreKept R key encode decode new → IsPut old new x → (q : K)
-      → find R q (map (entry R key encode decode) new) ≡ cond (eq_by_cmp R q (key (decode x))) (Some (decode x)) (find R q (map (entry R key encode decode) old))
+  finds_put : (old new : List Row) (x : Row) → AreKept R key form decode old → AreKept R key form decode new → IsPut old new x → (q : K)
+      → find R q (map (entry R key form decode) new) ≡ cond (eq_by_cmp R q (key (decode x))) (Some (decode x)) (find R q (map (entry R key form decode) old))
   finds_put old new x was now put q = elim (cases_Bool (eq_by_cmp R q (key (decode x)))) [
     | inl tie ↦ rw tie (elim (found new q) [
       | inl f ↦ f.3 ∙ ap (λ r. Some (decode r)) (now.one f.0 x f.1 put.there (f.2 ∙ same q (key (decode x)) (equal_is _ tie)))
@@ -92,18 +93,18 @@ module _ {K X : Type 0} (R : K → K → Ordering) (total : IsTotalOrder R) (sam
         )
   ]
 
-  pub finds : (rows : List Row) (q : K) → row_at R key (table_of R key encode decode rows) q ≡ find R q (map (entry R key encode decode) rows)
+  pub finds : (rows : List Row) (q : K) → row_at R key (table_of R key form decode rows) q ≡ find R q (map (entry R key form decode) rows)
   unfolding row_at
   finds [] q = refl
-  finds (r ∷ rows) q = row_at-row_put total key (table_of R key encode decode rows) (decode r) q ∙ ap (cond (eq_by_cmp R q (key (decode r))) (Some (decode r))) (finds rows q)
+  finds (r ∷ rows) q = row_at-row_put total key (table_of R key form decode rows) (decode r) q ∙ ap (cond (eq_by_cmp R q (key (decode r))) (Some (decode r))) (finds rows q)
 
-  pub in_order-table_of : (rows : List Row) → IsInOrder R key (table_of R key encode decode rows)
+  pub in_order-table_of : (rows : List Row) → IsInOrder R key (table_of R key form decode rows)
   in_order-table_of [] = tt
-  in_order-table_of (r ∷ rows) = in_order-put total key (table_of R key encode decode rows) (decode r) (in_order-table_of rows)
+  in_order-table_of (r ∷ rows) = in_order-put total key (table_of R key form decode rows) (decode r) (in_order-table_of rows)
 
-  pub put_is : (old new : List Row) (x : Row) → AreKept R key encode decode old → AreKept R key encode decode new → IsPut old new x
-      → table_of R key encode decode new ≡ row_put R key (table_of R key encode decode old) (decode x)
+  pub put_is : (old new : List Row) (x : Row) → AreKept R key form decode old → AreKept R key form decode new → IsPut old new x
+      → table_of R key form decode new ≡ row_put R key (table_of R key form decode old) (decode x)
   put_is old new x was now put =
       same_rows (record { total = total; exact = same }) _ _ (in_order-table_of new) (in_order-put total key _ (decode x) (in_order-table_of old)) (λ q.
       finds new q ∙ finds_put old new x was now put q
-      ∙ sym (row_at-row_put total key (table_of R key encode decode old) (decode x) q ∙ ap (cond (eq_by_cmp R q (key (decode x))) (Some (decode x))) (finds old q)))
+      ∙ sym (row_at-row_put total key (table_of R key form decode old) (decode x) q ∙ ap (cond (eq_by_cmp R q (key (decode x))) (Some (decode x))) (finds old q)))

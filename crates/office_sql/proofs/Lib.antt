@@ -1,12 +1,11 @@
 mod Sorted
 mod KeptRows
 mod Childless
-mod Replaced
+mod Upserted
 mod RowsPut
 mod Selected
 mod RowsDropped
 mod Meanings
-mod Inserts
 mod Columns
 mod Whole
 mod Simple
@@ -19,7 +18,9 @@ mod Selects
 mod Asked
 mod Reading
 mod Cells
-mod Guards
+mod Keyed
+mod Upserts
+mod Renewed
 mod Writes
 mod Keys
 mod Stored

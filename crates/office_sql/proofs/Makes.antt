@@ -27,7 +27,8 @@ use Rattle.office_sql.specs.Schema.OfficeTable.{Lines, Batches, Tenderers, Notic
 use Rattle.office_sql.specs.Known.{IsIn, at_tree}
 use Rattle.office_sql.specs.Making.{Says, IsCreate, IsIndexing, AreMade, KeepsOthers, AreNew}
 use Rattle.sqlite_catalog.proofs.ListFacts.{none_placed}
-use Rattle.office_sql.proofs.Replaced.{went, same_value}
+use Rattle.office_sql.proofs.Keyed.{keyed}
+use Rattle.office_sql.proofs.Upserted.{went, same_value}
 use Rattle.office_sql.proofs.Grown.{created_keeps, indexed_keeps, created_is, low_tree, has_last, has_front}
 
 -- ---- the statement
@@ -64,27 +65,27 @@ pub all_so : (P Q : OfficeTable → Type 0) (ks : List OfficeTable) → ((k : Of
 all_so P Q [] f h = tt
 all_so P Q (k ∷ ks) f h = (f k h.0, all_so P Q ks f h.1)
 
--- what each table of the office has for a key
-record HasOneKey (t : Table) : Type 0 where
-  keyed : t.uniques ≡ t.primary ∷ []
-  same : same_name t.name t.name ≡ true
-
-one_key : (k : OfficeTable) → HasOneKey (table_of k)
+-- the name of each table of the office is a name
+named : (k : OfficeTable) → same_name (table_of k).name (table_of k).name ≡ true
 unfolding same_name
-one_key Lines = record { keyed = refl; same = refl }
-one_key Batches = record { keyed = refl; same = refl }
-one_key Tenderers = record { keyed = refl; same = refl }
-one_key Notices = record { keyed = refl; same = refl }
-one_key Lots = record { keyed = refl; same = refl }
-one_key Envelopes = record { keyed = refl; same = refl }
-one_key Seals = record { keyed = refl; same = refl }
-one_key Securities = record { keyed = refl; same = refl }
-one_key Awards = record { keyed = refl; same = refl }
-one_key Contracts = record { keyed = refl; same = refl }
-one_key Entries = record { keyed = refl; same = refl }
-one_key Releases = record { keyed = refl; same = refl }
-one_key Merges = record { keyed = refl; same = refl }
-one_key Office = record { keyed = refl; same = refl }
+named Lines = refl
+named Batches = refl
+named Tenderers = refl
+named Notices = refl
+named Lots = refl
+named Envelopes = refl
+named Seals = refl
+named Securities = refl
+named Awards = refl
+named Contracts = refl
+named Entries = refl
+named Releases = refl
+named Merges = refl
+named Office = refl
+
+-- each has one key, with an index or without
+one_key : (k : OfficeTable) → ((table_of k).uniques ≡ (table_of k).primary ∷ []) ⊎ ((table_of k).uniques ≡ [])
+one_key k = elim (keyed k) [ inl index ↦ inl index.uniques | inr rowid ↦ inr rowid.uniques ]
 
 first_unused : (a b c : Option ℕ) → ((is_some a || is_some b) || is_some c) ≡ false → a ≡ None
 first_unused None b c h = refl
@@ -112,7 +113,7 @@ one_more k text old after defined mid made sequence =
     let same : made.table ≡ table_of k = cc in
     record {
       mid = mid;
-      first = record { more = made.table; schema = made.is; empty = made.empty; others = made.others; key = (table_of k).primary; one = inl (ap (λ (t : Table). t.uniques) same ∙ (one_key k).keyed) };
+      first = record { more = made.table; schema = made.is; empty = made.empty; others = made.others; key = (table_of k).primary; one = subst (λ (t : Table). (t.uniques ≡ (table_of k).primary ∷ []) ⊎ (t.uniques ≡ [])) (sym same) (one_key k) };
       is = same;
       unnamed = ap (λ (t : Table). table_named old.schema t.name) (sym same) ∙ first_unused _ (index_named old.schema made.table.name) (view_named old.schema made.table.name) made.free;
       then = elim (cases_Bool (lacks_sequence mid.schema)) [
@@ -131,7 +132,7 @@ made_stands k old after sound sound_after it =
       | inl same ↦ low_tree after (at_tree (table_of k) n) sound_after (subst (λ (d : Database). Has d.schema.tables (at_tree (table_of k) n)) (sym same) last)
       | inr more ↦ low_tree after (at_tree (table_of k) n) sound_after (subst (λ (s : Schema). Has s.tables (at_tree (table_of k) n)) (sym more.schema) (has_front it.mid.schema.tables _ _ last))
     ] in
-    let stands : Stands it.mid k = (n, subst (λ s. IsIn s (table_of k) n) (sym schema) (created_is old (table_of k) (table_of k).primary sound it.unnamed (one_key k).same (one_key k).keyed refl below), it.first.empty) in
+    let stands : Stands it.mid k = (n, subst (λ s. IsIn s (table_of k) n) (sym schema) (created_is old (table_of k) (keyed k) sound it.unnamed (named k) below), it.first.empty) in
     elim it.then [ inl same ↦ subst (λ d. Stands d k) (sym same) stands | inr more ↦ grows_keeps it.mid after more k stands ]
 
 kept_stands : (k : OfficeTable) (old after : Database) → IsOneMore k old after → (j : OfficeTable) → Stands old j → Stands after j
@@ -175,7 +176,7 @@ table_others old new text k count it h =
     let one = one_more k text old.now all.0 it.defined first.0 first.1 first.2 in (
       subst (KeepsOthers old.now) (sym now) (one_more_others k old.now all.0 one),
       (
-        λ t there named. true≢false (sym (ap (λ n. same_name n (table_of k).name) named ∙ (one_key k).same) ∙ none_placed (λ (u : Table). same_name u.name (table_of k).name) old.now.schema.tables 0 t one.unnamed there),
+        λ t there called. true≢false (sym (ap (λ n. same_name n (table_of k).name) called ∙ (named k)) ∙ none_placed (λ (u : Table). same_name u.name (table_of k).name) old.now.schema.tables 0 t one.unnamed there),
         tt,
       ),
     )

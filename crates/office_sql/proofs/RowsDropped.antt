@@ -6,6 +6,7 @@ use Rattle.std.proofs.lemmas.List.Sorted.{IsPermutation-sym}
 use Rattle.std.specs.Cmp.{IsTotalOrder, tied_itself}
 use Rattle.std.specs.FinMap.{find, IsAntisymmetric}
 use Rattle.std.specs.Ordering.{is_eq, eq_by_cmp}
+use Rattle.sqlite_value.specs.declared.value.Value.{Value}
 use Rattle.sqlite_value.specs.Order.{Row}
 use Rattle.sqlite_trees.specs.Tree.{rowid, IsTable}
 use Rattle.sqlite_sql.specs.Query.{Output}
@@ -46,14 +47,14 @@ module _ (p : Row → Bool) (env : Row → Env) where
       by true is rest (inr more) = let r = rest more in (r.0, inr r.1, r.2, r.3)
       by false is rest more = let r = rest more in (r.0, inr r.1, r.2, r.3)
 
-module _ {K X : Type 0} (R : K → K → Ordering) (total : IsTotalOrder R) (same : IsAntisymmetric R) (key : X → K) (encode : X → Row) (decode : Row → X) where
+module _ {K X : Type 0} (R : K → K → Ordering) (total : IsTotalOrder R) (same : IsAntisymmetric R) (key : X → K) (form : Value → X → Row) (decode : Row → X) where
   -- the rows without those of one key
   record IsDrop (old new : List Row) (k : K) : Type 0 where
-    from : (r : Row) → Has new r → Has old r × (key_of R key encode decode r ≡ k → ⊥)
-    left : (r : Row) → Has old r → (key_of R key encode decode r ≡ k → ⊥) → Has new r
+    from : (r : Row) → Has new r → Has old r × (key_of R key form decode r ≡ k → ⊥)
+    left : (r : Row) → Has old r → (key_of R key form decode r ≡ k → ⊥) → Has new r
 
   abbrev Kept : List Row → Type 0
-  Kept = AreKept R key encode decode
+  Kept = AreKept R key form decode
 
   kept_drop : (old new : List Row) (k : K) → Kept old → IsTable new → IsDrop old new k → Kept new
   kept_drop old new k was up it = record {
@@ -63,20 +64,20 @@ module _ {K X : Type 0} (R : K → K → Ordering) (total : IsTotalOrder R) (sam
   }
 
   finds_drop : (old new : List Row) (k : K) → Kept old → IsDrop old new k → (q : K)
-      → find R q (map (entry R key encode decode) new) ≡ cond (eq_by_cmp R q k) None (find R q (map (entry R key encode decode) old))
+      → find R q (map (entry R key form decode) new) ≡ cond (eq_by_cmp R q k) None (find R q (map (entry R key form decode) old))
   finds_drop old new k was it q = elim (cases_Bool (eq_by_cmp R q k)) [
-    | inl tie ↦ rw tie (elim (found R total same key encode decode new q) [
+    | inl tie ↦ rw tie (elim (found R total same key form decode new q) [
       | inl f ↦ absurd ((it.from f.0 f.1).1 (f.2 ∙ equal_keys same q k tie))
       | inr none ↦ none.1
     ])
     | inr apart ↦ (
         let differs : q ≡ k → ⊥ = λ e. true≢false (sym (rw (← e) (ap is_eq (tied_itself total q))) ∙ apart) in
-        rw apart (elim (found R total same key encode decode new q) [
-          | inl f ↦ elim (found R total same key encode decode old q) [
+        rw apart (elim (found R total same key form decode new q) [
+          | inl f ↦ elim (found R total same key form decode old q) [
             | inl g ↦ f.3 ∙ ap (λ r. Some (decode r)) (was.one f.0 g.0 (it.from f.0 f.1).0 g.1 (f.2 ∙ sym g.2)) ∙ sym g.3
             | inr none ↦ absurd (none.0 f.0 (it.from f.0 f.1).0 f.2)
           ]
-          | inr none ↦ elim (found R total same key encode decode old q) [
+          | inr none ↦ elim (found R total same key form decode old q) [
             | inl g ↦ absurd (none.0 g.0 (it.left g.0 g.1 (λ e. differs (sym g.2 ∙ e))) g.2)
             | inr empty ↦ none.1 ∙ sym empty.1
           ]
@@ -84,16 +85,16 @@ module _ {K X : Type 0} (R : K → K → Ordering) (total : IsTotalOrder R) (sam
         )
   ]
 
-  drop_is : (old new : List Row) (k : K) → Kept old → IsDrop old new k → table_of R key encode decode new ≡ row_drop R key (table_of R key encode decode old) k
+  drop_is : (old new : List Row) (k : K) → Kept old → IsDrop old new k → table_of R key form decode new ≡ row_drop R key (table_of R key form decode old) k
   drop_is old new k was it =
       let t : IsKeyed R key = record { total = total; exact = same } in
-      let up = in_order-table_of R total same key encode decode old in
-      same_rows t _ _ (in_order-table_of R total same key encode decode new) (in_order-drop total key _ k up) (λ q.
-      finds R total same key encode decode new q ∙ finds_drop old new k was it q
-      ∙ sym (row_at-row_drop t (table_of R key encode decode old) k q up ∙ ap (cond (eq_by_cmp R q k) None) (finds R total same key encode decode old q)))
+      let up = in_order-table_of R total same key form decode old in
+      same_rows t _ _ (in_order-table_of R total same key form decode new) (in_order-drop total key _ k up) (λ q.
+      finds R total same key form decode new q ∙ finds_drop old new k was it q
+      ∙ sym (row_at-row_drop t (table_of R key form decode old) k q up ∙ ap (cond (eq_by_cmp R q k) None) (finds R total same key form decode old q)))
 
   -- the rows whose rowids were not among those of an answer
-  module _ (rows : List Row) (was : Kept rows) (k : K) (p : Row → Bool) (passing : (r : Row) → Has rows r → p r ≡ eq_by_cmp R k (key_of R key encode decode r)) (env : Row → Env) (out : Env → Output)
+  module _ (rows : List Row) (was : Kept rows) (k : K) (p : Row → Bool) (passing : (r : Row) → Has rows r → p r ≡ eq_by_cmp R k (key_of R key form decode r)) (env : Row → Env) (out : Env → Output)
       (shown : (r : Row) → (out (env r)).1 ≡ rowid r ∷ []) (ordered : List Output) (same_rows_are : IsPermutation (map out (picked p env rows)) ordered) where
     abbrev answer : List Row
     answer = map (λ (o : Output). o.1) ordered
@@ -131,11 +132,11 @@ module _ {K X : Type 0} (R : K → K → Ordering) (total : IsTotalOrder R) (sam
             let s = passed y.0 y.1 in
             let id : at.0 ≡ id_in (rowid s.0) = y.2 ∙ ap (λ z. id_in (rowid z)) s.3 in
             let row : r ≡ s.0 = at.2 ∙ ap (edit.row_at rows) id ∙ row_at_is rows (id_in (rowid s.0)) s.0 was.rising s.1 (at_itself s.0 (all_has _ rows s.0 was.each s.1).0) in
-            apart (ap (key_of R key encode decode) row ∙ sym (equal_keys same k _ (sym (passing s.0 s.1) ∙ s.2))))
+            apart (ap (key_of R key form decode) row ∙ sym (equal_keys same k _ (sym (passing s.0 s.1) ∙ s.2))))
       ];
     }
 
-    pub drops : (xs : List X) → table_of R key encode decode rows ≡ xs → Stand R key encode decode left (row_drop R key xs k)
+    pub drops : (xs : List X) → table_of R key form decode rows ≡ xs → Stand R key form decode left (row_drop R key xs k)
     drops xs is = record {
       kept = kept_drop rows left k was (left_up (ids_of answer) rows was.rising) dropped;
       is = drop_is rows left k was dropped ∙ ap (λ (ys : List X). row_drop R key ys k) is;

@@ -80,7 +80,7 @@ pub get_line_means : (schema : Schema) (n : ℕ) → IsIn schema lines n → Mea
 unfolding same_name alone chosen first_found
 get_line_means schema n it =
     selects_mean schema lines n it (columns_of lines) ([]) get_line (lines_has n) (Some (equals_e (codes "line") 1)) _ _ _ get_line_read
-    (one_test schema it.place (at_tree lines n) it.found lines.name (outputs_of (at_tree lines n) [] (columns_of lines)) (0, column_of (codes "line") Text true) 1 (left (columns_of lines)) _ (refl, refl, refl, tt) refl refl (inl refl, refl, refl, refl))
+    (one_test schema it.place (at_tree lines n) it.found lines.name (outputs_of (at_tree lines n) [] (columns_of lines)) (0, column_of (codes "line") Text true) 1 (left (columns_of lines)) _ (refl, refl, refl, tt) refl refl (inl (inl refl, refl), refl, refl))
     tt tt (rw (it.stored, found_by_tree schema lines n it))
 
 abbrev pub get_batch : List ℕ
@@ -94,7 +94,7 @@ pub get_batch_means : (schema : Schema) (n : ℕ) → IsIn schema batches n → 
 unfolding same_name alone chosen first_found
 get_batch_means schema n it =
     selects_mean schema batches n it (columns_of batches) ([]) get_batch (batches_has n) (Some (equals_e (codes "batch") 1)) _ _ _ get_batch_read
-    (one_test schema it.place (at_tree batches n) it.found batches.name (outputs_of (at_tree batches n) [] (columns_of batches)) (0, column_of (codes "batch") Text true) 1 (left (columns_of batches)) _ (refl, refl, refl, tt) refl refl (inl refl, refl, refl, refl))
+    (one_test schema it.place (at_tree batches n) it.found batches.name (outputs_of (at_tree batches n) [] (columns_of batches)) (0, column_of (codes "batch") Text true) 1 (left (columns_of batches)) _ (refl, refl, refl, tt) refl refl (inl (inl refl, refl), refl, refl))
     tt tt (rw (it.stored, found_by_tree schema batches n it))
 
 abbrev pub get_tenderer : List ℕ
@@ -108,7 +108,7 @@ pub get_tenderer_means : (schema : Schema) (n : ℕ) → IsIn schema tenderers n
 unfolding same_name alone chosen first_found
 get_tenderer_means schema n it =
     selects_mean schema tenderers n it (columns_of tenderers) ([]) get_tenderer (tenderers_has n) (Some (equals_e (codes "tenderer") 1)) _ _ _ get_tenderer_read
-    (one_test schema it.place (at_tree tenderers n) it.found tenderers.name (outputs_of (at_tree tenderers n) [] (columns_of tenderers)) (0, column_of (codes "tenderer") Text true) 1 (left (columns_of tenderers)) _ (refl, refl, refl, tt) refl refl (inl refl, refl, refl, refl))
+    (one_test schema it.place (at_tree tenderers n) it.found tenderers.name (outputs_of (at_tree tenderers n) [] (columns_of tenderers)) (0, column_of (codes "tenderer") Text true) 1 (left (columns_of tenderers)) _ (refl, refl, refl, tt) refl refl (inl (inl refl, refl), refl, refl))
     tt tt (rw (it.stored, found_by_tree schema tenderers n it))
 
 abbrev pub get_notice : List ℕ
@@ -122,7 +122,7 @@ pub get_notice_means : (schema : Schema) (n : ℕ) → IsIn schema notices n →
 unfolding same_name alone chosen first_found
 get_notice_means schema n it =
     selects_mean schema notices n it (columns_of notices) ([]) get_notice (notices_has n) (Some (equals_e (codes "notice") 1)) _ _ _ get_notice_read
-    (one_test schema it.place (at_tree notices n) it.found notices.name (outputs_of (at_tree notices n) [] (columns_of notices)) (0, column_of (codes "notice") Text true) 1 (left (columns_of notices)) _ (refl, refl, refl, tt) refl refl (inl refl, refl, refl, refl))
+    (one_test schema it.place (at_tree notices n) it.found notices.name (outputs_of (at_tree notices n) [] (columns_of notices)) (0, column_of (codes "notice") Text true) 1 (left (columns_of notices)) _ (refl, refl, refl, tt) refl refl (inl (inl refl, refl), refl, refl))
     tt tt (rw (it.stored, found_by_tree schema notices n it))
 
 abbrev pub get_lot : List ℕ
@@ -136,7 +136,7 @@ pub get_lot_means : (schema : Schema) (n : ℕ) → IsIn schema lots n → Means
 unfolding same_name alone chosen first_found
 get_lot_means schema n it =
     selects_mean schema lots n it (columns_of lots) ([]) get_lot (lots_has n) (Some (both_e (equals_e (codes "notice") 1) (equals_e (codes "lot") 2))) _ _ _ get_lot_read
-    (two_tests schema it.place (at_tree lots n) it.found lots.name (outputs_of (at_tree lots n) [] (columns_of lots)) (0, column_of (codes "notice") Text true) (1, column_of (codes "lot") Text true) 1 2 (left (columns_of lots)) _ refl (refl, refl, refl, tt) refl refl (inl refl, refl, refl, refl) (refl, refl, refl, tt) refl refl (inl refl, refl, refl, refl))
+    (two_tests schema it.place (at_tree lots n) it.found lots.name (outputs_of (at_tree lots n) [] (columns_of lots)) (0, column_of (codes "notice") Text true) (1, column_of (codes "lot") Text true) 1 2 (left (columns_of lots)) _ refl (refl, refl, refl, tt) refl refl (inl (inl refl, refl), refl, refl) (refl, refl, refl, tt) refl refl (inl (inl refl, refl), refl, refl))
     tt tt (rw (it.stored, found_by_tree schema lots n it))
 
 abbrev pub get_envelope : List ℕ
@@ -146,11 +146,11 @@ get_envelope_read : IsSelect get_envelope (codes "envelopes") (names_of (columns
 unfolding everything parsed_in
 get_envelope_read = record { is = refl; statement = refl; formats = refl }
 
-pub get_envelope_means : (schema : Schema) (n : ℕ) → IsIn schema envelopes n → Means schema get_envelope (Select (record { lets = []; body = select n (1 ∷ []) (range_with_len 1 16) ([]) }) (names_of (columns_of envelopes)))
+pub get_envelope_means : (schema : Schema) (n : ℕ) → IsIn schema envelopes n → Means schema get_envelope (Select (record { lets = []; body = select n (0 ∷ []) (0 ∷ range_with_len 2 15) ([]) }) (names_of (columns_of envelopes)))
 unfolding same_name alone chosen first_found
 get_envelope_means schema n it =
     selects_mean schema envelopes n it (columns_of envelopes) ([]) get_envelope (envelopes_has n) (Some (equals_e (codes "receipt") 1)) _ _ _ get_envelope_read
-    (one_test schema it.place (at_tree envelopes n) it.found envelopes.name (outputs_of (at_tree envelopes n) [] (columns_of envelopes)) (0, column_of (codes "receipt") Integer true) 1 (left (columns_of envelopes)) _ (refl, refl, refl, tt) refl refl (inr refl, refl, refl, refl))
+    (one_test schema it.place (at_tree envelopes n) it.found envelopes.name (outputs_of (at_tree envelopes n) [] (columns_of envelopes)) (0, column_of (codes "receipt") Integer true) 1 (left (columns_of envelopes)) _ (refl, refl, refl, tt) refl refl (inr refl, refl, refl))
     tt tt (rw (it.stored, found_by_tree schema envelopes n it))
 
 abbrev pub get_seal : List ℕ
@@ -160,11 +160,11 @@ get_seal_read : IsSelect get_seal (codes "seals") (names_of (columns_of seals)) 
 unfolding everything parsed_in
 get_seal_read = record { is = refl; statement = refl; formats = refl }
 
-pub get_seal_means : (schema : Schema) (n : ℕ) → IsIn schema seals n → Means schema get_seal (Select (record { lets = []; body = select n (1 ∷ []) (range_with_len 1 2) ([]) }) (names_of (columns_of seals)))
+pub get_seal_means : (schema : Schema) (n : ℕ) → IsIn schema seals n → Means schema get_seal (Select (record { lets = []; body = select n (0 ∷ []) (0 ∷ range_with_len 2 1) ([]) }) (names_of (columns_of seals)))
 unfolding same_name alone chosen first_found
 get_seal_means schema n it =
     selects_mean schema seals n it (columns_of seals) ([]) get_seal (seals_has n) (Some (equals_e (codes "receipt") 1)) _ _ _ get_seal_read
-    (one_test schema it.place (at_tree seals n) it.found seals.name (outputs_of (at_tree seals n) [] (columns_of seals)) (0, column_of (codes "receipt") Integer true) 1 (left (columns_of seals)) _ (refl, refl, refl, tt) refl refl (inr refl, refl, refl, refl))
+    (one_test schema it.place (at_tree seals n) it.found seals.name (outputs_of (at_tree seals n) [] (columns_of seals)) (0, column_of (codes "receipt") Integer true) 1 (left (columns_of seals)) _ (refl, refl, refl, tt) refl refl (inr refl, refl, refl))
     tt tt (rw (it.stored, found_by_tree schema seals n it))
 
 abbrev pub get_security : List ℕ
@@ -174,11 +174,11 @@ get_security_read : IsSelect get_security (codes "securities") (names_of (column
 unfolding everything parsed_in
 get_security_read = record { is = refl; statement = refl; formats = refl }
 
-pub get_security_means : (schema : Schema) (n : ℕ) → IsIn schema securities n → Means schema get_security (Select (record { lets = []; body = select n (1 ∷ []) (range_with_len 1 7) ([]) }) (names_of (columns_of securities)))
+pub get_security_means : (schema : Schema) (n : ℕ) → IsIn schema securities n → Means schema get_security (Select (record { lets = []; body = select n (0 ∷ []) (0 ∷ range_with_len 2 6) ([]) }) (names_of (columns_of securities)))
 unfolding same_name alone chosen first_found
 get_security_means schema n it =
     selects_mean schema securities n it (columns_of securities) ([]) get_security (securities_has n) (Some (equals_e (codes "security") 1)) _ _ _ get_security_read
-    (one_test schema it.place (at_tree securities n) it.found securities.name (outputs_of (at_tree securities n) [] (columns_of securities)) (0, column_of (codes "security") Integer true) 1 (left (columns_of securities)) _ (refl, refl, refl, tt) refl refl (inr refl, refl, refl, refl))
+    (one_test schema it.place (at_tree securities n) it.found securities.name (outputs_of (at_tree securities n) [] (columns_of securities)) (0, column_of (codes "security") Integer true) 1 (left (columns_of securities)) _ (refl, refl, refl, tt) refl refl (inr refl, refl, refl))
     tt tt (rw (it.stored, found_by_tree schema securities n it))
 
 abbrev pub get_award : List ℕ
@@ -188,11 +188,11 @@ get_award_read : IsSelect get_award (codes "awards") (names_of (columns_of award
 unfolding everything parsed_in
 get_award_read = record { is = refl; statement = refl; formats = refl }
 
-pub get_award_means : (schema : Schema) (n : ℕ) → IsIn schema awards n → Means schema get_award (Select (record { lets = []; body = select n (1 ∷ []) (range_with_len 1 7) ([]) }) (names_of (columns_of awards)))
+pub get_award_means : (schema : Schema) (n : ℕ) → IsIn schema awards n → Means schema get_award (Select (record { lets = []; body = select n (0 ∷ []) (0 ∷ range_with_len 2 6) ([]) }) (names_of (columns_of awards)))
 unfolding same_name alone chosen first_found
 get_award_means schema n it =
     selects_mean schema awards n it (columns_of awards) ([]) get_award (awards_has n) (Some (equals_e (codes "award") 1)) _ _ _ get_award_read
-    (one_test schema it.place (at_tree awards n) it.found awards.name (outputs_of (at_tree awards n) [] (columns_of awards)) (0, column_of (codes "award") Integer true) 1 (left (columns_of awards)) _ (refl, refl, refl, tt) refl refl (inr refl, refl, refl, refl))
+    (one_test schema it.place (at_tree awards n) it.found awards.name (outputs_of (at_tree awards n) [] (columns_of awards)) (0, column_of (codes "award") Integer true) 1 (left (columns_of awards)) _ (refl, refl, refl, tt) refl refl (inr refl, refl, refl))
     tt tt (rw (it.stored, found_by_tree schema awards n it))
 
 abbrev pub get_contract : List ℕ
@@ -202,11 +202,11 @@ get_contract_read : IsSelect get_contract (codes "contracts") (names_of (columns
 unfolding everything parsed_in
 get_contract_read = record { is = refl; statement = refl; formats = refl }
 
-pub get_contract_means : (schema : Schema) (n : ℕ) → IsIn schema contracts n → Means schema get_contract (Select (record { lets = []; body = select n (1 ∷ []) (range_with_len 1 9) ([]) }) (names_of (columns_of contracts)))
+pub get_contract_means : (schema : Schema) (n : ℕ) → IsIn schema contracts n → Means schema get_contract (Select (record { lets = []; body = select n (0 ∷ []) (0 ∷ range_with_len 2 8) ([]) }) (names_of (columns_of contracts)))
 unfolding same_name alone chosen first_found
 get_contract_means schema n it =
     selects_mean schema contracts n it (columns_of contracts) ([]) get_contract (contracts_has n) (Some (equals_e (codes "contract") 1)) _ _ _ get_contract_read
-    (one_test schema it.place (at_tree contracts n) it.found contracts.name (outputs_of (at_tree contracts n) [] (columns_of contracts)) (0, column_of (codes "contract") Integer true) 1 (left (columns_of contracts)) _ (refl, refl, refl, tt) refl refl (inr refl, refl, refl, refl))
+    (one_test schema it.place (at_tree contracts n) it.found contracts.name (outputs_of (at_tree contracts n) [] (columns_of contracts)) (0, column_of (codes "contract") Integer true) 1 (left (columns_of contracts)) _ (refl, refl, refl, tt) refl refl (inr refl, refl, refl))
     tt tt (rw (it.stored, found_by_tree schema contracts n it))
 
 abbrev pub get_entry : List ℕ
@@ -220,7 +220,7 @@ pub get_entry_means : (schema : Schema) (n : ℕ) → IsIn schema entries n → 
 unfolding same_name alone chosen first_found
 get_entry_means schema n it =
     selects_mean schema entries n it (columns_of entries) ([]) get_entry (entries_has n) (Some (both_e (equals_e (codes "contract") 1) (equals_e (codes "entry") 2))) _ _ _ get_entry_read
-    (two_tests schema it.place (at_tree entries n) it.found entries.name (outputs_of (at_tree entries n) [] (columns_of entries)) (0, column_of (codes "contract") Integer true) (1, column_of (codes "entry") Text true) 1 2 (left (columns_of entries)) _ refl (refl, refl, refl, tt) refl refl (inr refl, refl, refl, refl) (refl, refl, refl, tt) refl refl (inl refl, refl, refl, refl))
+    (two_tests schema it.place (at_tree entries n) it.found entries.name (outputs_of (at_tree entries n) [] (columns_of entries)) (0, column_of (codes "contract") Integer true) (1, column_of (codes "entry") Text true) 1 2 (left (columns_of entries)) _ refl (refl, refl, refl, tt) refl refl (inl (inr refl, refl), refl, refl) (refl, refl, refl, tt) refl refl (inl (inl refl, refl), refl, refl))
     tt tt (rw (it.stored, found_by_tree schema entries n it))
 
 abbrev pub get_release : List ℕ
@@ -234,7 +234,7 @@ pub get_release_means : (schema : Schema) (n : ℕ) → IsIn schema releases n �
 unfolding same_name alone chosen first_found
 get_release_means schema n it =
     selects_mean schema releases n it (columns_of releases) ([]) get_release (releases_has n) (Some (both_e (equals_e (codes "notice") 1) (equals_e (codes "seq") 2))) _ _ _ get_release_read
-    (two_tests schema it.place (at_tree releases n) it.found releases.name (outputs_of (at_tree releases n) [] (columns_of releases)) (0, column_of (codes "notice") Text true) (1, column_of (codes "seq") Integer true) 1 2 (left (columns_of releases)) _ refl (refl, refl, refl, tt) refl refl (inl refl, refl, refl, refl) (refl, refl, refl, tt) refl refl (inr refl, refl, refl, refl))
+    (two_tests schema it.place (at_tree releases n) it.found releases.name (outputs_of (at_tree releases n) [] (columns_of releases)) (0, column_of (codes "notice") Text true) (1, column_of (codes "seq") Integer true) 1 2 (left (columns_of releases)) _ refl (refl, refl, refl, tt) refl refl (inl (inl refl, refl), refl, refl) (refl, refl, refl, tt) refl refl (inl (inr refl, refl), refl, refl))
     tt tt (rw (it.stored, found_by_tree schema releases n it))
 
 abbrev pub get_compiled : List ℕ
@@ -248,7 +248,7 @@ pub get_compiled_means : (schema : Schema) (n : ℕ) → IsIn schema compiled n 
 unfolding same_name alone chosen first_found
 get_compiled_means schema n it =
     selects_mean schema compiled n it (columns_of compiled) ([]) get_compiled (compiled_has n) (Some (equals_e (codes "notice") 1)) _ _ _ get_compiled_read
-    (one_test schema it.place (at_tree compiled n) it.found compiled.name (outputs_of (at_tree compiled n) [] (columns_of compiled)) (0, column_of (codes "notice") Text true) 1 (left (columns_of compiled)) _ (refl, refl, refl, tt) refl refl (inl refl, refl, refl, refl))
+    (one_test schema it.place (at_tree compiled n) it.found compiled.name (outputs_of (at_tree compiled n) [] (columns_of compiled)) (0, column_of (codes "notice") Text true) 1 (left (columns_of compiled)) _ (refl, refl, refl, tt) refl refl (inl (inl refl, refl), refl, refl))
     tt tt (rw (it.stored, found_by_tree schema compiled n it))
 
 abbrev pub get_clock : List ℕ
@@ -258,7 +258,7 @@ get_clock_read : IsSelect get_clock (codes "office") (names_of (columns_of offic
 unfolding everything parsed_in
 get_clock_read = record { is = refl; statement = refl; formats = refl }
 
-pub get_clock_means : (schema : Schema) (n : ℕ) → IsIn schema office n → Means schema get_clock (Select (record { lets = []; body = select n ([]) (range_with_len 1 4) ([]) }) (names_of (columns_of office)))
+pub get_clock_means : (schema : Schema) (n : ℕ) → IsIn schema office n → Means schema get_clock (Select (record { lets = []; body = select n ([]) (0 ∷ range_with_len 2 3) ([]) }) (names_of (columns_of office)))
 unfolding same_name alone chosen first_found
 get_clock_means schema n it =
     selects_mean schema office n it (columns_of office) ([]) get_clock (office_has n) None _ _ _ get_clock_read
@@ -272,7 +272,7 @@ get_version_read : IsSelect get_version (codes "office") (names_of ((0, column_o
 unfolding everything parsed_in
 get_version_read = record { is = refl; statement = refl; formats = refl }
 
-pub get_version_means : (schema : Schema) (n : ℕ) → IsIn schema office n → Means schema get_version (Select (record { lets = []; body = select n ([]) (1 ∷ []) ([]) }) (names_of ((0, column_of (codes "version") Integer true) ∷ [])))
+pub get_version_means : (schema : Schema) (n : ℕ) → IsIn schema office n → Means schema get_version (Select (record { lets = []; body = select n ([]) (0 ∷ []) ([]) }) (names_of ((0, column_of (codes "version") Integer true) ∷ [])))
 unfolding same_name alone chosen first_found
 get_version_means schema n it =
     selects_mean schema office n it ((0, column_of (codes "version") Integer true) ∷ []) ([]) get_version (refl, refl, refl, tt) None _ _ _ get_version_read
@@ -304,7 +304,7 @@ pub list_lots_of_notice_means : (schema : Schema) (n : ℕ) → IsIn schema lots
 unfolding same_name alone chosen first_found
 list_lots_of_notice_means schema n it =
     selects_mean schema lots n it (columns_of lots) ((0, column_of (codes "notice") Text true) ∷ (1, column_of (codes "lot") Text true) ∷ []) list_lots_of_notice (lots_has n) (Some (equals_e (codes "notice") 1)) _ _ _ list_lots_of_notice_read
-    (one_test schema it.place (at_tree lots n) it.found lots.name (outputs_of (at_tree lots n) [] (columns_of lots)) (0, column_of (codes "notice") Text true) 1 (left (columns_of lots)) _ (refl, refl, refl, tt) refl refl (inl refl, refl, refl, refl))
+    (one_test schema it.place (at_tree lots n) it.found lots.name (outputs_of (at_tree lots n) [] (columns_of lots)) (0, column_of (codes "notice") Text true) 1 (left (columns_of lots)) _ (refl, refl, refl, tt) refl refl (inl (inl refl, refl), refl, refl))
     (refl, refl, refl, (refl, refl, refl, tt)) (refl, (refl, tt)) (rw (it.stored, found_by_tree schema lots n it))
 
 abbrev pub list_lots_of_line : List ℕ
@@ -318,7 +318,7 @@ pub list_lots_of_line_means : (schema : Schema) (n : ℕ) → IsIn schema lots n
 unfolding same_name alone chosen first_found
 list_lots_of_line_means schema n it =
     selects_mean schema lots n it (columns_of lots) ((0, column_of (codes "notice") Text true) ∷ (1, column_of (codes "lot") Text true) ∷ []) list_lots_of_line (lots_has n) (Some (equals_e (codes "line") 1)) _ _ _ list_lots_of_line_read
-    (one_test schema it.place (at_tree lots n) it.found lots.name (outputs_of (at_tree lots n) [] (columns_of lots)) (3, column_of (codes "line") Text true) 1 (left (columns_of lots)) _ (refl, refl, refl, tt) refl refl (inl refl, refl, refl, refl))
+    (one_test schema it.place (at_tree lots n) it.found lots.name (outputs_of (at_tree lots n) [] (columns_of lots)) (3, column_of (codes "line") Text true) 1 (left (columns_of lots)) _ (refl, refl, refl, tt) refl refl (inl (inl refl, refl), refl, refl))
     (refl, refl, refl, (refl, refl, refl, tt)) (refl, (refl, tt)) (rw (it.stored, found_by_tree schema lots n it))
 
 abbrev pub list_reservations_of_line : List ℕ
@@ -332,7 +332,7 @@ pub list_reservations_of_line_means : (schema : Schema) (n : ℕ) → IsIn schem
 unfolding same_name alone chosen first_found
 list_reservations_of_line_means schema n it =
     selects_mean schema lots n it ((8, column_of (codes "reserved") Integer true) ∷ []) ((0, column_of (codes "notice") Text true) ∷ (1, column_of (codes "lot") Text true) ∷ []) list_reservations_of_line (refl, refl, refl, tt) (Some (equals_e (codes "line") 1)) _ _ _ list_reservations_of_line_read
-    (one_test schema it.place (at_tree lots n) it.found lots.name (outputs_of (at_tree lots n) [] ((8, column_of (codes "reserved") Integer true) ∷ [])) (3, column_of (codes "line") Text true) 1 (left ((8, column_of (codes "reserved") Integer true) ∷ [])) _ (refl, refl, refl, tt) refl refl (inl refl, refl, refl, refl))
+    (one_test schema it.place (at_tree lots n) it.found lots.name (outputs_of (at_tree lots n) [] ((8, column_of (codes "reserved") Integer true) ∷ [])) (3, column_of (codes "line") Text true) 1 (left ((8, column_of (codes "reserved") Integer true) ∷ [])) _ (refl, refl, refl, tt) refl refl (inl (inl refl, refl), refl, refl))
     (refl, refl, refl, (refl, refl, refl, tt)) (refl, (refl, tt)) (rw (it.stored, found_by_tree schema lots n it))
 
 abbrev pub list_envelopes_of_notice : List ℕ
@@ -342,11 +342,11 @@ list_envelopes_of_notice_read : IsSelect list_envelopes_of_notice (codes "envelo
 unfolding everything parsed_in
 list_envelopes_of_notice_read = record { is = refl; statement = refl; formats = refl }
 
-pub list_envelopes_of_notice_means : (schema : Schema) (n : ℕ) → IsIn schema envelopes n → Means schema list_envelopes_of_notice (Select (record { lets = []; body = select n (2 ∷ []) (range_with_len 1 16) (1 ∷ []) }) (names_of (columns_of envelopes)))
+pub list_envelopes_of_notice_means : (schema : Schema) (n : ℕ) → IsIn schema envelopes n → Means schema list_envelopes_of_notice (Select (record { lets = []; body = select n (2 ∷ []) (0 ∷ range_with_len 2 15) (0 ∷ []) }) (names_of (columns_of envelopes)))
 unfolding same_name alone chosen first_found
 list_envelopes_of_notice_means schema n it =
     selects_mean schema envelopes n it (columns_of envelopes) ((0, column_of (codes "receipt") Integer true) ∷ []) list_envelopes_of_notice (envelopes_has n) (Some (equals_e (codes "notice") 1)) _ _ _ list_envelopes_of_notice_read
-    (one_test schema it.place (at_tree envelopes n) it.found envelopes.name (outputs_of (at_tree envelopes n) [] (columns_of envelopes)) (1, column_of (codes "notice") Text true) 1 (left (columns_of envelopes)) _ (refl, refl, refl, tt) refl refl (inl refl, refl, refl, refl))
+    (one_test schema it.place (at_tree envelopes n) it.found envelopes.name (outputs_of (at_tree envelopes n) [] (columns_of envelopes)) (1, column_of (codes "notice") Text true) 1 (left (columns_of envelopes)) _ (refl, refl, refl, tt) refl refl (inl (inl refl, refl), refl, refl))
     (refl, refl, refl, tt) (refl, tt) (rw (it.stored, found_by_tree schema envelopes n it))
 
 abbrev pub list_securities_of_notice : List ℕ
@@ -356,11 +356,11 @@ list_securities_of_notice_read : IsSelect list_securities_of_notice (codes "secu
 unfolding everything parsed_in
 list_securities_of_notice_read = record { is = refl; statement = refl; formats = refl }
 
-pub list_securities_of_notice_means : (schema : Schema) (n : ℕ) → IsIn schema securities n → Means schema list_securities_of_notice (Select (record { lets = []; body = select n (3 ∷ []) (range_with_len 1 7) (1 ∷ []) }) (names_of (columns_of securities)))
+pub list_securities_of_notice_means : (schema : Schema) (n : ℕ) → IsIn schema securities n → Means schema list_securities_of_notice (Select (record { lets = []; body = select n (3 ∷ []) (0 ∷ range_with_len 2 6) (0 ∷ []) }) (names_of (columns_of securities)))
 unfolding same_name alone chosen first_found
 list_securities_of_notice_means schema n it =
     selects_mean schema securities n it (columns_of securities) ((0, column_of (codes "security") Integer true) ∷ []) list_securities_of_notice (securities_has n) (Some (equals_e (codes "notice") 1)) _ _ _ list_securities_of_notice_read
-    (one_test schema it.place (at_tree securities n) it.found securities.name (outputs_of (at_tree securities n) [] (columns_of securities)) (2, column_of (codes "notice") Text true) 1 (left (columns_of securities)) _ (refl, refl, refl, tt) refl refl (inl refl, refl, refl, refl))
+    (one_test schema it.place (at_tree securities n) it.found securities.name (outputs_of (at_tree securities n) [] (columns_of securities)) (2, column_of (codes "notice") Text true) 1 (left (columns_of securities)) _ (refl, refl, refl, tt) refl refl (inl (inl refl, refl), refl, refl))
     (refl, refl, refl, tt) (refl, tt) (rw (it.stored, found_by_tree schema securities n it))
 
 abbrev pub list_awards_of_notice : List ℕ
@@ -370,11 +370,11 @@ list_awards_of_notice_read : IsSelect list_awards_of_notice (codes "awards") (na
 unfolding everything parsed_in
 list_awards_of_notice_read = record { is = refl; statement = refl; formats = refl }
 
-pub list_awards_of_notice_means : (schema : Schema) (n : ℕ) → IsIn schema awards n → Means schema list_awards_of_notice (Select (record { lets = []; body = select n (2 ∷ []) (range_with_len 1 7) (1 ∷ []) }) (names_of (columns_of awards)))
+pub list_awards_of_notice_means : (schema : Schema) (n : ℕ) → IsIn schema awards n → Means schema list_awards_of_notice (Select (record { lets = []; body = select n (2 ∷ []) (0 ∷ range_with_len 2 6) (0 ∷ []) }) (names_of (columns_of awards)))
 unfolding same_name alone chosen first_found
 list_awards_of_notice_means schema n it =
     selects_mean schema awards n it (columns_of awards) ((0, column_of (codes "award") Integer true) ∷ []) list_awards_of_notice (awards_has n) (Some (equals_e (codes "notice") 1)) _ _ _ list_awards_of_notice_read
-    (one_test schema it.place (at_tree awards n) it.found awards.name (outputs_of (at_tree awards n) [] (columns_of awards)) (1, column_of (codes "notice") Text true) 1 (left (columns_of awards)) _ (refl, refl, refl, tt) refl refl (inl refl, refl, refl, refl))
+    (one_test schema it.place (at_tree awards n) it.found awards.name (outputs_of (at_tree awards n) [] (columns_of awards)) (1, column_of (codes "notice") Text true) 1 (left (columns_of awards)) _ (refl, refl, refl, tt) refl refl (inl (inl refl, refl), refl, refl))
     (refl, refl, refl, tt) (refl, tt) (rw (it.stored, found_by_tree schema awards n it))
 
 abbrev pub list_contracts_of_notice : List ℕ
@@ -384,11 +384,11 @@ list_contracts_of_notice_read : IsSelect list_contracts_of_notice (codes "contra
 unfolding everything parsed_in
 list_contracts_of_notice_read = record { is = refl; statement = refl; formats = refl }
 
-pub list_contracts_of_notice_means : (schema : Schema) (n : ℕ) → IsIn schema contracts n → Means schema list_contracts_of_notice (Select (record { lets = []; body = select n (2 ∷ []) (range_with_len 1 9) (1 ∷ []) }) (names_of (columns_of contracts)))
+pub list_contracts_of_notice_means : (schema : Schema) (n : ℕ) → IsIn schema contracts n → Means schema list_contracts_of_notice (Select (record { lets = []; body = select n (2 ∷ []) (0 ∷ range_with_len 2 8) (0 ∷ []) }) (names_of (columns_of contracts)))
 unfolding same_name alone chosen first_found
 list_contracts_of_notice_means schema n it =
     selects_mean schema contracts n it (columns_of contracts) ((0, column_of (codes "contract") Integer true) ∷ []) list_contracts_of_notice (contracts_has n) (Some (equals_e (codes "notice") 1)) _ _ _ list_contracts_of_notice_read
-    (one_test schema it.place (at_tree contracts n) it.found contracts.name (outputs_of (at_tree contracts n) [] (columns_of contracts)) (1, column_of (codes "notice") Text true) 1 (left (columns_of contracts)) _ (refl, refl, refl, tt) refl refl (inl refl, refl, refl, refl))
+    (one_test schema it.place (at_tree contracts n) it.found contracts.name (outputs_of (at_tree contracts n) [] (columns_of contracts)) (1, column_of (codes "notice") Text true) 1 (left (columns_of contracts)) _ (refl, refl, refl, tt) refl refl (inl (inl refl, refl), refl, refl))
     (refl, refl, refl, tt) (refl, tt) (rw (it.stored, found_by_tree schema contracts n it))
 
 abbrev pub list_entries_of_contract : List ℕ
@@ -402,7 +402,7 @@ pub list_entries_of_contract_means : (schema : Schema) (n : ℕ) → IsIn schema
 unfolding same_name alone chosen first_found
 list_entries_of_contract_means schema n it =
     selects_mean schema entries n it (columns_of entries) ((0, column_of (codes "contract") Integer true) ∷ (1, column_of (codes "entry") Text true) ∷ []) list_entries_of_contract (entries_has n) (Some (equals_e (codes "contract") 1)) _ _ _ list_entries_of_contract_read
-    (one_test schema it.place (at_tree entries n) it.found entries.name (outputs_of (at_tree entries n) [] (columns_of entries)) (0, column_of (codes "contract") Integer true) 1 (left (columns_of entries)) _ (refl, refl, refl, tt) refl refl (inr refl, refl, refl, refl))
+    (one_test schema it.place (at_tree entries n) it.found entries.name (outputs_of (at_tree entries n) [] (columns_of entries)) (0, column_of (codes "contract") Integer true) 1 (left (columns_of entries)) _ (refl, refl, refl, tt) refl refl (inl (inr refl, refl), refl, refl))
     (refl, refl, refl, (refl, refl, refl, tt)) (refl, (refl, tt)) (rw (it.stored, found_by_tree schema entries n it))
 
 abbrev pub list_releases_of_notice : List ℕ
@@ -416,5 +416,5 @@ pub list_releases_of_notice_means : (schema : Schema) (n : ℕ) → IsIn schema 
 unfolding same_name alone chosen first_found
 list_releases_of_notice_means schema n it =
     selects_mean schema releases n it (columns_of releases) ((0, column_of (codes "notice") Text true) ∷ (1, column_of (codes "seq") Integer true) ∷ []) list_releases_of_notice (releases_has n) (Some (equals_e (codes "notice") 1)) _ _ _ list_releases_of_notice_read
-    (one_test schema it.place (at_tree releases n) it.found releases.name (outputs_of (at_tree releases n) [] (columns_of releases)) (0, column_of (codes "notice") Text true) 1 (left (columns_of releases)) _ (refl, refl, refl, tt) refl refl (inl refl, refl, refl, refl))
+    (one_test schema it.place (at_tree releases n) it.found releases.name (outputs_of (at_tree releases n) [] (columns_of releases)) (0, column_of (codes "notice") Text true) 1 (left (columns_of releases)) _ (refl, refl, refl, tt) refl refl (inl (inl refl, refl), refl, refl))
     (refl, refl, refl, (refl, refl, refl, tt)) (refl, (refl, tt)) (rw (it.stored, found_by_tree schema releases n it))

@@ -90,12 +90,12 @@ all_pass : {X : Type 0} (p : X → Bool) (xs : List X) → AllByRecursion (λ x.
 all_pass p [] = tt
 all_pass p (x ∷ xs) = elim (p x) as (λ b. p x ≡ b → AllByRecursion (λ x. p x ≡ true) (cond b (x ∷ filter p xs) (filter p xs))) [ true ↦ λ e. (e, all_pass p xs) | false ↦ λ e. all_pass p xs ] refl
 
-module _ {K X : Type 0} (R : K → K → Ordering) (total : IsTotalOrder R) (same : IsAntisymmetric R) (key : X → K) (encode : X → Row) (decode : Row → X) where
+module _ {K X : Type 0} (R : K → K → Ordering) (total : IsTotalOrder R) (same : IsAntisymmetric R) (key : X → K) (form : Value → X → Row) (decode : Row → X) where
   abbrev t : IsKeyed R key
   t = record { total = total; exact = same }
 
   abbrev Kept : List Row → Type 0
-  Kept = AreKept R key encode decode
+  Kept = AreKept R key form decode
 
   tail : (r : Row) (rows : List Row) → Kept (r ∷ rows) → Kept rows
   tail r rows k = record { rising = k.rising.1; each = k.each.1; one = λ a b h i e. k.one a b (inr h) (inr i) e }
@@ -118,29 +118,29 @@ module _ {K X : Type 0} (R : K → K → Ordering) (total : IsTotalOrder R) (sam
     | inr apart ↦ omega (arith, ap one apart, counted q rows (tail r rows k))
   ]
 
-  found_row : (rows : List Row) (r : Row) → Kept rows → Has rows r → row_at R key (table_of R key encode decode rows) (key (decode r)) ≡ Some (decode r)
-  found_row rows r k h = finds R total same key encode decode rows (key (decode r)) ∙ elim (found R total same key encode decode rows (key (decode r))) [
+  found_row : (rows : List Row) (r : Row) → Kept rows → Has rows r → row_at R key (table_of R key form decode rows) (key (decode r)) ≡ Some (decode r)
+  found_row rows r k h = finds R total same key form decode rows (key (decode r)) ∙ elim (found R total same key form decode rows (key (decode r))) [
     | inl f ↦ f.3 ∙ ap (λ z. Some (decode z)) (k.one f.0 r f.1 h f.2)
     | inr none ↦ absurd (none.0 r h refl)
   ]
 
   -- each record of the table comes back from its row
-  pub comes_back : (rows : List Row) → Kept rows → (read : Row → X) → ((r : Row) (y : Row) → r ≡ rowid r ∷ y → decode r ≡ read y)
-      → AllByRecursion (λ x. read (encode x) ≡ x) (table_of R key encode decode rows)
-  comes_back rows k read reads = all_from _ _ (λ x h.
-      let e : row_at R key (table_of R key encode decode rows) (key x) ≡ Some x = all_has _ _ x (each_found t _ (in_order-table_of R total same key encode decode rows)) h in
-      elim (found R total same key encode decode rows (key x)) [
+  pub comes_back : (rows : List Row) → Kept rows → (encode : X → Row) (read : Row → X) → ((v : Value) (x : X) → decode (form v x) ≡ read (encode x))
+      → AllByRecursion (λ x. read (encode x) ≡ x) (table_of R key form decode rows)
+  comes_back rows k encode read reads = all_from _ _ (λ x h.
+      let e : row_at R key (table_of R key form decode rows) (key x) ≡ Some x = all_has _ _ x (each_found t _ (in_order-table_of R total same key form decode rows)) h in
+      elim (found R total same key form decode rows (key x)) [
         | inl f ↦ (
-            let is : Some x ≡ Some (decode f.0) = sym e ∙ finds R total same key encode decode rows (key x) ∙ f.3 in
+            let is : Some x ≡ Some (decode f.0) = sym e ∙ finds R total same key form decode rows (key x) ∙ f.3 in
             let at : x ≡ decode f.0 = cc in
-            let form = (all_has _ rows f.0 k.each f.1).1 in
-            subst (λ z. read (encode z) ≡ z) (sym at) (sym (reads f.0 (encode (decode f.0)) form)))
-        | inr none ↦ absurd (let n : None ≡ Some x = sym none.1 ∙ sym (finds R total same key encode decode rows (key x)) ∙ e in cc)
+            let shaped = (all_has _ rows f.0 k.each f.1).1 in
+            subst (λ z. read (encode z) ≡ z) (sym at) (sym (ap decode shaped ∙ reads (rowid f.0) (decode f.0))))
+        | inr none ↦ absurd (let n : None ≡ Some x = sym none.1 ∙ sym (finds R total same key form decode rows (key x)) ∙ e in cc)
       ])
 
   module _ (passes : Row → Bool) (env : Row → Env) (output : Env → Output) (p : X → Bool) (out : X → Output) (cmp : Output → Output → Ordering)
-      (passing : (r : Row) (x : X) → r ≡ rowid r ∷ encode x → passes r ≡ p x)
-      (shows : (r : Row) (x : X) → r ≡ rowid r ∷ encode x → output (env r) ≡ out x)
+      (passing : (r : Row) (x : X) → r ≡ form (rowid r) x → passes r ≡ p x)
+      (shows : (r : Row) (x : X) → r ≡ form (rowid r) x → output (env r) ≡ out x)
       (agrees : (x y : X) → p x ≡ true → p y ≡ true → is_lt (cmp (out x) (out y)) ≡ is_lt (R (key x) (key y))) where
     abbrev zs : List Row → List X
     zs rows = filter p (map decode rows)
@@ -148,8 +148,7 @@ module _ {K X : Type 0} (R : K → K → Ordering) (total : IsTotalOrder R) (sam
     outputs : (rows : List Row) → Kept rows → map output (picked passes env rows) ≡ map out (zs rows)
     outputs [] k = refl
     outputs (r ∷ rows) k =
-        let form = k.each.0.1 in
-        by (passes r) (passing r (decode r) form) (outputs rows (tail r rows k))
+        by (passes r) (passing r (decode r) k.each.0.1) (outputs rows (tail r rows k))
       where
         by : (b : Bool) → b ≡ p (decode r) → map output (picked passes env rows) ≡ map out (zs rows) → map output (cond b (env r ∷ []) [] ++ picked passes env rows) ≡ map out (filter p (map decode (r ∷ rows)))
         by true e h = (λ i. shows r (decode r) k.each.0.1 i ∷ h i) ∙ ap (λ b. map out (cond b (decode r ∷ zs rows) (zs rows))) e
@@ -157,7 +156,7 @@ module _ {K X : Type 0} (R : K → K → Ordering) (total : IsTotalOrder R) (sam
 
     module _ (rows : List Row) (kept : Kept rows) (ordered : List Output) (same_rows : IsPermutation (map output (picked passes env rows)) ordered) (sorted : IsSorted cmp ordered) where
       abbrev table : List X
-      table = table_of R key encode decode rows
+      table = table_of R key form decode rows
 
       shuffled : (ws : List X) × (ordered ≡ map out ws) × IsPermutation (zs rows) ws
       shuffled = lifted out (zs rows) ordered (subst (λ l. IsPermutation l ordered) (outputs rows kept) same_rows)
@@ -189,10 +188,10 @@ module _ {K X : Type 0} (R : K → K → Ordering) (total : IsTotalOrder R) (sam
       in_order = in_order_from_sorted t ws (climb ws ws_pass (subst (Climbs cmp) shuffled.1 (climbs cmp ordered sorted))) once
 
       passing_in_order : IsInOrder R key (filter p table)
-      passing_in_order = in_order-filter t p table (in_order-table_of R total same key encode decode rows)
+      passing_in_order = in_order-filter t p table (in_order-table_of R total same key form decode rows)
 
       looked_up : (q : K) → row_at R key (filter p table) q ≡ if_passes p (row_at R key table q)
-      looked_up q = row_at-filter t p table q (in_order-table_of R total same key encode decode rows)
+      looked_up q = row_at-filter t p table q (in_order-table_of R total same key form decode rows)
 
       into : AllByRecursion (λ x. row_at R key (filter p table) (key x) ≡ Some x) ws
       into = all_from _ ws (λ x h.
@@ -203,13 +202,13 @@ module _ {K X : Type 0} (R : K → K → Ordering) (total : IsTotalOrder R) (sam
       ws_found x h = all_has _ ws x (each_found t ws in_order) h
 
       from_table : (y : X) (q : K) → row_at R key table q ≡ Some y → p y ≡ true → row_at R key ws (key y) ≡ Some y
-      from_table y q e is = elim (found R total same key encode decode rows q) [
+      from_table y q e is = elim (found R total same key form decode rows q) [
         | inl f ↦ (
-            let here : Some y ≡ Some (decode f.0) = sym e ∙ finds R total same key encode decode rows q ∙ f.3 in
+            let here : Some y ≡ Some (decode f.0) = sym e ∙ finds R total same key form decode rows q ∙ f.3 in
             let at : y ≡ decode f.0 = cc in
             let there = has_filtered p decode rows f.0 f.1 (ap p (sym at) ∙ is) in
             ws_found y (subst (Has ws) (sym at) (permuted_has ws (zs rows) (decode f.0) (IsPermutation-sym (zs rows) ws shuffled.2) there)))
-        | inr none ↦ absurd (let n : None ≡ Some y = sym none.1 ∙ sym (finds R total same key encode decode rows q) ∙ e in cc)
+        | inr none ↦ absurd (let n : None ≡ Some y = sym none.1 ∙ sym (finds R total same key form decode rows q) ∙ e in cc)
       ]
 
       out_of : AllByRecursion (λ y. row_at R key ws (key y) ≡ Some y) (filter p table)
@@ -231,12 +230,12 @@ module _ {K X : Type 0} (R : K → K → Ordering) (total : IsTotalOrder R) (sam
 
   -- one select over one tree
   module _ (q : Query) (params : Row) (p : X → Bool) (out : X → Output)
-      (passing : (v : Value) (x : X) → passes_query q params (v ∷ encode x) ≡ p x)
-      (shows : (v : Value) (x : X) → output q (params ∷ (v ∷ encode x) ∷ []) ≡ out x)
+      (passing : (v : Value) (x : X) → passes_query q params (form v x) ≡ p x)
+      (shows : (v : Value) (x : X) → output q (params ∷ form v x ∷ []) ≡ out x)
       (agrees : (x y : X) → p x ≡ true → p y ≡ true → is_lt (output_cmp q (out x) (out y)) ≡ is_lt (R (key x) (key y))) where
     pub selects : (db : Trees) (tree : ℕ) (rows : List Row) → Kept (db tree) → (a : IsAnswer q (overlay db []) params rows)
         → a.staged ≡ picked (passes_query q params) (λ r. params ∷ r ∷ []) (db tree) → a.kept ≡ map (output q) a.staged → rows ≡ map (λ (o : Output). o.1) a.ordered
-        → rows ≡ map (λ (o : Output). o.1) (map out (filter p (table_of R key encode decode (db tree))))
+        → rows ≡ map (λ (o : Output). o.1) (map out (filter p (table_of R key form decode (db tree))))
     selects db tree rows kept a staged distinct shown =
         shown ∙ ap (map (λ (o : Output). o.1)) (lists (passes_query q params) (λ r. params ∷ r ∷ []) (output q) p out (output_cmp q)
         (λ r x e. ap (passes_query q params) e ∙ passing (rowid r) x)

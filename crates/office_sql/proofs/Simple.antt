@@ -183,31 +183,49 @@ module _ (schema : Schema) (at : ℕ) (table : Table) (found : slice_get schema.
   column_compares shown op k m c stands (inl kind) = rw (of_kind shown k c affinity.Text stands kind, bare shown m)
   column_compares shown op k m c stands (inr kind) = rw (of_kind shown k c affinity.Numeric stands kind, bare shown m)
 
+  rowid_kind : (shown : List Output) → of_column (scope shown) 1 0 ≡ affinity.Numeric
+  unfolding of_column
+  rowid_kind shown = refl
+
+  -- a rowid against a parameter
+  rowid_compares : (shown : List Output) (op : BinaryOp) (m : ℕ) → compared (scope shown) op (col 1 0) (col 0 m) ≡ op2 op (col 1 0) (col 0 m)
+  unfolding compared affinity_of converted spelled may_be_text
+  rowid_compares shown op m = rw (rowid_kind shown, bare shown m)
+
   abbrev pub column_test : ℕ → ℕ → Term
-  column_test k m = op2 (by.Compare compare.Eq Binary) (col 1 (suc k)) (col 0 m)
+  column_test place m = op2 (by.Compare compare.Eq Binary) (col 1 place) (col 0 m)
 
   pub no_test : (shown : List Output) (b : ℕ) (l : Carried) → body.tests lower (scope shown) [] None (at_budget b l) ≡ Ok ([], at_budget b l)
   unfolding body.tests
   no_test shown b l = refl
 
+  -- a column of texts or of numbers, or the rowid
+  abbrev pub IsPlace : ℕ × Column → Type 0
+  IsPlace p = (IsPlainKind p.1 × (place_of table p.0 ≡ suc p.0)) ⊎ (place_of table p.0 ≡ 0)
+
   abbrev pub IsTested : ℕ × Column → Type 0
-  IsTested p = IsPlainKind p.1 × (place_of table p.0 ≡ suc p.0) × (alone (declared table p.0 p.1) ≡ Binary) × (chosen (declared table p.0 p.1) nothing ≡ Binary)
+  IsTested p = IsPlace p × (alone (declared table p.0 p.1) ≡ Binary) × (chosen (declared table p.0 p.1) nothing ≡ Binary)
+
+  place_compares : (shown : List Output) (op : BinaryOp) (p : ℕ × Column) (m : ℕ) → slice_get table.columns p.0 ≡ Some p.1 → IsPlace p
+      → compared (scope shown) op (col 1 (place_of table p.0)) (col 0 m) ≡ op2 op (col 1 (place_of table p.0)) (col 0 m)
+  place_compares shown op p m stands (inl is) = subst (λ place. compared (scope shown) op (col 1 place) (col 0 m) ≡ op2 op (col 1 place) (col 0 m)) (sym is.1) (column_compares shown op p.0 m p.1 stands is.0)
+  place_compares shown op p m stands (inr is) = subst (λ place. compared (scope shown) op (col 1 place) (col 0 m) ≡ op2 op (col 1 place) (col 0 m)) (sym is) (rowid_compares shown op m)
 
   pub tested_lowers : (d : ℕ) (shown : List Output) (p : ℕ × Column) (n b : ℕ) (l : Carried) → Has table (b - 1) (p ∷ []) → nat_lt 1 b ≡ true → nat_lt 1 (b - 1 - 1) ≡ true → IsTested p
-      → lower_to (suc (suc d)) (scope shown) (equals_e p.1.name n) (at_budget b l) ≡ Ok (column_test p.0 (n - 1), at_budget (b - 1 - 1 - 1) nothing)
+      → lower_to (suc (suc d)) (scope shown) (equals_e p.1.name n) (at_budget b l) ≡ Ok (column_test (place_of table p.0) (n - 1), at_budget (b - 1 - 1 - 1) nothing)
   tested_lowers d shown p n b l h enough still is =
-      equals_lowers d shown p n b l h enough still ∙ ap₂ (λ how place. Ok (compared (scope shown) (by.Compare compare.Eq how) (col 1 place) (col 0 (n - 1)), at_budget (b - 1 - 1 - 1) nothing)) is.3 is.1
-      ∙ ap (λ t. Ok (t, at_budget (b - 1 - 1 - 1) nothing)) (column_compares shown (by.Compare compare.Eq Binary) p.0 (n - 1) p.1 h.1 is.0)
+      equals_lowers d shown p n b l h enough still ∙ ap (λ how. Ok (compared (scope shown) (by.Compare compare.Eq how) (col 1 (place_of table p.0)) (col 0 (n - 1)), at_budget (b - 1 - 1 - 1) nothing)) is.2
+      ∙ ap (λ t. Ok (t, at_budget (b - 1 - 1 - 1) nothing)) (place_compares shown (by.Compare compare.Eq Binary) p (n - 1) h.1 is.0)
 
   pub one_test : (shown : List Output) (p : ℕ × Column) (n b : ℕ) (l : Carried) → Has table (b - 1) (p ∷ []) → nat_lt 1 b ≡ true → nat_lt 1 (b - 1 - 1) ≡ true → IsTested p
-      → body.tests lower (scope shown) [] (Some (equals_e p.1.name n)) (at_budget b l) ≡ Ok (column_test p.0 (n - 1) ∷ [], at_budget (b - 1 - 1 - 1) nothing)
+      → body.tests lower (scope shown) [] (Some (equals_e p.1.name n)) (at_budget b l) ≡ Ok (column_test (place_of table p.0) (n - 1) ∷ [], at_budget (b - 1 - 1 - 1) nothing)
   unfolding body.tests
   one_test shown p n b l h enough still is = rw (tested_lowers 698 shown p n b l h enough still is)
 
   pub two_tests : (shown : List Output) (p q : ℕ × Column) (m n b : ℕ) (l : Carried) → nat_lt 1 b ≡ true
       → Has table (b - 1 - 1) (p ∷ []) → nat_lt 1 (b - 1) ≡ true → nat_lt 1 (b - 1 - 1 - 1) ≡ true → IsTested p
       → Has table (b - 1 - 1 - 1 - 1 - 1) (q ∷ []) → nat_lt 1 (b - 1 - 1 - 1 - 1) ≡ true → nat_lt 1 (b - 1 - 1 - 1 - 1 - 1 - 1) ≡ true → IsTested q
-      → body.tests lower (scope shown) [] (Some (both_e (equals_e p.1.name m) (equals_e q.1.name n))) (at_budget b l) ≡ Ok (column_test p.0 (m - 1) ∷ column_test q.0 (n - 1) ∷ [], at_budget (b - 1 - 1 - 1 - 1 - 1 - 1 - 1) nothing)
+      → body.tests lower (scope shown) [] (Some (both_e (equals_e p.1.name m) (equals_e q.1.name n))) (at_budget b l) ≡ Ok (column_test (place_of table p.0) (m - 1) ∷ column_test (place_of table q.0) (n - 1) ∷ [], at_budget (b - 1 - 1 - 1 - 1 - 1 - 1 - 1) nothing)
   unfolding body.tests
   two_tests shown p q m n b l enough has₁ first₁ still₁ is₁ has₂ first₂ still₂ is₂ =
       rw (and_is (scope shown) (both_e (equals_e p.1.name m) (equals_e q.1.name n)) (equals_e p.1.name m) (equals_e q.1.name n) _ _ b _ _ l _ _ enough 699 (out_both (equals_e p.1.name m) (equals_e q.1.name n))

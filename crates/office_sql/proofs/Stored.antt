@@ -1,11 +1,11 @@
 -- What the columns and the key of each table ask of a put.
-use Rattle.std.proofs.Common.{◌≡◌, ℕ, pos, true, List, [], ◌∷◌, refl, ap, ap₂}
+use Rattle.std.proofs.Common.{◌≡◌, ℕ, pos, true, List, [], ◌∷◌, drop, refl, ap, ap₂}
 use Rattle.std.specs.Ordering.{nat_cmp}
 use Rattle.std.specs.Cmp.{nat_cmp_total}
 use Rattle.std.specs.Cmp.Lexicographic.{nat_list_cmp_total}
 use Rattle.std.specs.FinMap.{nat_cmp-IsAntisymmetric as numbers_exact}
 use Rattle.sqlite_value.specs.declared.value.Value.{Value}
-use Rattle.sqlite_value.specs.declared.value.Value.TheVariants.{Null}
+use Rattle.sqlite_value.specs.declared.value.Value.TheVariants.{Null, Int, Text}
 use Rattle.sqlite_value.specs.Keys.{plain, first_key}
 use Rattle.sqlite_sql.specs.Term.{Term, lit, col}
 use Rattle.sqlite_schema.specs.Rules.{agree}
@@ -37,27 +37,29 @@ use Rattle.office_rows.specs.Tenders.{envelope_row, seal_row, security_row}
 use Rattle.office_rows.specs.Awards.{award_row, contract_row, entry_row}
 use Rattle.office_rows.specs.Releases.{release_row, compiled_row, clock_row}
 use Rattle.office_sql.specs.Clock.{clock_key, clock_cmp}
+use Rattle.office_sql.specs.Kept.{behind, by_rowid}
 use Rattle.office_sql.specs.Schema.{OfficeTable, table_of, lines, batches, tenderers, notices, lots, envelopes, seals, securities, awards, contracts, entries, releases, compiled, office}
 use Rattle.office_sql.specs.Schema.OfficeTable.{Lines, Batches, Tenderers, Notices, Lots, Envelopes, Seals, Securities, Awards, Contracts, Entries, Releases, Compiled, Office}
 use Rattle.office_sql.proofs.Cells.{cast_null, cast_int, cast_perhaps, cast_words, texts_equal, equal_texts, numbers_equal, equal_numbers, both_true, one_true, first_true, only_true}
+use Rattle.office_sql.proofs.Keyed.{keyed}
 use Rattle.office_sql.proofs.Writes.{IsStored, IsBare}
 use Rattle.office_sql.proofs.Keys.{entries_exact, releases_exact, clock_total, clock_exact}
 
 pub bare : (k : OfficeTable) → IsBare (table_of k)
-bare Lines = record { childless = refl; plainly = refl; uncounted = refl }
-bare Batches = record { childless = refl; plainly = refl; uncounted = refl }
-bare Tenderers = record { childless = refl; plainly = refl; uncounted = refl }
-bare Notices = record { childless = refl; plainly = refl; uncounted = refl }
-bare Lots = record { childless = refl; plainly = refl; uncounted = refl }
-bare Envelopes = record { childless = refl; plainly = refl; uncounted = refl }
-bare Seals = record { childless = refl; plainly = refl; uncounted = refl }
-bare Securities = record { childless = refl; plainly = refl; uncounted = refl }
-bare Awards = record { childless = refl; plainly = refl; uncounted = refl }
-bare Contracts = record { childless = refl; plainly = refl; uncounted = refl }
-bare Entries = record { childless = refl; plainly = refl; uncounted = refl }
-bare Releases = record { childless = refl; plainly = refl; uncounted = refl }
-bare Compiled = record { childless = refl; plainly = refl; uncounted = refl }
-bare Office = record { childless = refl; plainly = refl; uncounted = refl }
+bare Lines = record { childless = refl; key = keyed Lines; uncounted = refl }
+bare Batches = record { childless = refl; key = keyed Batches; uncounted = refl }
+bare Tenderers = record { childless = refl; key = keyed Tenderers; uncounted = refl }
+bare Notices = record { childless = refl; key = keyed Notices; uncounted = refl }
+bare Lots = record { childless = refl; key = keyed Lots; uncounted = refl }
+bare Envelopes = record { childless = refl; key = keyed Envelopes; uncounted = refl }
+bare Seals = record { childless = refl; key = keyed Seals; uncounted = refl }
+bare Securities = record { childless = refl; key = keyed Securities; uncounted = refl }
+bare Awards = record { childless = refl; key = keyed Awards; uncounted = refl }
+bare Contracts = record { childless = refl; key = keyed Contracts; uncounted = refl }
+bare Entries = record { childless = refl; key = keyed Entries; uncounted = refl }
+bare Releases = record { childless = refl; key = keyed Releases; uncounted = refl }
+bare Compiled = record { childless = refl; key = keyed Compiled; uncounted = refl }
+bare Office = record { childless = refl; key = keyed Office; uncounted = refl }
 
 -- ---- lines
 
@@ -72,15 +74,23 @@ line_met u v x y h = equal_texts x.line y.line (only_true _ h)
 abbrev pub line_terms : List Term
 line_terms = lit Null ∷ col 0 0 ∷ col 0 1 ∷ col 0 2 ∷ col 0 3 ∷ []
 
-pub line_stored : IsStored Lines id_cmp line_key line_row line_terms 5
+abbrev pub line_cells : List Term
+line_cells = col 1 1 ∷ col 0 1 ∷ col 0 2 ∷ col 0 3 ∷ []
+
+pub line_stored : IsStored Lines id_cmp line_key line_row (behind line_row) 4 line_terms line_cells
 line_stored = record {
   total = nat_list_cmp_total;
   exact = ids_exact;
   given = λ n x. refl;
+  chosen = λ rows x. refl;
   tries = λ n x. rw (cast_null, cast_int (pos x.appropriation), cast_int (pos x.free));
   stores = λ n m x. rw (cast_int m, cast_int (pos x.appropriation), cast_int (pos x.free));
+  numbered = λ m x. refl;
+  kept = λ m x. refl;
   meets = line_meets;
   met = line_met;
+  finds = λ x id more. refl;
+  updates = λ n x y v more e. ap (λ q. v ∷ v ∷ Text q ∷ drop 1 (line_row x)) e;
 }
 
 -- ---- batches
@@ -96,15 +106,23 @@ batch_met u v x y h = equal_texts x.batch y.batch (only_true _ h)
 abbrev pub batch_terms : List Term
 batch_terms = lit Null ∷ col 0 0 ∷ col 0 1 ∷ col 0 2 ∷ []
 
-pub batch_stored : IsStored Batches id_cmp batch_key batch_row batch_terms 4
+abbrev pub batch_cells : List Term
+batch_cells = col 1 1 ∷ col 0 1 ∷ col 0 2 ∷ []
+
+pub batch_stored : IsStored Batches id_cmp batch_key batch_row (behind batch_row) 3 batch_terms batch_cells
 batch_stored = record {
   total = nat_list_cmp_total;
   exact = ids_exact;
   given = λ n x. refl;
+  chosen = λ rows x. refl;
   tries = λ n x. rw (cast_null, cast_int (pos x.moment), cast_int (pos x.rows));
   stores = λ n m x. rw (cast_int m, cast_int (pos x.moment), cast_int (pos x.rows));
+  numbered = λ m x. refl;
+  kept = λ m x. refl;
   meets = batch_meets;
   met = batch_met;
+  finds = λ x id more. refl;
+  updates = λ n x y v more e. ap (λ q. v ∷ v ∷ Text q ∷ drop 1 (batch_row x)) e;
 }
 
 -- ---- tenderers
@@ -120,15 +138,23 @@ tenderer_met u v x y h = equal_texts x.tenderer y.tenderer (only_true _ h)
 abbrev pub tenderer_terms : List Term
 tenderer_terms = lit Null ∷ col 0 0 ∷ col 0 1 ∷ col 0 2 ∷ col 0 3 ∷ []
 
-pub tenderer_stored : IsStored Tenderers id_cmp tenderer_key tenderer_row tenderer_terms 5
+abbrev pub tenderer_cells : List Term
+tenderer_cells = col 1 1 ∷ col 0 1 ∷ col 0 2 ∷ col 0 3 ∷ []
+
+pub tenderer_stored : IsStored Tenderers id_cmp tenderer_key tenderer_row (behind tenderer_row) 4 tenderer_terms tenderer_cells
 tenderer_stored = record {
   total = nat_list_cmp_total;
   exact = ids_exact;
   given = λ n x. refl;
+  chosen = λ rows x. refl;
   tries = λ n x. rw (cast_null);
   stores = λ n m x. rw (cast_int m);
+  numbered = λ m x. refl;
+  kept = λ m x. refl;
   meets = tenderer_meets;
   met = tenderer_met;
+  finds = λ x id more. refl;
+  updates = λ n x y v more e. ap (λ q. v ∷ v ∷ Text q ∷ drop 1 (tenderer_row x)) e;
 }
 
 -- ---- notices
@@ -144,15 +170,23 @@ notice_met u v x y h = equal_texts x.notice y.notice (only_true _ h)
 abbrev pub notice_terms : List Term
 notice_terms = lit Null ∷ col 0 0 ∷ col 0 1 ∷ col 0 2 ∷ col 0 3 ∷ col 0 4 ∷ col 0 5 ∷ col 0 6 ∷ col 0 7 ∷ col 0 8 ∷ col 0 9 ∷ col 0 10 ∷ []
 
-pub notice_stored : IsStored Notices id_cmp notice_key notice_row notice_terms 12
+abbrev pub notice_cells : List Term
+notice_cells = col 1 1 ∷ col 0 1 ∷ col 0 2 ∷ col 0 3 ∷ col 0 4 ∷ col 0 5 ∷ col 0 6 ∷ col 0 7 ∷ col 0 8 ∷ col 0 9 ∷ col 0 10 ∷ []
+
+pub notice_stored : IsStored Notices id_cmp notice_key notice_row (behind notice_row) 11 notice_terms notice_cells
 notice_stored = record {
   total = nat_list_cmp_total;
   exact = ids_exact;
   given = λ n x. refl;
+  chosen = λ rows x. refl;
   tries = λ n x. rw (cast_null, cast_int (pos x.published), cast_int (pos x.deadline), cast_int (pos x.validity), cast_int (pos x.standstill), cast_int (pos x.weight), cast_perhaps x.opened, cast_int (pos x.amendments), cast_int (pos x.releases));
   stores = λ n m x. rw (cast_int m, cast_int (pos x.published), cast_int (pos x.deadline), cast_int (pos x.validity), cast_int (pos x.standstill), cast_int (pos x.weight), cast_perhaps x.opened, cast_int (pos x.amendments), cast_int (pos x.releases));
+  numbered = λ m x. refl;
+  kept = λ m x. refl;
   meets = notice_meets;
   met = notice_met;
+  finds = λ x id more. refl;
+  updates = λ n x y v more e. ap (λ q. v ∷ v ∷ Text q ∷ drop 1 (notice_row x)) e;
 }
 
 -- ---- lots
@@ -168,135 +202,183 @@ lot_met u v x y h = let both = first_true _ _ h in ap₂ (λ a b. (a, b)) (equal
 abbrev pub lot_terms : List Term
 lot_terms = lit Null ∷ col 0 0 ∷ col 0 1 ∷ col 0 2 ∷ col 0 3 ∷ col 0 4 ∷ col 0 5 ∷ col 0 6 ∷ col 0 7 ∷ col 0 8 ∷ []
 
-pub lot_stored : IsStored Lots lot_cmp lot_key lot_row lot_terms 10
+abbrev pub lot_cells : List Term
+lot_cells = col 1 1 ∷ col 1 2 ∷ col 0 2 ∷ col 0 3 ∷ col 0 4 ∷ col 0 5 ∷ col 0 6 ∷ col 0 7 ∷ col 0 8 ∷ []
+
+pub lot_stored : IsStored Lots lot_cmp lot_key lot_row (behind lot_row) 9 lot_terms lot_cells
 lot_stored = record {
   total = lots_total;
   exact = lots_exact;
   given = λ n x. refl;
+  chosen = λ rows x. refl;
   tries = λ n x. rw (cast_null, cast_int (pos x.estimate), cast_int (pos x.security), cast_int (pos x.reserved));
   stores = λ n m x. rw (cast_int m, cast_int (pos x.estimate), cast_int (pos x.security), cast_int (pos x.reserved));
+  numbered = λ m x. refl;
+  kept = λ m x. refl;
   meets = lot_meets;
   met = lot_met;
+  finds = λ x id more. refl;
+  updates = λ n x y v more e. ap (λ (q : List ℕ × List ℕ). v ∷ v ∷ Text q.0 ∷ Text q.1 ∷ drop 2 (lot_row x)) e;
 }
 
 -- ---- envelopes
 
-envelope_meets : (u v : Value) (x y : EnvelopeRow) → envelope_key x ≡ envelope_key y → agree plain envelopes.primary (u ∷ envelope_row x) envelopes.primary (v ∷ envelope_row y) ≡ true
+envelope_meets : (u v : Value) (x y : EnvelopeRow) → envelope_key x ≡ envelope_key y → agree plain envelopes.primary (by_rowid envelope_row u x) envelopes.primary (by_rowid envelope_row v y) ≡ true
 unfolding first_key
 envelope_meets u v x y e = one_true _ (numbers_equal x.receipt y.receipt e)
 
-envelope_met : (u v : Value) (x y : EnvelopeRow) → agree plain envelopes.primary (u ∷ envelope_row x) envelopes.primary (v ∷ envelope_row y) ≡ true → envelope_key x ≡ envelope_key y
+envelope_met : (u v : Value) (x y : EnvelopeRow) → agree plain envelopes.primary (by_rowid envelope_row u x) envelopes.primary (by_rowid envelope_row v y) ≡ true → envelope_key x ≡ envelope_key y
 unfolding first_key
 envelope_met u v x y h = equal_numbers x.receipt y.receipt (only_true _ h)
 
 abbrev pub envelope_terms : List Term
-envelope_terms = lit Null ∷ col 0 0 ∷ col 0 1 ∷ col 0 2 ∷ col 0 3 ∷ col 0 4 ∷ col 0 5 ∷ col 0 6 ∷ col 0 7 ∷ col 0 8 ∷ col 0 9 ∷ col 0 10 ∷ col 0 11 ∷ col 0 12 ∷ col 0 13 ∷ col 0 14 ∷ col 0 15 ∷ []
+envelope_terms = col 0 0 ∷ lit Null ∷ col 0 1 ∷ col 0 2 ∷ col 0 3 ∷ col 0 4 ∷ col 0 5 ∷ col 0 6 ∷ col 0 7 ∷ col 0 8 ∷ col 0 9 ∷ col 0 10 ∷ col 0 11 ∷ col 0 12 ∷ col 0 13 ∷ col 0 14 ∷ col 0 15 ∷ []
 
-pub envelope_stored : IsStored Envelopes nat_cmp envelope_key envelope_row envelope_terms 17
+abbrev pub envelope_cells : List Term
+envelope_cells = lit Null ∷ col 0 1 ∷ col 0 2 ∷ col 0 3 ∷ col 0 4 ∷ col 0 5 ∷ col 0 6 ∷ col 0 7 ∷ col 0 8 ∷ col 0 9 ∷ col 0 10 ∷ col 0 11 ∷ col 0 12 ∷ col 0 13 ∷ col 0 14 ∷ col 0 15 ∷ []
+
+pub envelope_stored : IsStored Envelopes nat_cmp envelope_key envelope_row (by_rowid envelope_row) 16 envelope_terms envelope_cells
 envelope_stored = record {
   total = nat_cmp_total;
   exact = numbers_exact;
   given = λ n x. refl;
+  chosen = λ rows x. refl;
   tries = λ n x. rw (cast_null, cast_int (pos x.receipt), cast_int (pos x.moment), cast_int (pos x.length), cast_perhaps x.security, cast_words (option_map reading_word x.reading), cast_perhaps (stated_of x.reading), cast_perhaps (corrected_of x.reading), cast_perhaps (corrections_of x.reading), cast_perhaps (option_map as_number x.responsive), cast_perhaps x.quality, cast_int (pos (as_number x.failed)));
-  stores = λ n m x. rw (cast_int m, cast_int (pos x.receipt), cast_int (pos x.moment), cast_int (pos x.length), cast_perhaps x.security, cast_words (option_map reading_word x.reading), cast_perhaps (stated_of x.reading), cast_perhaps (corrected_of x.reading), cast_perhaps (corrections_of x.reading), cast_perhaps (option_map as_number x.responsive), cast_perhaps x.quality, cast_int (pos (as_number x.failed)));
+  stores = λ n m x. rw (cast_null, cast_int (pos x.receipt), cast_int (pos x.moment), cast_int (pos x.length), cast_perhaps x.security, cast_words (option_map reading_word x.reading), cast_perhaps (stated_of x.reading), cast_perhaps (corrected_of x.reading), cast_perhaps (corrections_of x.reading), cast_perhaps (option_map as_number x.responsive), cast_perhaps x.quality, cast_int (pos (as_number x.failed)));
+  numbered = λ m x. refl;
+  kept = λ m x. refl;
   meets = envelope_meets;
   met = envelope_met;
+  finds = λ x id more. refl;
+  updates = λ n x y v more e. ap (λ q. Int (pos y.receipt) ∷ Int (pos q) ∷ Null ∷ drop 1 (envelope_row x)) e;
 }
 
 -- ---- seals
 
-seal_meets : (u v : Value) (x y : SealRow) → seal_key x ≡ seal_key y → agree plain seals.primary (u ∷ seal_row x) seals.primary (v ∷ seal_row y) ≡ true
+seal_meets : (u v : Value) (x y : SealRow) → seal_key x ≡ seal_key y → agree plain seals.primary (by_rowid seal_row u x) seals.primary (by_rowid seal_row v y) ≡ true
 unfolding first_key
 seal_meets u v x y e = one_true _ (numbers_equal x.receipt y.receipt e)
 
-seal_met : (u v : Value) (x y : SealRow) → agree plain seals.primary (u ∷ seal_row x) seals.primary (v ∷ seal_row y) ≡ true → seal_key x ≡ seal_key y
+seal_met : (u v : Value) (x y : SealRow) → agree plain seals.primary (by_rowid seal_row u x) seals.primary (by_rowid seal_row v y) ≡ true → seal_key x ≡ seal_key y
 unfolding first_key
 seal_met u v x y h = equal_numbers x.receipt y.receipt (only_true _ h)
 
 abbrev pub seal_terms : List Term
-seal_terms = lit Null ∷ col 0 0 ∷ col 0 1 ∷ []
+seal_terms = col 0 0 ∷ lit Null ∷ col 0 1 ∷ []
 
-pub seal_stored : IsStored Seals nat_cmp seal_key seal_row seal_terms 3
+abbrev pub seal_cells : List Term
+seal_cells = lit Null ∷ col 0 1 ∷ []
+
+pub seal_stored : IsStored Seals nat_cmp seal_key seal_row (by_rowid seal_row) 2 seal_terms seal_cells
 seal_stored = record {
   total = nat_cmp_total;
   exact = numbers_exact;
   given = λ n x. refl;
+  chosen = λ rows x. refl;
   tries = λ n x. rw (cast_null, cast_int (pos x.receipt));
-  stores = λ n m x. rw (cast_int m, cast_int (pos x.receipt));
+  stores = λ n m x. rw (cast_null, cast_int (pos x.receipt));
+  numbered = λ m x. refl;
+  kept = λ m x. refl;
   meets = seal_meets;
   met = seal_met;
+  finds = λ x id more. refl;
+  updates = λ n x y v more e. ap (λ q. Int (pos y.receipt) ∷ Int (pos q) ∷ Null ∷ drop 1 (seal_row x)) e;
 }
 
 -- ---- securities
 
-security_meets : (u v : Value) (x y : SecurityRow) → security_key x ≡ security_key y → agree plain securities.primary (u ∷ security_row x) securities.primary (v ∷ security_row y) ≡ true
+security_meets : (u v : Value) (x y : SecurityRow) → security_key x ≡ security_key y → agree plain securities.primary (by_rowid security_row u x) securities.primary (by_rowid security_row v y) ≡ true
 unfolding first_key
 security_meets u v x y e = one_true _ (numbers_equal x.security y.security e)
 
-security_met : (u v : Value) (x y : SecurityRow) → agree plain securities.primary (u ∷ security_row x) securities.primary (v ∷ security_row y) ≡ true → security_key x ≡ security_key y
+security_met : (u v : Value) (x y : SecurityRow) → agree plain securities.primary (by_rowid security_row u x) securities.primary (by_rowid security_row v y) ≡ true → security_key x ≡ security_key y
 unfolding first_key
 security_met u v x y h = equal_numbers x.security y.security (only_true _ h)
 
 abbrev pub security_terms : List Term
-security_terms = lit Null ∷ col 0 0 ∷ col 0 1 ∷ col 0 2 ∷ col 0 3 ∷ col 0 4 ∷ col 0 5 ∷ col 0 6 ∷ []
+security_terms = col 0 0 ∷ lit Null ∷ col 0 1 ∷ col 0 2 ∷ col 0 3 ∷ col 0 4 ∷ col 0 5 ∷ col 0 6 ∷ []
 
-pub security_stored : IsStored Securities nat_cmp security_key security_row security_terms 8
+abbrev pub security_cells : List Term
+security_cells = lit Null ∷ col 0 1 ∷ col 0 2 ∷ col 0 3 ∷ col 0 4 ∷ col 0 5 ∷ col 0 6 ∷ []
+
+pub security_stored : IsStored Securities nat_cmp security_key security_row (by_rowid security_row) 7 security_terms security_cells
 security_stored = record {
   total = nat_cmp_total;
   exact = numbers_exact;
   given = λ n x. refl;
+  chosen = λ rows x. refl;
   tries = λ n x. rw (cast_null, cast_int (pos x.security), cast_int (pos x.amount));
-  stores = λ n m x. rw (cast_int m, cast_int (pos x.security), cast_int (pos x.amount));
+  stores = λ n m x. rw (cast_null, cast_int (pos x.security), cast_int (pos x.amount));
+  numbered = λ m x. refl;
+  kept = λ m x. refl;
   meets = security_meets;
   met = security_met;
+  finds = λ x id more. refl;
+  updates = λ n x y v more e. ap (λ q. Int (pos y.security) ∷ Int (pos q) ∷ Null ∷ drop 1 (security_row x)) e;
 }
 
 -- ---- awards
 
-award_meets : (u v : Value) (x y : AwardRow) → award_key x ≡ award_key y → agree plain awards.primary (u ∷ award_row x) awards.primary (v ∷ award_row y) ≡ true
+award_meets : (u v : Value) (x y : AwardRow) → award_key x ≡ award_key y → agree plain awards.primary (by_rowid award_row u x) awards.primary (by_rowid award_row v y) ≡ true
 unfolding first_key
 award_meets u v x y e = one_true _ (numbers_equal x.award y.award e)
 
-award_met : (u v : Value) (x y : AwardRow) → agree plain awards.primary (u ∷ award_row x) awards.primary (v ∷ award_row y) ≡ true → award_key x ≡ award_key y
+award_met : (u v : Value) (x y : AwardRow) → agree plain awards.primary (by_rowid award_row u x) awards.primary (by_rowid award_row v y) ≡ true → award_key x ≡ award_key y
 unfolding first_key
 award_met u v x y h = equal_numbers x.award y.award (only_true _ h)
 
 abbrev pub award_terms : List Term
-award_terms = lit Null ∷ col 0 0 ∷ col 0 1 ∷ col 0 2 ∷ col 0 3 ∷ col 0 4 ∷ col 0 5 ∷ col 0 6 ∷ []
+award_terms = col 0 0 ∷ lit Null ∷ col 0 1 ∷ col 0 2 ∷ col 0 3 ∷ col 0 4 ∷ col 0 5 ∷ col 0 6 ∷ []
 
-pub award_stored : IsStored Awards nat_cmp award_key award_row award_terms 8
+abbrev pub award_cells : List Term
+award_cells = lit Null ∷ col 0 1 ∷ col 0 2 ∷ col 0 3 ∷ col 0 4 ∷ col 0 5 ∷ col 0 6 ∷ []
+
+pub award_stored : IsStored Awards nat_cmp award_key award_row (by_rowid award_row) 7 award_terms award_cells
 award_stored = record {
   total = nat_cmp_total;
   exact = numbers_exact;
   given = λ n x. refl;
+  chosen = λ rows x. refl;
   tries = λ n x. rw (cast_null, cast_int (pos x.award), cast_int (pos x.receipt), cast_int (pos x.price), cast_int (pos x.moment));
-  stores = λ n m x. rw (cast_int m, cast_int (pos x.award), cast_int (pos x.receipt), cast_int (pos x.price), cast_int (pos x.moment));
+  stores = λ n m x. rw (cast_null, cast_int (pos x.award), cast_int (pos x.receipt), cast_int (pos x.price), cast_int (pos x.moment));
+  numbered = λ m x. refl;
+  kept = λ m x. refl;
   meets = award_meets;
   met = award_met;
+  finds = λ x id more. refl;
+  updates = λ n x y v more e. ap (λ q. Int (pos y.award) ∷ Int (pos q) ∷ Null ∷ drop 1 (award_row x)) e;
 }
 
 -- ---- contracts
 
-contract_meets : (u v : Value) (x y : ContractRow) → contract_key x ≡ contract_key y → agree plain contracts.primary (u ∷ contract_row x) contracts.primary (v ∷ contract_row y) ≡ true
+contract_meets : (u v : Value) (x y : ContractRow) → contract_key x ≡ contract_key y → agree plain contracts.primary (by_rowid contract_row u x) contracts.primary (by_rowid contract_row v y) ≡ true
 unfolding first_key
 contract_meets u v x y e = one_true _ (numbers_equal x.contract y.contract e)
 
-contract_met : (u v : Value) (x y : ContractRow) → agree plain contracts.primary (u ∷ contract_row x) contracts.primary (v ∷ contract_row y) ≡ true → contract_key x ≡ contract_key y
+contract_met : (u v : Value) (x y : ContractRow) → agree plain contracts.primary (by_rowid contract_row u x) contracts.primary (by_rowid contract_row v y) ≡ true → contract_key x ≡ contract_key y
 unfolding first_key
 contract_met u v x y h = equal_numbers x.contract y.contract (only_true _ h)
 
 abbrev pub contract_terms : List Term
-contract_terms = lit Null ∷ col 0 0 ∷ col 0 1 ∷ col 0 2 ∷ col 0 3 ∷ col 0 4 ∷ col 0 5 ∷ col 0 6 ∷ col 0 7 ∷ col 0 8 ∷ []
+contract_terms = col 0 0 ∷ lit Null ∷ col 0 1 ∷ col 0 2 ∷ col 0 3 ∷ col 0 4 ∷ col 0 5 ∷ col 0 6 ∷ col 0 7 ∷ col 0 8 ∷ []
 
-pub contract_stored : IsStored Contracts nat_cmp contract_key contract_row contract_terms 10
+abbrev pub contract_cells : List Term
+contract_cells = lit Null ∷ col 0 1 ∷ col 0 2 ∷ col 0 3 ∷ col 0 4 ∷ col 0 5 ∷ col 0 6 ∷ col 0 7 ∷ col 0 8 ∷ []
+
+pub contract_stored : IsStored Contracts nat_cmp contract_key contract_row (by_rowid contract_row) 9 contract_terms contract_cells
 contract_stored = record {
   total = nat_cmp_total;
   exact = numbers_exact;
   given = λ n x. refl;
+  chosen = λ rows x. refl;
   tries = λ n x. rw (cast_null, cast_int (pos x.contract), cast_int (pos x.signed), cast_int (pos x.moment), cast_perhaps x.ended, cast_words (option_map how_text x.how), cast_int (pos x.released));
-  stores = λ n m x. rw (cast_int m, cast_int (pos x.contract), cast_int (pos x.signed), cast_int (pos x.moment), cast_perhaps x.ended, cast_words (option_map how_text x.how), cast_int (pos x.released));
+  stores = λ n m x. rw (cast_null, cast_int (pos x.contract), cast_int (pos x.signed), cast_int (pos x.moment), cast_perhaps x.ended, cast_words (option_map how_text x.how), cast_int (pos x.released));
+  numbered = λ m x. refl;
+  kept = λ m x. refl;
   meets = contract_meets;
   met = contract_met;
+  finds = λ x id more. refl;
+  updates = λ n x y v more e. ap (λ q. Int (pos y.contract) ∷ Int (pos q) ∷ Null ∷ drop 1 (contract_row x)) e;
 }
 
 -- ---- entries
@@ -312,15 +394,23 @@ entry_met u v x y h = let both = first_true _ _ h in ap₂ (λ a b. (a, b)) (equ
 abbrev pub entry_terms : List Term
 entry_terms = lit Null ∷ col 0 0 ∷ col 0 1 ∷ col 0 2 ∷ col 0 3 ∷ col 0 4 ∷ col 0 5 ∷ []
 
-pub entry_stored : IsStored Entries entry_cmp entry_key entry_row entry_terms 7
+abbrev pub entry_cells : List Term
+entry_cells = col 1 1 ∷ col 1 2 ∷ col 0 2 ∷ col 0 3 ∷ col 0 4 ∷ col 0 5 ∷ []
+
+pub entry_stored : IsStored Entries entry_cmp entry_key entry_row (behind entry_row) 6 entry_terms entry_cells
 entry_stored = record {
   total = entries_total;
   exact = entries_exact;
   given = λ n x. refl;
+  chosen = λ rows x. refl;
   tries = λ n x. rw (cast_null, cast_int (pos x.contract), cast_int (pos x.amount), cast_int (pos x.moment), cast_words x.rationale);
   stores = λ n m x. rw (cast_int m, cast_int (pos x.contract), cast_int (pos x.amount), cast_int (pos x.moment), cast_words x.rationale);
+  numbered = λ m x. refl;
+  kept = λ m x. refl;
   meets = entry_meets;
   met = entry_met;
+  finds = λ x id more. refl;
+  updates = λ n x y v more e. ap (λ (q : ℕ × List ℕ). v ∷ v ∷ Int (pos q.0) ∷ Text q.1 ∷ drop 2 (entry_row x)) e;
 }
 
 -- ---- releases
@@ -336,15 +426,23 @@ release_met u v x y h = let both = first_true _ _ h in ap₂ (λ a b. (a, b)) (e
 abbrev pub release_terms : List Term
 release_terms = lit Null ∷ col 0 0 ∷ col 0 1 ∷ col 0 2 ∷ col 0 3 ∷ []
 
-pub release_stored : IsStored Releases release_cmp release_key release_row release_terms 5
+abbrev pub release_cells : List Term
+release_cells = col 1 1 ∷ col 1 2 ∷ col 0 2 ∷ col 0 3 ∷ []
+
+pub release_stored : IsStored Releases release_cmp release_key release_row (behind release_row) 4 release_terms release_cells
 release_stored = record {
   total = releases_total;
   exact = releases_exact;
   given = λ n x. refl;
+  chosen = λ rows x. refl;
   tries = λ n x. rw (cast_null, cast_int (pos x.seq), cast_int (pos x.moment));
   stores = λ n m x. rw (cast_int m, cast_int (pos x.seq), cast_int (pos x.moment));
+  numbered = λ m x. refl;
+  kept = λ m x. refl;
   meets = release_meets;
   met = release_met;
+  finds = λ x id more. refl;
+  updates = λ n x y v more e. ap (λ (q : List ℕ × ℕ). v ∷ v ∷ Text q.0 ∷ Int (pos q.1) ∷ drop 2 (release_row x)) e;
 }
 
 -- ---- compiled
@@ -360,36 +458,52 @@ compiled_met u v x y h = equal_texts x.notice y.notice (only_true _ h)
 abbrev pub compiled_terms : List Term
 compiled_terms = lit Null ∷ col 0 0 ∷ col 0 1 ∷ []
 
-pub compiled_stored : IsStored Compiled id_cmp compiled_key compiled_row compiled_terms 3
+abbrev pub compiled_cells : List Term
+compiled_cells = col 1 1 ∷ col 0 1 ∷ []
+
+pub compiled_stored : IsStored Compiled id_cmp compiled_key compiled_row (behind compiled_row) 2 compiled_terms compiled_cells
 compiled_stored = record {
   total = nat_list_cmp_total;
   exact = ids_exact;
   given = λ n x. refl;
+  chosen = λ rows x. refl;
   tries = λ n x. rw (cast_null);
   stores = λ n m x. rw (cast_int m);
+  numbered = λ m x. refl;
+  kept = λ m x. refl;
   meets = compiled_meets;
   met = compiled_met;
+  finds = λ x id more. refl;
+  updates = λ n x y v more e. ap (λ q. v ∷ v ∷ Text q ∷ drop 1 (compiled_row x)) e;
 }
 
 -- ---- office
 
-clock_meets : (u v : Value) (x y : ClockRow) → clock_key x ≡ clock_key y → agree plain office.primary (u ∷ clock_row x) office.primary (v ∷ clock_row y) ≡ true
+clock_meets : (u v : Value) (x y : ClockRow) → clock_key x ≡ clock_key y → agree plain office.primary (by_rowid clock_row u x) office.primary (by_rowid clock_row v y) ≡ true
 unfolding first_key
 clock_meets u v x y e = one_true _ (numbers_equal 1 1 refl)
 
-clock_met : (u v : Value) (x y : ClockRow) → agree plain office.primary (u ∷ clock_row x) office.primary (v ∷ clock_row y) ≡ true → clock_key x ≡ clock_key y
+clock_met : (u v : Value) (x y : ClockRow) → agree plain office.primary (by_rowid clock_row u x) office.primary (by_rowid clock_row v y) ≡ true → clock_key x ≡ clock_key y
 clock_met u v x y h = refl
 
 abbrev pub clock_terms : List Term
-clock_terms = lit Null ∷ col 0 0 ∷ col 0 1 ∷ col 0 2 ∷ col 0 3 ∷ []
+clock_terms = col 0 0 ∷ lit Null ∷ col 0 1 ∷ col 0 2 ∷ col 0 3 ∷ []
 
-pub clock_stored : IsStored Office clock_cmp clock_key clock_row clock_terms 5
+abbrev pub clock_cells : List Term
+clock_cells = lit Null ∷ col 0 1 ∷ col 0 2 ∷ col 0 3 ∷ []
+
+pub clock_stored : IsStored Office clock_cmp clock_key clock_row (by_rowid clock_row) 4 clock_terms clock_cells
 clock_stored = record {
   total = clock_total;
   exact = clock_exact;
   given = λ n x. refl;
+  chosen = λ rows x. refl;
   tries = λ n x. rw (cast_null, cast_int (pos 1), cast_int (pos x.moment), cast_int (pos x.receipts), cast_int (pos x.awards));
-  stores = λ n m x. rw (cast_int m, cast_int (pos 1), cast_int (pos x.moment), cast_int (pos x.receipts), cast_int (pos x.awards));
+  stores = λ n m x. rw (cast_null, cast_int (pos 1), cast_int (pos x.moment), cast_int (pos x.receipts), cast_int (pos x.awards));
+  numbered = λ m x. refl;
+  kept = λ m x. refl;
   meets = clock_meets;
   met = clock_met;
+  finds = λ x id more. refl;
+  updates = λ n x y v more e. refl;
 }

@@ -2,6 +2,7 @@
 use Rattle.std.proofs.Common.{◌≡◌, List, [], ◌∷◌, Some, sym, ap, subst, ◌∙◌, slice_get, filter, ℕ}
 use Rattle.std.specs.List.{position_from, AllZip}
 use Rattle.std.specs.declared.cmp.Ordering.{Ordering}
+use Rattle.sqlite_value.specs.declared.value.Value.{Value}
 use Rattle.sqlite_value.specs.Order.{Row}
 use Rattle.sqlite_trees.specs.Tree.{Trees}
 use Rattle.sqlite_trees.specs.Objects.{catalog_tree}
@@ -45,7 +46,7 @@ same_place d e t m n same a b =
     let one : at_tree t m ≡ at_tree t n = cc in
     ap (λ (u : Table). u.tree) one
 
-same : {K X : Type 0} {R : K → K → Ordering} {key : X → K} {encode : X → Row} {decode : Row → X} {rows : List Row} {xs ys : List X} → Stand R key encode decode rows xs → Stand R key encode decode rows ys → xs ≡ ys
+same : {K X : Type 0} {R : K → K → Ordering} {key : X → K} {form : Value → X → Row} {decode : Row → X} {rows : List Row} {xs ys : List X} → Stand R key form decode rows xs → Stand R key form decode rows ys → xs ≡ ys
 same a b = sym a.is ∙ b.is
 
 one_of : {X : Type 0} {x y : X} → ◌≡◌ {A = List X} (x ∷ []) (y ∷ []) → x ≡ y

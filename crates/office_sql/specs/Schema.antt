@@ -1,5 +1,5 @@
 -- The tables of an office: the texts that make them, and what these define.
-use Rattle.std.specs.Prelude.{true, false, [], ◌∷◌, None, codes, List, ℕ, Bool, Result, Ok, Err}
+use Rattle.std.specs.Prelude.{true, false, [], ◌∷◌, None, Some, codes, List, ℕ, Bool, Result, Ok, Err}
 use Rattle.sqlite_sql.specs.Term.{Term}
 use Rattle.sqlite_value.specs.declared.value.Value.TheVariants.{Null}
 use Rattle.sqlite_value.specs.declared.keys.Collation.TheVariants.{Binary}
@@ -38,9 +38,26 @@ table_with name columns key text = record {
   is_counted = false;
 }
 
--- an index for look-ups that are not by key
-abbrev pub index_on : List ℕ → ℕ → Index
-index_on name place = record { name = name; tree = 0; table = 0; columns = place ∷ []; order = plain; is_unique = false }
+-- a table whose primary key is its first column, whose numbers are its rowids, with the conditions of its text and nothing further
+abbrev pub table_by_rowid : List ℕ → List Column → List ℕ → Table
+table_by_rowid name columns text = record {
+  name = name;
+  tree = 0;
+  columns = columns;
+  key = Some 0;
+  primary = 0 ∷ [];
+  uniques = [];
+  orders = [];
+  checks = checks_in (table_defined_by text);
+  references = [];
+  computed = [];
+  stamps = record { places = []; terms = []; formats = [] };
+  is_counted = false;
+}
+
+-- an index for look-ups that are not by key, of the columns at these places, counted from 1
+abbrev pub index_on : List ℕ → List ℕ → Index
+index_on name places = record { name = name; tree = 0; table = 0; columns = places; order = plain; is_unique = false }
 
 abbrev pub create_lines : List ℕ
 create_lines = codes "CREATE TABLE lines (line TEXT NOT NULL PRIMARY KEY CHECK (length(line) BETWEEN 1 AND 32), title TEXT NOT NULL CHECK (length(title) BETWEEN 1 AND 200), appropriation INTEGER NOT NULL CHECK (appropriation BETWEEN 0 AND 1000000000000000), free INTEGER NOT NULL CHECK (free BETWEEN 0 AND 1000000000000000)) STRICT"
@@ -73,34 +90,34 @@ abbrev pub lots : Table
 lots = table_with (codes "lots") (column_of (codes "notice") Text true ∷ column_of (codes "lot") Text true ∷ column_of (codes "title") Text true ∷ column_of (codes "line") Text true ∷ column_of (codes "estimate") Integer true ∷ column_of (codes "security") Integer true ∷ column_of (codes "items") Text true ∷ column_of (codes "state") Text true ∷ column_of (codes "reserved") Integer true ∷ []) (1 ∷ 2 ∷ []) create_lots
 
 abbrev pub create_envelopes : List ℕ
-create_envelopes = codes "CREATE TABLE envelopes (receipt INT NOT NULL PRIMARY KEY CHECK (receipt BETWEEN 1 AND 1000000000), notice TEXT NOT NULL CHECK (length(notice) BETWEEN 1 AND 32), lot TEXT NOT NULL CHECK (length(lot) BETWEEN 1 AND 32), tenderer TEXT NOT NULL CHECK (length(tenderer) BETWEEN 1 AND 32), moment INTEGER NOT NULL CHECK (moment BETWEEN 0 AND 4102444799), length INTEGER NOT NULL CHECK (length BETWEEN 1 AND 32768), digest BLOB NOT NULL CHECK (length(digest) = 32), security INTEGER CHECK (security BETWEEN 1 AND 1000000000), state TEXT NOT NULL CHECK (state IN ('sealed', 'withdrawn', 'returned', 'opened')), reading TEXT CHECK (reading IN ('unreadable', 'nonconforming', 'priced')), stated INTEGER CHECK (stated BETWEEN 0 AND 1000000000000000), corrected INTEGER CHECK (corrected BETWEEN 0 AND 1000000000000), corrections INTEGER CHECK (corrections BETWEEN 0 AND 9223372036854775807), responsive INTEGER CHECK (responsive BETWEEN 0 AND 1), quality INTEGER CHECK (quality BETWEEN 0 AND 100), failed INTEGER NOT NULL CHECK (failed BETWEEN 0 AND 1)) STRICT"
+create_envelopes = codes "CREATE TABLE envelopes (receipt INTEGER NOT NULL PRIMARY KEY CHECK (receipt BETWEEN 1 AND 1000000000), notice TEXT NOT NULL CHECK (length(notice) BETWEEN 1 AND 32), lot TEXT NOT NULL CHECK (length(lot) BETWEEN 1 AND 32), tenderer TEXT NOT NULL CHECK (length(tenderer) BETWEEN 1 AND 32), moment INTEGER NOT NULL CHECK (moment BETWEEN 0 AND 4102444799), length INTEGER NOT NULL CHECK (length BETWEEN 1 AND 32768), digest BLOB NOT NULL CHECK (length(digest) = 32), security INTEGER CHECK (security BETWEEN 1 AND 1000000000), state TEXT NOT NULL CHECK (state IN ('sealed', 'withdrawn', 'returned', 'opened')), reading TEXT CHECK (reading IN ('unreadable', 'nonconforming', 'priced')), stated INTEGER CHECK (stated BETWEEN 0 AND 1000000000000000), corrected INTEGER CHECK (corrected BETWEEN 0 AND 1000000000000), corrections INTEGER CHECK (corrections BETWEEN 0 AND 9223372036854775807), responsive INTEGER CHECK (responsive BETWEEN 0 AND 1), quality INTEGER CHECK (quality BETWEEN 0 AND 100), failed INTEGER NOT NULL CHECK (failed BETWEEN 0 AND 1)) STRICT"
 
 abbrev pub envelopes : Table
-envelopes = table_with (codes "envelopes") (column_of (codes "receipt") Integer true ∷ column_of (codes "notice") Text true ∷ column_of (codes "lot") Text true ∷ column_of (codes "tenderer") Text true ∷ column_of (codes "moment") Integer true ∷ column_of (codes "length") Integer true ∷ column_of (codes "digest") Blob true ∷ column_of (codes "security") Integer false ∷ column_of (codes "state") Text true ∷ column_of (codes "reading") Text false ∷ column_of (codes "stated") Integer false ∷ column_of (codes "corrected") Integer false ∷ column_of (codes "corrections") Integer false ∷ column_of (codes "responsive") Integer false ∷ column_of (codes "quality") Integer false ∷ column_of (codes "failed") Integer true ∷ []) (1 ∷ []) create_envelopes
+envelopes = table_by_rowid (codes "envelopes") (column_of (codes "receipt") Integer true ∷ column_of (codes "notice") Text true ∷ column_of (codes "lot") Text true ∷ column_of (codes "tenderer") Text true ∷ column_of (codes "moment") Integer true ∷ column_of (codes "length") Integer true ∷ column_of (codes "digest") Blob true ∷ column_of (codes "security") Integer false ∷ column_of (codes "state") Text true ∷ column_of (codes "reading") Text false ∷ column_of (codes "stated") Integer false ∷ column_of (codes "corrected") Integer false ∷ column_of (codes "corrections") Integer false ∷ column_of (codes "responsive") Integer false ∷ column_of (codes "quality") Integer false ∷ column_of (codes "failed") Integer true ∷ []) create_envelopes
 
 abbrev pub create_seals : List ℕ
-create_seals = codes "CREATE TABLE seals (receipt INT NOT NULL PRIMARY KEY CHECK (receipt BETWEEN 1 AND 1000000000), bytes BLOB NOT NULL CHECK (length(bytes) BETWEEN 1 AND 32768)) STRICT"
+create_seals = codes "CREATE TABLE seals (receipt INTEGER NOT NULL PRIMARY KEY CHECK (receipt BETWEEN 1 AND 1000000000), bytes BLOB NOT NULL CHECK (length(bytes) BETWEEN 1 AND 32768)) STRICT"
 
 abbrev pub seals : Table
-seals = table_with (codes "seals") (column_of (codes "receipt") Integer true ∷ column_of (codes "bytes") Blob true ∷ []) (1 ∷ []) create_seals
+seals = table_by_rowid (codes "seals") (column_of (codes "receipt") Integer true ∷ column_of (codes "bytes") Blob true ∷ []) create_seals
 
 abbrev pub create_securities : List ℕ
-create_securities = codes "CREATE TABLE securities (security INT NOT NULL PRIMARY KEY CHECK (security BETWEEN 1 AND 1000000000), tenderer TEXT NOT NULL CHECK (length(tenderer) BETWEEN 1 AND 32), notice TEXT NOT NULL CHECK (length(notice) BETWEEN 1 AND 32), lot TEXT NOT NULL CHECK (length(lot) BETWEEN 1 AND 32), reference TEXT NOT NULL CHECK (length(reference) BETWEEN 1 AND 32), amount INTEGER NOT NULL CHECK (amount BETWEEN 1 AND 1000000000000), state TEXT NOT NULL CHECK (state IN ('held', 'returned', 'forfeited'))) STRICT"
+create_securities = codes "CREATE TABLE securities (security INTEGER NOT NULL PRIMARY KEY CHECK (security BETWEEN 1 AND 1000000000), tenderer TEXT NOT NULL CHECK (length(tenderer) BETWEEN 1 AND 32), notice TEXT NOT NULL CHECK (length(notice) BETWEEN 1 AND 32), lot TEXT NOT NULL CHECK (length(lot) BETWEEN 1 AND 32), reference TEXT NOT NULL CHECK (length(reference) BETWEEN 1 AND 32), amount INTEGER NOT NULL CHECK (amount BETWEEN 1 AND 1000000000000), state TEXT NOT NULL CHECK (state IN ('held', 'returned', 'forfeited'))) STRICT"
 
 abbrev pub securities : Table
-securities = table_with (codes "securities") (column_of (codes "security") Integer true ∷ column_of (codes "tenderer") Text true ∷ column_of (codes "notice") Text true ∷ column_of (codes "lot") Text true ∷ column_of (codes "reference") Text true ∷ column_of (codes "amount") Integer true ∷ column_of (codes "state") Text true ∷ []) (1 ∷ []) create_securities
+securities = table_by_rowid (codes "securities") (column_of (codes "security") Integer true ∷ column_of (codes "tenderer") Text true ∷ column_of (codes "notice") Text true ∷ column_of (codes "lot") Text true ∷ column_of (codes "reference") Text true ∷ column_of (codes "amount") Integer true ∷ column_of (codes "state") Text true ∷ []) create_securities
 
 abbrev pub create_awards : List ℕ
-create_awards = codes "CREATE TABLE awards (award INT NOT NULL PRIMARY KEY CHECK (award BETWEEN 1 AND 1000000000), notice TEXT NOT NULL CHECK (length(notice) BETWEEN 1 AND 32), lot TEXT NOT NULL CHECK (length(lot) BETWEEN 1 AND 32), receipt INTEGER NOT NULL CHECK (receipt BETWEEN 1 AND 1000000000), price INTEGER NOT NULL CHECK (price BETWEEN 0 AND 1000000000000), moment INTEGER NOT NULL CHECK (moment BETWEEN 0 AND 4102444799), state TEXT NOT NULL CHECK (state IN ('active', 'failed', 'cancelled', 'signed'))) STRICT"
+create_awards = codes "CREATE TABLE awards (award INTEGER NOT NULL PRIMARY KEY CHECK (award BETWEEN 1 AND 1000000000), notice TEXT NOT NULL CHECK (length(notice) BETWEEN 1 AND 32), lot TEXT NOT NULL CHECK (length(lot) BETWEEN 1 AND 32), receipt INTEGER NOT NULL CHECK (receipt BETWEEN 1 AND 1000000000), price INTEGER NOT NULL CHECK (price BETWEEN 0 AND 1000000000000), moment INTEGER NOT NULL CHECK (moment BETWEEN 0 AND 4102444799), state TEXT NOT NULL CHECK (state IN ('active', 'failed', 'cancelled', 'signed'))) STRICT"
 
 abbrev pub awards : Table
-awards = table_with (codes "awards") (column_of (codes "award") Integer true ∷ column_of (codes "notice") Text true ∷ column_of (codes "lot") Text true ∷ column_of (codes "receipt") Integer true ∷ column_of (codes "price") Integer true ∷ column_of (codes "moment") Integer true ∷ column_of (codes "state") Text true ∷ []) (1 ∷ []) create_awards
+awards = table_by_rowid (codes "awards") (column_of (codes "award") Integer true ∷ column_of (codes "notice") Text true ∷ column_of (codes "lot") Text true ∷ column_of (codes "receipt") Integer true ∷ column_of (codes "price") Integer true ∷ column_of (codes "moment") Integer true ∷ column_of (codes "state") Text true ∷ []) create_awards
 
 abbrev pub create_contracts : List ℕ
-create_contracts = codes "CREATE TABLE contracts (contract INT NOT NULL PRIMARY KEY CHECK (contract BETWEEN 1 AND 1000000000), notice TEXT NOT NULL CHECK (length(notice) BETWEEN 1 AND 32), lot TEXT NOT NULL CHECK (length(lot) BETWEEN 1 AND 32), tenderer TEXT NOT NULL CHECK (length(tenderer) BETWEEN 1 AND 32), signed INTEGER NOT NULL CHECK (signed BETWEEN 0 AND 1000000000000000), moment INTEGER NOT NULL CHECK (moment BETWEEN 0 AND 4102444799), ended INTEGER CHECK (ended BETWEEN 0 AND 4102444799), how TEXT CHECK (how IN ('regular', 'default')), released INTEGER NOT NULL CHECK (released BETWEEN 0 AND 1000000000000000)) STRICT"
+create_contracts = codes "CREATE TABLE contracts (contract INTEGER NOT NULL PRIMARY KEY CHECK (contract BETWEEN 1 AND 1000000000), notice TEXT NOT NULL CHECK (length(notice) BETWEEN 1 AND 32), lot TEXT NOT NULL CHECK (length(lot) BETWEEN 1 AND 32), tenderer TEXT NOT NULL CHECK (length(tenderer) BETWEEN 1 AND 32), signed INTEGER NOT NULL CHECK (signed BETWEEN 0 AND 1000000000000000), moment INTEGER NOT NULL CHECK (moment BETWEEN 0 AND 4102444799), ended INTEGER CHECK (ended BETWEEN 0 AND 4102444799), how TEXT CHECK (how IN ('regular', 'default')), released INTEGER NOT NULL CHECK (released BETWEEN 0 AND 1000000000000000)) STRICT"
 
 abbrev pub contracts : Table
-contracts = table_with (codes "contracts") (column_of (codes "contract") Integer true ∷ column_of (codes "notice") Text true ∷ column_of (codes "lot") Text true ∷ column_of (codes "tenderer") Text true ∷ column_of (codes "signed") Integer true ∷ column_of (codes "moment") Integer true ∷ column_of (codes "ended") Integer false ∷ column_of (codes "how") Text false ∷ column_of (codes "released") Integer true ∷ []) (1 ∷ []) create_contracts
+contracts = table_by_rowid (codes "contracts") (column_of (codes "contract") Integer true ∷ column_of (codes "notice") Text true ∷ column_of (codes "lot") Text true ∷ column_of (codes "tenderer") Text true ∷ column_of (codes "signed") Integer true ∷ column_of (codes "moment") Integer true ∷ column_of (codes "ended") Integer false ∷ column_of (codes "how") Text false ∷ column_of (codes "released") Integer true ∷ []) create_contracts
 
 abbrev pub create_entries : List ℕ
 create_entries = codes "CREATE TABLE entries (contract INTEGER NOT NULL CHECK (contract BETWEEN 1 AND 1000000000), entry TEXT NOT NULL CHECK (length(entry) BETWEEN 1 AND 32), kind TEXT NOT NULL CHECK (kind IN ('raise', 'cut', 'payment')), amount INTEGER NOT NULL CHECK (amount BETWEEN 1 AND 1000000000000), moment INTEGER NOT NULL CHECK (moment BETWEEN 0 AND 4102444799), rationale TEXT CHECK (length(rationale) BETWEEN 1 AND 200), PRIMARY KEY (contract, entry)) STRICT"
@@ -121,44 +138,44 @@ abbrev pub compiled : Table
 compiled = table_with (codes "compiled") (column_of (codes "notice") Text true ∷ column_of (codes "text") Text true ∷ []) (1 ∷ []) create_compiled
 
 abbrev pub create_office : List ℕ
-create_office = codes "CREATE TABLE office (version INT NOT NULL PRIMARY KEY CHECK (version = 1), moment INTEGER NOT NULL CHECK (moment BETWEEN 0 AND 4102444799), receipts INTEGER NOT NULL CHECK (receipts BETWEEN 0 AND 1000000000), awards INTEGER NOT NULL CHECK (awards BETWEEN 0 AND 1000000000)) STRICT"
+create_office = codes "CREATE TABLE office (version INTEGER NOT NULL PRIMARY KEY CHECK (version BETWEEN 1 AND 2147483647), moment INTEGER NOT NULL CHECK (moment BETWEEN 0 AND 4102444799), receipts INTEGER NOT NULL CHECK (receipts BETWEEN 0 AND 1000000000), awards INTEGER NOT NULL CHECK (awards BETWEEN 0 AND 1000000000)) STRICT"
 
 abbrev pub office : Table
-office = table_with (codes "office") (column_of (codes "version") Integer true ∷ column_of (codes "moment") Integer true ∷ column_of (codes "receipts") Integer true ∷ column_of (codes "awards") Integer true ∷ []) (1 ∷ []) create_office
+office = table_by_rowid (codes "office") (column_of (codes "version") Integer true ∷ column_of (codes "moment") Integer true ∷ column_of (codes "receipts") Integer true ∷ column_of (codes "awards") Integer true ∷ []) create_office
 
 abbrev pub create_lots_of_line : List ℕ
 create_lots_of_line = codes "CREATE INDEX lots_of_line ON lots (line)"
 
 abbrev pub lots_of_line : Index
-lots_of_line = index_on (codes "lots_of_line") 4
+lots_of_line = index_on (codes "lots_of_line") (4 ∷ [])
 
 abbrev pub create_envelopes_of_notice : List ℕ
-create_envelopes_of_notice = codes "CREATE INDEX envelopes_of_notice ON envelopes (notice)"
+create_envelopes_of_notice = codes "CREATE INDEX envelopes_of_notice ON envelopes (notice, lot, tenderer)"
 
 abbrev pub envelopes_of_notice : Index
-envelopes_of_notice = index_on (codes "envelopes_of_notice") 2
+envelopes_of_notice = index_on (codes "envelopes_of_notice") (2 ∷ 3 ∷ 4 ∷ [])
 
 abbrev pub create_securities_of_notice : List ℕ
 create_securities_of_notice = codes "CREATE INDEX securities_of_notice ON securities (notice)"
 
 abbrev pub securities_of_notice : Index
-securities_of_notice = index_on (codes "securities_of_notice") 3
+securities_of_notice = index_on (codes "securities_of_notice") (3 ∷ [])
 
 abbrev pub create_awards_of_notice : List ℕ
 create_awards_of_notice = codes "CREATE INDEX awards_of_notice ON awards (notice)"
 
 abbrev pub awards_of_notice : Index
-awards_of_notice = index_on (codes "awards_of_notice") 2
+awards_of_notice = index_on (codes "awards_of_notice") (2 ∷ [])
 
 abbrev pub create_contracts_of_notice : List ℕ
 create_contracts_of_notice = codes "CREATE INDEX contracts_of_notice ON contracts (notice)"
 
 abbrev pub contracts_of_notice : Index
-contracts_of_notice = index_on (codes "contracts_of_notice") 2
+contracts_of_notice = index_on (codes "contracts_of_notice") (2 ∷ [])
 
 -- the text that puts the office's row
 abbrev pub put_office : List ℕ
-put_office = codes "INSERT OR REPLACE INTO office (version, moment, receipts, awards) VALUES (?1, ?2, ?3, ?4)"
+put_office = codes "INSERT INTO office (version, moment, receipts, awards) VALUES (?1, ?2, ?3, ?4) ON CONFLICT (version) DO UPDATE SET moment = ?2, receipts = ?3, awards = ?4"
 
 -- the name of a table of the office
 pub data OfficeTable : Type 0 where

@@ -76,15 +76,15 @@ fn make_tenders<S: Alter>(tx: &mut Transaction<'_, S>) -> Result<(), Error>
     )?;
     make_table(
         tx,
-        "CREATE TABLE envelopes (receipt INT NOT NULL PRIMARY KEY CHECK (receipt BETWEEN 1 AND 1000000000), notice TEXT NOT NULL CHECK (length(notice) BETWEEN 1 AND 32), lot TEXT NOT NULL CHECK (length(lot) BETWEEN 1 AND 32), tenderer TEXT NOT NULL CHECK (length(tenderer) BETWEEN 1 AND 32), moment INTEGER NOT NULL CHECK (moment BETWEEN 0 AND 4102444799), length INTEGER NOT NULL CHECK (length BETWEEN 1 AND 32768), digest BLOB NOT NULL CHECK (length(digest) = 32), security INTEGER CHECK (security BETWEEN 1 AND 1000000000), state TEXT NOT NULL CHECK (state IN ('sealed', 'withdrawn', 'returned', 'opened')), reading TEXT CHECK (reading IN ('unreadable', 'nonconforming', 'priced')), stated INTEGER CHECK (stated BETWEEN 0 AND 1000000000000000), corrected INTEGER CHECK (corrected BETWEEN 0 AND 1000000000000), corrections INTEGER CHECK (corrections BETWEEN 0 AND 9223372036854775807), responsive INTEGER CHECK (responsive BETWEEN 0 AND 1), quality INTEGER CHECK (quality BETWEEN 0 AND 100), failed INTEGER NOT NULL CHECK (failed BETWEEN 0 AND 1)) STRICT",
+        "CREATE TABLE envelopes (receipt INTEGER NOT NULL PRIMARY KEY CHECK (receipt BETWEEN 1 AND 1000000000), notice TEXT NOT NULL CHECK (length(notice) BETWEEN 1 AND 32), lot TEXT NOT NULL CHECK (length(lot) BETWEEN 1 AND 32), tenderer TEXT NOT NULL CHECK (length(tenderer) BETWEEN 1 AND 32), moment INTEGER NOT NULL CHECK (moment BETWEEN 0 AND 4102444799), length INTEGER NOT NULL CHECK (length BETWEEN 1 AND 32768), digest BLOB NOT NULL CHECK (length(digest) = 32), security INTEGER CHECK (security BETWEEN 1 AND 1000000000), state TEXT NOT NULL CHECK (state IN ('sealed', 'withdrawn', 'returned', 'opened')), reading TEXT CHECK (reading IN ('unreadable', 'nonconforming', 'priced')), stated INTEGER CHECK (stated BETWEEN 0 AND 1000000000000000), corrected INTEGER CHECK (corrected BETWEEN 0 AND 1000000000000), corrections INTEGER CHECK (corrections BETWEEN 0 AND 9223372036854775807), responsive INTEGER CHECK (responsive BETWEEN 0 AND 1), quality INTEGER CHECK (quality BETWEEN 0 AND 100), failed INTEGER NOT NULL CHECK (failed BETWEEN 0 AND 1)) STRICT",
     )?;
     make_table(
         tx,
-        "CREATE TABLE seals (receipt INT NOT NULL PRIMARY KEY CHECK (receipt BETWEEN 1 AND 1000000000), bytes BLOB NOT NULL CHECK (length(bytes) BETWEEN 1 AND 32768)) STRICT",
+        "CREATE TABLE seals (receipt INTEGER NOT NULL PRIMARY KEY CHECK (receipt BETWEEN 1 AND 1000000000), bytes BLOB NOT NULL CHECK (length(bytes) BETWEEN 1 AND 32768)) STRICT",
     )?;
     make_table(
         tx,
-        "CREATE TABLE securities (security INT NOT NULL PRIMARY KEY CHECK (security BETWEEN 1 AND 1000000000), tenderer TEXT NOT NULL CHECK (length(tenderer) BETWEEN 1 AND 32), notice TEXT NOT NULL CHECK (length(notice) BETWEEN 1 AND 32), lot TEXT NOT NULL CHECK (length(lot) BETWEEN 1 AND 32), reference TEXT NOT NULL CHECK (length(reference) BETWEEN 1 AND 32), amount INTEGER NOT NULL CHECK (amount BETWEEN 1 AND 1000000000000), state TEXT NOT NULL CHECK (state IN ('held', 'returned', 'forfeited'))) STRICT",
+        "CREATE TABLE securities (security INTEGER NOT NULL PRIMARY KEY CHECK (security BETWEEN 1 AND 1000000000), tenderer TEXT NOT NULL CHECK (length(tenderer) BETWEEN 1 AND 32), notice TEXT NOT NULL CHECK (length(notice) BETWEEN 1 AND 32), lot TEXT NOT NULL CHECK (length(lot) BETWEEN 1 AND 32), reference TEXT NOT NULL CHECK (length(reference) BETWEEN 1 AND 32), amount INTEGER NOT NULL CHECK (amount BETWEEN 1 AND 1000000000000), state TEXT NOT NULL CHECK (state IN ('held', 'returned', 'forfeited'))) STRICT",
     )
 }
 
@@ -97,11 +97,11 @@ fn make_contracts<S: Alter>(tx: &mut Transaction<'_, S>) -> Result<(), Error>
 {
     make_table(
         tx,
-        "CREATE TABLE awards (award INT NOT NULL PRIMARY KEY CHECK (award BETWEEN 1 AND 1000000000), notice TEXT NOT NULL CHECK (length(notice) BETWEEN 1 AND 32), lot TEXT NOT NULL CHECK (length(lot) BETWEEN 1 AND 32), receipt INTEGER NOT NULL CHECK (receipt BETWEEN 1 AND 1000000000), price INTEGER NOT NULL CHECK (price BETWEEN 0 AND 1000000000000), moment INTEGER NOT NULL CHECK (moment BETWEEN 0 AND 4102444799), state TEXT NOT NULL CHECK (state IN ('active', 'failed', 'cancelled', 'signed'))) STRICT",
+        "CREATE TABLE awards (award INTEGER NOT NULL PRIMARY KEY CHECK (award BETWEEN 1 AND 1000000000), notice TEXT NOT NULL CHECK (length(notice) BETWEEN 1 AND 32), lot TEXT NOT NULL CHECK (length(lot) BETWEEN 1 AND 32), receipt INTEGER NOT NULL CHECK (receipt BETWEEN 1 AND 1000000000), price INTEGER NOT NULL CHECK (price BETWEEN 0 AND 1000000000000), moment INTEGER NOT NULL CHECK (moment BETWEEN 0 AND 4102444799), state TEXT NOT NULL CHECK (state IN ('active', 'failed', 'cancelled', 'signed'))) STRICT",
     )?;
     make_table(
         tx,
-        "CREATE TABLE contracts (contract INT NOT NULL PRIMARY KEY CHECK (contract BETWEEN 1 AND 1000000000), notice TEXT NOT NULL CHECK (length(notice) BETWEEN 1 AND 32), lot TEXT NOT NULL CHECK (length(lot) BETWEEN 1 AND 32), tenderer TEXT NOT NULL CHECK (length(tenderer) BETWEEN 1 AND 32), signed INTEGER NOT NULL CHECK (signed BETWEEN 0 AND 1000000000000000), moment INTEGER NOT NULL CHECK (moment BETWEEN 0 AND 4102444799), ended INTEGER CHECK (ended BETWEEN 0 AND 4102444799), how TEXT CHECK (how IN ('regular', 'default')), released INTEGER NOT NULL CHECK (released BETWEEN 0 AND 1000000000000000)) STRICT",
+        "CREATE TABLE contracts (contract INTEGER NOT NULL PRIMARY KEY CHECK (contract BETWEEN 1 AND 1000000000), notice TEXT NOT NULL CHECK (length(notice) BETWEEN 1 AND 32), lot TEXT NOT NULL CHECK (length(lot) BETWEEN 1 AND 32), tenderer TEXT NOT NULL CHECK (length(tenderer) BETWEEN 1 AND 32), signed INTEGER NOT NULL CHECK (signed BETWEEN 0 AND 1000000000000000), moment INTEGER NOT NULL CHECK (moment BETWEEN 0 AND 4102444799), ended INTEGER CHECK (ended BETWEEN 0 AND 4102444799), how TEXT CHECK (how IN ('regular', 'default')), released INTEGER NOT NULL CHECK (released BETWEEN 0 AND 1000000000000000)) STRICT",
     )?;
     make_table(
         tx,
@@ -126,7 +126,7 @@ fn make_kept<S: Alter>(tx: &mut Transaction<'_, S>) -> Result<(), Error>
     )?;
     make_table(
         tx,
-        "CREATE TABLE office (version INT NOT NULL PRIMARY KEY CHECK (version = 1), moment INTEGER NOT NULL CHECK (moment BETWEEN 0 AND 4102444799), receipts INTEGER NOT NULL CHECK (receipts BETWEEN 0 AND 1000000000), awards INTEGER NOT NULL CHECK (awards BETWEEN 0 AND 1000000000)) STRICT",
+        "CREATE TABLE office (version INTEGER NOT NULL PRIMARY KEY CHECK (version BETWEEN 1 AND 2147483647), moment INTEGER NOT NULL CHECK (moment BETWEEN 0 AND 4102444799), receipts INTEGER NOT NULL CHECK (receipts BETWEEN 0 AND 1000000000), awards INTEGER NOT NULL CHECK (awards BETWEEN 0 AND 1000000000)) STRICT",
     )
 }
 
@@ -151,7 +151,7 @@ fn make_first_indexes<S: Alter>(tx: &mut Transaction<'_, S>) -> Result<(), Error
     ensures survives { Survives (state S.Store tx.old.conn.now) (state S.Store tx.new.conn.now) (λ _. ⊥) }
 {
     make_index(tx, "CREATE INDEX lots_of_line ON lots (line)")?;
-    make_index(tx, "CREATE INDEX envelopes_of_notice ON envelopes (notice)")?;
+    make_index(tx, "CREATE INDEX envelopes_of_notice ON envelopes (notice, lot, tenderer)")?;
     make_index(
         tx,
         "CREATE INDEX securities_of_notice ON securities (notice)",
@@ -202,7 +202,7 @@ fn put_first_clock<S: Alter>(tx: &mut Transaction<'_, S>) -> Result<(), Error>
     let clock = first_clock();
     execute_one(
         tx,
-        "INSERT OR REPLACE INTO office (version, moment, receipts, awards) VALUES (?1, ?2, ?3, ?4)",
+        "INSERT INTO office (version, moment, receipts, awards) VALUES (?1, ?2, ?3, ?4) ON CONFLICT (version) DO UPDATE SET moment = ?2, receipts = ?3, awards = ?4",
         &clock_values(&clock),
     )
 }

@@ -37,7 +37,7 @@ pub fn put_line<S: Alter>(tx: &mut Transaction<'_, S>, row: &LineRow) -> Result<
     lines_come_back();
     execute_one(
         tx,
-        "INSERT OR REPLACE INTO lines (line, title, appropriation, free) VALUES (?1, ?2, ?3, ?4)",
+        "INSERT INTO lines (line, title, appropriation, free) VALUES (?1, ?2, ?3, ?4) ON CONFLICT (line) DO UPDATE SET title = ?2, appropriation = ?3, free = ?4",
         &line_values(row),
     )
 }
@@ -52,7 +52,7 @@ pub fn put_batch<S: Alter>(tx: &mut Transaction<'_, S>, row: &BatchRow) -> Resul
     batches_come_back();
     execute_one(
         tx,
-        "INSERT OR REPLACE INTO batches (batch, moment, rows) VALUES (?1, ?2, ?3)",
+        "INSERT INTO batches (batch, moment, rows) VALUES (?1, ?2, ?3) ON CONFLICT (batch) DO UPDATE SET moment = ?2, rows = ?3",
         &batch_values(row),
     )
 }
@@ -67,7 +67,7 @@ pub fn put_tenderer<S: Alter>(tx: &mut Transaction<'_, S>, row: &TendererRow) ->
     tenderers_come_back();
     execute_one(
         tx,
-        "INSERT OR REPLACE INTO tenderers (tenderer, name, address, key) VALUES (?1, ?2, ?3, ?4)",
+        "INSERT INTO tenderers (tenderer, name, address, key) VALUES (?1, ?2, ?3, ?4) ON CONFLICT (tenderer) DO UPDATE SET name = ?2, address = ?3, key = ?4",
         &tenderer_values(row),
     )
 }
@@ -82,7 +82,7 @@ pub fn put_notice<S: Alter>(tx: &mut Transaction<'_, S>, row: &NoticeRow) -> Res
     notices_come_back();
     execute_one(
         tx,
-        "INSERT OR REPLACE INTO notices (notice, title, published, deadline, validity, standstill, weight, state, opened, amendments, releases) VALUES (?1, ?2, ?3, ?4, ?5, ?6, ?7, ?8, ?9, ?10, ?11)",
+        "INSERT INTO notices (notice, title, published, deadline, validity, standstill, weight, state, opened, amendments, releases) VALUES (?1, ?2, ?3, ?4, ?5, ?6, ?7, ?8, ?9, ?10, ?11) ON CONFLICT (notice) DO UPDATE SET title = ?2, published = ?3, deadline = ?4, validity = ?5, standstill = ?6, weight = ?7, state = ?8, opened = ?9, amendments = ?10, releases = ?11",
         &notice_values(row),
     )
 }
@@ -102,7 +102,7 @@ pub fn put_lot<S: Alter>(
     let items = items_text(alloc, &row.items)?;
     execute_one(
         tx,
-        "INSERT OR REPLACE INTO lots (notice, lot, title, line, estimate, security, items, state, reserved) VALUES (?1, ?2, ?3, ?4, ?5, ?6, ?7, ?8, ?9)",
+        "INSERT INTO lots (notice, lot, title, line, estimate, security, items, state, reserved) VALUES (?1, ?2, ?3, ?4, ?5, ?6, ?7, ?8, ?9) ON CONFLICT (notice, lot) DO UPDATE SET title = ?3, line = ?4, estimate = ?5, security = ?6, items = ?7, state = ?8, reserved = ?9",
         &lot_values(row, items.as_slice()),
     )
 }
@@ -117,7 +117,7 @@ pub fn put_envelope<S: Alter>(tx: &mut Transaction<'_, S>, row: &EnvelopeRow) ->
     envelopes_come_back();
     execute_one(
         tx,
-        "INSERT OR REPLACE INTO envelopes (receipt, notice, lot, tenderer, moment, length, digest, security, state, reading, stated, corrected, corrections, responsive, quality, failed) VALUES (?1, ?2, ?3, ?4, ?5, ?6, ?7, ?8, ?9, ?10, ?11, ?12, ?13, ?14, ?15, ?16)",
+        "INSERT INTO envelopes (receipt, notice, lot, tenderer, moment, length, digest, security, state, reading, stated, corrected, corrections, responsive, quality, failed) VALUES (?1, ?2, ?3, ?4, ?5, ?6, ?7, ?8, ?9, ?10, ?11, ?12, ?13, ?14, ?15, ?16) ON CONFLICT (receipt) DO UPDATE SET notice = ?2, lot = ?3, tenderer = ?4, moment = ?5, length = ?6, digest = ?7, security = ?8, state = ?9, reading = ?10, stated = ?11, corrected = ?12, corrections = ?13, responsive = ?14, quality = ?15, failed = ?16",
         &envelope_values(row),
     )
 }
@@ -132,7 +132,7 @@ pub fn put_seal<S: Alter>(tx: &mut Transaction<'_, S>, row: &SealRow) -> Result<
     seals_come_back();
     execute_one(
         tx,
-        "INSERT OR REPLACE INTO seals (receipt, bytes) VALUES (?1, ?2)",
+        "INSERT INTO seals (receipt, bytes) VALUES (?1, ?2) ON CONFLICT (receipt) DO UPDATE SET bytes = ?2",
         &seal_values(row),
     )
 }
@@ -147,7 +147,7 @@ pub fn put_security<S: Alter>(tx: &mut Transaction<'_, S>, row: &SecurityRow) ->
     securities_come_back();
     execute_one(
         tx,
-        "INSERT OR REPLACE INTO securities (security, tenderer, notice, lot, reference, amount, state) VALUES (?1, ?2, ?3, ?4, ?5, ?6, ?7)",
+        "INSERT INTO securities (security, tenderer, notice, lot, reference, amount, state) VALUES (?1, ?2, ?3, ?4, ?5, ?6, ?7) ON CONFLICT (security) DO UPDATE SET tenderer = ?2, notice = ?3, lot = ?4, reference = ?5, amount = ?6, state = ?7",
         &security_values(row),
     )
 }
@@ -162,7 +162,7 @@ pub fn put_award<S: Alter>(tx: &mut Transaction<'_, S>, row: &AwardRow) -> Resul
     awards_come_back();
     execute_one(
         tx,
-        "INSERT OR REPLACE INTO awards (award, notice, lot, receipt, price, moment, state) VALUES (?1, ?2, ?3, ?4, ?5, ?6, ?7)",
+        "INSERT INTO awards (award, notice, lot, receipt, price, moment, state) VALUES (?1, ?2, ?3, ?4, ?5, ?6, ?7) ON CONFLICT (award) DO UPDATE SET notice = ?2, lot = ?3, receipt = ?4, price = ?5, moment = ?6, state = ?7",
         &award_values(row),
     )
 }
@@ -177,7 +177,7 @@ pub fn put_contract<S: Alter>(tx: &mut Transaction<'_, S>, row: &ContractRow) ->
     contracts_come_back();
     execute_one(
         tx,
-        "INSERT OR REPLACE INTO contracts (contract, notice, lot, tenderer, signed, moment, ended, how, released) VALUES (?1, ?2, ?3, ?4, ?5, ?6, ?7, ?8, ?9)",
+        "INSERT INTO contracts (contract, notice, lot, tenderer, signed, moment, ended, how, released) VALUES (?1, ?2, ?3, ?4, ?5, ?6, ?7, ?8, ?9) ON CONFLICT (contract) DO UPDATE SET notice = ?2, lot = ?3, tenderer = ?4, signed = ?5, moment = ?6, ended = ?7, how = ?8, released = ?9",
         &contract_values(row),
     )
 }
@@ -192,7 +192,7 @@ pub fn put_entry<S: Alter>(tx: &mut Transaction<'_, S>, row: &EntryRow) -> Resul
     entries_come_back();
     execute_one(
         tx,
-        "INSERT OR REPLACE INTO entries (contract, entry, kind, amount, moment, rationale) VALUES (?1, ?2, ?3, ?4, ?5, ?6)",
+        "INSERT INTO entries (contract, entry, kind, amount, moment, rationale) VALUES (?1, ?2, ?3, ?4, ?5, ?6) ON CONFLICT (contract, entry) DO UPDATE SET kind = ?3, amount = ?4, moment = ?5, rationale = ?6",
         &entry_values(row),
     )
 }
@@ -207,7 +207,7 @@ pub fn put_release<S: Alter>(tx: &mut Transaction<'_, S>, row: &ReleaseRow) -> R
     releases_come_back();
     execute_one(
         tx,
-        "INSERT OR REPLACE INTO releases (notice, seq, moment, text) VALUES (?1, ?2, ?3, ?4)",
+        "INSERT INTO releases (notice, seq, moment, text) VALUES (?1, ?2, ?3, ?4) ON CONFLICT (notice, seq) DO UPDATE SET moment = ?3, text = ?4",
         &release_values(row),
     )
 }
@@ -222,7 +222,7 @@ pub fn put_compiled<S: Alter>(tx: &mut Transaction<'_, S>, row: &CompiledRow) ->
     compiled_comes_back();
     execute_one(
         tx,
-        "INSERT OR REPLACE INTO compiled (notice, text) VALUES (?1, ?2)",
+        "INSERT INTO compiled (notice, text) VALUES (?1, ?2) ON CONFLICT (notice) DO UPDATE SET text = ?2",
         &compiled_values(row),
     )
 }
@@ -237,7 +237,7 @@ pub fn put_clock<S: Alter>(tx: &mut Transaction<'_, S>, row: &ClockRow) -> Resul
     clock_comes_back();
     execute_one(
         tx,
-        "INSERT OR REPLACE INTO office (version, moment, receipts, awards) VALUES (?1, ?2, ?3, ?4)",
+        "INSERT INTO office (version, moment, receipts, awards) VALUES (?1, ?2, ?3, ?4) ON CONFLICT (version) DO UPDATE SET moment = ?2, receipts = ?3, awards = ?4",
         &clock_values(row),
     )
 }

@@ -1,11 +1,12 @@
 -- What an opening finds in a database, and what it makes there.
-use Rattle.std.specs.Prelude.{◌≡◌, ◌⊎◌, ℕ, Bool, true, false, nat_eq, pos, IsTrue, List, [], ◌∷◌, codes}
+use Rattle.std.specs.Prelude.{◌≡◌, ◌⊎◌, ◌&&◌, ℕ, Bool, true, false, nat_eq, pos, IsTrue, List, [], ◌∷◌, codes}
 use Rattle.std.specs.List.{list_any}
 use Rattle.sqlite_value.specs.declared.value.Value.TheVariants.{Int}
 use Rattle.sqlite_value.specs.Order.{Row}
 use Rattle.sqlite_trees.specs.Tree.{Trees}
 use Rattle.sqlite_trees.specs.declared.store.Store.{Ghosts}
 use Rattle.sqlite_schema.specs.declared.schema.Schema.{Schema}
+use Rattle.sqlite_schema.specs.Names.{same_name, is_key}
 use Rattle.sqlite_catalog.specs.Change.{is_used}
 use Rattle.sqlite.specs.Effect.{IsDatabase}
 use Rattle.sqlite.specs.Held.{Held, state}
@@ -23,14 +24,16 @@ office_names =
     ∷ codes "securities" ∷ codes "awards" ∷ codes "contracts" ∷ codes "entries" ∷ codes "releases" ∷ codes "compiled" ∷ codes "office"
     ∷ codes "lots_of_line" ∷ codes "envelopes_of_notice" ∷ codes "securities_of_notice" ∷ codes "awards_of_notice" ∷ codes "contracts_of_notice"
     ∷ codes "sqlite_autoindex_lines_1" ∷ codes "sqlite_autoindex_batches_1" ∷ codes "sqlite_autoindex_tenderers_1" ∷ codes "sqlite_autoindex_notices_1"
-    ∷ codes "sqlite_autoindex_lots_1" ∷ codes "sqlite_autoindex_envelopes_1" ∷ codes "sqlite_autoindex_seals_1" ∷ codes "sqlite_autoindex_securities_1"
-    ∷ codes "sqlite_autoindex_awards_1" ∷ codes "sqlite_autoindex_contracts_1" ∷ codes "sqlite_autoindex_entries_1" ∷ codes "sqlite_autoindex_releases_1"
-    ∷ codes "sqlite_autoindex_compiled_1" ∷ codes "sqlite_autoindex_office_1"
+    ∷ codes "sqlite_autoindex_lots_1" ∷ codes "sqlite_autoindex_entries_1" ∷ codes "sqlite_autoindex_releases_1" ∷ codes "sqlite_autoindex_compiled_1"
     ∷ []
 
 -- a table, an index or a view of the schema has one of them, so that a CREATE of the office would be refused
 abbrev pub takes_a_name : Schema → Bool
 takes_a_name schema = list_any (is_used schema) office_names
+
+-- a table `office` has its first column for a rowid
+abbrev pub has_rowids : Schema → Bool
+has_rowids schema = list_any (λ t. same_name t.name (codes "office") && is_key t.key 0) schema.tables
 
 -- the rows are one, and it is version 1
 abbrev pub is_version_one : List Row → Bool

@@ -6,7 +6,7 @@ ghost use Rattle.sqlite.specs.Held.{state};
 ghost use Rattle.sqlite.specs.State.{HasCleanDisk, Survives};
 ghost use Rattle.office_base.specs.Tables.{Tables};
 ghost use Rattle.office_sql.specs.Steps.{Refused, ShowsTables};
-ghost use Rattle.office_store.specs.Founding.{Founded, LeavesNew, LeavesOffice, Enters, IsNoOffice, IsSoundOpen, takes_a_name, is_version_one};
+ghost use Rattle.office_store.specs.Founding.{Founded, LeavesNew, LeavesOffice, Enters, IsNoOffice, IsSoundOpen, takes_a_name, has_rowids, is_version_one};
 
 use crate::faults::fault;
 use office_base::shelf::ShelfFault;
@@ -14,6 +14,7 @@ use office_sql::make::make;
 use office_sql::version::ask_version;
 use sqlite::{Alter, Connection, Error, ErrorCode, Row};
 use sqlite_catalog::layout::is_used;
+use sqlite_schema::names::same_name;
 use sqlite_schema::schema::Schema;
 use sqlite_value::value::ValueRef;
 
@@ -22,7 +23,7 @@ use sqlite_value::value::ValueRef;
 pub enum OpenFault {
     /// Memory was refused.
     NoMemory,
-    /// The store failed.
+    /// The store failed, or keeps its tables in another form than this program makes.
     Store,
     /// What stands there is no office of version 1: it has another version or no single row of one, or it has none, and a name of
     /// the office's is taken.
@@ -68,7 +69,7 @@ fn any_is_used(schema: &Schema, names: &[&[u8]]) -> bool
 fn takes_a_name(schema: &Schema) -> bool
     ensures { result ≡ takes_a_name schema.now }
 {
-    let names: [&[u8]; 33] = [
+    let names: [&[u8]; 27] = [
         b"lines",
         b"batches",
         b"tenderers",
@@ -93,15 +94,9 @@ fn takes_a_name(schema: &Schema) -> bool
         b"sqlite_autoindex_tenderers_1",
         b"sqlite_autoindex_notices_1",
         b"sqlite_autoindex_lots_1",
-        b"sqlite_autoindex_envelopes_1",
-        b"sqlite_autoindex_seals_1",
-        b"sqlite_autoindex_securities_1",
-        b"sqlite_autoindex_awards_1",
-        b"sqlite_autoindex_contracts_1",
         b"sqlite_autoindex_entries_1",
         b"sqlite_autoindex_releases_1",
         b"sqlite_autoindex_compiled_1",
-        b"sqlite_autoindex_office_1",
     ];
     any_is_used(schema, names.as_slice())
 }
@@ -113,6 +108,16 @@ fn is_version_one(rows: &[Row]) -> bool
         return false;
     }
     matches!(rows[0].get_ref(0), Ok(ValueRef::Int(1)))
+}
+
+// Whether the key of the table `office` is its rowid, as this program makes it.
+fn has_rowids(schema: &Schema) -> bool
+    ensures { result ≡ has_rowids schema.now }
+{
+    let tables = schema.tables.as_slice();
+    tables
+        .iter()
+        .any(|table| same_name(table.name.as_slice(), b"office") && table.key == Some(0))
 }
 
 /// Enters the office that is there, or makes one where no name of the office's is taken.
@@ -128,13 +133,13 @@ pub(crate) fn enter<S: Alter>(conn: &mut Connection<S>) -> Result<(), OpenFault>
         return Err(OpenFault::Store);
     }
     let taken = takes_a_name(conn.schema());
+    let has_key = has_rowids(conn.schema());
     match ask_version(conn) {
         Ok(rows) => {
-            if is_version_one(rows.as_slice()) {
-                Ok(())
-            } else {
-                Err(OpenFault::NotAnOffice)
+            if !is_version_one(rows.as_slice()) {
+                return Err(OpenFault::NotAnOffice);
             }
+            if has_key { Ok(()) } else { Err(OpenFault::Store) }
         }
         Err(Error::SqlInputError(_)) => {
             if taken {

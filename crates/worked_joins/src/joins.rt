@@ -8,7 +8,7 @@ use std::alloc::Global;
 const TABLES: &str = "CREATE TABLE other (x TEXT);
 CREATE TABLE lines (line TEXT NOT NULL PRIMARY KEY, title TEXT NOT NULL, appropriation INTEGER NOT NULL, free INTEGER NOT NULL) STRICT;
 CREATE TABLE lots (notice TEXT NOT NULL, lot TEXT NOT NULL, title TEXT NOT NULL, line TEXT NOT NULL, estimate INTEGER NOT NULL, security INTEGER NOT NULL, items TEXT NOT NULL, state TEXT NOT NULL, reserved INTEGER NOT NULL, PRIMARY KEY (notice, lot)) STRICT;
-CREATE TABLE contracts (contract INT NOT NULL PRIMARY KEY, notice TEXT NOT NULL, lot TEXT NOT NULL, tenderer TEXT NOT NULL, signed INTEGER NOT NULL, moment INTEGER NOT NULL, ended INTEGER, how TEXT, released INTEGER NOT NULL) STRICT;
+CREATE TABLE contracts (contract INTEGER NOT NULL PRIMARY KEY, notice TEXT NOT NULL, lot TEXT NOT NULL, tenderer TEXT NOT NULL, signed INTEGER NOT NULL, moment INTEGER NOT NULL, ended INTEGER, how TEXT, released INTEGER NOT NULL) STRICT;
 CREATE TABLE entries (contract INTEGER NOT NULL, entry TEXT NOT NULL, kind TEXT NOT NULL, amount INTEGER NOT NULL, moment INTEGER NOT NULL, rationale TEXT, PRIMARY KEY (contract, entry)) STRICT;
 CREATE INDEX lots_of_line ON lots (line);
 CREATE INDEX contracts_of_notice ON contracts (notice)";

@@ -92,6 +92,23 @@ fn versions_are_others(rt: HostRuntime) {
     assert!(rt; office_shows_number(alloc, "DROP TABLE office", "SELECT count(*) FROM lots", 0));
 }
 
+// Whether an office's files are refused behind these statements, and not for want of an office.
+fn is_wrong(alloc: Global, statements: &str) -> Option<bool> {
+    let disks = changed(alloc, made(alloc)?, statements)?;
+    Some(matches!(
+        OfficeOnDisks::open(alloc, disks),
+        Err(Unopened::Unusable)
+    ))
+}
+
+#[test]
+fn the_key_is_no_rowid(rt: HostRuntime) {
+    let alloc = rt.alloc();
+    let other =
+        "DROP TABLE office; CREATE TABLE office (version INT NOT NULL PRIMARY KEY CHECK (version = 1), moment INTEGER NOT NULL, receipts INTEGER NOT NULL, awards INTEGER NOT NULL) STRICT; INSERT INTO office VALUES (1, 0, 0, 0)";
+    assert!(rt; is_wrong(alloc, other) == Some(true) || is_wrong(alloc, other) == Some(true));
+}
+
 // What is shown by a question of files in which another table stood, and an office was made then, and changed.
 fn beside(alloc: Global, question: &str) -> Option<i64> {
     let statements = "CREATE TABLE other (a INTEGER); INSERT INTO other VALUES (8)";
