@@ -139,21 +139,18 @@ created_is db t key sound none same below = record {
   guarded = elim key [ inl k ↦ by_index k | inr k ↦ by_rowid k ];
 }
   where
-    abbrev own : Table
-    own = at_tree t (next_tree db.schema)
-
-    guards_other : (i : Index) → i.table < next_tree db.schema → guards i own ≡ false
+    guards_other : (i : Index) → i.table < next_tree db.schema → guards i (at_tree t (next_tree db.schema)) ≡ false
     guards_other i h = by i.is_unique (other i.table (next_tree db.schema) (λ e. omega (arith, h, e)))
       where
         by : (b : Bool) → (i.table == next_tree db.schema) ≡ false → (b && (i.table == next_tree db.schema)) ≡ false
         by true e = e
         by false e = refl
 
-    by_index : HasIndex t → filter (λ i. guards i own) (created db.schema t).indexes ≡ key_indexes t.key own (next_tree db.schema + 1)
-    by_index k = rw (k.uniques, k.key) (filter-append_one (λ i. guards i own) db.schema.indexes _ (λ i h. guards_other i (owned db i sound h)) (eq-eqb (next_tree db.schema) (next_tree db.schema) refl))
+    by_index : HasIndex t → filter (λ i. guards i (at_tree t (next_tree db.schema))) (created db.schema t).indexes ≡ key_indexes t.key (at_tree t (next_tree db.schema)) (next_tree db.schema + 1)
+    by_index k = rw (k.uniques, k.key) (filter-append_one (λ i. guards i (at_tree t (next_tree db.schema))) db.schema.indexes _ (λ i h. guards_other i (owned db i sound h)) (eq-eqb (next_tree db.schema) (next_tree db.schema) refl))
 
-    by_rowid : IsRowid t → filter (λ i. guards i own) (created db.schema t).indexes ≡ key_indexes t.key own (next_tree db.schema + 1)
-    by_rowid k = rw (k.uniques, append-nil db.schema.indexes, k.key) (filter_none (λ i. guards i own) db.schema.indexes (λ i h. guards_other i (owned db i sound h)))
+    by_rowid : IsRowid t → filter (λ i. guards i (at_tree t (next_tree db.schema))) (created db.schema t).indexes ≡ key_indexes t.key (at_tree t (next_tree db.schema)) (next_tree db.schema + 1)
+    by_rowid k = rw (k.uniques, append-nil db.schema.indexes, k.key) (filter_none (λ i. guards i (at_tree t (next_tree db.schema))) db.schema.indexes (λ i h. guards_other i (owned db i sound h)))
 
 pub has_last : {A : Type 0} (xs : List A) (x : A) → Has (xs ++ x ∷ []) x
 has_last [] x = inl refl

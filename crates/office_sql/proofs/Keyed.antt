@@ -97,19 +97,16 @@ conflicts_key schema table n it (inr k) new row =
 finds : (table : Table) (at : List ℕ) (i : Index) → i.columns ≡ at → are_among at at ≡ true → (xs : List Index) → filter (λ j. guards j table) xs ≡ i ∷ [] → find (is_key_at table at) xs ≡ Some i
 unfolding is_key_at
 finds table at i columns among [] h = absurd (cc)
-finds table at i columns among (j ∷ more) h = by j.is_unique (j.table == table.tree) (finds table at i columns among more) h
+finds table at i columns among (j ∷ more) h = by j.is_unique (j.table == table.tree) ((length j.columns == length at) && (are_among at j.columns && are_among j.columns at)) all_so (finds table at i columns among more) h
   where
-    abbrev rest : Bool
-    rest = (length j.columns == length at) && (are_among at j.columns && are_among j.columns at)
+    all_so : j.columns ≡ at → ((length j.columns == length at) && (are_among at j.columns && are_among j.columns at)) ≡ true
+    all_so e = subst (λ cs. ((length cs == length at) && (are_among at cs && are_among cs at)) ≡ true) (sym e) (rw (eq-eqb (length at) (length at) refl, among) refl)
 
-    same : j.columns ≡ at → rest ≡ true
-    same e = subst (λ cs. ((length cs == length at) && (are_among at cs && are_among cs at)) ≡ true) (sym e) (rw (eq-eqb (length at) (length at) refl, among) refl)
-
-    by : (a b : Bool) → (filter (λ j. guards j table) more ≡ i ∷ [] → find (is_key_at table at) more ≡ Some i)
+    by : (a b rest : Bool) → (j.columns ≡ at → rest ≡ true) → (filter (λ j. guards j table) more ≡ i ∷ [] → find (is_key_at table at) more ≡ Some i)
         → cond (a && b) (j ∷ filter (λ j. guards j table) more) (filter (λ j. guards j table) more) ≡ i ∷ [] → cond (a && (b && rest)) (Some j) (find (is_key_at table at) more) ≡ Some i
-    by true true on e = let first : j ≡ i = cc in ap (λ c. cond c (Some j) (find (is_key_at table at) more)) (same (ap (λ (x : Index). x.columns) first ∙ columns)) ∙ ap Some first
-    by true false on e = on e
-    by false b on e = on e
+    by true true rest same on e = let first : j ≡ i = cc in ap (λ c. cond c (Some j) (find (is_key_at table at) more)) (same (ap (λ (x : Index). x.columns) first ∙ columns)) ∙ ap Some first
+    by true false rest same on e = on e
+    by false b rest same on e = on e
 
 -- the columns of the key name it
 pub key_at_is : (schema : Schema) (table : Table) (n : ℕ) (it : IsIn schema table n) → HasKey table → key_at schema (at_tree table n) table.primary ≡ Ok table.primary

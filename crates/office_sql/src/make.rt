@@ -151,7 +151,10 @@ fn make_first_indexes<S: Alter>(tx: &mut Transaction<'_, S>) -> Result<(), Error
     ensures survives { Survives (state S.Store tx.old.conn.now) (state S.Store tx.new.conn.now) (λ _. ⊥) }
 {
     make_index(tx, "CREATE INDEX lots_of_line ON lots (line)")?;
-    make_index(tx, "CREATE INDEX envelopes_of_notice ON envelopes (notice, lot, tenderer)")?;
+    make_index(
+        tx,
+        "CREATE INDEX envelopes_of_notice ON envelopes (notice, lot, tenderer)",
+    )?;
     make_index(
         tx,
         "CREATE INDEX securities_of_notice ON securities (notice)",

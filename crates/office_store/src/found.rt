@@ -115,9 +115,7 @@ fn has_rowids(schema: &Schema) -> bool
     ensures { result ≡ has_rowids schema.now }
 {
     let tables = schema.tables.as_slice();
-    tables
-        .iter()
-        .any(|table| same_name(table.name.as_slice(), b"office") && table.key == Some(0))
+    tables.iter().any(|table| same_name(table.name.as_slice(), b"office") && table.key == Some(0))
 }
 
 /// Enters the office that is there, or makes one where no name of the office's is taken.
@@ -139,7 +137,11 @@ pub(crate) fn enter<S: Alter>(conn: &mut Connection<S>) -> Result<(), OpenFault>
             if !is_version_one(rows.as_slice()) {
                 return Err(OpenFault::NotAnOffice);
             }
-            if has_key { Ok(()) } else { Err(OpenFault::Store) }
+            if has_key {
+                Ok(())
+            } else {
+                Err(OpenFault::Store)
+            }
         }
         Err(Error::SqlInputError(_)) => {
             if taken {

@@ -95,10 +95,7 @@ fn versions_are_others(rt: HostRuntime) {
 // Whether an office's files are refused behind these statements, and not for want of an office.
 fn is_wrong(alloc: Global, statements: &str) -> Option<bool> {
     let disks = changed(alloc, made(alloc)?, statements)?;
-    Some(matches!(
-        OfficeOnDisks::open(alloc, disks),
-        Err(Unopened::Unusable)
-    ))
+    Some(matches!(OfficeOnDisks::open(alloc, disks), Err(Unopened::Unusable)))
 }
 
 #[test]
