@@ -2,6 +2,7 @@
 use Rattle.std.proofs.Common.{◌≡◌, ◌≢◌, ℕ, List, [], Ok, refl, sym, ap, subst, ◌∙◌}
 use Rattle.std.specs.List.{AllByRecursion}
 use Rattle.std.specs.declared.cmp.Ordering.{Ordering}
+use Rattle.sqlite_value.specs.declared.value.Value.{Value}
 use Rattle.sqlite_value.specs.Order.{Row}
 use Rattle.sqlite.specs.Effect.{Database}
 use Rattle.sqlite.specs.State.{State, Executes}
@@ -14,6 +15,7 @@ use Rattle.office_sql.specs.Clock.{clock_key, clock_cmp}
 use Rattle.office_sql.specs.Schema.{OfficeTable, table_of}
 use Rattle.office_sql.specs.Schema.OfficeTable.{Lines, Batches, Tenderers, Notices, Lots, Envelopes, Seals, Securities, Awards, Contracts, Entries, Releases, Compiled, Office}
 use Rattle.office_sql.specs.Known.{IsIn, Places, HasTables}
+use Rattle.office_sql.specs.Kept.{by_rowid, read_by_rowid}
 use Rattle.office_sql.specs.Standing.{Stand, StandFor, Stands, Holds}
 use Rattle.office_sql.specs.Making.{AreMade, KeepsOthers, AreNew, all_tables}
 use Rattle.sqlite_schema.specs.declared.schema.Schema.{Schema}

@@ -50,10 +50,10 @@ module _ {K X : Type 0} (R : K → K → Ordering) (total : IsTotalOrder R) (sam
 
   pub kept_put : (old new : List Row) (x : Row) → AreKept R key form decode old → IsTable new → is_int (rowid x) ≡ true → x ≡ form (rowid x) (decode x) → IsPut old new x
       → AreKept R key form decode new
-  kept_put old new x was up int form put = record {
+  kept_put old new x was up int shaped put = record {
     rising = up;
     each = all_from _ new (λ r h. elim (put.from r h) [
-      | inl is ↦ subst (λ y. (is_int (rowid y) ≡ true) × (y ≡ form (rowid y) (decode y))) (sym is) (int, form)
+      | inl is ↦ subst (λ y. (is_int (rowid y) ≡ true) × (y ≡ form (rowid y) (decode y))) (sym is) (int, shaped)
       | inr old_row ↦ all_has _ old r was.each old_row.0
     ]);
     one = λ a b h k e. elim (put.from a h) [

@@ -97,16 +97,16 @@ conflicts_key schema table n it (inr k) new row =
 finds : (table : Table) (at : List ℕ) (i : Index) → i.columns ≡ at → are_among at at ≡ true → (xs : List Index) → filter (λ j. guards j table) xs ≡ i ∷ [] → find (is_key_at table at) xs ≡ Some i
 unfolding is_key_at
 finds table at i columns among [] h = absurd (cc)
-finds table at i columns among (j ∷ more) h = by j.is_unique (j.table == table.tree) ((length j.columns == length at) && (are_among at j.columns && are_among j.columns at)) all_so (finds table at i columns among more) h
+finds table at i columns among (j ∷ more) h = by j.is_unique (j.table == table.tree) (length j.columns == length at) (are_among at j.columns) (are_among j.columns at) named (finds table at i columns among more) h
   where
-    all_so : j.columns ≡ at → ((length j.columns == length at) && (are_among at j.columns && are_among j.columns at)) ≡ true
-    all_so e = subst (λ cs. ((length cs == length at) && (are_among at cs && are_among cs at)) ≡ true) (sym e) (rw (eq-eqb (length at) (length at) refl, among) refl)
+    named : j.columns ≡ at → ((length j.columns == length at) ≡ true) × (are_among at j.columns ≡ true) × (are_among j.columns at ≡ true)
+    named e = subst (λ cs. ((length cs == length at) ≡ true) × (are_among at cs ≡ true) × (are_among cs at ≡ true)) (sym e) (eq-eqb (length at) (length at) refl, among, among)
 
-    by : (a b rest : Bool) → (j.columns ≡ at → rest ≡ true) → (filter (λ j. guards j table) more ≡ i ∷ [] → find (is_key_at table at) more ≡ Some i)
-        → cond (a && b) (j ∷ filter (λ j. guards j table) more) (filter (λ j. guards j table) more) ≡ i ∷ [] → cond (a && (b && rest)) (Some j) (find (is_key_at table at) more) ≡ Some i
-    by true true rest same on e = let first : j ≡ i = cc in ap (λ c. cond c (Some j) (find (is_key_at table at) more)) (same (ap (λ (x : Index). x.columns) first ∙ columns)) ∙ ap Some first
-    by true false rest same on e = on e
-    by false b rest same on e = on e
+    by : (a b l m n : Bool) → (j.columns ≡ at → (l ≡ true) × (m ≡ true) × (n ≡ true)) → (filter (λ j. guards j table) more ≡ i ∷ [] → find (is_key_at table at) more ≡ Some i)
+        → cond (a && b) (j ∷ filter (λ j. guards j table) more) (filter (λ j. guards j table) more) ≡ i ∷ [] → cond (a && b && l && m && n) (Some j) (find (is_key_at table at) more) ≡ Some i
+    by true true l m n all on e = let first : j ≡ i = cc in let are = all (ap (λ (x : Index). x.columns) first ∙ columns) in rw (are.0, are.1, are.2) (ap Some first)
+    by true false l m n all on e = on e
+    by false b l m n all on e = on e
 
 -- the columns of the key name it
 pub key_at_is : (schema : Schema) (table : Table) (n : ℕ) (it : IsIn schema table n) → HasKey table → key_at schema (at_tree table n) table.primary ≡ Ok table.primary

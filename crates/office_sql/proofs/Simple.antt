@@ -1,5 +1,5 @@
 -- SELECT of columns of one table, by name, with no test or tests of columns against parameters, and in the order of columns.
-use Rattle.std.proofs.Common.{◌≡◌, ◌⊎◌, inl, inr, ◌∷◌, [], ◌++◌, ◌-◌, ◌==◌, List, Ok, None, Some, Option, cond, pos, negsuc, refl, ap, ap₂, ◌∙◌, false, true, Bool, ℕ, suc, slice_get, nat_lt, map}
+use Rattle.std.proofs.Common.{◌≡◌, ◌⊎◌, inl, inr, ◌∷◌, [], ◌++◌, ◌-◌, ◌==◌, List, Ok, None, Some, Option, cond, pos, negsuc, refl, sym, ap, subst, ◌∙◌, false, true, Bool, ℕ, suc, slice_get, nat_lt, map}
 use Rattle.sqlite_sql.specs.Term.{Term, col, op2}
 use Rattle.sqlite_sql.specs.declared.ops.BinaryOp.{BinaryOp}
 use Rattle.sqlite_sql.specs.declared.ops.BinaryOp.TheVariants as by
