@@ -18,7 +18,6 @@ use Rattle.sqlite.specs.Effect.{Answers}
 use Rattle.sqlite.proofs.Callers.{reads_as}
 use Rattle.office_base.specs.Rows.{by_order, row_at, IsInOrder}
 use Rattle.office_base.proofs.ExactKeys.{equal_keys}
-use Rattle.office_rows.specs.Values.{tail}
 use Rattle.office_sql.specs.Standing.{Stand}
 use Rattle.office_sql.proofs.Sorted.{all_above}
 use Rattle.office_sql.proofs.KeptRows.{in_order-table_of}

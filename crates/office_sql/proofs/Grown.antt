@@ -9,7 +9,7 @@ use Rattle.sqlite_schema.specs.declared.schema.Index.{Index}
 use Rattle.sqlite_schema.specs.Names.{table_named, same_name}
 use Rattle.sqlite_schema.specs.Rules.{guards}
 use Rattle.sqlite_rules.specs.Lists.{Has}
-use Rattle.sqlite_catalog.specs.Listing.{automatic, IsTableRow, IsIndexRow}
+use Rattle.sqlite_catalog.specs.Listing.{IsTableRow, IsIndexRow}
 use Rattle.sqlite_catalog.specs.Change.{created, indexed, next_tree}
 use Rattle.sqlite_catalog.proofs.StepLemmas.{table_below}
 use Rattle.sqlite_catalog.proofs.LayoutLemmas.{zipped_left, index_owner}

@@ -1,5 +1,5 @@
 -- What an update of the row of one rowid shows.
-use Rattle.std.proofs.Common.{◌≡◌, Some, inl, inr, ℕ, ℤ, Bool, true, false, cond, List, [], ◌∷◌, map, zero, suc, ◌<◌, arith, refl, sym, ap, ap₂, ◌∙◌}
+use Rattle.std.proofs.Common.{◌≡◌, Some, inl, inr, ℕ, ℤ, Bool, true, false, List, [], ◌∷◌, zero, suc, ◌<◌, arith, refl, sym, ap, ap₂, ◌∙◌}
 use Rattle.std.specs.Ordering.{is_eq, ordering_reverse}
 use Rattle.std.specs.Cmp.{tied_itself}
 use Rattle.std.specs.List.{swap}

@@ -1,7 +1,6 @@
 -- Where an office stands, its version is 1, and the schema takes the question for it.
-use Rattle.std.proofs.Common.{◌≡◌, ◌⊎◌, inl, inr, ℕ, List, [], ◌∷◌, Option, Some, None, Ok, Err, Result, true, refl, sym, ap, subst, ◌∙◌, IsTrue, codes}
-use Rattle.std.specs.Prelude.{IfOk, IfErr, pos}
-use Rattle.sqlite_value.specs.declared.value.Value.TheVariants.{Int}
+use Rattle.std.proofs.Common.{◌≡◌, ◌⊎◌, inl, inr, ℕ, List, [], Option, Some, None, Ok, Err, Result, true, refl, sym, ap, subst, ◌∙◌, IsTrue}
+use Rattle.std.specs.Prelude.{IfOk, IfErr}
 use Rattle.sqlite_value.specs.Order.{Row}
 use Rattle.sqlite_trees.specs.declared.error.StoreError.{StoreError}
 use Rattle.sqlite_trees.specs.declared.error.StoreError.TheVariants as stores
@@ -17,7 +16,7 @@ use Rattle.sqlite.specs.declared.error.Error.TheVariants.{SqlInputError, Invalid
 use Rattle.sqlite.specs.Effect.{Database, RefusesToRead}
 use Rattle.sqlite.specs.Held.{Held, state}
 use Rattle.sqlite.specs.Listing.{understood}
-use Rattle.sqlite.specs.State.{State, FailsToQuery, FailsToShow, IsTooLate, IsNotRun, IsNoStatement, Shown, store_error}
+use Rattle.sqlite.specs.State.{State, FailsToQuery, FailsToShow, IsTooLate, IsNotRun, IsNoStatement, store_error}
 use Rattle.sqlite.proofs.Callers.{IsPlain, command_of}
 use Rattle.office_base.specs.Tables.{Tables}
 use Rattle.office_sql.specs.Schema.OfficeTable.{Office}
