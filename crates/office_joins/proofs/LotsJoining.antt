@@ -1,5 +1,5 @@
 -- The text over the lots of a line compiles to its query, in any schema that has the four tables.
-use Rattle.std.proofs.Common.{◌≡◌, negsuc, ◌∷◌, [], ◌++◌, List, Some, None, Ok, Bool, true, false, ℕ, codes, refl, sym, ap, subst, ◌∙◌, map}
+use Rattle.std.proofs.Common.{◌≡◌, negsuc, ◌∷◌, [], ◌++◌, List, Some, None, Ok, Bool, true, false, ℕ, suc, codes, refl, sym, ap, subst, ◌∙◌, map}
 use Rattle.sqlite_value.specs.declared.keys.Key.{Key}
 use Rattle.sqlite_sql.specs.Term.{Term, lit, col, op2}
 use Rattle.sqlite_value.specs.declared.value.Value.TheVariants.{Int}
@@ -38,20 +38,20 @@ use Rattle.office_joins.specs.SelectLots.{list_joined_of_line, is_of_line, of_it
 use Rattle.office_joins.specs.Means.{Means}
 use Rattle.office_joins.specs.Known.{HoldsFour, column_of}
 use Rattle.office_joins.proofs.Qualified.{Pick, Finds, AllFound, at_budget, plainly, shown_of, sort_of, equals_e, both_e, outputs_are, sorts_are, equal_is, and_is, given_e, given_is, outputs_of, keys_of}
-use Rattle.office_joins.proofs.Scoped.{three_bounds, lot_of_three, contract_of_three, entry_of_three}
+use Rattle.office_joins.proofs.Scoped.{three_bounds, lot_of_three, contract_of_three, contract_key_of_three, entry_of_three}
 use Rattle.office_joins.proofs.Sources.{source_of, out_source, parsed_in, bound_is, source_is, left_joined, first_joined, joined_by, means_by}
 use Rattle.office_joins.proofs.Whole.{among, compiles}
 
 -- ---- the columns that the text names
 
 abbrev lot_pick : List ℕ → ℕ → Column → Pick
-lot_pick text k c = record { table = codes "lots"; text = text; slot = 1; place = k; column = c }
+lot_pick text k c = record { table = codes "lots"; text = text; slot = 1; place = k; row = suc k; column = c }
 
 abbrev contract_pick : List ℕ → ℕ → Column → Pick
-contract_pick text k c = record { table = codes "contracts"; text = text; slot = 2; place = k; column = c }
+contract_pick text k c = record { table = codes "contracts"; text = text; slot = 2; place = k; row = suc k; column = c }
 
 abbrev entry_pick : List ℕ → ℕ → Column → Pick
-entry_pick text k c = record { table = codes "entries"; text = text; slot = 3; place = k; column = c }
+entry_pick text k c = record { table = codes "entries"; text = text; slot = 3; place = k; row = suc k; column = c }
 
 abbrev lot_notice : Pick
 lot_notice = lot_pick (codes "lots.notice") 0 (column_of (codes "notice") Text true)
@@ -66,7 +66,7 @@ abbrev lot_reserved : Pick
 lot_reserved = lot_pick (codes "lots.reserved") 8 (column_of (codes "reserved") Integer true)
 
 abbrev contract_contract : Pick
-contract_contract = contract_pick (codes "contracts.contract") 0 (column_of (codes "contract") Integer true)
+contract_contract = record { table = codes "contracts"; text = codes "contracts.contract"; slot = 2; place = 0; row = 0; column = column_of (codes "contract") Integer true }
 
 abbrev contract_notice : Pick
 contract_notice = contract_pick (codes "contracts.notice") 1 (column_of (codes "notice") Text true)
@@ -188,23 +188,23 @@ module _ (schema : Schema) (at : Trees4) (four : HoldsFour schema at) where
 
     f_contract_contract : Finds cx contract_contract
     unfolding same_name
-    f_contract_contract = contract_of_three schema at four shown may alias (codes "contracts.contract") 0 (column_of (codes "contract") Integer true) (refl, refl, refl)
+    f_contract_contract = contract_key_of_three schema at four shown may alias (codes "contracts.contract") 0 (column_of (codes "contract") Integer true) refl refl (refl, refl, refl)
 
     f_contract_notice : Finds cx contract_notice
     unfolding same_name
-    f_contract_notice = contract_of_three schema at four shown may alias (codes "contracts.notice") 1 (column_of (codes "notice") Text true) (refl, refl, refl)
+    f_contract_notice = contract_of_three schema at four shown may alias (codes "contracts.notice") 1 (column_of (codes "notice") Text true) refl (refl, refl, refl)
 
     f_contract_lot : Finds cx contract_lot
     unfolding same_name
-    f_contract_lot = contract_of_three schema at four shown may alias (codes "contracts.lot") 2 (column_of (codes "lot") Text true) (refl, refl, refl)
+    f_contract_lot = contract_of_three schema at four shown may alias (codes "contracts.lot") 2 (column_of (codes "lot") Text true) refl (refl, refl, refl)
 
     f_contract_signed : Finds cx contract_signed
     unfolding same_name
-    f_contract_signed = contract_of_three schema at four shown may alias (codes "contracts.signed") 4 (column_of (codes "signed") Integer true) (refl, refl, refl)
+    f_contract_signed = contract_of_three schema at four shown may alias (codes "contracts.signed") 4 (column_of (codes "signed") Integer true) refl (refl, refl, refl)
 
     f_contract_released : Finds cx contract_released
     unfolding same_name
-    f_contract_released = contract_of_three schema at four shown may alias (codes "contracts.released") 8 (column_of (codes "released") Integer true) (refl, refl, refl)
+    f_contract_released = contract_of_three schema at four shown may alias (codes "contracts.released") 8 (column_of (codes "released") Integer true) refl (refl, refl, refl)
 
     f_entry_contract : Finds cx entry_contract
     unfolding same_name
@@ -254,7 +254,7 @@ module _ (schema : Schema) (at : Trees4) (four : HoldsFour schema at) where
       (equal_is on_scope contract_notice lot_notice (f_contract_notice outs false false) (f_lot_notice outs false false) refl 697 4 99990 nothing refl refl refl)
       (equal_is on_scope contract_lot lot_lot (f_contract_lot outs false false) (f_lot_lot outs false false) refl 697 4 99987 nothing refl refl refl)
 
-  contract_lowers : lower on_scope on_contract (at_budget 4 99984 nothing) ≡ Ok (equals (col 3 1) (col 2 1), at_budget 4 99981 nothing)
+  contract_lowers : lower on_scope on_contract (at_budget 4 99984 nothing) ≡ Ok (equals (col 3 1) (col 2 0), at_budget 4 99981 nothing)
   contract_lowers = equal_is on_scope entry_contract contract_contract (f_entry_contract outs false false) (f_contract_contract outs false false) refl 698 4 99984 nothing refl refl refl
 
   line_lowers : lower (scope outs false true) where_line (at_budget 4 99981 nothing) ≡ Ok (equals (col 1 4) (col 0 0), at_budget 4 99978 nothing)

@@ -139,7 +139,7 @@ module _ (at : Trees4) (lost : Value) (db : Trees) (t : Tables) (line : List ℕ
         one_contract = IsPermutation-trans _ _ _
             (IsPermutation-same _ _ (stepped at.entries of_its_contract end (params ∷ r1 ∷ r2 ∷ [])))
             (level EntryCells (λ r. puts_out end (params ∷ r1 ∷ r2 ∷ r ∷ [])) (tests of_its_contract (params ∷ r1 ∷ r2 ∷ [])) (λ (e : EntryRow). same_number e.contract c.contract) (with_last t line x c)
-            (λ r e h. and_true (equal_values (column r 1) (column r2 1)) ∙ ap₂ equal_values h.contract c2.contract ∙ number_tested e.contract c.contract)
+            (λ r e h. and_true (equal_values (column r 1) (column r2 0)) ∙ ap₂ equal_values h.contract c2.contract ∙ number_tested e.contract c.contract)
             (λ r e h. IsPermutation-same _ _ (one_entry r e h)) (IsPermutation-same _ _ contract_alone) (db at.entries) t.entries entries)
 
       one_lot : IsPermutation (puts_out from2 (params ∷ r1 ∷ [])) (with_lot t line x)

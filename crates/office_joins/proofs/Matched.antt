@@ -93,7 +93,7 @@ module _ (at : Trees4) (lost : Value) (db : Trees) (t : Tables) (params : Row)
         one_contract = IsPermutation-trans _ _ _
             (IsPermutation-same _ _ (stepped at.entries of_the_contract end (params ∷ r1 ∷ r2 ∷ r3 ∷ [])))
             (level EntryCells (λ r. puts_out end (params ∷ r1 ∷ r2 ∷ r3 ∷ r ∷ [])) (tests of_the_contract (params ∷ r1 ∷ r2 ∷ r3 ∷ [])) (λ (e : EntryRow). same_number e.contract c.contract) (with_last out t l x c)
-            (λ r e h. and_true (equal_values (column r 1) (column r3 1)) ∙ ap₂ equal_values h.contract c3.contract ∙ number_tested e.contract c.contract)
+            (λ r e h. and_true (equal_values (column r 1) (column r3 0)) ∙ ap₂ equal_values h.contract c3.contract ∙ number_tested e.contract c.contract)
             (λ r e h. IsPermutation-same _ _ (one_entry r e h)) (IsPermutation-same _ _ contract_alone) (db at.entries) t.entries entries)
 
       one_lot : IsPermutation (puts_out from3 (params ∷ r1 ∷ r2 ∷ [])) (with_lots out t l (Some x))

@@ -1,5 +1,5 @@
 -- Columns that are named with their tables, in a scope of several tables, whatever else the schema has.
-use Rattle.std.proofs.Common.{◌≡◌, ◌∷◌, [], ◌++◌, ◌-◌, List, Ok, None, Some, refl, ap, ◌∙◌, false, true, ℕ, suc, slice_get, nat_lt, map}
+use Rattle.std.proofs.Common.{◌≡◌, ◌∷◌, [], ◌++◌, ◌-◌, List, Ok, None, Some, refl, ap, ◌∙◌, false, true, ℕ, zero, suc, slice_get, nat_lt, map}
 use Rattle.sqlite_value.specs.declared.keys.Collation.TheVariants.{Binary}
 use Rattle.sqlite_value.specs.declared.keys.Key.{Key}
 use Rattle.sqlite_sql.specs.Term.{Term, col, op2}
@@ -32,16 +32,34 @@ use Rattle.sqlite_tied.specs.Compute.{everything}
 abbrev pub plainly : Carried
 plainly = record { collation = Some Binary; is_written = false }
 
+-- and what its rowid does
+abbrev pub carried_by : ℕ → Carried
+carried_by zero = nothing
+carried_by (suc place) = plainly
+
+alone_is : (row : ℕ) → alone (carried_by row) ≡ Binary
+unfolding alone
+alone_is zero = refl
+alone_is (suc place) = refl
+
+chosen_is : (a b : ℕ) → chosen (carried_by a) (carried_by b) ≡ Binary
+unfolding chosen first_found
+chosen_is zero zero = refl
+chosen_is zero (suc b) = refl
+chosen_is (suc a) zero = refl
+chosen_is (suc a) (suc b) = refl
+
 -- the state while a SELECT is read, with the next slot
 abbrev pub at_budget : ℕ → ℕ → Carried → State
 at_budget next budget last = record { next = next; steps = []; aggregates = []; budget = budget; written = None; last = last }
 
--- a column as a text names it: with the name of its table, the slot of that, its place in it, and how the text writes it
+-- a column as a text names it: with the name of its table, the slot of that, its place in it and in a row, and how the text writes it
 pub record Pick : Type 0 where
   pub table : Name
   pub text : Name
   pub slot : ℕ
   pub place : ℕ
+  pub row : ℕ
   pub column : Column
 
 abbrev pub pick_e : Pick → Expr
@@ -76,7 +94,7 @@ unfolding everything
 out_both a b = refl
 
 abbrev pub term_of_pick : Pick → Term
-term_of_pick p = col p.slot (suc p.place)
+term_of_pick p = col p.slot p.row
 
 -- the scope finds the column
 pub record Finds (cx : Context) (p : Pick) : Type 0 where
@@ -85,28 +103,28 @@ pub record Finds (cx : Context) (p : Pick) : Type 0 where
   pub finds : find cx (Some p.table) p.column.name ≡ Ok (found.Column p.slot at p.place)
   pub found : slice_get cx.schema.tables at ≡ Some whose
   pub stands : slice_get whose.columns p.place ≡ Some p.column
-  pub placed : place_of whose p.place ≡ suc p.place
-  pub carries : declared whose p.place p.column ≡ plainly
-  pub typed : of_column cx p.slot (suc p.place) ≡ of_declared p.column
+  pub placed : place_of whose p.place ≡ p.row
+  pub carries : declared whose p.place p.column ≡ carried_by p.row
+  pub typed : of_column cx p.slot p.row ≡ of_declared p.column
 
 pub lowered : (d : ℕ) (cx : Context) (e : Expr) (s : State) (r : Checked (Term × State)) → node (lower_to d) cx e s ≡ r → lower_to (suc d) cx e s ≡ r
 unfolding lower_to
 lowered d cx e s r h = h
 
 module _ (cx : Context) (p : Pick) (h : Finds cx p) where
-  column_is : (s : State) → column cx (Some p.table) p.column.name s ≡ Ok (term_of_pick p, record s { last = plainly })
+  column_is : (s : State) → column cx (Some p.table) p.column.name s ≡ Ok (term_of_pick p, record s { last = carried_by p.row })
   unfolding column term_of column_at
   column_is s = rw (h.finds, h.found, h.stands, h.placed, h.carries)
 
-  node_is : (low : Context → Expr → Lowering Term) (n b : ℕ) (l : Carried) → nat_lt 1 b ≡ true → node low cx (pick_e p) (at_budget n b l) ≡ Ok (term_of_pick p, at_budget n (b - 1) plainly)
+  node_is : (low : Context → Expr → Lowering Term) (n b : ℕ) (l : Carried) → nat_lt 1 b ≡ true → node low cx (pick_e p) (at_budget n b l) ≡ Ok (term_of_pick p, at_budget n (b - 1) (carried_by p.row))
   unfolding node spend begin opened finish passes
   node_is low n b l enough = rw (enough, out_pick p, column_is (at_budget n (b - 1) nothing))
 
-  pub lower_is : (d n b : ℕ) (l : Carried) → nat_lt 1 b ≡ true → lower_to (suc d) cx (pick_e p) (at_budget n b l) ≡ Ok (term_of_pick p, at_budget n (b - 1) plainly)
+  pub lower_is : (d n b : ℕ) (l : Carried) → nat_lt 1 b ≡ true → lower_to (suc d) cx (pick_e p) (at_budget n b l) ≡ Ok (term_of_pick p, at_budget n (b - 1) (carried_by p.row))
   lower_is d n b l enough = lowered d cx (pick_e p) (at_budget n b l) _ (node_is (lower_to d) n b l enough)
 
   abbrev pub output : Output
-  output = record { name = p.column.name; is_alias = false; is_column = true; term = term_of_pick p; carried = plainly }
+  output = record { name = p.column.name; is_alias = false; is_column = true; term = term_of_pick p; carried = carried_by p.row }
 
   heading_is : body.heading cx (pick_e p) p.text ≡ p.column.name
   unfolding body.heading body.declared
@@ -118,12 +136,12 @@ module _ (cx : Context) (p : Pick) (h : Finds cx p) where
 
   -- one more column of the result
   shown_is : (bounds : List Bound) (done : List Output) (n b : ℕ) (l : Carried) → nat_lt 1 b ≡ true
-      → body.shown lower cx bounds done (shown_of p) (at_budget n b l) ≡ Ok (done ++ output ∷ [], at_budget n (b - 1) plainly)
+      → body.shown lower cx bounds done (shown_of p) (at_budget n b l) ≡ Ok (done ++ output ∷ [], at_budget n (b - 1) (carried_by p.row))
   unfolding body.shown
   shown_is bounds done n b l enough = rw (out_shown p, lower_is 699 n b l enough, heading_is, is_column_is)
 
   pub then_shown : (bounds : List Bound) (done : List Output) (more : List Shown) (n b : ℕ) (l : Carried) (r : Checked (List Output × State)) → nat_lt 1 b ≡ true
-      → body.outputs_from lower cx bounds (done ++ output ∷ []) more (at_budget n (b - 1) plainly) ≡ r
+      → body.outputs_from lower cx bounds (done ++ output ∷ []) more (at_budget n (b - 1) (carried_by p.row)) ≡ r
       → body.outputs_from lower cx bounds done (shown_of p ∷ more) (at_budget n b l) ≡ r
   then_shown bounds done more n b l r enough rest = rw (shown_is bounds done n b l enough) rest
 
@@ -147,11 +165,11 @@ module _ (cx : Context) (p : Pick) (h : Finds cx p) where
   unfolding order.written_on
   written_is = rw (out_pick p)
 
-  collation_is : (n b : ℕ) → order.collation_of (pick_e p) (at_budget n b plainly) ≡ Ok (Binary, at_budget n b plainly)
-  unfolding order.collation_of alone
-  collation_is n b = rw written_is
+  collation_is : (n b : ℕ) → order.collation_of (pick_e p) (at_budget n b (carried_by p.row)) ≡ Ok (Binary, at_budget n b (carried_by p.row))
+  unfolding order.collation_of
+  collation_is n b = rw (written_is, alone_is p.row)
 
-  key_is : (shown : List Output) (n b : ℕ) (l : Carried) → nat_lt 1 b ≡ true → nat_lt p.slot 1 ≡ false → order.key lower cx shown (pick_e p) (at_budget n b l) ≡ Ok (term_of_pick p, at_budget n (b - 1) plainly)
+  key_is : (shown : List Output) (n b : ℕ) (l : Carried) → nat_lt 1 b ≡ true → nat_lt p.slot 1 ≡ false → order.key lower cx shown (pick_e p) (at_budget n b l) ≡ Ok (term_of_pick p, at_budget n (b - 1) (carried_by p.row))
   unfolding order.key
   key_is shown n b l enough later = rw (lower_is 699 n b l enough, numeral_is, later)
 
@@ -160,16 +178,16 @@ module _ (cx : Context) (p : Pick) (h : Finds cx p) where
 
   sort_by : (s : Sort) → (out-Sort s).key ≡ pick_e p → (out-Sort s).descending ≡ false → (out-Sort s).nulls_first ≡ None
       → (shown : List Output) (done : List (Term × Key)) (n b : ℕ) (l : Carried) → nat_lt 1 b ≡ true → nat_lt p.slot 1 ≡ false
-      → order.sort lower cx shown done s (at_budget n b l) ≡ Ok (done ++ key ∷ [], at_budget n (b - 1) plainly)
+      → order.sort lower cx shown done s (at_budget n b l) ≡ Ok (done ++ key ∷ [], at_budget n (b - 1) (carried_by p.row))
   unfolding order.sort order.placed
   sort_by s is up unplaced shown done n b l enough later = rw (is, peeled_is, alias_is shown, key_is shown n b l enough later, collation_is n (b - 1), up, unplaced)
 
   sort_is : (shown : List Output) (done : List (Term × Key)) (n b : ℕ) (l : Carried) → nat_lt 1 b ≡ true → nat_lt p.slot 1 ≡ false
-      → order.sort lower cx shown done (sort_of p) (at_budget n b l) ≡ Ok (done ++ key ∷ [], at_budget n (b - 1) plainly)
+      → order.sort lower cx shown done (sort_of p) (at_budget n b l) ≡ Ok (done ++ key ∷ [], at_budget n (b - 1) (carried_by p.row))
   sort_is = sort_by (sort_of p) (ap (λ r. r.key) out_sort) (ap (λ r. r.descending) out_sort) (ap (λ r. r.nulls_first) out_sort)
 
   pub then_sorted : (shown : List Output) (done : List (Term × Key)) (more : List Sort) (n b : ℕ) (l : Carried) (r : Checked (List (Term × Key) × State)) → nat_lt 1 b ≡ true → nat_lt p.slot 1 ≡ false
-      → order.sorts_from lower cx shown (done ++ key ∷ []) more (at_budget n (b - 1) plainly) ≡ r
+      → order.sorts_from lower cx shown (done ++ key ∷ []) more (at_budget n (b - 1) (carried_by p.row)) ≡ r
       → order.sorts_from lower cx shown done (sort_of p ∷ more) (at_budget n b l) ≡ r
   then_sorted shown done more n b l r enough later rest = rw (sort_is shown done n b l enough later) rest
 
@@ -192,16 +210,16 @@ module _ (cx : Context) (p q : Pick) (h : Finds cx p) (k : Finds cx q) (alike : 
   compares = rw (h.typed, k.typed, alike, same_kind (of_declared q.column) (term_of_pick p), same_kind (of_declared q.column) (term_of_pick q))
 
   equal_node : (low : Context → Expr → Lowering Term) (n b : ℕ) (l : Carried) → nat_lt 1 b ≡ true
-      → low cx (pick_e p) (at_budget n (b - 1) nothing) ≡ Ok (term_of_pick p, at_budget n (b - 1 - 1) plainly) → low cx (pick_e q) (at_budget n (b - 1 - 1) plainly) ≡ Ok (term_of_pick q, at_budget n (b - 1 - 1 - 1) plainly)
+      → low cx (pick_e p) (at_budget n (b - 1) nothing) ≡ Ok (term_of_pick p, at_budget n (b - 1 - 1) (carried_by p.row)) → low cx (pick_e q) (at_budget n (b - 1 - 1) (carried_by p.row)) ≡ Ok (term_of_pick q, at_budget n (b - 1 - 1 - 1) (carried_by q.row))
       → node low cx (equals_e p q) (at_budget n b l) ≡ Ok (compared cx (by.Compare compare.Eq Binary) (term_of_pick p) (term_of_pick q), at_budget n (b - 1 - 1 - 1) nothing)
-  unfolding node spend begin opened finish passes operation both combine wanted_truth tests_truth tests_alias chosen first_found
-  equal_node low n b l enough left right = rw (enough, out_equals p q, left, right)
+  unfolding node spend begin opened finish passes operation both combine wanted_truth tests_truth tests_alias
+  equal_node low n b l enough left right = rw (enough, out_equals p q, left, right, chosen_is p.row q.row)
 
   -- `p = q`
   pub equal_is : (d n b : ℕ) (l : Carried) → nat_lt 1 b ≡ true → nat_lt 1 (b - 1) ≡ true → nat_lt 1 (b - 1 - 1) ≡ true
       → lower_to (suc (suc d)) cx (equals_e p q) (at_budget n b l) ≡ Ok (test, at_budget n (b - 1 - 1 - 1) nothing)
   equal_is d n b l one two three =
-      lowered (suc d) cx (equals_e p q) (at_budget n b l) _ (equal_node (lower_to (suc d)) n b l one (lower_is cx p h d n (b - 1) nothing two) (lower_is cx q k d n (b - 1 - 1) plainly three))
+      lowered (suc d) cx (equals_e p q) (at_budget n b l) _ (equal_node (lower_to (suc d)) n b l one (lower_is cx p h d n (b - 1) nothing two) (lower_is cx q k d n (b - 1 - 1) (carried_by p.row) three))
       ∙ ap (λ t. Ok (t, at_budget n (b - 1 - 1 - 1) nothing)) compares
 
 -- ---- tests of WHERE
@@ -229,7 +247,7 @@ module _ (cx : Context) (p : Pick) (h : Finds cx p) (kind : of_declared p.column
   unfolding compared affinity_of converted Rattle.sqlite_resolve.specs.Compare.spelled of_column
   given_compares = rw (typed_text) refl
     where
-      typed_text : of_column cx p.slot (suc p.place) ≡ affinity.Text
+      typed_text : of_column cx p.slot p.row ≡ affinity.Text
       typed_text = h.typed ∙ kind
 
   parameter_node : (low : Context → Expr → Lowering Term) (n b : ℕ) (l : Carried) → nat_lt 1 b ≡ true → node low cx (parameter_e 1) (at_budget n b l) ≡ Ok (col 0 0, at_budget n (b - 1) nothing)
@@ -237,17 +255,17 @@ module _ (cx : Context) (p : Pick) (h : Finds cx p) (kind : of_declared p.column
   parameter_node low n b l enough = rw (enough, out_parameter 1)
 
   given_node : (low : Context → Expr → Lowering Term) (n b : ℕ) (l : Carried) → nat_lt 1 b ≡ true
-      → low cx (pick_e p) (at_budget n (b - 1) nothing) ≡ Ok (term_of_pick p, at_budget n (b - 1 - 1) plainly) → low cx (parameter_e 1) (at_budget n (b - 1 - 1) plainly) ≡ Ok (col 0 0, at_budget n (b - 1 - 1 - 1) nothing)
+      → low cx (pick_e p) (at_budget n (b - 1) nothing) ≡ Ok (term_of_pick p, at_budget n (b - 1 - 1) (carried_by p.row)) → low cx (parameter_e 1) (at_budget n (b - 1 - 1) (carried_by p.row)) ≡ Ok (col 0 0, at_budget n (b - 1 - 1 - 1) nothing)
       → node low cx (given_e p 1) (at_budget n b l) ≡ Ok (compared cx (by.Compare compare.Eq Binary) (term_of_pick p) (col 0 0), at_budget n (b - 1 - 1 - 1) nothing)
-  unfolding node spend begin opened finish passes operation both combine wanted_truth tests_truth tests_alias chosen first_found
-  given_node low n b l enough left right = rw (enough, out_given p 1, left, right)
+  unfolding node spend begin opened finish passes operation both combine wanted_truth tests_truth tests_alias
+  given_node low n b l enough left right = rw (enough, out_given p 1, left, right, chosen_is p.row 0)
 
   -- `p = ?1`
   pub given_is : (d n b : ℕ) (l : Carried) → nat_lt 1 b ≡ true → nat_lt 1 (b - 1) ≡ true → nat_lt 1 (b - 1 - 1) ≡ true
       → lower_to (suc (suc d)) cx (given_e p 1) (at_budget n b l) ≡ Ok (given, at_budget n (b - 1 - 1 - 1) nothing)
   given_is d n b l one two three =
       lowered (suc d) cx (given_e p 1) (at_budget n b l) _
-      (given_node (lower_to (suc d)) n b l one (lower_is cx p h d n (b - 1) nothing two) (lowered d cx (parameter_e 1) (at_budget n (b - 1 - 1) plainly) _ (parameter_node (lower_to d) n (b - 1 - 1) plainly three)))
+      (given_node (lower_to (suc d)) n b l one (lower_is cx p h d n (b - 1) nothing two) (lowered d cx (parameter_e 1) (at_budget n (b - 1 - 1) (carried_by p.row)) _ (parameter_node (lower_to d) n (b - 1 - 1) (carried_by p.row) three)))
       ∙ ap (λ t. Ok (t, at_budget n (b - 1 - 1 - 1) nothing)) given_compares
 
 module _ (cx : Context) (a c : Expr) (x y : Term) (n b b₁ b₂ : ℕ) (l l₁ l₂ : Carried) (enough : nat_lt 1 b ≡ true) where
@@ -274,10 +292,10 @@ module _ (cx : Context) where
 
   abbrev pub left_by : Carried → List Pick → Carried
   left_by l [] = l
-  left_by l (p ∷ ps) = left_by plainly ps
+  left_by l (p ∷ ps) = left_by (carried_by p.row) ps
 
   abbrev pub output_of : Pick → Output
-  output_of p = record { name = p.column.name; is_alias = false; is_column = true; term = term_of_pick p; carried = plainly }
+  output_of p = record { name = p.column.name; is_alias = false; is_column = true; term = term_of_pick p; carried = carried_by p.row }
 
   abbrev pub outputs_of : List Output → List Pick → List Output
   outputs_of done [] = done
@@ -290,7 +308,7 @@ module _ (cx : Context) where
   pub outputs_are : (bounds : List Bound) (done : List Output) (ps : List Pick) (n b : ℕ) (l : Carried) → AllFound b ps
       → body.outputs_from lower cx bounds done (map shown_of ps) (at_budget n b l) ≡ Ok (outputs_of done ps, at_budget n (spent b ps) (left_by l ps))
   outputs_are bounds done [] n b l h = refl
-  outputs_are bounds done (p ∷ ps) n b l h = then_shown cx p h.0 bounds done (map shown_of ps) n b l _ h.1 (outputs_are bounds (done ++ output_of p ∷ []) ps n (b - 1) plainly h.2)
+  outputs_are bounds done (p ∷ ps) n b l h = then_shown cx p h.0 bounds done (map shown_of ps) n b l _ h.1 (outputs_are bounds (done ++ output_of p ∷ []) ps n (b - 1) (carried_by p.row) h.2)
 
   abbrev pub AreLater : List Pick → Type 0
   AreLater [] = Unit {0}
@@ -300,4 +318,4 @@ module _ (cx : Context) where
       → order.sorts_from lower cx shown done (map sort_of ps) (at_budget n b l) ≡ Ok (keys_of done ps, at_budget n (spent b ps) (left_by l ps))
   sorts_are shown done [] n b l h later = refl
   sorts_are shown done (p ∷ ps) n b l h later =
-      then_sorted cx p h.0 shown done (map sort_of ps) n b l _ h.1 later.0 (sorts_are shown (done ++ (term_of_pick p, record { collation = Binary; descending = false }) ∷ []) ps n (b - 1) plainly h.2 later.1)
+      then_sorted cx p h.0 shown done (map sort_of ps) n b l _ h.1 later.0 (sorts_are shown (done ++ (term_of_pick p, record { collation = Binary; descending = false }) ∷ []) ps n (b - 1) (carried_by p.row) h.2 later.1)

@@ -20,7 +20,7 @@ kind_text Raise = codes "raise"
 kind_text Cut = codes "cut"
 kind_text Payment = codes "payment"
 
--- the columns that the select reads, counted from 1
+-- the columns that the select reads, counted from 1; the key of a contract is its rowid, at 0
 pub record LineCells (r : Row) (x : LineRow) : Type 0 where
   pub line : column r 1 ≡ Text x.line
   pub appropriation : column r 3 ≡ Int (pos x.appropriation)
@@ -33,7 +33,7 @@ pub record LotCells (r : Row) (x : LotRow) : Type 0 where
   pub reserved : column r 9 ≡ Int (pos x.reserved)
 
 pub record ContractCells (r : Row) (x : ContractRow) : Type 0 where
-  pub contract : column r 1 ≡ Int (pos x.contract)
+  pub contract : column r 0 ≡ Int (pos x.contract)
   pub notice : column r 2 ≡ Text x.notice
   pub lot : column r 3 ≡ Text x.lot
   pub signed : column r 5 ≡ Int (pos x.signed)

@@ -1,5 +1,5 @@
 -- What is known of a schema in which the four tables stand, whatever else stands there.
-use Rattle.std.specs.Prelude.{◌≡◌, ◌^◌, ◌==◌, ℕ, Some, None, true, false, Bool, List, [], ◌∷◌, codes, slice_get, nat_le, find}
+use Rattle.std.specs.Prelude.{◌≡◌, ◌^◌, ◌==◌, ℕ, Option, Some, None, true, false, Bool, List, [], ◌∷◌, codes, slice_get, nat_le, find}
 use Rattle.sqlite_value.specs.declared.value.Value.TheVariants.{Null}
 use Rattle.sqlite_value.specs.declared.keys.Collation.TheVariants.{Binary}
 use Rattle.sqlite_schema.specs.declared.schema.Kind.{Kind}
@@ -32,14 +32,14 @@ entry_columns =
     column_of (codes "contract") Integer true ∷ column_of (codes "entry") Text true ∷ column_of (codes "kind") Text true ∷ column_of (codes "amount") Integer true ∷ column_of (codes "moment") Integer true
     ∷ column_of (codes "rationale") Text false ∷ []
 
--- the schema has a table of this name with these columns at this tree; its rowid is no column of it
-pub record Holds (schema : Schema) (name : List ℕ) (columns : List Column) (tree : ℕ) : Type 0 where
+-- the schema has a table of this name with these columns at this tree, and its rowid is this column of it, or none
+pub record Holds (schema : Schema) (name : List ℕ) (columns : List Column) (key : Option ℕ) (tree : ℕ) : Type 0 where
   pub place : ℕ
   pub table : Table
   pub named : table_named schema name ≡ Some place
   pub found : slice_get schema.tables place ≡ Some table
   pub columns_are : table.columns ≡ columns
-  pub keyless : table.key ≡ None
+  pub key_is : table.key ≡ key
   pub tree_is : table.tree ≡ tree
   -- no other table has the tree
   pub alone : find (λ t. t.tree == tree) schema.tables ≡ Some table
@@ -47,7 +47,7 @@ pub record Holds (schema : Schema) (name : List ℕ) (columns : List Column) (tr
   pub stored : nat_le (2 ^ 31) tree ≡ false
 
 pub record HoldsFour (schema : Schema) (at : Trees4) : Type 0 where
-  pub lines : Holds schema (codes "lines") line_columns at.lines
-  pub lots : Holds schema (codes "lots") lot_columns at.lots
-  pub contracts : Holds schema (codes "contracts") contract_columns at.contracts
-  pub entries : Holds schema (codes "entries") entry_columns at.entries
+  pub lines : Holds schema (codes "lines") line_columns None at.lines
+  pub lots : Holds schema (codes "lots") lot_columns None at.lots
+  pub contracts : Holds schema (codes "contracts") contract_columns (Some 0) at.contracts
+  pub entries : Holds schema (codes "entries") entry_columns None at.entries

@@ -29,7 +29,7 @@ abbrev pub of_the_lot : List Term
 of_the_lot = equals (col 3 2) (col 2 1) ∷ equals (col 3 3) (col 2 2) ∷ []
 
 abbrev pub of_the_contract : List Term
-of_the_contract = equals (col 4 1) (col 3 1) ∷ []
+of_the_contract = equals (col 4 1) (col 3 0) ∷ []
 
 abbrev pub joined_from : Trees4 → Join
 joined_from at = inner at.lines (left at.lots of_the_line (left at.contracts of_the_lot (left at.entries of_the_contract end)))
@@ -39,10 +39,10 @@ joined_query at = record {
   from = joined_from at;
   filter = [];
   group = None;
-  project = col 1 1 ∷ col 1 3 ∷ col 1 4 ∷ col 2 1 ∷ col 2 2 ∷ col 2 9 ∷ col 3 1 ∷ col 3 5 ∷ col 3 9 ∷ col 4 2 ∷ col 4 3 ∷ col 4 4 ∷ [];
+  project = col 1 1 ∷ col 1 3 ∷ col 1 4 ∷ col 2 1 ∷ col 2 2 ∷ col 2 9 ∷ col 3 0 ∷ col 3 5 ∷ col 3 9 ∷ col 4 2 ∷ col 4 3 ∷ col 4 4 ∷ [];
   distinct = false;
   collations = [];
-  order = (col 1 1, ascending Binary) ∷ (col 2 1, ascending Binary) ∷ (col 2 2, ascending Binary) ∷ (col 3 1, ascending Binary) ∷ (col 4 2, ascending Binary) ∷ [];
+  order = (col 1 1, ascending Binary) ∷ (col 2 1, ascending Binary) ∷ (col 2 2, ascending Binary) ∷ (col 3 0, ascending Binary) ∷ (col 4 2, ascending Binary) ∷ [];
   limit = lit (Int (negsuc 0));
   offset = lit (Int (pos 0));
 }

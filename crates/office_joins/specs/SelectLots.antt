@@ -18,7 +18,7 @@ abbrev pub of_its_lot : List Term
 of_its_lot = equals (col 2 2) (col 1 1) ∷ equals (col 2 3) (col 1 2) ∷ []
 
 abbrev pub of_its_contract : List Term
-of_its_contract = equals (col 3 1) (col 2 1) ∷ []
+of_its_contract = equals (col 3 1) (col 2 0) ∷ []
 
 abbrev pub lots_from : Trees4 → Join
 lots_from at = inner at.lots (left at.contracts of_its_lot (left at.entries of_its_contract end))
@@ -28,10 +28,10 @@ lots_query at = record {
   from = lots_from at;
   filter = is_of_line;
   group = None;
-  project = col 1 1 ∷ col 1 2 ∷ col 1 9 ∷ col 2 1 ∷ col 2 5 ∷ col 2 9 ∷ col 3 2 ∷ col 3 3 ∷ col 3 4 ∷ [];
+  project = col 1 1 ∷ col 1 2 ∷ col 1 9 ∷ col 2 0 ∷ col 2 5 ∷ col 2 9 ∷ col 3 2 ∷ col 3 3 ∷ col 3 4 ∷ [];
   distinct = false;
   collations = [];
-  order = (col 1 1, ascending Binary) ∷ (col 1 2, ascending Binary) ∷ (col 2 1, ascending Binary) ∷ (col 3 2, ascending Binary) ∷ [];
+  order = (col 1 1, ascending Binary) ∷ (col 1 2, ascending Binary) ∷ (col 2 0, ascending Binary) ∷ (col 3 2, ascending Binary) ∷ [];
   limit = lit (Int (negsuc 0));
   offset = lit (Int (pos 0));
 }

@@ -4,6 +4,7 @@ use Rattle.std.proofs.Common.{◌≡◌, ◌⊎◌, inl, inr, ℕ, Bool, true, f
 use Rattle.std.specs.declared.cmp.Ordering.{Ordering}
 use Rattle.std.specs.Ordering.{nat_cmp}
 use Rattle.std.proofs.lemmas.Bool.{eqb-true, eq-eqb}
+use Rattle.sqlite_value.specs.declared.value.Value.{Value}
 use Rattle.sqlite_value.specs.declared.value.Value.TheVariants.{Text}
 use Rattle.sqlite_value.specs.Order.{Row}
 use Rattle.sqlite_trees.specs.Tree.{rowid}
@@ -21,8 +22,8 @@ use Rattle.office_base.specs.Rows.{row_put}
 use Rattle.office_base.specs.Tables.{Tables, IsSorted, line_key, lot_key, lot_cmp, contract_key, entry_key, entry_cmp}
 use Rattle.office_rows.specs.Budget.{line_row, line_in}
 use Rattle.office_rows.specs.Notices.{lot_row, lot_in}
-use Rattle.office_rows.specs.Awards.{contract_row, contract_in, entry_row, entry_in}
-use Rattle.office_sql.specs.Kept.{table_of as kept_of}
+use Rattle.office_rows.specs.Awards.{contract_row, contract_read, entry_row, entry_in}
+use Rattle.office_sql.specs.Kept.{table_of as kept_of, behind, by_rowid, read_by_rowid}
 use Rattle.office_sql.specs.Known.{IsIn, at_tree}
 use Rattle.office_sql.specs.Schema.{table_of}
 use Rattle.office_sql.specs.Schema.OfficeTable.{Lines, Lots, Contracts, Entries}
@@ -48,28 +49,28 @@ find_only n x (y ∷ ys) there is alone = by (y.tree == n) refl there (λ more. 
     by false e (inl same) rest = absurd (true≢false (sym (eq-eqb y.tree n (ap (λ (t : Table). t.tree) (sym same) ∙ is)) ∙ e))
     by false e (inr more) rest = rest more
 
-known : (schema : Schema) (table : Table) (n : ℕ) → table.key ≡ None → IsIn schema table n → HasTable schema table.name table.columns n
-known schema table n keyless it = record {
+known : (schema : Schema) (table : Table) (n : ℕ) → IsIn schema table n → HasTable schema table.name table.columns table.key n
+known schema table n it = record {
   place = it.place;
   table = at_tree table n;
   named = it.named;
   found = it.found;
   columns_are = refl;
-  keyless = keyless;
+  key_is = refl;
   tree_is = refl;
   alone = find_only n (at_tree table n) schema.tables (place_has schema.tables it.place (at_tree table n) it.found) refl it.alone;
   stored = it.stored;
 }
 
-module _ {K X : Type 0} (R : K → K → Ordering) (key : X → K) (encode : X → Row) (decode : Row → X) where
-  same_records : (rows : List Row) → records_of R key encode decode rows ≡ kept_of R key encode decode rows
+module _ {K X : Type 0} (R : K → K → Ordering) (key : X → K) (form : Value → X → Row) (decode : Row → X) where
+  same_records : (rows : List Row) → records_of R key form decode rows ≡ kept_of R key form decode rows
   same_records [] = refl
   same_records (r ∷ rows) = ap (λ xs. row_put R key xs (decode r)) (same_records rows)
 
-  stands : (rows : List Row) (xs : List X) → Stand R key encode decode rows xs → StandFor R key encode decode rows xs
+  stands : (rows : List Row) (xs : List X) → Stand R key form decode rows xs → StandFor R key form decode rows xs
   stands rows xs it = record {
     rising = it.kept.rising;
-    each = all_weaker (λ r. (is_int (rowid r) ≡ true) × (r ≡ rowid r ∷ encode (decode r))) (λ r. r ≡ rowid r ∷ encode (decode r)) (λ r h. h.1) rows it.kept.each;
+    each = all_weaker (λ r. (is_int (rowid r) ≡ true) × (r ≡ form (rowid r) (decode r))) (λ r. r ≡ form (rowid r) (decode r)) (λ r h. h.1) rows it.kept.each;
     one = it.kept.one;
     is = same_records rows ∙ it.is;
   }
@@ -83,18 +84,18 @@ pub holds_joined : StoredRowsShow → (db : Database) (t : Tables) → IsSorted 
 holds_joined show db t sorted it = record {
   at = record { lines = it.places Lines; lots = it.places Lots; contracts = it.places Contracts; entries = it.places Entries };
   four = record {
-    lines = known db.schema (table_of Lines) (it.places Lines) refl (it.tables Lines);
-    lots = known db.schema (table_of Lots) (it.places Lots) refl (it.tables Lots);
-    contracts = known db.schema (table_of Contracts) (it.places Contracts) refl (it.tables Contracts);
-    entries = known db.schema (table_of Entries) (it.places Entries) refl (it.tables Entries);
+    lines = known db.schema (table_of Lines) (it.places Lines) (it.tables Lines);
+    lots = known db.schema (table_of Lots) (it.places Lots) (it.tables Lots);
+    contracts = known db.schema (table_of Contracts) (it.places Contracts) (it.tables Contracts);
+    entries = known db.schema (table_of Entries) (it.places Entries) (it.tables Entries);
   };
   sorted = sorted;
-  lines = show.lines line_row line_in (λ v x. record { line = refl; appropriation = refl; free = refl }) (db.trees (it.places Lines)) t.lines (stands id_cmp line_key line_row line_in (db.trees (it.places Lines)) t.lines (it.stands Lines));
-  lots = show.lots lot_row lot_in (λ v x. record { notice = refl; lot = refl; line = refl; reserved = refl }) (db.trees (it.places Lots)) t.lots (stands lot_cmp lot_key lot_row lot_in (db.trees (it.places Lots)) t.lots (it.stands Lots));
-  contracts = show.contracts contract_row contract_in (λ v x. record { contract = refl; notice = refl; lot = refl; signed = refl; released = refl }) (db.trees (it.places Contracts)) t.contracts
-      (stands nat_cmp contract_key contract_row contract_in (db.trees (it.places Contracts)) t.contracts (it.stands Contracts));
-  entries = show.entries entry_row entry_in (λ v x. record { contract = refl; entry = refl; kind = same_kind x.kind; amount = refl }) (db.trees (it.places Entries)) t.entries
-      (stands entry_cmp entry_key entry_row entry_in (db.trees (it.places Entries)) t.entries (it.stands Entries));
+  lines = show.lines (behind line_row) line_in (λ v x. record { line = refl; appropriation = refl; free = refl }) (db.trees (it.places Lines)) t.lines (stands id_cmp line_key (behind line_row) line_in (db.trees (it.places Lines)) t.lines (it.stands Lines));
+  lots = show.lots (behind lot_row) lot_in (λ v x. record { notice = refl; lot = refl; line = refl; reserved = refl }) (db.trees (it.places Lots)) t.lots (stands lot_cmp lot_key (behind lot_row) lot_in (db.trees (it.places Lots)) t.lots (it.stands Lots));
+  contracts = show.contracts (by_rowid contract_row) (read_by_rowid contract_read) (λ v x. record { contract = refl; notice = refl; lot = refl; signed = refl; released = refl }) (db.trees (it.places Contracts)) t.contracts
+      (stands nat_cmp contract_key (by_rowid contract_row) (read_by_rowid contract_read) (db.trees (it.places Contracts)) t.contracts (it.stands Contracts));
+  entries = show.entries (behind entry_row) entry_in (λ v x. record { contract = refl; entry = refl; kind = same_kind x.kind; amount = refl }) (db.trees (it.places Entries)) t.entries
+      (stands entry_cmp entry_key (behind entry_row) entry_in (db.trees (it.places Entries)) t.entries (it.stands Entries));
 }
 
 module _ {S : Type 0} (g : Ghosts S) (show : StoredRowsShow) (old : Held S) (rows : List Row) (t : Tables) (sorted : IsSorted t) (shows : ShowsTables (state g old) t) where

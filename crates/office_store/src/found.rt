@@ -135,9 +135,8 @@ pub(crate) fn enter<S: Alter>(conn: &mut Connection<S>) -> Result<(), OpenFault>
     match ask_version(conn) {
         Ok(rows) => {
             if !is_version_one(rows.as_slice()) {
-                return Err(OpenFault::NotAnOffice);
-            }
-            if has_key {
+                Err(OpenFault::NotAnOffice)
+            } else if has_key {
                 Ok(())
             } else {
                 Err(OpenFault::Store)

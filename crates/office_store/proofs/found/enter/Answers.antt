@@ -9,18 +9,18 @@ use Rattle.office_store.specs.Founding.{is_version_one, takes_a_name, LeavesOffi
 use Rattle.office_store.proofs.Founding.{sound_after, founded_after, leaves_before}
 use Rattle.office_store.proofs.found.enter.Goals as goal
 
-pub returns-then-is_version_one-clause-enters : goal.returns-then-is_version_one-clause-enters
-returns-then-is_version_one-clause-enters g c clean =
+pub returns-then-has_key-clause-enters : goal.returns-then-has_key-clause-enters
+returns-then-has_key-clause-enters g c clean =
     let one : is_version_one c.in-Ok.rows.items ≡ true = search rules in
     inl (c.in-Ok.rows.items, c.in-Ok.ensures.asked clean, one)
 
-pub returns-in-Ok-clause-none : goal.returns-in-Ok-clause-none
-returns-in-Ok-clause-none g c clean why =
+pub returns-then-not-is_version_one-clause-none : goal.returns-then-not-is_version_one-clause-none
+returns-then-not-is_version_one-clause-none g c clean why =
     let other : is_version_one c.in-Ok.rows.items ≡ false = search rules in
     inl (c.in-Ok.rows.items, c.in-Ok.ensures.asked clean, other)
 
-pub returns-in-Ok-clause-known : goal.returns-in-Ok-clause-known
-returns-in-Ok-clause-known g c clean t shows why =
+pub returns-then-not-is_version_one-clause-known : goal.returns-then-not-is_version_one-clause-known
+returns-then-not-is_version_one-clause-known g c clean t shows why =
     let other : is_version_one c.in-Ok.rows.items ≡ false = search rules in
     true≢false (sym (ap is_version_one (c.in-Ok.ensures.one clean t shows)) ∙ other)
 
