@@ -14,7 +14,7 @@ use Rattle.sqlite_resolve.specs.Compare.{of_column, of_declared}
 use Rattle.sqlite_resolve.specs.declared.compare.Affinity.TheVariants as affinity
 use Rattle.office_joins.specs.Select.{Trees4}
 use Rattle.office_joins.specs.Known.{Holds, HoldsFour, line_columns, lot_columns, contract_columns, entry_columns}
-use Rattle.office_joins.proofs.Qualified.{Pick, Finds, plainly}
+use Rattle.office_joins.proofs.Qualified.{Finds, plainly}
 use Rattle.office_joins.proofs.Whole.{among}
 
 abbrev pub bound_of : Name → ℕ → ℕ → Bound
