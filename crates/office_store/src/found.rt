@@ -7,6 +7,7 @@ ghost use Rattle.sqlite.specs.State.{HasCleanDisk, Survives};
 ghost use Rattle.office_base.specs.Tables.{Tables};
 ghost use Rattle.office_sql.specs.Steps.{Refused, ShowsTables};
 ghost use Rattle.office_store.specs.Founding.{Founded, LeavesNew, LeavesOffice, Enters, IsNoOffice, IsSoundOpen, takes_a_name, is_version_one};
+ghost use Rattle.office_store.specs.SqlMeaning.{LeavesOffices};
 
 use crate::faults::fault;
 use office_base::shelf::ShelfFault;
@@ -115,12 +116,27 @@ fn is_version_one(rows: &[Row]) -> bool
     matches!(rows[0].get_ref(0), Ok(ValueRef::Int(1)))
 }
 
-/// Enters the office that is there, or makes one where no name of the office's is taken.
+// A store that answered may have been shut by the end of the transaction in which it was asked: this one is open.
+fn still_open<S: Alter>(conn: &mut Connection<S>) -> Result<(), OpenFault>
+    ensures is_open { HasCleanDisk (state S.Store conn.new) → OnOk result (IsTrue (state S.Store conn.new).is_open) }
+    ensures cause { IfErr result (λ e. e ≡ OpenFault.NotAnOffice → ⊥) }
+    ensures kept { HasCleanDisk (state S.Store conn.new) → Refused (state S.Store conn.old) (state S.Store conn.new) }
+    ensures survives { Survives (state S.Store conn.old) (state S.Store conn.new) (λ _. ⊥) }
+{
+    if let Err(error) = conn.prepare("SELECT version FROM office") {
+        return Err(open_fault(error));
+    }
+    Ok(())
+}
+
+/// Enters the office that is there, or makes one where no name of the office's is taken. The store is open then.
 pub(crate) fn enter<S: Alter>(conn: &mut Connection<S>) -> Result<(), OpenFault>
     ensures enters { HasCleanDisk (state S.Store conn.new) → OnOk result (Enters S.Store conn.old conn.new) }
     ensures none { HasCleanDisk (state S.Store conn.new) → IfErr result (λ e. e ≡ OpenFault.NotAnOffice → IsNoOffice S.Store conn.old) }
     ensures found { HasCleanDisk (state S.Store conn.new) → (t : Tables) → ShowsTables (state S.Store conn.old) t → OnOk result (ShowsTables (state S.Store conn.new) t) }
     ensures known { HasCleanDisk (state S.Store conn.new) → (t : Tables) → ShowsTables (state S.Store conn.old) t → IfErr result (λ e. e ≡ OpenFault.NotAnOffice → ⊥) }
+    ensures is_open { HasCleanDisk (state S.Store conn.new) → OnOk result (IsTrue (state S.Store conn.new).is_open) }
+    ensures sound { HasCleanDisk (state S.Store conn.new) → OnOk result ((t : Tables) → ShowsTables (state S.Store conn.new) t → LeavesOffices (state S.Store conn.new)) }
     ensures kept { HasCleanDisk (state S.Store conn.new) → OnErr result (Refused (state S.Store conn.old) (state S.Store conn.new)) }
     ensures survives { Survives (state S.Store conn.old) (state S.Store conn.new) (LeavesOffice (state S.Store conn.old)) }
 {
@@ -130,10 +146,12 @@ pub(crate) fn enter<S: Alter>(conn: &mut Connection<S>) -> Result<(), OpenFault>
     let taken = takes_a_name(conn.schema());
     match ask_version(conn) {
         Ok(rows) => {
-            if is_version_one(rows.as_slice()) {
-                Ok(())
-            } else {
-                Err(OpenFault::NotAnOffice)
+            if !is_version_one(rows.as_slice()) {
+                return Err(OpenFault::NotAnOffice);
+            }
+            match still_open(conn) {
+                Ok(()) => Ok(()),
+                Err(fault) => Err(fault),
             }
         }
         Err(Error::SqlInputError(_)) => {

@@ -12,15 +12,26 @@ use crate::faults::fault;
 use crate::joined_rows::take_row;
 use crate::shelf::SqlShelf;
 use office_base::shelf::ShelfFault;
-use office_joins::select::{join_is_plain, list_joined, stored_rows_show};
+use office_joins::select::{join_is_no_write, join_is_plain, list_joined, stored_rows_show};
 use office_ledger::joined::JoinedRow;
 use sqlite::{Alter, Connection, Rows};
 
 /// The joined rows of the ledger, in the order of their keys. They may be dropped at any row.
-#[derive(Drop)]
 pub struct LedgerRows<'a, S: Alter> {
     rows: Rows<'a, S>,
     is_broken: bool,
+}
+
+// The connection stays as it is at the last row that was asked for.
+impl<S: Alter> Drop for LedgerRows<'_, S> {
+    fn drop(self)
+        ensures { self.exit.0.0.now ≡ self.entry.rows.conn.now }
+    {
+        let LedgerRows {
+            rows: _,
+            is_broken: _,
+        } = self;
+    }
 }
 
 // A store that was shut, and one in a transaction, refuse.
@@ -49,6 +60,7 @@ impl<'a, S: Alter> LedgerRows<'a, S> {
         ensures unbroken { IfOk result (λ it. it.is_broken ≡ false) }
     {
         join_is_plain();
+        join_is_no_write();
         stored_rows_show();
         ready(conn)?;
         match conn.query(list_joined(), &[]) {
