@@ -12,13 +12,13 @@ use Rattle.sqlite.specs.Held.{Held, state}
 use Rattle.sqlite.specs.Listing.{understood, listing_schema}
 use Rattle.sqlite.specs.State.{State, Shows, Shown, IsLive}
 use Rattle.sqlite.specs.Steps.{over_memory, IsEmpty}
-use Rattle.office_base.specs.Tables.{Tables, no_tables}
+use Rattle.office_base.specs.Tables.{no_tables}
 use Rattle.office_sql.specs.Making.{Founds, KeepsOthers}
 use Rattle.office_sql.specs.Standing.{Holds}
 use Rattle.office_sql.specs.Steps.{Refused, ShowsTables}
 use Rattle.office_sql.specs.Version.{get_version}
 use Rattle.office_store.specs.Founding.{Founded, LeavesNew, LeavesOffice, IsSoundOpen, Answered, Enters}
-use Rattle.office_store.specs.SqlMeaning.{LeavesOffices}
+use Rattle.office_store.specs.SqlMeaning.{LeavesShown}
 
 sound_now : (old : State) → (IsTrue old.is_open → old.now ≡ old.committed) → IsSoundOpen old → IsTrue old.is_open → IsDatabase old.now
 sound_now old settled sound o = subst IsDatabase (sym (settled o)) (sound o)
@@ -61,7 +61,7 @@ refused_on a b c first second = record {
 }
 
 -- a stop of a store that is open leaves what it shows
-pub shown_is_left : (s : State) → IsTrue s.is_open → (IsTrue s.is_open → (db : Trees) → s.may_leave db → db ≡ s.committed.trees) → (t : Tables) → ShowsTables s t → LeavesOffices s
+pub shown_is_left : (s : State) → IsTrue s.is_open → (IsTrue s.is_open → (db : Trees) → s.may_leave db → db ≡ s.committed.trees) → LeavesShown s
 shown_is_left s open_now settled t shows db left = (t, (s.committed, settled open_now db left, shows open_now))
 
 -- ---- a database that has nothing

@@ -12,6 +12,10 @@ use Rattle.office_sql.specs.Steps.{ShowsTables, Leaves, MayLeave}
 abbrev pub LeavesOffices : State → Type 0
 LeavesOffices s = (db : Trees) → s.may_leave db → (u : Tables) × Leaves u db
 
+-- they do where the last commit shows the tables of an office
+abbrev pub LeavesShown : State → Type 0
+LeavesShown s = (t : Tables) → ShowsTables s t → LeavesOffices s
+
 -- A store that was shut shows no tables; what it held is in the order of its keys in any case.
 abbrev pub sql_meaning : {S : Type 0} → Ghosts S → Meaning (Held S × ℕ)
 sql_meaning g = record {

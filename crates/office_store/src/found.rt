@@ -7,7 +7,7 @@ ghost use Rattle.sqlite.specs.State.{HasCleanDisk, Survives};
 ghost use Rattle.office_base.specs.Tables.{Tables};
 ghost use Rattle.office_sql.specs.Steps.{Refused, ShowsTables};
 ghost use Rattle.office_store.specs.Founding.{Founded, LeavesNew, LeavesOffice, Enters, IsNoOffice, IsSoundOpen, takes_a_name, is_version_one};
-ghost use Rattle.office_store.specs.SqlMeaning.{LeavesOffices};
+ghost use Rattle.office_store.specs.SqlMeaning.{LeavesShown};
 
 use crate::faults::fault;
 use office_base::shelf::ShelfFault;
@@ -136,7 +136,7 @@ pub(crate) fn enter<S: Alter>(conn: &mut Connection<S>) -> Result<(), OpenFault>
     ensures found { HasCleanDisk (state S.Store conn.new) → (t : Tables) → ShowsTables (state S.Store conn.old) t → OnOk result (ShowsTables (state S.Store conn.new) t) }
     ensures known { HasCleanDisk (state S.Store conn.new) → (t : Tables) → ShowsTables (state S.Store conn.old) t → IfErr result (λ e. e ≡ OpenFault.NotAnOffice → ⊥) }
     ensures is_open { HasCleanDisk (state S.Store conn.new) → OnOk result (IsTrue (state S.Store conn.new).is_open) }
-    ensures sound { HasCleanDisk (state S.Store conn.new) → OnOk result ((t : Tables) → ShowsTables (state S.Store conn.new) t → LeavesOffices (state S.Store conn.new)) }
+    ensures sound { HasCleanDisk (state S.Store conn.new) → OnOk result (LeavesShown (state S.Store conn.new)) }
     ensures kept { HasCleanDisk (state S.Store conn.new) → OnErr result (Refused (state S.Store conn.old) (state S.Store conn.new)) }
     ensures survives { Survives (state S.Store conn.old) (state S.Store conn.new) (LeavesOffice (state S.Store conn.old)) }
 {

@@ -6,10 +6,10 @@ ghost use Rattle.sqlite.specs.Files.{file_state};
 ghost use Rattle.sqlite.specs.Held.{state};
 ghost use Rattle.sqlite.specs.State.{HasCleanDisk};
 ghost use Rattle.sqlite.specs.Steps.{over_memory};
-ghost use Rattle.office_base.specs.Tables.{Tables, no_tables};
+ghost use Rattle.office_base.specs.Tables.{no_tables};
 ghost use Rattle.office_sql.specs.Steps.{ShowsTables};
 ghost use Rattle.office_store.specs.Reopening.{OpensAgain, OpensBlank, EntersFiles, EntersOpened, RefusesFiles};
-ghost use Rattle.office_store.specs.SqlMeaning.{LeavesOffices};
+ghost use Rattle.office_store.specs.SqlMeaning.{LeavesOffices, LeavesShown};
 
 use crate::faults::fault;
 use crate::found::{OpenFault, enter, open_fault};
@@ -66,7 +66,7 @@ impl SqlShelf<MemStore> {
 
 impl<D: Disk + Drop> SqlShelf<FileStore<D>> {
     /// The office in two files, or a new one where no name of the office's is taken there. Other tables stay. Where it shows the tables of an
-    /// office, a stop leaves an office, now and after each call.
+    /// office, a stop leaves one.
     pub fn open_files(
         alloc: Global,
         files: Files<D>,
@@ -75,7 +75,7 @@ impl<D: Disk + Drop> SqlShelf<FileStore<D>> {
         requires log { IsTrue (D.Disk.is_usable files.log) }
         requires db { IsTrue (D.Disk.is_usable files.db) }
         ensures is_open { IfOk result (λ shelf. HasCleanDisk (file_state shelf.0) → IsTrue (file_state shelf.0).is_open) }
-        ensures sound { IfOk result (λ shelf. HasCleanDisk (file_state shelf.0) → (t : Tables) → ShowsTables (file_state shelf.0) t → LeavesOffices (file_state shelf.0)) }
+        ensures sound { IfOk result (λ shelf. HasCleanDisk (file_state shelf.0) → LeavesShown (file_state shelf.0)) }
         ensures again { IfOk result (λ shelf. OpensAgain files shelf.0) }
         ensures blank { IfOk result (λ shelf. OpensBlank files shelf.0) }
         ensures enters { IfOk result (λ shelf. HasCleanDisk (file_state shelf.0) → EntersFiles files shelf.0) }
@@ -120,7 +120,7 @@ impl SqlShelf<FileStore<File>> {
     /// The office in a file of the host, or a new one where no name of the office's is taken there. No clause can tie it to the path.
     pub fn open(rt: &HostRuntime, path: &str) -> Result<SqlShelf<FileStore<File>>, OpenFault>
         ensures is_open { IfOk result (λ shelf. HasCleanDisk (file_state shelf.0) → IsTrue (file_state shelf.0).is_open) }
-        ensures sound { IfOk result (λ shelf. HasCleanDisk (file_state shelf.0) → (t : Tables) → ShowsTables (file_state shelf.0) t → LeavesOffices (file_state shelf.0)) }
+        ensures sound { IfOk result (λ shelf. HasCleanDisk (file_state shelf.0) → LeavesShown (file_state shelf.0)) }
         ensures enters { IfOk result (λ shelf. HasCleanDisk (file_state shelf.0) → EntersOpened shelf.0) }
         ensures count { IfOk result (λ shelf. shelf.1 ≡ 0) }
     {
