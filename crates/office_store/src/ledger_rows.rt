@@ -17,21 +17,10 @@ use office_ledger::joined::JoinedRow;
 use sqlite::{Alter, Connection, Rows};
 
 /// The joined rows of the ledger, in the order of their keys. They may be dropped at any row.
+#[derive(Drop)]
 pub struct LedgerRows<'a, S: Alter> {
     rows: Rows<'a, S>,
     is_broken: bool,
-}
-
-// The connection stays as it is at the last row that was asked for.
-impl<S: Alter> Drop for LedgerRows<'_, S> {
-    fn drop(self)
-        ensures { self.exit.0.0.now ≡ self.entry.rows.conn.now }
-    {
-        let LedgerRows {
-            rows: _,
-            is_broken: _,
-        } = self;
-    }
 }
 
 // A store that was shut, and one in a transaction, refuse.

@@ -34,25 +34,25 @@ returns-in-Ok-still_open-clause-survives g c =
     survives_then old (state g.S.Store c.ask_version.new.conn) (state g.S.Store c.still_open.new.conn) _ _ (LeavesOffice old) (λ _ db none. absurd none) (λ _ db none. absurd none)
     c.ask_version.ensures.survives c.still_open.ensures.survives
 
-pub returns-in-Err-still_open-clause-kept : goal.returns-in-Err-still_open-clause-kept
-returns-in-Err-still_open-clause-kept g c clean =
+pub returns-in-Ok-clause-kept : goal.returns-in-Ok-clause-kept
+returns-in-Ok-clause-kept g c clean =
     let mid = state g.S.Store c.ask_version.new.conn in
     let early : HasCleanDisk mid = omega (arith, clean, c.still_open.ensures.survives.clean) in
     refused_on (state g.S.Store c.args.conn.now) mid (state g.S.Store c.still_open.new.conn) (c.ask_version.ensures.kept early) (c.still_open.ensures.kept clean)
 
-pub returns-in-Err-still_open-clause-survives : goal.returns-in-Err-still_open-clause-survives
-returns-in-Err-still_open-clause-survives g c =
+pub returns-in-Ok-clause-survives : goal.returns-in-Ok-clause-survives
+returns-in-Ok-clause-survives g c =
     let old = state g.S.Store c.args.conn.now in
     survives_then old (state g.S.Store c.ask_version.new.conn) (state g.S.Store c.still_open.new.conn) _ _ (LeavesOffice old) (λ _ db none. absurd none) (λ _ db none. absurd none)
     c.ask_version.ensures.survives c.still_open.ensures.survives
 
-pub returns-in-Ok-clause-none : goal.returns-in-Ok-clause-none
-returns-in-Ok-clause-none g c clean why =
+pub returns-then-not-is_version_one-clause-none : goal.returns-then-not-is_version_one-clause-none
+returns-then-not-is_version_one-clause-none g c clean why =
     let other : is_version_one c.in-Ok.rows.items ≡ false = search rules in
     inl (c.in-Ok.rows.items, c.in-Ok.ensures.asked clean, other)
 
-pub returns-in-Ok-clause-known : goal.returns-in-Ok-clause-known
-returns-in-Ok-clause-known g c clean t shows why =
+pub returns-then-not-is_version_one-clause-known : goal.returns-then-not-is_version_one-clause-known
+returns-then-not-is_version_one-clause-known g c clean t shows why =
     let other : is_version_one c.in-Ok.rows.items ≡ false = search rules in
     true≢false (sym (ap is_version_one (c.in-Ok.ensures.one clean t shows)) ∙ other)
 
