@@ -94,6 +94,7 @@ impl Lookups for BrokenShelf {
       holds = λ s t. (s.shelf.0 ≡ t) × IsSorted t;
       honest = λ s. Unit {0};
       may_leave = λ s t. s.shelf.0 ≡ t;
+      leaves_sound = λ s. Unit {0};
       fault_count = λ s. s.faults;
       may_break = Unit {0};
     } };

@@ -1,9 +1,10 @@
 -- A command that was asked for is done, or nothing is.
-use Rattle.std.specs.Prelude.{◌≡◌, ℕ, ◌⊎◌, List, Result, Ok, Err, IsErr, OnOk, OnErr}
+use Rattle.std.specs.Prelude.{◌≡◌, ℕ, ◌⊎◌, List, Result, Ok, Err, IsErr, IfErr, OnOk, OnErr}
 use Rattle.std.proofs.Common.{ap, ◌∙◌, subst, inl, inr}
 use Rattle.office_acts.specs.declared.command.Caller.{Caller}
 use Rattle.office_acts.specs.declared.commands.Command.{Command}
 use Rattle.office_values.specs.declared.refusal.Refusal.{Refusal}
+use Rattle.office_values.specs.declared.refusal.Refusal.TheVariants.{Unavailable}
 use Rattle.office_values.specs.declared.settings.Settings.{Settings}
 use Rattle.office_base.specs.Tables.{Tables, after_puts}
 use Rattle.office_base.specs.Shelves.{Meaning, Alters, Keeps}
@@ -11,7 +12,7 @@ use Rattle.office_base.specs.declared.puts.Put.{Put}
 use Rattle.office_publications.specs.Keeping.{KeepsReleases, kept_next}
 use Rattle.office_plans.specs.Asking.{given}
 use Rattle.office_plans.specs.Plans.{Plan}
-use Rattle.office_desk.specs.Steps.{Does, IsPlan}
+use Rattle.office_desk.specs.Steps.{Does, IsPlan, IsWholeOf}
 
 module _ {S : Type 0} (M : Meaning S) (settings : Settings) (moment : ℕ) (caller : Caller) (command : Command) where
   -- it was refused
@@ -23,7 +24,8 @@ module _ {S : Type 0} (M : Meaning S) (settings : Settings) (moment : ℕ) (call
     all = λ honest t held keeps. tt;
     none = λ honest t held. kept.same honest t held;
     stop_all = λ honest t held keeps. tt;
-    stop_none = λ honest t held keeps u left. inl (kept.stop honest t held u left);
+    stop_none = λ honest u left. inl (kept.stop honest u left);
+    sound = λ honest was. kept.sound honest was;
   }
 
   -- it was planned, and then done or not
@@ -33,28 +35,33 @@ module _ {S : Type 0} (M : Meaning S) (settings : Settings) (moment : ℕ) (call
         → after_puts planned.puts t ≡ kept_next settings (given t moment caller command)
     next_is t is keeps = ap (λ (ps : List Put). after_puts ps t) (is.put keeps).puts
 
-    pub does_what_was_planned : {T : Type 0} (result : Result T Refusal) → Alters M mid new result (after_puts planned.puts)
+    pub does_what_was_planned : {T : Type 0} (result : Result T Refusal) → Alters M mid new result (after_puts planned.puts) → IfErr result (λ why. why ≡ Unavailable)
         → Does M settings old new result (λ s. given s moment caller command)
-    does_what_was_planned (Ok done) alters = record {
+    does_what_was_planned (Ok done) alters only = record {
       before = λ honest. kept.before (alters.before honest);
       all = λ honest t held keeps. subst (λ (u : Tables). M.holds new u) (next_is t (plan (alters.before honest) t held) keeps)
           (alters.all honest t (kept.same (alters.before honest) t held));
       none = λ honest t held. tt;
       stop_all = λ honest t held keeps u left.
           alters.stop_all honest t (kept.same (alters.before honest) t held) u left ∙ next_is t (plan (alters.before honest) t held) keeps;
-      stop_none = λ honest t held keeps. tt;
+      stop_none = λ honest. tt;
+      sound = λ honest was. alters.sound honest (kept.sound (alters.before honest) was);
     }
-    does_what_was_planned (Err why) alters = record {
+    does_what_was_planned (Err why) alters only = record {
       before = λ honest. kept.before (alters.before honest);
       all = λ honest t held keeps. tt;
       none = λ honest t held. alters.none honest t (kept.same (alters.before honest) t held);
       stop_all = λ honest t held keeps. tt;
-      stop_none = λ honest t held keeps u left.
-          stopped t (plan (alters.before honest) t held) keeps u (alters.before honest) held
-          (alters.stop_none honest t (kept.same (alters.before honest) t held) u left);
+      stop_none = λ honest u left. stopped u (alters.before honest) (alters.stop_none honest u left);
+      sound = λ honest was. alters.sound honest (kept.sound (alters.before honest) was);
     }
       where
-        stopped : (t : Tables) → IsPlan settings (given t moment caller command) planned → KeepsReleases t → (u : Tables) → M.honest mid → M.holds old t
-            → M.may_leave mid u ⊎ (u ≡ after_puts planned.puts t) → M.may_leave old u ⊎ (u ≡ kept_next settings (given t moment caller command))
-        stopped t is keeps u honest held (inl left) = inl (kept.stop honest t held u left)
-        stopped t is keeps u honest held (inr done) = inr (done ∙ next_is t is keeps)
+        stopped : (u : Tables) → M.honest mid → M.may_leave mid u ⊎ ((t : Tables) → M.holds mid t → u ≡ after_puts planned.puts t)
+            → M.may_leave old u ⊎ ((why ≡ Unavailable) × IsWholeOf M settings old (λ s. given s moment caller command) u)
+        stopped u honest (inl left) = inl (kept.stop honest u left)
+        stopped u honest (inr done) = inr (
+          only,
+          λ t held keeps.
+              let is = plan honest t held in
+              (is.allowed, done t (kept.same honest t held) ∙ next_is t is keeps),
+        )

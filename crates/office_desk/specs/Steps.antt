@@ -1,5 +1,5 @@
 -- What a desk answers: the machine's step, or want of memory or of the store.
-use Rattle.std.specs.Prelude.{◌≡◌, ℕ, ◌⊎◌, List, ◌∷◌, Some, None, Result, Ok, Err, OnOk, OnErr, Vec}
+use Rattle.std.specs.Prelude.{◌≡◌, ℕ, ◌⊎◌, List, ◌∷◌, Some, None, Result, Ok, Err, IfErr, OnOk, OnErr, Vec}
 use Rattle.std.specs.declared.alloc.Global.{Global}
 use Rattle.office_acts.specs.declared.command.Caller.{Caller}
 use Rattle.office_acts.specs.declared.queries.Query.{Query}
@@ -48,16 +48,20 @@ abbrev pub IsAnswered : Settings → Given → Result (List ℕ) Refusal → Typ
 IsAnswered settings x (Ok reply) = (refusal_of x ≡ None) × (reply ≡ reply_text (accepted_reply x))
 IsAnswered settings x (Err why) = (refusal_of x ≡ Some why) ⊎ (why ≡ Unavailable)
 
--- a command that was asked for: it is done where the answer is Ok and the office keeps its releases, and else nothing is; a stop leaves the
--- one or the other whole
+-- these are the tables after the whole command, which isn't refused, of each office that was held with its releases
+abbrev pub IsWholeOf : {S : Type 0} → Meaning S → Settings → S → (Tables → Given) → Tables → Type 0
+IsWholeOf M settings old x u = (t : Tables) → M.holds old t → KeepsReleases t → (refusal_of (x t) ≡ None) × (u ≡ kept_next settings (x t))
+
+-- a command that was asked for: it is done where the answer is Ok and the office keeps its releases, and else nothing is. A stop leaves the
+-- one or the other whole: after a refusal what it could leave before, and the whole command perhaps where the answer is Unavailable
 pub record Does {S T : Type 0} (M : Meaning S) (settings : Settings) (old new : S) (result : Result T Refusal) (x : Tables → Given) : Type 0 where
   pub before : M.honest new → M.honest old
   pub all : M.honest new → (t : Tables) → M.holds old t → KeepsReleases t → OnOk result (M.holds new (kept_next settings (x t)))
   pub none : M.honest new → (t : Tables) → M.holds old t → OnErr result (M.holds new t)
   pub stop_all : M.honest new → (t : Tables) → M.holds old t → KeepsReleases t
       → OnOk result ((u : Tables) → M.may_leave new u → u ≡ kept_next settings (x t))
-  pub stop_none : M.honest new → (t : Tables) → M.holds old t → KeepsReleases t
-      → OnErr result ((u : Tables) → M.may_leave new u → M.may_leave old u ⊎ (u ≡ kept_next settings (x t)))
+  pub stop_none : M.honest new → IfErr result (λ why. (u : Tables) → M.may_leave new u → M.may_leave old u ⊎ ((why ≡ Unavailable) × IsWholeOf M settings old x u))
+  pub sound : M.honest new → M.leaves_sound old → M.leaves_sound new
 
 -- a look at a package needs an office that commands led to, with its releases kept; any other look needs nothing
 abbrev pub Needs : Settings → Query → Tables → Type 0

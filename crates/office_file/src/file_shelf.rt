@@ -1,9 +1,9 @@
 //! An office in a file of the host.
-ghost use Rattle.std.specs.Prelude.{◌≡◌, IfOk};
+ghost use Rattle.std.specs.Prelude.{◌≡◌, IfOk, IsTrue};
 ghost use Rattle.sqlite.specs.Files.{file_state, over_files};
 ghost use Rattle.sqlite.specs.State.{HasCleanDisk};
 ghost use Rattle.office_store.specs.Reopening.{EntersOpened};
-ghost use Rattle.office_store.specs.SqlMeaning.{sql_meaning, inside};
+ghost use Rattle.office_store.specs.SqlMeaning.{sql_meaning, inside, LeavesShown};
 
 use office_base::counts::Sequence;
 use office_base::ledger::{ContractSums, LedgerRow};
@@ -36,6 +36,8 @@ impl Drop for FileShelf {
 impl FileShelf {
     /// The office in this file, or a new one where no name of the office's is taken there. No clause can tie it to the path.
     pub fn open(rt: &HostRuntime, path: &str) -> Result<FileShelf, OpenFault>
+        ensures is_open { IfOk result (λ shelf. HasCleanDisk (file_state shelf.shelf.0) → IsTrue (file_state shelf.shelf.0).is_open) }
+        ensures sound { IfOk result (λ shelf. HasCleanDisk (file_state shelf.shelf.0) → LeavesShown (file_state shelf.shelf.0)) }
         ensures enters { IfOk result (λ shelf. HasCleanDisk (file_state shelf.shelf.0) → EntersOpened shelf.shelf.0) }
         ensures count { IfOk result (λ shelf. shelf.shelf.1 ≡ 0) }
     {

@@ -1,5 +1,6 @@
 -- One answer to what is meant: a refusal, or the response, or Unavailable.
 use Rattle.std.proofs.Common.{◌≡◌, ℕ, ◌⊎◌, inl, inr, true, false, List, ◌∷◌, Option, Some, None, Result, Ok, Err, refl, sym, ap, ◌∙◌, subst}
+use Rattle.std.specs.Prelude.{is_none}
 use Rattle.office_acts.specs.Queries.{kind_of}
 use Rattle.office_acts.specs.declared.command.Caller.{Caller}
 use Rattle.office_acts.specs.declared.commands.Command.{Command}
@@ -24,11 +25,12 @@ use Rattle.office_plans.specs.Replies.{text_of}
 use Rattle.office_desk.specs.Steps.{IsPlan, IsPut, IsSeen, Needs}
 use Rattle.office_requests.specs.declared.route.Allow.{Allow}
 use Rattle.office_http.specs.Meaning.{Meant, Gives, Sees}
-use Rattle.office_http.specs.Answering.{told_as, seen_as, reply_to, tables_after, unavailable_text}
+use Rattle.office_http.specs.Answering.{StopsAfter, is_accepted, told_as, seen_as, reply_to, tables_after, unavailable_text}
 use Rattle.office_http.specs.Inside.Meant.{Answered, HoldsStanding}
 use Rattle.office_http.specs.Response.{response_of}
 use Rattle.office_http.specs.declared.reply.Reply as replies
 use Rattle.office_http.specs.declared.reply.Reply.TheVariants.{Json, Refused}
+use Rattle.office_http.proofs.LeftSteps.{leaves_accepted, leaves_either, stays_refused, stays_unavailable}
 use Rattle.office_http.proofs.ToldSteps.{accepted_as, refused_as, told_seen}
 
 -- a text that tells a refusal, or that memory is wanting
@@ -55,40 +57,55 @@ has_needed settings s stands (queries.Security security) = tt
 abbrev IsSaid : Settings → Caller → Query → Tables → Result (List ℕ) Refusal → Type 0
 IsSaid settings caller query s result = (result ≡ text_of (told (packages settings) s caller query)) ⊎ (result ≡ Err Unavailable)
 
-module _ {S : Type 0} (M : Meaning S) (settings : Settings) (new : S) (s : Tables) (moment : ℕ) (text : List ℕ) where
+module _ {S : Type 0} (M : Meaning S) (settings : Settings) (old new : S) (s : Tables) (moment : ℕ) (text : List ℕ) where
+  -- nothing is added to what a stop may leave
+  abbrev pub Stays : Type 0
+  Stays = (u : Tables) → M.may_leave new u → M.may_leave old u
+
   -- Unavailable is answered, and the office stays
-  pub is_unavailable : (m : Meant) → text ≡ unavailable_text → HoldsStanding M settings new s → Answered M settings new s moment m text
-  is_unavailable m is held = (true, is, held)
+  pub is_unavailable : (m : Meant) → text ≡ unavailable_text → HoldsStanding M settings new s → Stays → Answered M settings old new s moment m text
+  is_unavailable m is held stays = (true, is, held, stays_unavailable M settings old new s moment m stays)
 
   -- a reply is told, and the office after it is held
   pub is_told : (t : Tables) (m : Meant) (reply : replies.Reply) → reply_to settings s moment m ≡ reply → tables_after settings s moment m ≡ t
-      → text ≡ response_of reply → HoldsStanding M settings new t → Answered M settings new s moment m text
-  is_told t m reply replies after is held =
-      (false, is ∙ ap response_of (sym replies), subst (λ (u : Tables). HoldsStanding M settings new u) (sym after) held)
+      → text ≡ response_of reply → HoldsStanding M settings new t → StopsAfter M settings old new false s moment m → Answered M settings old new s moment m text
+  is_told t m reply replies after is held stops =
+      (false, is ∙ ap response_of (sym replies), subst (λ (u : Tables). HoldsStanding M settings new u) (sym after) held, stops)
 
   -- a refusal is answered, and the office stays
   pub is_refused : (m : Meant) (why : Refusal) (method : Option Allow) → reply_to settings s moment m ≡ Refused why method
-      → tables_after settings s moment m ≡ s → TellsRefusal why method text → HoldsStanding M settings new s → Answered M settings new s moment m text
-  is_refused m why method replies stays (inl is) held = is_told s m (Refused why method) replies stays is held
-  is_refused m why method replies stays (inr is) held = is_unavailable m is held
+      → tables_after settings s moment m ≡ s → is_accepted s moment m ≡ false → TellsRefusal why method text → HoldsStanding M settings new s → Stays
+      → Answered M settings old new s moment m text
+  is_refused m why method replies stands refused (inl is) held stays =
+      is_told s m (Refused why method) replies stands is held (stays_refused M settings old new s moment m refused stays)
+  is_refused m why method replies stands refused (inr is) held stays = is_unavailable m is held stays
 
   -- a command that is refused
   pub command_refused : (caller : Caller) (command : Command) (why : Refusal)
-      → (refusal_of (given s moment caller command) ≡ Some why) ⊎ (why ≡ Unavailable) → TellsRefusal why None text → HoldsStanding M settings new s
-      → Answered M settings new s moment (Gives caller command) text
-  command_refused caller command why (inl guarded) tells held =
+      → (refusal_of (given s moment caller command) ≡ Some why) ⊎ (why ≡ Unavailable) → TellsRefusal why None text → HoldsStanding M settings new s → Stays
+      → Answered M settings old new s moment (Gives caller command) text
+  command_refused caller command why (inl guarded) tells held stays =
       let x : Given = given s moment caller command in
       is_refused (Gives caller command) why None
       (ap (λ (o : Option Refusal). told_as (reply_by o (publishing settings) x)) guarded)
       (ap (λ (o : Option Refusal). office_kept o settings x) guarded)
-      tells held
-  command_refused caller command why (inr is) tells held = is_unavailable (Gives caller command) (tells_unavailable why text is tells) held
+      (ap (λ (o : Option Refusal). is_none o) guarded)
+      tells held stays
+  command_refused caller command why (inr is) tells held stays = is_unavailable (Gives caller command) (tells_unavailable why text is tells) held stays
+
+  -- the tables after a command that was planned
+  planned_after : (caller : Caller) (command : Command) (planned : Plan) → IsPlan settings (given s moment caller command) planned → Stands settings s
+      → after_puts planned.puts s ≡ tables_after settings s moment (Gives caller command)
+  planned_after caller command planned plan stands =
+      let x : Given = given s moment caller command in
+      ap (λ (ps : List Put). after_puts ps s) (plan.put stands.keeps).puts ∙ ap (λ (o : Option Refusal). office_kept o settings x) (sym plan.allowed)
 
   -- a command that is done: it joins those that led to the office before it, and its release is kept
   pub command_done : KeptStepsReach → ReleasesStayKept → (caller : Caller) (command : Command) (planned : Plan)
       → IsPlan settings (given s moment caller command) planned → IsRegistered caller s.tenderers → Stands settings s
-      → text ≡ response_of (Json planned.reply) → M.holds new (after_puts planned.puts s) → Answered M settings new s moment (Gives caller command) text
-  command_done reach stay caller command planned plan registered stands is held =
+      → text ≡ response_of (Json planned.reply) → M.holds new (after_puts planned.puts s) → ((u : Tables) → M.may_leave new u → u ≡ after_puts planned.puts s)
+      → Answered M settings old new s moment (Gives caller command) text
+  command_done reach stay caller command planned plan registered stands is held leaves =
       let x : Given = given s moment caller command in
       let put : IsPut settings x planned = plan.put stands.keeps in
       let after : HoldsStanding M settings new (kept_next settings x) = (
@@ -103,25 +120,39 @@ module _ {S : Type 0} (M : Meaning S) (settings : Settings) (new : S) (s : Table
       (ap (λ (o : Option Refusal). told_as (reply_by o (publishing settings) x)) plan.allowed ∙ accepted_as x plan.allowed ∙ ap Json (sym plan.reply))
       (ap (λ (o : Option Refusal). office_kept o settings x) plan.allowed)
       is after
+      (leaves_accepted M settings old new s moment (Gives caller command) (ap (λ (o : Option Refusal). is_none o) plan.allowed)
+      (λ u left. leaves u left ∙ planned_after caller command planned plan stands))
+
+  -- a command that was planned and isn't done: the office stays, and a stop may leave the whole command
+  pub command_undone : (caller : Caller) (command : Command) (planned : Plan) → IsPlan settings (given s moment caller command) planned
+      → text ≡ unavailable_text → HoldsStanding M settings new s → ((u : Tables) → M.may_leave new u → M.may_leave old u ⊎ (u ≡ after_puts planned.puts s))
+      → Answered M settings old new s moment (Gives caller command) text
+  command_undone caller command planned plan is held leaves = (
+    true,
+    is,
+    held,
+    leaves_either M settings old new s moment (Gives caller command) (ap (λ (o : Option Refusal). is_none o) plan.allowed)
+        (λ u left. elim (leaves u left) [ inl before ↦ inl before | inr whole ↦ inr (whole ∙ planned_after caller command planned plan held.1) ]),
+  )
 
   -- a query that is refused
   seen_refused : (caller : Caller) (query : Query) (why : Refusal) → IsSaid settings caller query s (Err why) → TellsRefusal why None text
-      → HoldsStanding M settings new s → Answered M settings new s moment (Sees caller query) text
-  seen_refused caller query why (inl said) tells held =
-      is_refused (Sees caller query) why None (refused_as (told (packages settings) s caller query) why said) refl tells held
-  seen_refused caller query why (inr is) tells held = is_unavailable (Sees caller query) (tells_unavailable why text (cc) tells) held
+      → HoldsStanding M settings new s → Stays → Answered M settings old new s moment (Sees caller query) text
+  seen_refused caller query why (inl said) tells held stays =
+      is_refused (Sees caller query) why None (refused_as (told (packages settings) s caller query) why said) refl refl tells held stays
+  seen_refused caller query why (inr is) tells held stays = is_unavailable (Sees caller query) (tells_unavailable why text (cc) tells) held stays
 
   pub query_refused : (caller : Caller) (query : Query) (why : Refusal) → IsSeen settings caller query s (Err why) → TellsRefusal why None text
-      → HoldsStanding M settings new s → Answered M settings new s moment (Sees caller query) text
-  query_refused caller query why seen tells held = seen_refused caller query why (seen (has_needed settings s held.1 query)) tells held
+      → HoldsStanding M settings new s → Stays → Answered M settings old new s moment (Sees caller query) text
+  query_refused caller query why seen tells held stays = seen_refused caller query why (seen (has_needed settings s held.1 query)) tells held stays
 
   -- a query that is answered
   seen_told : (caller : Caller) (query : Query) (shown : List ℕ) → IsSaid settings caller query s (Ok shown)
-      → text ≡ response_of (seen_as (kind_of query) shown) → HoldsStanding M settings new s → Answered M settings new s moment (Sees caller query) text
-  seen_told caller query shown (inl said) is held =
-      is_told s (Sees caller query) (seen_as (kind_of query) shown) (told_seen (packages settings) s caller query shown said) refl is held
-  seen_told caller query shown (inr never) is held = absurd (cc)
+      → text ≡ response_of (seen_as (kind_of query) shown) → HoldsStanding M settings new s → Stays → Answered M settings old new s moment (Sees caller query) text
+  seen_told caller query shown (inl said) is held stays =
+      is_told s (Sees caller query) (seen_as (kind_of query) shown) (told_seen (packages settings) s caller query shown said) refl is held stays
+  seen_told caller query shown (inr never) is held stays = absurd (cc)
 
   pub query_told : (caller : Caller) (query : Query) (shown : List ℕ) → IsSeen settings caller query s (Ok shown)
-      → text ≡ response_of (seen_as (kind_of query) shown) → HoldsStanding M settings new s → Answered M settings new s moment (Sees caller query) text
-  query_told caller query shown seen is held = seen_told caller query shown (seen (has_needed settings s held.1 query)) is held
+      → text ≡ response_of (seen_as (kind_of query) shown) → HoldsStanding M settings new s → Stays → Answered M settings old new s moment (Sees caller query) text
+  query_told caller query shown seen is held stays = seen_told caller query shown (seen (has_needed settings s held.1 query)) is held stays

@@ -1,9 +1,12 @@
 pub mod Joining
 pub mod ToldSteps
+pub mod LeftSteps
 pub mod AnswerSteps
 pub mod RequestSteps
 pub mod WorkedRequests
 pub mod AskedCommands
 pub mod MeantSteps
 pub mod KeptSteps
+pub mod ViewedAnswers
+pub mod WatchedSteps
 pub mod SealedSteps

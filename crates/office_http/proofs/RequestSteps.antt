@@ -14,13 +14,13 @@ use Rattle.office_requests.specs.declared.route.Allow.{Allow}
 use Rattle.office_requests.specs.declared.route.Route.{Route}
 use Rattle.office_http.specs.Credentials.{credentials_of}
 use Rattle.office_http.specs.Meaning.{Meant, meant, meant_at, meant_by, meant_asked, who}
-use Rattle.office_http.specs.Answering.{reply_to, tables_after}
+use Rattle.office_http.specs.Answering.{is_accepted, reply_to, tables_after}
 use Rattle.office_http.specs.Inside.Meant.{Answered, CanBeMeant, HoldsStanding}
 use Rattle.office_http.proofs.AnswerSteps.{TellsRefusal, is_refused, is_unavailable, tells_unavailable}
 use Rattle.office_http.proofs.AskedCommands.{IsAsked, IsKnown, IsRead, asked_is, why_read, who_known}
 use Rattle.office_http.proofs.MeantSteps.{asked_can}
 
-module _ {S : Type 0} (M : Meaning S) (settings : Settings) (new : S) (s : Tables) (moment : ℕ) (text : List ℕ) (request : RequestView) where
+module _ {S : Type 0} (M : Meaning S) (settings : Settings) (old new : S) (s : Tables) (moment : ℕ) (text : List ℕ) (request : RequestView) where
   -- what the route says
   abbrev pub taken : Result Route (Refusal × Option Allow)
   taken = routed request.head.method request.head.target
@@ -34,12 +34,13 @@ module _ {S : Type 0} (M : Meaning S) (settings : Settings) (new : S) (s : Table
 
   -- no route is taken
   pub route_refused : (why : Refusal) (method : Option Allow) → taken ≡ Err (why, method) → TellsRefusal why method text → HoldsStanding M settings new s
-      → Answered M settings new s moment (meant settings request s) text
-  route_refused why method is tells held =
-      is_refused M settings new s moment text (meant settings request s) why method
+      → ((u : Tables) → M.may_leave new u → M.may_leave old u) → Answered M settings old new s moment (meant settings request s) text
+  route_refused why method is tells held stays =
+      is_refused M settings old new s moment text (meant settings request s) why method
       (ap (λ (r : Result Route (Refusal × Option Allow)). reply_to settings s moment (meant_at settings request s r)) is)
       (ap (λ (r : Result Route (Refusal × Option Allow)). tables_after settings s moment (meant_at settings request s r)) is)
-      tells held
+      (ap (λ (r : Result Route (Refusal × Option Allow)). is_accepted s moment (meant_at settings request s r)) is)
+      tells held stays
 
   -- what is meant, by the route and the caller
   pub meant_is : (route : Route) (caller : Result Caller Refusal) → taken ≡ Ok route → asker ≡ caller → meant settings request s ≡ meant_by route request caller
@@ -49,15 +50,16 @@ module _ {S : Type 0} (M : Meaning S) (settings : Settings) (new : S) (s : Table
 
   -- the caller is refused
   pub caller_refused : (route : Route) (why : Refusal) → taken ≡ Ok route → (Err why ≡ asker) ⊎ (Err why ≡ unavailable_caller) → TellsRefusal why None text
-      → HoldsStanding M settings new s → Answered M settings new s moment (meant settings request s) text
-  caller_refused route why at (inl by) tells held =
+      → HoldsStanding M settings new s → ((u : Tables) → M.may_leave new u → M.may_leave old u) → Answered M settings old new s moment (meant settings request s) text
+  caller_refused route why at (inl by) tells held stays =
       let is = meant_is route (Err why) at (sym by) in
-      is_refused M settings new s moment text (meant settings request s) why None
+      is_refused M settings old new s moment text (meant settings request s) why None
       (ap (λ (m : Meant). reply_to settings s moment m) is)
       (ap (λ (m : Meant). tables_after settings s moment m) is)
-      tells held
-  caller_refused route why at (inr is) tells held =
-      is_unavailable M settings new s moment text (meant settings request s) (tells_unavailable why text (cc) tells) held
+      (ap (λ (m : Meant). is_accepted s moment m) is)
+      tells held stays
+  caller_refused route why at (inr is) tells held stays =
+      is_unavailable M settings old new s moment text (meant settings request s) (tells_unavailable why text (cc) tells) held stays
 
   -- whoever asks is known, and what is read can be given
   caller_known : (caller : Caller) → Ok caller ≡ asker → IsRead (IsKnown s) (Ok caller)
@@ -69,26 +71,26 @@ module _ {S : Type 0} (M : Meaning S) (settings : Settings) (new : S) (s : Table
   read_can route caller read (inr is) = subst (λ (r : Result Asked Refusal). IsRead IsAsked r) (sym is) (why_read IsAsked Unavailable)
 
   -- the answer to what could not be read for want of memory
-  wanting : (caller : Caller) → Answered M settings new s moment (meant_asked caller (Err Unavailable)) text
-      → Answered M settings new s moment (meant settings request s) text
-  wanting caller (true, is, held) = is_unavailable M settings new s moment text (meant settings request s) is held
-  wanting caller (false, is, held) = is_unavailable M settings new s moment text (meant settings request s) is held
+  wanting : (caller : Caller) → Answered M settings old new s moment (meant_asked caller (Err Unavailable)) text
+      → Answered M settings old new s moment (meant settings request s) text
+  wanting caller (true, is, held, stops) = is_unavailable M settings old new s moment text (meant settings request s) is held stops
+  wanting caller (false, is, held, stops) = is_unavailable M settings old new s moment text (meant settings request s) is held stops
 
   read_answered : (route : Route) (caller : Caller) (read : Result Asked Refusal) → taken ≡ Ok route → Ok caller ≡ asker
-      → (read ≡ asked caller route request) ⊎ (read ≡ Err Unavailable) → Answered M settings new s moment (meant_asked caller read) text
-      → Answered M settings new s moment (meant settings request s) text
+      → (read ≡ asked caller route request) ⊎ (read ≡ Err Unavailable) → Answered M settings old new s moment (meant_asked caller read) text
+      → Answered M settings old new s moment (meant settings request s) text
   read_answered route caller read at by (inl is) answered =
-      subst (λ (m : Meant). Answered M settings new s moment m text)
+      subst (λ (m : Meant). Answered M settings old new s moment m text)
       (ap (λ (r : Result Asked Refusal). meant_asked caller r) is ∙ sym (meant_is route (Ok caller) at (sym by)))
       answered
   read_answered route caller read at by (inr is) answered =
-      wanting caller (subst (λ (r : Result Asked Refusal). Answered M settings new s moment (meant_asked caller r) text) is answered)
+      wanting caller (subst (λ (r : Result Asked Refusal). Answered M settings old new s moment (meant_asked caller r) text) is answered)
 
   -- what is asked is answered
   pub asked_answered : (route : Route) (caller : Caller) (read : Result Asked Refusal) → taken ≡ Ok route
       → (Ok caller ≡ asker) ⊎ (Ok caller ≡ unavailable_caller) → (read ≡ asked caller route request) ⊎ (read ≡ Err Unavailable)
-      → (CanBeMeant s (meant_asked caller read) → Answered M settings new s moment (meant_asked caller read) text)
-      → Answered M settings new s moment (meant settings request s) text
+      → (CanBeMeant s (meant_asked caller read) → Answered M settings old new s moment (meant_asked caller read) text)
+      → Answered M settings old new s moment (meant settings request s) text
   asked_answered route caller read at (inr never) is answered = absurd (cc)
   asked_answered route caller read at (inl by) is answered =
       read_answered route caller read at by is (answered (asked_can s caller read (caller_known caller by) (read_can route caller read is)))

@@ -1,5 +1,5 @@
 -- How an office answers what is meant: the reply, its bytes, and the office after it.
-use Rattle.std.specs.Prelude.{◌≡◌, ℕ, ◌⊎◌, Bool, List, None, if◌then◌else◌}
+use Rattle.std.specs.Prelude.{◌≡◌, ℕ, ◌⊎◌, Bool, true, false, List, None, is_none, if◌then◌else◌}
 use Rattle.office_acts.specs.declared.command.QueryKind.{QueryKind}
 use Rattle.office_acts.specs.declared.command.QueryKind.TheVariants as kinds
 use Rattle.office_values.specs.declared.refusal.Refusal.{Refusal}
@@ -55,6 +55,12 @@ tables_after settings s moment (Refuses why method) = s
 tables_after settings s moment (Gives caller command) = office_kept (refusal_of (given s moment caller command)) settings (given s moment caller command)
 tables_after settings s moment (Sees caller query) = s
 
+-- it is a command that isn't refused
+abbrev pub is_accepted : Tables → ℕ → Meant → Bool
+is_accepted s moment (Refuses why method) = false
+is_accepted s moment (Gives caller command) = is_none (refusal_of (given s moment caller command))
+is_accepted s moment (Sees caller query) = false
+
 -- the response where memory or the store is wanting
 abbrev pub unavailable_text : List ℕ
 unavailable_text = response_of (Refused refusals.Unavailable None)
@@ -65,6 +71,18 @@ answer_bytes settings busy s moment m = if busy then unavailable_text else respo
 
 abbrev pub tables_left : Settings → Bool → Tables → ℕ → Meant → Tables
 tables_left settings busy s moment m = if busy then s else tables_after settings s moment m
+
+-- what a stop may leave after an answer, by what it could leave before and what stands after an accepted command: what is refused and what
+-- is seen add nothing; an accepted command leaves what stands after it and nothing else; where it is answered Unavailable, the one or the other
+abbrev pub LeftAfter : Bool → Bool → Type 0 → Type 0 → Type 0
+LeftAfter false busy Before IsAfter = Before
+LeftAfter true false Before IsAfter = IsAfter
+LeftAfter true true Before IsAfter = Before ⊎ IsAfter
+
+-- so a stop leaves it of a shelf that is answered from; the test says that the answer is Unavailable
+abbrev pub StopsAfter : {S : Type 0} → Meaning S → Settings → S → S → Bool → Tables → ℕ → Meant → Type 0
+StopsAfter M settings old new busy s moment m =
+    (u : Tables) → M.may_leave new u → LeftAfter (is_accepted s moment m) busy (M.may_leave old u) (u ≡ tables_after settings s moment m)
 
 -- the refusal of what can't be read as a request
 abbrev pub fault_refusal : ReadFault → Refusal
@@ -106,12 +124,13 @@ office_answers = record {
 abbrev pub StandsAs : {S : Type 0} → Meaning S → DeskOf S → Held → Type 0
 StandsAs M desk h = IsHeld M desk h × Stands h.settings h.tables
 
--- what is meant was answered with this text, perhaps with Unavailable; the shelf holds the office after it, which stands as its commands left it
+-- what is meant was answered with this text, perhaps with Unavailable; the shelf holds the office after it, which stands as its commands left
+-- it; and a stop leaves the tables after an accepted command and no others, and nothing new after anything else
 abbrev pub IsAnswered : {S : Type 0} → Meaning S → Settings → S → S → ℕ → (Tables → Meant) → List ℕ → Type 0
 IsAnswered M settings old new moment m text =
     M.honest new → (s : Tables) → M.holds old s → Stands settings s
     → (busy : Bool) × (text ≡ answer_bytes settings busy s moment (m s)) × M.holds new (tables_left settings busy s moment (m s))
-    × Stands settings (tables_left settings busy s moment (m s))
+    × Stands settings (tables_left settings busy s moment (m s)) × StopsAfter M settings old new busy s moment (m s)
 
 -- whatever the shelf held, it holds it still, unless a command was accepted
 abbrev pub ChangesOnlyAccepting : {S : Type 0} → Meaning S → S → S → List ℕ → Type 0
@@ -132,3 +151,4 @@ pub record RefusesBytes {S : Type 0} (M : Meaning S) (old new : S) (input text :
   pub refused : IsRefused input why
   pub text_is : text ≡ fault_text why
   pub same : M.honest new → (s : Tables) → M.holds old s → M.holds new s
+  pub stop : M.honest new → (u : Tables) → M.may_leave new u → M.may_leave old u

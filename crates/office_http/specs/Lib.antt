@@ -3,5 +3,6 @@ pub mod Credentials
 pub mod Meaning
 pub mod Answering
 pub mod Joined
+pub mod Stops
 pub mod Sealed
 pub mod Inside

@@ -51,6 +51,7 @@ fn answer_command<H: Shelf + Drop>(
     command: Command<'_>,
 ) -> Answer
     ensures before { H.meaning.honest desk.new.shelf → H.meaning.honest desk.old.shelf }
+    ensures sound { H.meaning.honest desk.new.shelf → H.meaning.leaves_sound desk.old.shelf → H.meaning.leaves_sound desk.new.shelf }
     ensures settings { desk.new.settings ≡ desk.old.settings }
     ensures answered { AnswersMeant H.meaning desk.old.settings desk.old.shelf desk.new.shelf moment (λ s. Gives caller.now command.entry) result }
     ensures changes { ChangesOnlyAccepting H.meaning desk.old.shelf desk.new.shelf result }
@@ -78,6 +79,7 @@ fn answer_query<H: Shelf + Drop>(
     query: Query,
 ) -> Answer
     ensures before { H.meaning.honest desk.new.shelf → H.meaning.honest desk.old.shelf }
+    ensures sound { H.meaning.honest desk.new.shelf → H.meaning.leaves_sound desk.old.shelf → H.meaning.leaves_sound desk.new.shelf }
     ensures settings { desk.new.settings ≡ desk.old.settings }
     ensures answered { AnswersMeant H.meaning desk.old.settings desk.old.shelf desk.new.shelf moment (λ s. Sees caller.now query) result }
     ensures changes { ChangesOnlyAccepting H.meaning desk.old.shelf desk.new.shelf result }
@@ -111,6 +113,7 @@ fn answer_asked<H: Shelf + Drop>(
     asked: Result<Asked<'_>, Refusal>,
 ) -> Answer
     ensures before { H.meaning.honest desk.new.shelf → H.meaning.honest desk.old.shelf }
+    ensures sound { H.meaning.honest desk.new.shelf → H.meaning.leaves_sound desk.old.shelf → H.meaning.leaves_sound desk.new.shelf }
     ensures settings { desk.new.settings ≡ desk.old.settings }
     ensures answered { AnswersMeant H.meaning desk.old.settings desk.old.shelf desk.new.shelf moment (λ s. meant_asked caller.now asked.entry) result }
     ensures changes { ChangesOnlyAccepting H.meaning desk.old.shelf desk.new.shelf result }
@@ -131,6 +134,7 @@ fn answer_read<H: Shelf + Drop>(
     request: &Request,
 ) -> Answer
     ensures before { H.meaning.honest desk.new.shelf → H.meaning.honest desk.old.shelf }
+    ensures sound { H.meaning.honest desk.new.shelf → H.meaning.leaves_sound desk.old.shelf → H.meaning.leaves_sound desk.new.shelf }
     ensures settings { desk.new.settings ≡ desk.old.settings }
     ensures answered { IsAnswered H.meaning desk.old.settings desk.old.shelf desk.new.shelf moment (meant desk.old.settings request.now) result }
     ensures changes { ChangesOnlyAccepting H.meaning desk.old.shelf desk.new.shelf result }
@@ -158,6 +162,7 @@ pub fn answer_request<H: Shelf + Drop>(
     request: &Request,
 ) -> Answer
     ensures before { H.meaning.honest desk.new.shelf → H.meaning.honest desk.old.shelf }
+    ensures sound { H.meaning.honest desk.new.shelf → H.meaning.leaves_sound desk.old.shelf → H.meaning.leaves_sound desk.new.shelf }
     ensures settings { desk.new.settings ≡ desk.old.settings }
     ensures answered { IsAnswered H.meaning desk.old.settings desk.old.shelf desk.new.shelf moment (meant desk.old.settings request.now) result }
     ensures changes { ChangesOnlyAccepting H.meaning desk.old.shelf desk.new.shelf result }
@@ -189,6 +194,7 @@ pub fn answer<H: Shelf + Drop>(
     bytes: &[u8],
 ) -> Answer
     ensures before { H.meaning.honest desk.new.shelf → H.meaning.honest desk.old.shelf }
+    ensures sound { H.meaning.honest desk.new.shelf → H.meaning.leaves_sound desk.old.shelf → H.meaning.leaves_sound desk.new.shelf }
     ensures settings { desk.new.settings ≡ desk.old.settings }
     ensures answered { AnswersRequest H.meaning desk.old.settings desk.old.shelf desk.new.shelf moment bytes.now result
         ⊎ RefusesBytes H.meaning desk.old.shelf desk.new.shelf bytes.now result }

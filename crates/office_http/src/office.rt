@@ -10,6 +10,7 @@ ghost use Rattle.office_wire.specs.Counting.{HasStopped};
 ghost use Rattle.office_wire.specs.Runs.{Step, Ran, Served, office_left};
 ghost use Rattle.office_http.specs.Answering.{Held, StandsAs, held_by, office_answers};
 ghost use Rattle.office_http.specs.Joined.{IsServedOnce, KeepsServing, joined_steps};
+ghost use Rattle.office_http.specs.Stops.{StopsBy, StopsOnce};
 
 use crate::answering::{answer_request, fault_response};
 use crate::laws;
@@ -69,13 +70,13 @@ impl<H: Shelf + Drop> Office<H> {
 
 impl<H: Shelf + Drop> Responder for Office<H> {
     ghost use Rattle.std.specs.Prelude.{◌≡◌};
-    ghost use Rattle.office_http.specs.Answering.{Held, StandsAs, office_answers};
+    ghost use Rattle.office_http.specs.Stops.{StandsWatched, Watched, watched_answers};
 
     ghost meaning = { record {
-      Office = Held;
+      Office = Watched H;
       honest = λ o. H.meaning.honest o.shelf;
-      holds = λ o h. StandsAs H.meaning o h;
-      answers = office_answers;
+      holds = λ o w. StandsWatched H.meaning o w;
+      answers = watched_answers;
     } };
 
     fn answer(&mut self, alloc: Global, moment: Moment, request: &Request) -> Answer {
@@ -101,7 +102,8 @@ pub fn run<H: Shelf + Drop, R: BufRead, W: Write>(
         → Stands office.old.settings s
         → (steps : List Step)
         × Ran office_answers result input reader.new.remaining (held_by office.old s) steps writer.old.contents writer.new.contents
-        × StandsAs H.meaning office.new (office_left office_answers (held_by office.old s) steps) }
+        × StandsAs H.meaning office.new (office_left office_answers (held_by office.old s) steps)
+        × StopsBy H.meaning office.old.shelf office.new.shelf (held_by office.old s) steps }
     ensures kept { H.meaning.honest office.new.shelf → (input : List ℕ) → reader.old.remaining ≡ Some input → (s : Tables) → H.meaning.holds office.old.shelf s
         → (xs : List Given) → Reaches (publishing office.old.settings) xs s → KeepsReleases s
         → (steps : List Step)
@@ -141,6 +143,7 @@ pub fn serve_one<H: Shelf + Drop, R: BufRead, W: Write>(
         × StandsAs H.meaning office.new h
         × KeepsServing input reader.new.remaining moment (held_by office.old s) h xs }
     ensures stepped { IsServedOnce H.meaning moment office.old office.new }
+    ensures stops { StopsOnce H.meaning moment office.old office.new }
     ensures cause { IsErrOf result RunFault.Read → HasStopped reader.new }
     ensures writes { IsErrOf result RunFault.Write → writer.new.has_failed ≡ true }
     ensures all_written { OnOk result (writer.new.has_failed ≡ writer.old.has_failed) }

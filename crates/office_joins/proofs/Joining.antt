@@ -30,7 +30,7 @@ use Rattle.sqlite_resolve.specs.Body as body
 use Rattle.sqlite_resolve.specs.Order as order
 use Rattle.sqlite_resolve.specs.Program as program
 use Rattle.sqlite_sql.specs.Query.{Query}
-use Rattle.sqlite_resolve.specs.Compile.{first, compiled}
+use Rattle.sqlite_resolve.specs.Compile.{first, compiled, returning}
 use Rattle.sqlite_typing.specs.Types.{accepts_program}
 use Rattle.sqlite_tied.specs.Compute.{everything}
 use Rattle.office_joins.specs.Select.{Trees4, equals, list_joined, of_the_line, of_the_lot, of_the_contract, joined_query}
@@ -129,7 +129,7 @@ core_of = roll-Core (record { distinct = false; shown = map shown_of picks; from
 abbrev written_select : Select
 written_select = roll-Select (record { with = []; first = core_of; others = []; order = map sort_of sorts; limit = None; offset = None })
 
-parses : first list_joined ≡ Ok (parsed_in (first list_joined))
+pub parses : first list_joined ≡ Ok (parsed_in (first list_joined))
 unfolding everything
 parses = refl
 
@@ -140,6 +140,11 @@ statement_is = refl
 untimed : (parsed_in (first list_joined)).formats ≡ []
 unfolding everything
 untimed = refl
+
+-- a SELECT has no RETURNING
+pub returns_none : (schema : Schema) (base : ℕ) → returning schema base (parsed_in (first list_joined)).statement ≡ Ok None
+unfolding returning
+returns_none schema base = rw statement_is
 
 -- ---- in a schema that has the four tables
 

@@ -9,6 +9,7 @@ pub mod Whole
 pub mod Scoped
 pub mod Sources
 pub mod Joining
+pub mod NoWrite
 pub mod Laws
 pub mod LotsMatched
 pub mod LotsShown

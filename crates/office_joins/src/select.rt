@@ -4,7 +4,7 @@ ghost use Rattle.office_joins.specs.Select.{list_joined};
 ghost use Rattle.office_joins.specs.SelectLots.{list_joined_of_line};
 ghost use Rattle.office_joins.specs.Shows.{JoinIsShown, JoinIsBegun, LotsAreShown, LotsAreBegun};
 ghost use Rattle.office_joins.specs.Standing.{StoredRowsShow};
-ghost use Rattle.office_joins.specs.Plain.{JoinIsPlain};
+ghost use Rattle.office_joins.specs.Plain.{JoinIsNoWrite, JoinIsPlain};
 
 use sqlite::Alter;
 
@@ -50,4 +50,9 @@ pub fn stored_rows_show()
 /// A law: the select of all lines shows no rows of a write, and reads no clock.
 pub fn join_is_plain()
     ensures { JoinIsPlain }
+{}
+
+/// A law: whatever tables stand there, the select of all lines shows no rows of a write, and so commits nothing.
+pub fn join_is_no_write()
+    ensures { JoinIsNoWrite }
 {}

@@ -13,5 +13,6 @@ all_made kept old new ps made = record {
   all = λ h t held. (made ∙ ap (after_puts ps) held.0, kept ps t held.1);
   none = λ h t held. tt;
   stop_all = λ h t held u left. sym left ∙ made ∙ ap (after_puts ps) held.0;
-  stop_none = λ h t held. tt;
+  stop_none = λ h. tt;
+  sound = λ h was. tt;
 }

@@ -18,6 +18,7 @@ use Rattle.office_sql.specs.Standing.{Holds}
 use Rattle.office_sql.specs.Steps.{Refused, ShowsTables}
 use Rattle.office_sql.specs.Version.{get_version}
 use Rattle.office_store.specs.Founding.{Founded, LeavesNew, LeavesOffice, IsSoundOpen, Answered, Enters}
+use Rattle.office_store.specs.SqlMeaning.{LeavesShown}
 
 sound_now : (old : State) → (IsTrue old.is_open → old.now ≡ old.committed) → IsSoundOpen old → IsTrue old.is_open → IsDatabase old.now
 sound_now old settled sound o = subst IsDatabase (sym (settled o)) (sound o)
@@ -51,6 +52,17 @@ founded_after old mid new kept it = record {
 
 pub leaves_before : (old mid : State) (db : Trees) → Refused old mid → IsSoundOpen mid → LeavesNew mid db → LeavesOffice old db
 leaves_before old mid db kept sound it = (kept.was_open it.0, it.1 (sound it.0))
+
+-- two calls that commit nothing, one after the other
+pub refused_on : (a b c : State) → Refused a b → Refused b c → Refused a c
+refused_on a b c first second = record {
+  was_open = λ o. first.was_open (second.was_open o);
+  committed = λ o. second.committed o ∙ first.committed (second.was_open o);
+}
+
+-- a stop of a store that is open leaves what it shows
+pub shown_is_left : (s : State) → IsTrue s.is_open → (IsTrue s.is_open → (db : Trees) → s.may_leave db → db ≡ s.committed.trees) → LeavesShown s
+shown_is_left s open_now settled t shows db left = (t, (s.committed, settled open_now db left, shows open_now))
 
 -- ---- a database that has nothing
 

@@ -2,18 +2,19 @@
 use Rattle.std.proofs.Common.{◌≡◌, inl, inr, ℕ, List, Result, Ok, Err, [], refl, sym, subst, ◌∙◌, arith}
 use Rattle.std.specs.Prelude.{IfOk}
 use Rattle.sqlite_value.specs.Order.{Row}
+use Rattle.sqlite_trees.specs.Tree.{Trees}
 use Rattle.sqlite_trees.specs.declared.store.Store.{Ghosts}
 use Rattle.sqlite.specs.Given.{IsPlain, HasGiven, HasBegun}
 use Rattle.sqlite.specs.Held.{Held, state}
 use Rattle.sqlite.specs.Listing.{understood}
 use Rattle.sqlite.specs.State.{State, HasCleanDisk, IsUnchanged, Survives, CommitsShowing, FailsToQuery, FailsToShow}
 use Rattle.sqlite.specs.declared.error.Error.{Error}
-use Rattle.sqlite.proofs.Callers.{begun_plain, never_commits}
+use Rattle.sqlite.proofs.Callers.{begun_plain}
 use Rattle.office_base.specs.Tables.{Tables, IsSorted}
 use Rattle.office_ledger.specs.Joins.{joined}
 use Rattle.office_sql.specs.Standing.{Holds}
 use Rattle.office_sql.specs.Steps.{Refused, ShowsTables}
-use Rattle.office_joins.specs.Plain.{JoinIsPlain}
+use Rattle.office_joins.specs.Plain.{JoinIsNoWrite, JoinIsPlain}
 use Rattle.office_joins.specs.Select.{list_joined}
 use Rattle.office_joins.specs.Shows.{HoldsJoined}
 use Rattle.office_joins.specs.Standing.{StoredRowsShow}
@@ -31,8 +32,13 @@ plain_refused sql params old new e plain (inr h) =
     let shown = subst (FailsToShow old new sql h.0 _ e) returning h.2 in
     unchanged old new shown.3
 
+-- whatever stands in the store, the select commits nothing
+commits_nothing : JoinIsNoWrite → (s : State) (db : Trees) → CommitsShowing list_joined [] s db → ⊥
+unfolding CommitsShowing
+commits_nothing law s db h = absurd (let none = rw (law s.now.schema h.0 h.1.is) at h.2 in cc)
+
 -- a connection that was found ready, and what a query then left
-module _ {S : Type 0} (g : Ghosts S) (old mid new : Held S) (plain : JoinIsPlain) (show : StoredRowsShow)
+module _ {S : Type 0} (g : Ghosts S) (old mid new : Held S) (plain : JoinIsPlain) (unwritten : JoinIsNoWrite) (show : StoredRowsShow)
     (same : HasCleanDisk (state g mid) → IsUnchanged (state g old) (state g mid)) (settled : HasCleanDisk (state g mid) → (state g mid).now ≡ (state g mid).committed)
     (first : Survives (state g old) (state g mid) (λ _. ⊥)) (then : Survives (state g mid) (state g new) (CommitsShowing list_joined [] (state g mid))) where
   earlier : HasCleanDisk (state g new) → HasCleanDisk (state g mid)
@@ -47,6 +53,13 @@ module _ {S : Type 0} (g : Ghosts S) (old mid new : Held S) (plain : JoinIsPlain
     reads : IsPlain (understood mid.schema list_joined)
     reads = plain (state g mid).now.schema stands.at stands.four
 
+  -- whatever was held, a stop leaves nothing new
+  adds_nothing : HasCleanDisk (state g new) → (db : Trees) → (state g new).may_leave db → (state g old).may_leave db
+  adds_nothing clean db left = elim (then.crash clean db left) [
+    | inl before ↦ elim (first.crash (earlier clean) db before) [ inl long ↦ long | inr none ↦ absurd none ]
+    | inr commits ↦ absurd (commits_nothing unwritten (state g mid) db commits)
+  ]
+
   -- nothing was committed, so that the office is as it was
   kept_office : (HasCleanDisk (state g new) → (t : Tables) → IsSorted t → ShowsTables (state g old) t → Refused (state g mid) (state g new)) → KeepsOffice g old new
   kept_office kept n = record {
@@ -58,10 +71,8 @@ module _ {S : Type 0} (g : Ghosts S) (old mid new : Held S) (plain : JoinIsPlain
         committed = λ open_now. (kept clean t h.0 h.1).committed open_now ∙ (same (earlier clean)).0.committed_is;
       }) h.1,
     );
-    stop = λ clean t h u left. elim (then.crash clean left.0.trees left.1) [
-      | inl before ↦ elim (first.crash (earlier clean) left.0.trees before) [ inl long ↦ (left.0, long, left.2) | inr none ↦ absurd none ]
-      | inr commits ↦ absurd (never_commits list_joined [] (state g mid) left.0.trees (reads clean t h.0 h.1) commits)
-    ];
+    stop = λ clean u left. (left.0, adds_nothing clean left.0.trees left.1, left.2);
+    sound = λ clean was db left. was db (adds_nothing clean db left);
   }
 
   -- it did not begin

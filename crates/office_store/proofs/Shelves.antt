@@ -1,9 +1,11 @@
 -- What the calls of the shelf do to what it holds.
-use Rattle.std.proofs.Common.{Ok, Err, ℕ, arith, ◌≡◌, ◌⊎◌, inl, inr, List, refl, sym, subst}
+use Rattle.std.proofs.Common.{Ok, Err, ℕ, arith, ◌≡◌, ◌⊎◌, inl, inr, List, refl, sym, subst, IsTrue}
 use Rattle.std.specs.Prelude.{⊤}
+use Rattle.sqlite_trees.specs.Tree.{Trees}
 use Rattle.sqlite_trees.specs.declared.store.Store.{Ghosts}
+use Rattle.sqlite.specs.Effect.{Database}
 use Rattle.sqlite.specs.Held.{Held, state}
-use Rattle.sqlite.specs.State.{State, HasCleanDisk, Survives}
+use Rattle.sqlite.specs.State.{State, HasCleanDisk, IsLive, Survives}
 use Rattle.office_base.specs.Faults.{one_fault_more, IsFaultOf}
 use Rattle.office_base.specs.Shelves.{Keeps, LooksUp, SumsAnswer, AddsUp, Alters, Changes}
 use Rattle.office_base.specs.Tables.{Tables, IsSorted, after_puts, ChangesKeepOrder}
@@ -12,9 +14,10 @@ use Rattle.office_base.specs.declared.shelf.ShelfFault.{ShelfFault}
 use Rattle.office_base.specs.declared.shelf.ShelfFault.TheVariants.{NoMemory, Store}
 use Rattle.office_sql.specs.Laws.{TreesTellOneOffice}
 use Rattle.office_sql.specs.Standing.{Holds}
-use Rattle.office_sql.specs.Steps.{Refused, Applied, LeavesPuts, ShowsTables, MayLeave}
-use Rattle.office_store.specs.SqlMeaning.{sql_meaning}
+use Rattle.office_sql.specs.Steps.{Refused, Applied, Leaves, LeavesPuts, ShowsTables, MayLeave}
+use Rattle.office_store.specs.SqlMeaning.{sql_meaning, LeavesOffices}
 use Rattle.office_store.specs.LedgerRows.{KeepsOffice}
+use Rattle.office_store.proofs.Once.{schema_once}
 
 -- ---- the last commit
 
@@ -27,11 +30,32 @@ applied_shows old new puts t it shows open_now = it.tables t (shows it.was_open)
 applied_leaves : TreesTellOneOffice → (old new : State) (puts : List Put) (t u : Tables) → Applied old new puts → ShowsTables old t → MayLeave new u → u ≡ after_puts puts t
 applied_leaves once old new puts t u it shows left = once left.0 new.committed u (after_puts puts t) left.2 (it.tables t (shows it.was_open)) (it.only left.0.trees left.1)
 
-applied_stops : TreesTellOneOffice → (old new : State) (puts : List Put) (t u : Tables) → HasCleanDisk new → Survives old new (LeavesPuts old puts) → ShowsTables old t → MayLeave new u
-    → MayLeave old u ⊎ (u ≡ after_puts puts t)
-applied_stops once old new puts t u clean survives shows left = elim (survives.crash clean left.0.trees left.1) [
+applied_stops : TreesTellOneOffice → (old new : State) (puts : List Put) (u : Tables) → HasCleanDisk new → Survives old new (LeavesPuts old puts) → MayLeave new u
+    → MayLeave old u ⊎ ((t : Tables) → IsSorted t × ShowsTables old t → u ≡ after_puts puts t)
+applied_stops once old new puts u clean survives left = elim (survives.crash clean left.0.trees left.1) [
   | inl before ↦ inl (left.0, before, left.2)
-  | inr commits ↦ (let it = commits.1 t (shows commits.0) in inr (once left.0 it.0 u (after_puts puts t) left.2 it.2 it.1))
+  | inr commits ↦ inr (λ t held. let it = commits.1 t (held.1 commits.0) in once left.0 it.0 u (after_puts puts t) left.2 it.2 it.1)
+]
+
+-- ---- whole offices
+
+-- a stop of a store that is open leaves its last commit, which holds an office where a stop leaves no others
+last_office : (s : State) → IsLive s → (IsTrue s.is_open → s.may_leave s.committed.trees) → LeavesOffices s → IsTrue s.is_open → (u : Tables) × Holds s.committed u
+last_office s live stays was open_now =
+    let it = was s.committed.trees (stays open_now) in
+    let left : Leaves it.0 s.committed.trees = it.1 in
+    let schema : s.committed.schema ≡ left.0.schema = schema_once s.committed left.0 (live open_now).1 left.2.sound left.1 in
+    let same : left.0 ≡ s.committed = λ i. record { schema = (sym schema) i; trees = (sym left.1) i } in
+    (it.0, subst (λ (d : Database). Holds d it.0) same left.2)
+
+looks_leave : (old new : State) → HasCleanDisk new → Survives old new (λ _. ⊥) → LeavesOffices old → LeavesOffices new
+looks_leave old new clean survives was db left = elim (survives.crash clean db left) [ inl before ↦ was db before | inr none ↦ absurd none ]
+
+puts_leave : (old new : State) (puts : List Put) → IsLive old → (IsTrue old.is_open → old.may_leave old.committed.trees) → HasCleanDisk new → Survives old new (LeavesPuts old puts)
+    → LeavesOffices old → LeavesOffices new
+puts_leave old new puts live stays clean survives was db left = elim (survives.crash clean db left) [
+  | inl before ↦ was db before
+  | inr commits ↦ (let last = last_office old live stays was commits.0 in (after_puts puts last.0, commits.1 last.0 last.1))
 ]
 
 -- a store may fail for causes of its own
@@ -46,7 +70,8 @@ module _ {S : Type 0} (g : Ghosts S) (old new : Held S) where
   keeps n m kept survives = record {
     before = λ clean. omega (arith, clean, survives.clean);
     same = λ clean t h. (h.0, still_shows (state g old) (state g new) t (kept clean) h.1);
-    stop = λ clean t h u left. elim (survives.crash clean left.0.trees left.1) [ inl before ↦ (left.0, before, left.2) | inr none ↦ absurd none ];
+    stop = λ clean u left. elim (survives.crash clean left.0.trees left.1) [ inl before ↦ (left.0, before, left.2) | inr none ↦ absurd none ];
+    sound = λ clean was. looks_leave (state g old) (state g new) clean survives was;
   }
 
   -- a call's answer, with its count; the shelf is told by its view
@@ -72,7 +97,7 @@ module _ {S : Type 0} (g : Ghosts S) (old new : Held S) where
 
   -- a count of faults is no part of what an office is
   recounted : (n m : ℕ) → KeepsOffice g old new → Keeps (sql_meaning g) (old, n) (new, m)
-  recounted n m kept = record { before = (kept n).before; same = (kept n).same; stop = (kept n).stop }
+  recounted n m kept = record { before = (kept n).before; same = (kept n).same; stop = (kept n).stop; sound = (kept n).sound }
 
   pub added : {T : Type 0} (entry : Held S × ℕ) (n : ℕ) (value : T) (right : Tables → T → Type 0) (Fits : Tables → Type 0) → (old, n) ≡ entry → KeepsOffice g old new
       → (HasCleanDisk (state g new) → (t : Tables) → IsSorted t → ShowsTables (state g old) t → right t value × Fits t) → AddsUp (sql_meaning g) entry (new, n) (Ok value) right Fits
@@ -87,7 +112,8 @@ module _ {S : Type 0} (g : Ghosts S) (old new : Held S) where
 
   -- ---- a call that changes
 
-  module _ (once : TreesTellOneOffice) (sorted : ChangesKeepOrder) (puts : List Put) (survives : Survives (state g old) (state g new) (LeavesPuts (state g old) puts)) where
+  module _ (once : TreesTellOneOffice) (sorted : ChangesKeepOrder) (live : IsLive (state g old)) (stays : IsTrue (state g old).is_open → (state g old).may_leave (state g old).committed.trees)
+      (puts : List Put) (survives : Survives (state g old) (state g new) (LeavesPuts (state g old) puts)) where
     alters_all : {T : Type 0} (n m : ℕ) (value : T) → (HasCleanDisk (state g new) → Applied (state g old) (state g new) puts)
         → Alters {T = T} {E = ShelfFault} (sql_meaning g) (old, n) (new, m) (Ok value) (after_puts puts)
     alters_all n m value applied = record {
@@ -95,7 +121,8 @@ module _ {S : Type 0} (g : Ghosts S) (old new : Held S) where
       all = λ clean t h. (sorted puts t h.0, applied_shows (state g old) (state g new) puts t (applied clean) h.1);
       none = λ clean t h. tt;
       stop_all = λ clean t h u left. applied_leaves once (state g old) (state g new) puts t u (applied clean) h.1 left;
-      stop_none = λ clean t h. tt;
+      stop_none = λ clean. tt;
+      sound = λ clean was. puts_leave (state g old) (state g new) puts live stays clean survives was;
     }
 
     alters_none : {T : Type 0} (n m : ℕ) (fault : ShelfFault) → (HasCleanDisk (state g new) → Refused (state g old) (state g new))
@@ -105,7 +132,8 @@ module _ {S : Type 0} (g : Ghosts S) (old new : Held S) where
       all = λ clean t h. tt;
       none = λ clean t h. (h.0, still_shows (state g old) (state g new) t (refused clean) h.1);
       stop_all = λ clean t h. tt;
-      stop_none = λ clean t h u left. applied_stops once (state g old) (state g new) puts t u clean survives h.1 left;
+      stop_none = λ clean u left. applied_stops once (state g old) (state g new) puts u clean survives left;
+      sound = λ clean was. puts_leave (state g old) (state g new) puts live stays clean survives was;
     }
 
     pub applied_ok : (entry : Held S × ℕ) (n : ℕ) → (old, n) ≡ entry → (HasCleanDisk (state g new) → Applied (state g old) (state g new) puts)

@@ -1,11 +1,20 @@
 -- How to read an office in SQL: its connection, and its count of faults.
 use Rattle.std.specs.Prelude.{ℕ, ⊤}
+use Rattle.sqlite_trees.specs.Tree.{Trees}
 use Rattle.sqlite_trees.specs.declared.store.Store.{Ghosts}
 use Rattle.sqlite.specs.Held.{Held, state}
-use Rattle.sqlite.specs.State.{HasCleanDisk}
-use Rattle.office_base.specs.Tables.{IsSorted}
+use Rattle.sqlite.specs.State.{State, HasCleanDisk}
+use Rattle.office_base.specs.Tables.{Tables, IsSorted}
 use Rattle.office_base.specs.Shelves.{Meaning}
-use Rattle.office_sql.specs.Steps.{ShowsTables, MayLeave}
+use Rattle.office_sql.specs.Steps.{ShowsTables, Leaves, MayLeave}
+
+-- whatever trees a stop may leave stand for the tables of some office
+abbrev pub LeavesOffices : State → Type 0
+LeavesOffices s = (db : Trees) → s.may_leave db → (u : Tables) × Leaves u db
+
+-- they do where the last commit shows the tables of an office
+abbrev pub LeavesShown : State → Type 0
+LeavesShown s = (t : Tables) → ShowsTables s t → LeavesOffices s
 
 -- A store that was shut shows no tables; what it held is in the order of its keys in any case.
 abbrev pub sql_meaning : {S : Type 0} → Ghosts S → Meaning (Held S × ℕ)
@@ -13,6 +22,7 @@ sql_meaning g = record {
   holds = λ s t. IsSorted t × ShowsTables (state g s.0) t;
   honest = λ s. HasCleanDisk (state g s.0);
   may_leave = λ s u. MayLeave (state g s.0) u;
+  leaves_sound = λ s. LeavesOffices (state g s.0);
   fault_count = λ s. s.1;
   may_break = ⊤;
 }
@@ -23,6 +33,7 @@ inside part M = record {
   holds = λ s t. M.holds (part s) t;
   honest = λ s. M.honest (part s);
   may_leave = λ s u. M.may_leave (part s) u;
+  leaves_sound = λ s. M.leaves_sound (part s);
   fault_count = λ s. M.fault_count (part s);
   may_break = M.may_break;
 }

@@ -7,6 +7,7 @@ ghost use Rattle.sqlite.specs.State.{HasCleanDisk, Survives};
 ghost use Rattle.office_base.specs.Tables.{Tables};
 ghost use Rattle.office_sql.specs.Steps.{Refused, ShowsTables};
 ghost use Rattle.office_store.specs.Founding.{Founded, LeavesNew, LeavesOffice, Enters, IsNoOffice, IsSoundOpen, takes_a_name, has_rowids, is_version_one};
+ghost use Rattle.office_store.specs.SqlMeaning.{LeavesShown};
 
 use crate::faults::fault;
 use office_base::shelf::ShelfFault;
@@ -118,12 +119,27 @@ fn has_rowids(schema: &Schema) -> bool
     tables.iter().any(|table| same_name(table.name.as_slice(), b"office") && table.key == Some(0))
 }
 
-/// Enters the office that is there, or makes one where no name of the office's is taken.
+// A store that answered may have been shut by the end of the transaction in which it was asked: this one is open.
+fn still_open<S: Alter>(conn: &mut Connection<S>) -> Result<(), OpenFault>
+    ensures is_open { HasCleanDisk (state S.Store conn.new) → OnOk result (IsTrue (state S.Store conn.new).is_open) }
+    ensures cause { IfErr result (λ e. e ≡ OpenFault.NotAnOffice → ⊥) }
+    ensures kept { HasCleanDisk (state S.Store conn.new) → Refused (state S.Store conn.old) (state S.Store conn.new) }
+    ensures survives { Survives (state S.Store conn.old) (state S.Store conn.new) (λ _. ⊥) }
+{
+    if let Err(error) = conn.prepare("SELECT version FROM office") {
+        return Err(open_fault(error));
+    }
+    Ok(())
+}
+
+/// Enters the office that is there, or makes one where no name of the office's is taken. The store is open then.
 pub(crate) fn enter<S: Alter>(conn: &mut Connection<S>) -> Result<(), OpenFault>
     ensures enters { HasCleanDisk (state S.Store conn.new) → OnOk result (Enters S.Store conn.old conn.new) }
     ensures none { HasCleanDisk (state S.Store conn.new) → IfErr result (λ e. e ≡ OpenFault.NotAnOffice → IsNoOffice S.Store conn.old) }
     ensures found { HasCleanDisk (state S.Store conn.new) → (t : Tables) → ShowsTables (state S.Store conn.old) t → OnOk result (ShowsTables (state S.Store conn.new) t) }
     ensures known { HasCleanDisk (state S.Store conn.new) → (t : Tables) → ShowsTables (state S.Store conn.old) t → IfErr result (λ e. e ≡ OpenFault.NotAnOffice → ⊥) }
+    ensures is_open { HasCleanDisk (state S.Store conn.new) → OnOk result (IsTrue (state S.Store conn.new).is_open) }
+    ensures sound { HasCleanDisk (state S.Store conn.new) → OnOk result (LeavesShown (state S.Store conn.new)) }
     ensures kept { HasCleanDisk (state S.Store conn.new) → OnErr result (Refused (state S.Store conn.old) (state S.Store conn.new)) }
     ensures survives { Survives (state S.Store conn.old) (state S.Store conn.new) (LeavesOffice (state S.Store conn.old)) }
 {
@@ -135,11 +151,14 @@ pub(crate) fn enter<S: Alter>(conn: &mut Connection<S>) -> Result<(), OpenFault>
     match ask_version(conn) {
         Ok(rows) => {
             if !is_version_one(rows.as_slice()) {
-                Err(OpenFault::NotAnOffice)
-            } else if has_key {
-                Ok(())
-            } else {
-                Err(OpenFault::Store)
+                return Err(OpenFault::NotAnOffice);
+            }
+            if !has_key {
+                return Err(OpenFault::Store);
+            }
+            match still_open(conn) {
+                Ok(()) => Ok(()),
+                Err(fault) => Err(fault),
             }
         }
         Err(Error::SqlInputError(_)) => {

@@ -12,7 +12,7 @@ use crate::faults::fault;
 use crate::joined_rows::take_row;
 use crate::shelf::SqlShelf;
 use office_base::shelf::ShelfFault;
-use office_joins::select::{join_is_plain, list_joined, stored_rows_show};
+use office_joins::select::{join_is_no_write, join_is_plain, list_joined, stored_rows_show};
 use office_ledger::joined::JoinedRow;
 use sqlite::{Alter, Connection, Rows};
 
@@ -49,6 +49,7 @@ impl<'a, S: Alter> LedgerRows<'a, S> {
         ensures unbroken { IfOk result (λ it. it.is_broken ≡ false) }
     {
         join_is_plain();
+        join_is_no_write();
         stored_rows_show();
         ready(conn)?;
         match conn.query(list_joined(), &[]) {

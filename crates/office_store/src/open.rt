@@ -9,6 +9,7 @@ ghost use Rattle.sqlite.specs.Steps.{over_memory};
 ghost use Rattle.office_base.specs.Tables.{no_tables};
 ghost use Rattle.office_sql.specs.Steps.{ShowsTables};
 ghost use Rattle.office_store.specs.Reopening.{OpensAgain, OpensBlank, EntersFiles, EntersOpened, RefusesFiles};
+ghost use Rattle.office_store.specs.SqlMeaning.{LeavesOffices, LeavesShown};
 
 use crate::faults::fault;
 use crate::found::{OpenFault, enter, open_fault};
@@ -44,7 +45,9 @@ pub(crate) fn give_back<D: Disk + Drop>(conn: Connection<FileStore<D>>) -> Resul
 impl SqlShelf<MemStore> {
     /// An empty office in memory.
     pub fn create(alloc: Global) -> Result<SqlShelf<MemStore>, OpenFault>
+        ensures is_open { IfOk result (λ shelf. IsTrue (state over_memory shelf.0).is_open) }
         ensures empty { IfOk result (λ shelf. ShowsTables (state over_memory shelf.0) no_tables) }
+        ensures sound { IfOk result (λ shelf. LeavesOffices (state over_memory shelf.0)) }
         ensures count { IfOk result (λ shelf. shelf.1 ≡ 0) }
     {
         let Ok(mut conn) = Connection::open_in_memory(alloc) else {
@@ -62,7 +65,8 @@ impl SqlShelf<MemStore> {
 }
 
 impl<D: Disk + Drop> SqlShelf<FileStore<D>> {
-    /// The office in two files, or a new one where no name of the office's is taken there. Other tables stay.
+    /// The office in two files, or a new one where no name of the office's is taken there. Other tables stay. Where it shows the tables of an
+    /// office, a stop leaves one.
     pub fn open_files(
         alloc: Global,
         files: Files<D>,
@@ -70,6 +74,8 @@ impl<D: Disk + Drop> SqlShelf<FileStore<D>> {
     ) -> Result<SqlShelf<FileStore<D>>, OpenRefusal<D>>
         requires log { IsTrue (D.Disk.is_usable files.log) }
         requires db { IsTrue (D.Disk.is_usable files.db) }
+        ensures is_open { IfOk result (λ shelf. HasCleanDisk (file_state shelf.0) → IsTrue (file_state shelf.0).is_open) }
+        ensures sound { IfOk result (λ shelf. HasCleanDisk (file_state shelf.0) → LeavesShown (file_state shelf.0)) }
         ensures again { IfOk result (λ shelf. OpensAgain files shelf.0) }
         ensures blank { IfOk result (λ shelf. OpensBlank files shelf.0) }
         ensures enters { IfOk result (λ shelf. HasCleanDisk (file_state shelf.0) → EntersFiles files shelf.0) }
@@ -113,6 +119,8 @@ impl<D: Disk + Drop> SqlShelf<FileStore<D>> {
 impl SqlShelf<FileStore<File>> {
     /// The office in a file of the host, or a new one where no name of the office's is taken there. No clause can tie it to the path.
     pub fn open(rt: &HostRuntime, path: &str) -> Result<SqlShelf<FileStore<File>>, OpenFault>
+        ensures is_open { IfOk result (λ shelf. HasCleanDisk (file_state shelf.0) → IsTrue (file_state shelf.0).is_open) }
+        ensures sound { IfOk result (λ shelf. HasCleanDisk (file_state shelf.0) → LeavesShown (file_state shelf.0)) }
         ensures enters { IfOk result (λ shelf. HasCleanDisk (file_state shelf.0) → EntersOpened shelf.0) }
         ensures count { IfOk result (λ shelf. shelf.1 ≡ 0) }
     {

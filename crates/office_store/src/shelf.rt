@@ -1,5 +1,7 @@
 //! The shelf of an office in SQL.
 ghost use Rattle.std.specs.Prelude.{◌≡◌, ⊤};
+ghost use Rattle.sqlite.specs.Held.{state};
+ghost use Rattle.sqlite.specs.State.{IsLive};
 ghost use Rattle.office_base.specs.Faults.{one_fault_more, IsFaultOf};
 ghost use Rattle.office_store.specs.SqlMeaning.{sql_meaning};
 
@@ -79,6 +81,13 @@ impl<S: Alter> SqlShelf<S> {
             ShelfFault::Store => ShelfFault::Store,
         }
     }
+}
+
+// A law: while a store is open, its last commit is sound.
+fn is_live<S: Alter>(conn: &Connection<S>)
+    ensures { IsLive (state S.Store conn.now) }
+{
+    let _schema = conn.schema();
 }
 
 impl<S: Alter> Lookups for SqlShelf<S> {
@@ -288,6 +297,7 @@ impl<S: Alter> Shelf for SqlShelf<S> {
     fn apply(&mut self, puts: Vec<Put>) -> Result<(), ShelfFault> {
         trees_tell_one_office();
         changes_keep_order();
+        is_live(&self.conn);
         match apply_all(self.alloc, &mut self.conn, puts.as_slice()) {
             Ok(()) => Ok(()),
             Err(error) => Err(self.count(fault(error))),

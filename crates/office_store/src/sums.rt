@@ -14,7 +14,8 @@ use office_base::ledger::{ContractSums, LedgerRow};
 use office_base::shelf::ShelfFault;
 use office_joins::adding::sums_of_rows;
 use office_joins::select::{
-    join_is_plain, list_joined, list_joined_of_line, lots_are_shown, stored_rows_show,
+    join_is_no_write, join_is_plain, list_joined, list_joined_of_line, lots_are_shown,
+    stored_rows_show,
 };
 use office_ledger::ledger_sums::LedgerSums;
 use office_sql::ask::ask;
@@ -48,6 +49,7 @@ pub(crate) fn ledger<S: Alter>(
     ensures kept { KeepsOffice S.Store conn.old conn.new }
 {
     join_is_plain();
+    join_is_no_write();
     stored_rows_show();
     ready(conn)?;
     match conn.query(list_joined(), &[]) {

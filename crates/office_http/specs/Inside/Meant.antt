@@ -6,7 +6,7 @@ use Rattle.office_base.specs.Shelves.{Meaning}
 use Rattle.office_machine.specs.Machine.{IsCommand, IsRegistered}
 use Rattle.office_publications.specs.Standing.{Stands}
 use Rattle.office_http.specs.Meaning.{Meant, Refuses, Gives, Sees}
-use Rattle.office_http.specs.Answering.{answer_bytes, tables_left}
+use Rattle.office_http.specs.Answering.{StopsAfter, answer_bytes, tables_left}
 
 -- a command that is given is one that can be, and a tenderer who gives it is registered
 abbrev pub CanBeMeant : Tables → Meant → Type 0
@@ -18,12 +18,13 @@ CanBeMeant s (Sees caller query) = Unit {0}
 abbrev pub HoldsStanding : {S : Type 0} → Meaning S → Settings → S → Tables → Type 0
 HoldsStanding M settings new s = M.holds new s × Stands settings s
 
--- what was meant was answered with this text, perhaps with Unavailable, and the shelf holds the office after it
-abbrev pub Answered : {S : Type 0} → Meaning S → Settings → S → Tables → ℕ → Meant → List ℕ → Type 0
-Answered M settings new s moment m text =
+-- what was meant was answered with this text, perhaps with Unavailable, the shelf holds the office after it, and a stop leaves what it then may
+abbrev pub Answered : {S : Type 0} → Meaning S → Settings → S → S → Tables → ℕ → Meant → List ℕ → Type 0
+Answered M settings old new s moment m text =
     (busy : Bool) × (text ≡ answer_bytes settings busy s moment m) × HoldsStanding M settings new (tables_left settings busy s moment m)
+    × StopsAfter M settings old new busy s moment m
 
 -- so is whatever can be meant
 abbrev pub AnswersMeant : {S : Type 0} → Meaning S → Settings → S → S → ℕ → (Tables → Meant) → List ℕ → Type 0
 AnswersMeant M settings old new moment m text =
-    M.honest new → (s : Tables) → M.holds old s → Stands settings s → CanBeMeant s (m s) → Answered M settings new s moment (m s) text
+    M.honest new → (s : Tables) → M.holds old s → Stands settings s → CanBeMeant s (m s) → Answered M settings old new s moment (m s) text

@@ -1,22 +1,24 @@
 use Rattle.std.proofs.Common.{◌∙◌, ap, ℕ, List, inl, inr}
 use Rattle.office_http.specs.Response.{response_of}
+use Rattle.office_http.specs.Meaning.{Gives}
 use Rattle.office_http.specs.declared.reply.Reply.TheVariants.{Json}
-use Rattle.office_http.proofs.AnswerSteps.{command_done, command_refused, is_unavailable}
+use Rattle.office_http.proofs.AnswerSteps.{command_done, command_refused, command_undone, is_unavailable}
 use Rattle.office_http.proofs.answering.answer_command.Goals as goal
 
 pub returns-in-Err-clause-answered : goal.returns-in-Err-clause-answered
 returns-in-Err-clause-answered g c honest s held stands can =
-    command_refused g.H.Lookups.meaning c.args.desk.now.settings c.plan.new.self.shelf s c.args.moment c.refuse.result c.args.caller.now c.args.command
-    c.in-Err.refusal (c.in-Err.ensures.looks.1 honest s held) c.refuse.ensures (c.plan.ensures.looks.0.same honest s held, stands)
+    command_refused g.H.Lookups.meaning c.args.desk.now.settings c.args.desk.now.shelf c.plan.new.self.shelf s c.args.moment c.refuse.result c.args.caller.now c.args.command
+    c.in-Err.refusal (c.in-Err.ensures.looks.1 honest s held) c.refuse.ensures (c.plan.ensures.looks.0.same honest s held, stands) (c.plan.ensures.looks.0.stop honest)
 
 pub returns-in-Ok-commit-clause-answered : goal.returns-in-Ok-commit-clause-answered
 returns-in-Ok-commit-clause-answered g c honest s held stands can =
     let before = c.in-Ok-commit.ensures.alters.before honest in
     let looks = c.in-Ok.ensures.looks in
-    command_done g.H.Lookups.meaning c.args.desk.now.settings c.commit.new.self.shelf s c.args.moment c.built.result c.keeping.ensures.reaches c.keeping.ensures.stays
+    command_done g.H.Lookups.meaning c.args.desk.now.settings c.args.desk.now.shelf c.commit.new.self.shelf s c.args.moment c.built.result c.keeping.ensures.reaches c.keeping.ensures.stays
     c.args.caller.now c.args.command c.in-Ok.planned (looks.1 before s held) can.1 stands
     (c.built.ensures ∙ c.in-Ok-accepted_response.ensures ∙ ap (λ (text : List ℕ). response_of (Json text)) c.reply.ensures)
     (c.in-Ok-commit.ensures.alters.all honest s (looks.0.same before s held))
+    (c.in-Ok-commit.ensures.alters.stop_all honest s (looks.0.same before s held))
 
 pub returns-in-Ok-commit-clause-changes : goal.returns-in-Ok-commit-clause-changes
 returns-in-Ok-commit-clause-changes g c honest s held = inr (_, c.built.ensures ∙ c.in-Ok-accepted_response.ensures)

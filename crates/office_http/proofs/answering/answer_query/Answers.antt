@@ -2,10 +2,10 @@ use Rattle.std.proofs.Common.{◌∙◌, ap}
 use Rattle.office_acts.specs.declared.command.QueryKind.{QueryKind}
 use Rattle.office_http.specs.Answering.{seen_as}
 use Rattle.office_http.specs.Response.{response_of}
-use Rattle.office_http.proofs.AnswerSteps.{query_refused, query_told}
+use Rattle.office_http.proofs.AnswerSteps.{is_unavailable, query_refused, query_told}
 use Rattle.office_http.proofs.answering.answer_query.Goals as goal
 
 pub returns-in-Err-clause-answered : goal.returns-in-Err-clause-answered
 returns-in-Err-clause-answered g c honest s held stands can =
-    query_refused g.H.Lookups.meaning c.args.desk.now.settings c.look.new.self.shelf s c.args.moment c.refuse.result c.args.caller.now c.args.query
-    c.in-Err.refusal (c.in-Err.ensures.looks.1 honest s held) c.refuse.ensures (c.look.ensures.looks.0.same honest s held, stands)
+    query_refused g.H.Lookups.meaning c.args.desk.now.settings c.args.desk.now.shelf c.look.new.self.shelf s c.args.moment c.refuse.result c.args.caller.now c.args.query
+    c.in-Err.refusal (c.in-Err.ensures.looks.1 honest s held) c.refuse.ensures (c.look.ensures.looks.0.same honest s held, stands) (c.look.ensures.looks.0.stop honest)

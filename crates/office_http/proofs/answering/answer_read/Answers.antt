@@ -2,31 +2,38 @@ use Rattle.std.proofs.Common.{sym, subst}
 use Rattle.office_values.specs.declared.settings.Settings.{Settings}
 use Rattle.office_publications.specs.Standing.{Stands}
 use Rattle.office_http.specs.Inside.Meant.{Answered, CanBeMeant}
-use Rattle.office_http.specs.Meaning.{meant_asked}
+use Rattle.office_http.specs.Meaning.{meant, meant_asked}
+use Rattle.office_http.proofs.LeftSteps.{stops_then}
 use Rattle.office_http.proofs.RequestSteps.{asked_answered, caller_refused, route_refused}
 use Rattle.office_http.proofs.answering.answer_read.Goals as goal
 
 pub returns-in-Err-clause-answered : goal.returns-in-Err-clause-answered
 returns-in-Err-clause-answered g c honest s held stands =
-    let a = route_refused g.H.Lookups.meaning c.args.desk.now.settings c.args.desk.now.shelf s c.args.moment c.refuse.result c.args.request.now
-    c.in-Err.refusal c.in-Err.method (sym c.in-Err.ensures) c.refuse.ensures (held, stands) in
-    (a.0, a.1, a.2.0, a.2.1)
+    let a = route_refused g.H.Lookups.meaning c.args.desk.now.settings c.args.desk.now.shelf c.args.desk.now.shelf s c.args.moment c.refuse.result c.args.request.now
+    c.in-Err.refusal c.in-Err.method (sym c.in-Err.ensures) c.refuse.ensures (held, stands) (λ u left. left) in
+    (a.0, a.1, a.2.0, a.2.1, a.3)
 
 pub returns-in-Err-caller_of-clause-answered : goal.returns-in-Err-caller_of-clause-answered
 returns-in-Err-caller_of-clause-answered g c honest s held stands =
-    let a = caller_refused g.H.Lookups.meaning c.args.desk.now.settings c.caller_of.new.desk.shelf s c.args.moment c.refuse-in-Err-caller_of.result c.args.request.now
+    let a = caller_refused g.H.Lookups.meaning c.args.desk.now.settings c.args.desk.now.shelf c.caller_of.new.desk.shelf s c.args.moment c.refuse-in-Err-caller_of.result c.args.request.now
     c.in-Ok.route c.in-Err-caller_of.refusal (sym c.in-Ok.ensures) (c.in-Err-caller_of.ensures.looks.1 honest s held) c.refuse-in-Err-caller_of.ensures
-    (c.caller_of.ensures.looks.0.same honest s held, stands) in
-    (a.0, a.1, a.2.0, a.2.1)
+    (c.caller_of.ensures.looks.0.same honest s held, stands) (c.caller_of.ensures.looks.0.stop honest) in
+    (a.0, a.1, a.2.0, a.2.1, a.3)
 
 pub returns-clause-answered : goal.returns-clause-answered
 returns-clause-answered g c honest s held stands =
     let before = c.answer_asked.ensures.before honest in
     let m = meant_asked c.in-Ok-caller_of.caller c.command_of-asked.result in
     let family : Settings → Type 0 = λ u. Stands u s → CanBeMeant s m
-    → Answered g.H.Lookups.meaning u c.answer_asked.new.desk.shelf s c.args.moment m c.answer_asked.result in
+    → Answered g.H.Lookups.meaning u c.caller_of.new.desk.shelf c.answer_asked.new.desk.shelf s c.args.moment m c.answer_asked.result in
     let answered = subst family c.caller_of.ensures.settings (c.answer_asked.ensures.answered honest s (c.caller_of.ensures.looks.0.same before s held)) stands in
-    let a = asked_answered g.H.Lookups.meaning c.args.desk.now.settings c.answer_asked.new.desk.shelf s c.args.moment c.answer_asked.result c.args.request.now
+    let a = asked_answered g.H.Lookups.meaning c.args.desk.now.settings c.caller_of.new.desk.shelf c.answer_asked.new.desk.shelf s c.args.moment c.answer_asked.result c.args.request.now
     c.in-Ok.route c.in-Ok-caller_of.caller c.command_of-asked.result (sym c.in-Ok.ensures)
-    (c.in-Ok-caller_of.ensures.looks.1 before s held) c.command_of-asked.ensures.asked answered in
-    (a.0, a.1, a.2.0, a.2.1)
+    (c.in-Ok-caller_of.ensures.looks.1 before s held) c.command_of-asked.ensures.asked answered in (
+      a.0,
+      a.1,
+      a.2.0,
+      a.2.1,
+      stops_then g.H.Lookups.meaning c.args.desk.now.settings c.args.desk.now.shelf c.caller_of.new.desk.shelf c.answer_asked.new.desk.shelf a.0 s c.args.moment
+          (meant c.args.desk.now.settings c.args.request.now s) (c.caller_of.ensures.looks.0.stop before) a.3,
+    )

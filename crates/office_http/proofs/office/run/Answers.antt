@@ -1,13 +1,26 @@
 use Rattle.std.proofs.Common.{refl}
 use Rattle.office_http.specs.Answering.{held_by}
+use Rattle.office_http.proofs.WatchedSteps.{ran_watched, watched_end, watched_from, watched_start}
 use Rattle.office_http.proofs.office.run.Goals as goal
 
 pub returns-clause-ran : goal.returns-clause-ran
 returns-clause-ran g c honest input remains s held stands =
-    c.run.ensures.ran honest input remains (held_by c.args.office.now s) ((refl, held), stands)
+    let M = g.H.Lookups.meaning in
+    let old = c.args.office.now in
+    let h = held_by old s in
+    let ran = c.run.ensures.ran honest input remains (watched_from M old.shelf h) (watched_start M old h ((refl, held), stands)) in
+    let end = watched_end M old.shelf c.run.new.desk h ran.0 ran.2 in
+    (ran.0, ran_watched M old.shelf c.run.new.desk h c.run.result input c.run.new.reader.remaining ran.0 c.args.writer.now.contents c.run.new.writer.contents ran.1, end.0, end.1)
 
 pub returns-clause-kept : goal.returns-clause-kept
 returns-clause-kept g c honest input remains s held xs reached keeps =
-    let h = held_by c.args.office.now s in
-    let ran = c.run.ensures.ran honest input remains h ((refl, held), record { commands = xs; reaches = reached; keeps = keeps }) in
-    (ran.0, ran.1, ran.2, c.kept.ensures.steps xs h reached ran.0)
+    let M = g.H.Lookups.meaning in
+    let old = c.args.office.now in
+    let h = held_by old s in
+    let ran = c.run.ensures.ran honest input remains (watched_from M old.shelf h) (watched_start M old h ((refl, held), record { commands = xs; reaches = reached; keeps = keeps })) in
+    let end = watched_end M old.shelf c.run.new.desk h ran.0 ran.2 in (
+      ran.0,
+      ran_watched M old.shelf c.run.new.desk h c.run.result input c.run.new.reader.remaining ran.0 c.args.writer.now.contents c.run.new.writer.contents ran.1,
+      end.0,
+      c.kept.ensures.steps xs h reached ran.0,
+    )

@@ -6,13 +6,45 @@ use Rattle.sqlite.proofs.StateLemmas.{survives_then}
 use Rattle.office_sql.specs.Steps.{IsRefusal}
 use Rattle.office_sql.specs.Version.{get_version}
 use Rattle.office_store.specs.Founding.{is_version_one, takes_a_name, LeavesOffice}
-use Rattle.office_store.proofs.Founding.{sound_after, founded_after, leaves_before}
+use Rattle.office_store.proofs.Founding.{sound_after, founded_after, leaves_before, refused_on, shown_is_left}
+use Rattle.office_store.proofs.Shelves.{still_shows}
 use Rattle.office_store.proofs.found.enter.Goals as goal
 
-pub returns-then-has_key-clause-enters : goal.returns-then-has_key-clause-enters
-returns-then-has_key-clause-enters g c clean =
+pub returns-in-Ok-still_open-clause-enters : goal.returns-in-Ok-still_open-clause-enters
+returns-in-Ok-still_open-clause-enters g c clean =
+    let early : HasCleanDisk (state g.S.Store c.ask_version.new.conn) = omega (arith, clean, c.still_open.ensures.survives.clean) in
     let one : is_version_one c.in-Ok.rows.items ≡ true = search rules in
-    inl (c.in-Ok.rows.items, c.in-Ok.ensures.asked clean, one)
+    inl (c.in-Ok.rows.items, c.in-Ok.ensures.asked early, one)
+
+pub returns-in-Ok-still_open-clause-found : goal.returns-in-Ok-still_open-clause-found
+returns-in-Ok-still_open-clause-found g c clean t shows =
+    let old = state g.S.Store c.args.conn.now in
+    let mid = state g.S.Store c.ask_version.new.conn in
+    let end = state g.S.Store c.still_open.new.conn in
+    let early : HasCleanDisk mid = omega (arith, clean, c.still_open.ensures.survives.clean) in
+    still_shows mid end t (c.still_open.ensures.kept clean) (still_shows old mid t (c.ask_version.ensures.kept early) shows)
+
+pub returns-in-Ok-still_open-clause-sound : goal.returns-in-Ok-still_open-clause-sound
+returns-in-Ok-still_open-clause-sound g c clean =
+    shown_is_left (state g.S.Store c.still_open.new.conn) (c.in-Ok-still_open.ensures.is_open clean) (λ open_now db leaves. g.met.S.Store.settled c.still_open.new.conn.store db open_now leaves)
+
+pub returns-in-Ok-still_open-clause-survives : goal.returns-in-Ok-still_open-clause-survives
+returns-in-Ok-still_open-clause-survives g c =
+    let old = state g.S.Store c.args.conn.now in
+    survives_then old (state g.S.Store c.ask_version.new.conn) (state g.S.Store c.still_open.new.conn) _ _ (LeavesOffice old) (λ _ db none. absurd none) (λ _ db none. absurd none)
+    c.ask_version.ensures.survives c.still_open.ensures.survives
+
+pub returns-in-Ok-clause-kept : goal.returns-in-Ok-clause-kept
+returns-in-Ok-clause-kept g c clean =
+    let mid = state g.S.Store c.ask_version.new.conn in
+    let early : HasCleanDisk mid = omega (arith, clean, c.still_open.ensures.survives.clean) in
+    refused_on (state g.S.Store c.args.conn.now) mid (state g.S.Store c.still_open.new.conn) (c.ask_version.ensures.kept early) (c.still_open.ensures.kept clean)
+
+pub returns-in-Ok-clause-survives : goal.returns-in-Ok-clause-survives
+returns-in-Ok-clause-survives g c =
+    let old = state g.S.Store c.args.conn.now in
+    survives_then old (state g.S.Store c.ask_version.new.conn) (state g.S.Store c.still_open.new.conn) _ _ (LeavesOffice old) (λ _ db none. absurd none) (λ _ db none. absurd none)
+    c.ask_version.ensures.survives c.still_open.ensures.survives
 
 pub returns-then-not-is_version_one-clause-none : goal.returns-then-not-is_version_one-clause-none
 returns-then-not-is_version_one-clause-none g c clean why =
@@ -50,6 +82,21 @@ returns-in-Ok-found-clause-enters g c clean =
       none,
       founded_after old mid end kept (c.in-Ok-found.ensures.founded clean (sound_after old mid kept live)),
     )
+
+pub returns-in-Ok-found-clause-is_open : goal.returns-in-Ok-found-clause-is_open
+returns-in-Ok-found-clause-is_open g c clean =
+    let mid = state g.S.Store c.ask_version.new.conn in
+    let early : HasCleanDisk mid = omega (arith, clean, c.found.ensures.survives.clean) in
+    let live : IsLive (state g.S.Store c.args.conn.now) = search rules in
+    (c.in-Ok-found.ensures.founded clean (sound_after (state g.S.Store c.args.conn.now) mid (c.ask_version.ensures.kept early) live)).is_open
+
+pub returns-in-Ok-found-clause-sound : goal.returns-in-Ok-found-clause-sound
+returns-in-Ok-found-clause-sound g c clean =
+    let mid = state g.S.Store c.ask_version.new.conn in
+    let early : HasCleanDisk mid = omega (arith, clean, c.found.ensures.survives.clean) in
+    let live : IsLive (state g.S.Store c.args.conn.now) = search rules in
+    shown_is_left (state g.S.Store c.found.new.conn) (c.in-Ok-found.ensures.founded clean (sound_after (state g.S.Store c.args.conn.now) mid (c.ask_version.ensures.kept early) live)).is_open
+    (λ open_now db leaves. g.met.S.Store.settled c.found.new.conn.store db open_now leaves)
 
 pub returns-in-Ok-found-clause-found : goal.returns-in-Ok-found-clause-found
 returns-in-Ok-found-clause-found g c clean t shows =

@@ -6,6 +6,12 @@ use Rattle.office_store.proofs.Founding.{enters_bare}
 use Rattle.office_store.proofs.Reopening.{shows_again, bare_schema}
 use Rattle.office_store.proofs.open.SqlShelf+FileStore+D.open_files.Goals as goal
 
+pub returns-in-Ok-enter-clause-is_open : goal.returns-in-Ok-enter-clause-is_open
+returns-in-Ok-enter-clause-is_open g c clean = c.in-Ok-enter.ensures.is_open clean
+
+pub returns-in-Ok-enter-clause-sound : goal.returns-in-Ok-enter-clause-sound
+returns-in-Ok-enter-clause-sound g c clean t shows = c.in-Ok-enter.ensures.sound clean t shows
+
 pub returns-in-Ok-enter-clause-again : goal.returns-in-Ok-enter-clause-again
 returns-in-Ok-enter-clause-again g c clean last closed t shows =
     let early : HasCleanDisk (file_state c.in-Ok.conn) = omega (arith, clean, c.enter.ensures.survives.clean) in

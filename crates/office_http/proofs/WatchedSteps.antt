@@ -1,0 +1,96 @@
+-- What a stop may leave, step by step.
+use Rattle.std.proofs.Common.{◌≡◌, ℕ, Bool, List, [], ◌∷◌, ◌++◌, Option, Result, append_assoc, append-nil, refl, sym, ap, ◌∙◌, subst}
+use Rattle.std.specs.Prelude.{⊤}
+use Rattle.office_values.specs.declared.settings.Settings.{Settings}
+use Rattle.office_base.specs.Tables.{Tables}
+use Rattle.office_base.specs.Shelves.{Meaning}
+use Rattle.office_desk.specs.Desks.{DeskOf}
+use Rattle.office_publications.specs.Standing.{Stands}
+use Rattle.office_wire.specs.Blocks.{Block}
+use Rattle.office_wire.specs.Runs.{Answers, Ran, Served, Step, office_left}
+use Rattle.office_wire.specs.declared.fault.RunFault.{RunFault}
+use Rattle.office_http.specs.Meaning.{meant}
+use Rattle.office_http.specs.Answering.{Held, IsAnswered, LeftAfter, StandsAs, is_accepted, meant_in, office_answers, tables_after}
+use Rattle.office_http.specs.Stops.{LeftBySteps, StandsWatched, StopsBy, Watched, office_now, watched_answers}
+use Rattle.office_http.proofs.LeftSteps.{left_weaker}
+use Rattle.office_http.proofs.ViewedAnswers.{left_as, ran_as, served_as}
+
+-- ---- a step more, behind the others
+
+office_push : (h : Held) (steps : List Step) (x : Step)
+    → office_left office_answers h (steps ++ x ∷ []) ≡ office_answers.after x.busy (office_left office_answers h steps) x.block
+office_push h [] x = refl
+office_push h (y ∷ steps) x = office_push (office_answers.after y.busy h y.block) steps x
+
+-- what a stop may leave after it, by what it could leave before it
+abbrev LeftByStep : (Tables → Type 0) → Held → Step → Tables → Type 0
+LeftByStep Before h x u =
+    LeftAfter (is_accepted h.tables x.block.moment (meant_in h x.block)) x.busy (Before u) (u ≡ tables_after h.settings h.tables x.block.moment (meant_in h x.block))
+
+left_push : (Before : Tables → Type 0) (h : Held) (steps : List Step) (x : Step) (u : Tables)
+    → LeftByStep (LeftBySteps Before h steps) (office_left office_answers h steps) x u → LeftBySteps Before h (steps ++ x ∷ []) u
+left_push Before h [] x u left = left
+left_push Before h (y ∷ steps) x u left = left_push (LeftByStep Before h y) (office_answers.after y.busy h y.block) steps x u left
+
+module _ {S : Type 0} (M : Meaning S) where
+  -- ---- one answer
+
+  module _ (old new : DeskOf S) (w : Watched S) (b : Block) (text : List ℕ) where
+    abbrev here : Held
+    here = office_now w
+
+    abbrev next : Bool → Watched S
+    next busy = watched_answers.after busy w b
+
+    -- a step of the office that it is
+    step_stands : (busy : Bool) → StandsAs M new (office_answers.after busy here b)
+        → ((u : Tables) → M.may_leave new.shelf u → LeftByStep (M.may_leave old.shelf) here (record { busy = busy; block = b }) u)
+        → (M.leaves_sound old.shelf → M.leaves_sound new.shelf) → StopsBy M w.shelf old.shelf w.first w.steps → StandsWatched M new (next busy)
+    step_stands busy stands leaves whole stops = (
+      subst (λ (h : Held). StandsAs M new h) (sym (office_push w.first w.steps (record { busy = busy; block = b }))) stands,
+      record {
+        left = λ u left. left_push (M.may_leave w.shelf) w.first w.steps (record { busy = busy; block = b }) u
+            (left_weaker (is_accepted here.tables b.moment (meant_in here b)) busy (stops.left u) (leaves u left));
+        sound = λ was. whole (stops.sound was);
+      },
+    )
+
+    pub answered_step : M.honest new.shelf → new.settings ≡ old.settings → IsAnswered M old.settings old.shelf new.shelf b.moment (meant old.settings b.request) text
+        → (M.leaves_sound old.shelf → M.leaves_sound new.shelf) → StandsWatched M old w
+        → (busy : Bool) × (text ≡ watched_answers.reply busy w b) × StandsWatched M new (next busy)
+    answered_step honest same answered whole held =
+        let is : old.settings ≡ here.settings = held.0.0.0 in
+        let family : Settings → Type 0 = λ u. IsAnswered M u old.shelf new.shelf b.moment (meant u b.request) text in
+        let a = subst family is answered honest here.tables held.0.0.1 held.0.1 in
+        (a.0, a.1, step_stands a.0 ((same ∙ is, a.2), a.3) a.4 whole held.1)
+
+  -- ---- all steps of a run, from the office that a desk held
+
+  abbrev pub watched_from : S → Held → Watched S
+  watched_from shelf h = record { shelf = shelf; first = h; steps = [] }
+
+  watched_left : (w : Watched S) (steps : List Step) → office_left watched_answers w steps ≡ record w { steps = w.steps ++ steps }
+  watched_left w [] = ap (λ (done : List Step). record w { steps = done }) (sym (append-nil w.steps))
+  watched_left w (x ∷ steps) =
+      watched_left (watched_answers.after x.busy w x.block) steps
+      ∙ ap (λ (done : List Step). record w { steps = done }) (append_assoc w.steps (x ∷ []) steps)
+
+  pub watched_start : (desk : DeskOf S) (h : Held) → StandsAs M desk h → StandsWatched M desk (watched_from desk.shelf h)
+  watched_start desk h stands = (stands, record { left = λ u left. left; sound = λ was. was })
+
+  module _ (shelf : S) (new : DeskOf S) (h : Held) where
+    pub watched_end : (steps : List Step) → StandsWatched M new (office_left watched_answers (watched_from shelf h) steps)
+        → StandsAs M new (office_left office_answers h steps) × StopsBy M shelf new.shelf h steps
+    watched_end steps stands = subst (λ (w : Watched S). StandsWatched M new w) (watched_left (watched_from shelf h) steps) stands
+
+    pub ran_watched : (result : Result ℕ RunFault) (input : List ℕ) (now : Option (List ℕ)) (steps : List Step) (before after : Option (List ℕ))
+        → Ran watched_answers result input now (watched_from shelf h) steps before after → Ran office_answers result input now h steps before after
+    ran_watched result input now steps before after ran =
+        ran_as watched_answers office_answers office_now (λ busy w b. refl) (λ busy w b. office_push w.first w.steps (record { busy = busy; block = b })) (λ why. refl)
+        result input now (watched_from shelf h) steps before after ran
+
+    pub served_watched : (result : Result ⊤ RunFault) (input : List ℕ) (now : Option (List ℕ)) (moment : ℕ) (t : Watched S) (before after : Option (List ℕ))
+        → Served watched_answers result input now moment (watched_from shelf h) t before after → Served office_answers result input now moment h (office_now t) before after
+    served_watched result input now moment t before after served =
+        served_as watched_answers office_answers office_now (λ busy w b. refl) (λ busy w b. office_push w.first w.steps (record { busy = busy; block = b })) (λ why. refl)
+        input now moment (watched_from shelf h) t result before after served

@@ -1,0 +1,11 @@
+use Rattle.std.proofs.Common.{[]}
+use Rattle.sqlite.specs.Held.{state}
+use Rattle.office_sql.specs.Version.{get_version}
+use Rattle.office_changes.proofs.Steps.{unchanged, not_run_kept}
+use Rattle.office_store.proofs.found.still_open.Goals as goal
+
+pub returns-in-Err-clause-kept : goal.returns-in-Err-clause-kept
+returns-in-Err-clause-kept g c clean = not_run_kept get_version [] (state g.S.Store c.args.conn.now) (state g.S.Store c.prepare.new.self) c.in-Err.error (c.in-Err.ensures.err clean [])
+
+pub returns-clause-kept : goal.returns-clause-kept
+returns-clause-kept g c clean = unchanged (state g.S.Store c.args.conn.now) (state g.S.Store c.prepare.new.self) (c.in_default.ensures.ok clean).1
