@@ -2,4 +2,5 @@
 pub mod Drops
 pub mod IdBounds
 pub mod GroupIndex
+pub mod Owners
 pub mod Adding

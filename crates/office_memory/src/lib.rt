@@ -3,6 +3,7 @@
 
 mod belonging;
 pub mod child;
+pub mod envelopes;
 mod group_index;
 mod id_bounds;
 pub mod indexed_table;
