@@ -3,7 +3,6 @@ pub mod KeyLists
 pub mod IdBounds
 pub mod KeyBounds
 pub mod GroupIndex
-pub mod Owners
 pub mod Undoing
 pub mod SealsDropped
 pub mod Applied

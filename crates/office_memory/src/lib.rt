@@ -3,10 +3,10 @@
 
 mod belonging;
 pub mod child;
-pub mod envelopes;
 mod group_index;
 mod id_bounds;
 pub mod indexed_table;
 pub mod memory;
+pub mod owned_table;
 mod sums;
 pub mod tables;
