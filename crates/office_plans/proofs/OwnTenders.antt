@@ -27,7 +27,7 @@ module _ {X : Type 0} (p q own : X → Bool) (only : (x : X) → p x ≡ true �
   one_more : (x : X) (ys zs : List X) → list_any p ys ≡ list_any p zs → (a b : Bool) → own x ≡ b → list_any p (cond (a && b) (x ∷ ys) ys) ≡ list_any p (cond a (x ∷ zs) zs)
   one_more x ys zs same false b e = same
   one_more x ys zs same true true e = ap (λ c. p x || c) same
-  one_more x ys zs same true false e = same ∙ sym (ap (λ b. b || list_any p zs) (false_from_ne_true (p x) (λ passes. both_ways (own x) (only x passes) e)))
+  one_more x ys zs same true false e = same ∙ sym (ap (λ b. b || list_any p zs) (false_from_ne_true (p x) (λ passes. both_ways (own x) e (only x passes))))
 
   -- whoever passes a test is one of their own: then only those need be asked
   any_own : (xs : List X) → list_any p (filter (λ x. q x && own x) xs) ≡ list_any p (filter q xs)
