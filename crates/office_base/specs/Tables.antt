@@ -258,6 +258,13 @@ securities_of_lot notice lot t = filter (λ (s : SecurityRow). same_id s.notice 
 abbrev pub contracts_of_lot : List ℕ × List ℕ → Tables → List ContractRow
 contracts_of_lot lot t = filter (λ (c : ContractRow). same_id c.notice lot.0 && same_id c.lot lot.1) t.contracts
 
+-- a tenderer's own envelopes of a lot: of this notice, this lot and this tenderer
+abbrev pub of_tenderer : List ℕ → List ℕ → List ℕ → EnvelopeRow → Bool
+of_tenderer notice lot tenderer e = same_id e.notice notice && same_id e.lot lot && same_id e.tenderer tenderer
+
+abbrev pub envelopes_of_tenderer : List ℕ → List ℕ → List ℕ → Tables → List EnvelopeRow
+envelopes_of_tenderer notice lot tenderer t = filter (of_tenderer notice lot tenderer) t.envelopes
+
 -- the entries of a contract
 abbrev pub entries_of_contract : ℕ → Tables → List EntryRow
 entries_of_contract contract t = filter (λ (e : EntryRow). same_number e.contract contract) t.entries

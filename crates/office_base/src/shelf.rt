@@ -2,7 +2,7 @@
 ghost use Rattle.std.specs.Prelude.{◌≡◌};
 ghost use Rattle.office_values.specs.declared.refusal.Refusal.TheVariants.{Unavailable};
 ghost use Rattle.office_base.specs.Tables.{Tables, IsSorted};
-ghost use Rattle.office_base.specs.Tables.{line_at, batch_at, tenderer_at, notice_at, lot_at, envelope_at, seal_at, security_at, award_at, contract_at, entry_at, release_at, compiled_at, lots_of_notice, lots_of_line, envelopes_of_notice, securities_of_notice, awards_of_notice, contracts_of_notice, entries_of_contract, releases_of_notice, after_puts};
+ghost use Rattle.office_base.specs.Tables.{line_at, batch_at, tenderer_at, notice_at, lot_at, envelope_at, seal_at, security_at, award_at, contract_at, entry_at, release_at, compiled_at, lots_of_notice, lots_of_line, envelopes_of_notice, envelopes_of_tenderer, securities_of_notice, awards_of_notice, contracts_of_notice, entries_of_contract, releases_of_notice, after_puts};
 ghost use Rattle.office_base.specs.Joined.{reservations, sums_of_line, ledger_of, LinesFit};
 ghost use Rattle.office_base.specs.Shelves.{Meaning, Keeps, LooksUp, AddsUp, Changes};
 
@@ -114,6 +114,15 @@ pub trait Lookups {
     /// The tenders of a notice, in the order of their receipts.
     fn list_envelopes_of_notice(&mut self, notice: &Id) -> Result<Vec<EnvelopeRow>, ShelfFault>
         ensures { LooksUp meaning self.old self.new result (λ t rows. rows.items ≡ envelopes_of_notice notice.now t) };
+
+    /// The tenders of a lot that this tenderer presented, in the order of their receipts.
+    fn list_envelopes_of_tenderer(
+        &mut self,
+        notice: &Id,
+        lot: &Id,
+        tenderer: &Id,
+    ) -> Result<Vec<EnvelopeRow>, ShelfFault>
+        ensures { LooksUp meaning self.old self.new result (λ t rows. rows.items ≡ envelopes_of_tenderer notice.now lot.now tenderer.now t) };
 
     /// The securities of a notice, in the order of their numbers.
     fn list_securities_of_notice(&mut self, notice: &Id) -> Result<Vec<SecurityRow>, ShelfFault>

@@ -133,6 +133,15 @@ impl Lookups for FileShelf {
         self.shelf.list_envelopes_of_notice(notice)
     }
 
+    fn list_envelopes_of_tenderer(
+        &mut self,
+        notice: &Id,
+        lot: &Id,
+        tenderer: &Id,
+    ) -> Result<Vec<EnvelopeRow>, ShelfFault> {
+        self.shelf.list_envelopes_of_tenderer(notice, lot, tenderer)
+    }
+
     fn list_securities_of_notice(&mut self, notice: &Id) -> Result<Vec<SecurityRow>, ShelfFault> {
         self.shelf.list_securities_of_notice(notice)
     }

@@ -5,6 +5,7 @@ ghost use Rattle.office_base.specs.Tables.{same_number, of_notice};
 use crate::child::Child;
 use crate::id_bounds::{greatest_id, least_id};
 use crate::indexed_table::Grouped;
+use crate::owned_table::Owned;
 use office_base::records::{
     AwardRow, ContractRow, EntryRow, EnvelopeRow, LotRow, ReleaseRow, SecurityRow,
 };
@@ -62,6 +63,17 @@ impl Grouped for EnvelopeRow {
 
     fn group(&self) -> Id {
         self.notice
+    }
+}
+
+// Tenders are listed by their lot and their tenderer too.
+impl Owned for EnvelopeRow {
+    type Owner = (Id, Id, Id);
+
+    ghost owner_of = { λ r. (r.notice, r.lot, r.tenderer) };
+
+    fn owner(&self) -> (Id, Id, Id) {
+        (self.notice, self.lot, self.tenderer)
     }
 }
 

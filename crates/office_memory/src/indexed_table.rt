@@ -23,7 +23,7 @@ pub trait Grouped: Row {
 }
 
 // Copies of these rows.
-fn copies<R: Row>(alloc: Global, rows: &[&R]) -> Result<Vec<R>, AllocError>
+pub(crate) fn copies<R: Row>(alloc: Global, rows: &[&R]) -> Result<Vec<R>, AllocError>
     ensures { IfOk result (λ copied. copied.items ≡ map (λ row. row.now) rows.now) }
 {
     let mut copied = Vec::with_capacity(alloc, rows.len())?;

@@ -126,7 +126,8 @@ impl Lookups for MemoryShelf {
     }
 
     fn get_envelope(&mut self, receipt: AskedNumber) -> Result<Option<EnvelopeRow>, ShelfFault> {
-        match self.tables.envelopes.rows().copy_at(&receipt.get()) {
+        let rows = self.tables.envelopes.by_group().rows();
+        match rows.copy_at(&receipt.get()) {
             Ok(found) => Ok(found),
             Err(_) => Err(self.refused()),
         }
@@ -215,7 +216,21 @@ impl Lookups for MemoryShelf {
     }
 
     fn list_envelopes_of_notice(&mut self, notice: &Id) -> Result<Vec<EnvelopeRow>, ShelfFault> {
-        match self.tables.envelopes.copy_of_group(self.alloc, notice) {
+        let envelopes = self.tables.envelopes.by_group();
+        match envelopes.copy_of_group(self.alloc, notice) {
+            Ok(rows) => Ok(rows),
+            Err(_) => Err(self.refused()),
+        }
+    }
+
+    fn list_envelopes_of_tenderer(
+        &mut self,
+        notice: &Id,
+        lot: &Id,
+        tenderer: &Id,
+    ) -> Result<Vec<EnvelopeRow>, ShelfFault> {
+        let owner = (*notice, *lot, *tenderer);
+        match self.tables.envelopes.copy_of_owner(self.alloc, &owner) {
             Ok(rows) => Ok(rows),
             Err(_) => Err(self.refused()),
         }

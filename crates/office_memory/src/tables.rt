@@ -6,6 +6,7 @@ ghost use Rattle.office_memory.specs.Inside.Drops.{without_seals};
 ghost use Rattle.office_memory.specs.MemoryTables.{tables_of, after_undo, after_undos, CanUndo, CanUndoAll};
 
 use crate::indexed_table::IndexedTable;
+use crate::owned_table::OwnedTable;
 use keyed_table::table::{Replaced, Table};
 use office_base::laws::rows_are_kept;
 use office_base::puts::Put;
@@ -27,7 +28,7 @@ pub struct MemoryTables {
     pub tenderers: Table<TendererRow>,
     pub notices: Table<NoticeRow>,
     pub lots: IndexedTable<LotRow>,
-    pub envelopes: IndexedTable<EnvelopeRow>,
+    pub envelopes: OwnedTable<EnvelopeRow>,
     pub seals: Table<SealRow>,
     pub securities: IndexedTable<SecurityRow>,
     pub awards: IndexedTable<AwardRow>,
@@ -81,7 +82,7 @@ pub fn empty(alloc: Global) -> MemoryTables
         tenderers: Table::new(alloc),
         notices: Table::new(alloc),
         lots: IndexedTable::new(alloc),
-        envelopes: IndexedTable::new(alloc),
+        envelopes: OwnedTable::new(alloc),
         seals: Table::new(alloc),
         securities: IndexedTable::new(alloc),
         awards: IndexedTable::new(alloc),

@@ -4,4 +4,5 @@ pub mod NamedLines
 pub mod NamedStandings
 pub mod Objects
 pub mod OnContracts
+pub mod OwnTenders
 pub mod ReadTenders

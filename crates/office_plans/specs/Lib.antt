@@ -2,6 +2,7 @@ pub mod Json
 pub mod Replies
 pub mod Plans
 pub mod Asking
+pub mod OwnTenders
 pub mod Effects
 pub mod LookedUp
 pub mod Named

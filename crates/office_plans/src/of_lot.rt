@@ -3,7 +3,9 @@ ghost use Rattle.std.specs.Prelude.{◌≡◌, ℕ, List};
 ghost use Rattle.office_base.specs.Parents.{securities_of_award};
 ghost use Rattle.office_base.specs.Shelves.{LooksUp};
 ghost use Rattle.office_base.specs.Tables.{Tables, envelopes_of_lot, envelopes_of_notice, securities_of_lot, securities_of_notice};
+ghost use Rattle.office_plans.specs.OwnTenders.{own_envelopes};
 
+use office_acts::command::Caller;
 use office_base::records::{AwardRow, EnvelopeRow, SecurityRow};
 use office_base::rows::Rows;
 use office_base::shelf::{Lookups, ShelfFault};
@@ -35,6 +37,25 @@ pub fn envelopes_of_lot<H: Lookups>(
     let mut rows = shelf.list_envelopes_of_notice(notice)?;
     keep_envelopes(lot, &mut rows);
     Ok(Rows::from_vec(rows))
+}
+
+/// The caller's own tenders of a lot, in the order of their receipts; none of a caller who is no tenderer. No other's tender is looked up.
+pub fn own_envelopes<H: Lookups>(
+    alloc: Global,
+    shelf: &mut H,
+    caller: &Caller,
+    notice: &Id,
+    lot: &Id,
+) -> Result<Rows<EnvelopeRow>, ShelfFault>
+    ensures { LooksUp H.meaning shelf.old shelf.new result (λ s rows. rows ≡ own_envelopes caller.now notice.now lot.now s) }
+{
+    match caller {
+        Caller::Public => Ok(Rows::from_vec(Vec::new(alloc))),
+        Caller::Clerk => Ok(Rows::from_vec(Vec::new(alloc))),
+        Caller::Tenderer(id) => Ok(Rows::from_vec(shelf.list_envelopes_of_tenderer(
+            notice, lot, id,
+        )?)),
+    }
 }
 
 /// The securities of a lot, in the order of their numbers.

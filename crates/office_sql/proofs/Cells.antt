@@ -112,6 +112,16 @@ pub and_true : (b : Bool) → (b && true) ≡ b
 and_true true = refl
 and_true false = refl
 
+-- three tests, of which the first two are taken together
+all_three : (b c d : Bool) → (b && (c && (d && true))) ≡ (b && c && d)
+all_three true c d = ap (λ e. c && e) (and_true d)
+all_three false c d = refl
+
+pub three_tested : (a b c k l m : List ℕ) → (equal Binary (Text a) (Text k) && (equal Binary (Text b) (Text l) && (equal Binary (Text c) (Text m) && true))) ≡ (same_id a k && same_id b l && same_id c m)
+three_tested a b c k l m =
+    all_three (equal Binary (Text a) (Text k)) (equal Binary (Text b) (Text l)) (equal Binary (Text c) (Text m))
+    ∙ ap₂ (λ d e. d && e) (ap₂ (λ d e. d && e) (text_tested a k) (text_tested b l)) (text_tested c m)
+
 -- ---- orders
 
 pub then_equal : (o : Ordering) → is_lt (ordering_then o Equal) ≡ is_lt o

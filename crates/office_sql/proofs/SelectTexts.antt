@@ -10,7 +10,7 @@ use Rattle.sqlite_tied.specs.Compute.{everything}
 use Rattle.office_sql.specs.Schema.{column_of, lines, batches, tenderers, notices, lots, envelopes, seals, securities, awards, contracts, entries, releases, compiled, office}
 use Rattle.office_sql.specs.Known.{IsIn, at_tree}
 use Rattle.office_sql.proofs.Meanings.{Means, parsed_in}
-use Rattle.office_sql.proofs.Simple.{equals_e, both_e, names_of, outputs_of, Has, no_test, one_test, two_tests}
+use Rattle.office_sql.proofs.Simple.{equals_e, both_e, names_of, outputs_of, Has, no_test, one_test, two_tests, three_tests}
 use Rattle.office_sql.proofs.Selecting.{select, columns_of, left, IsSelect, selects_mean, found_by_tree}
 
 lines_has : (n : ℕ) → Has (at_tree lines n) max_budget (columns_of lines)
@@ -347,6 +347,21 @@ unfolding same_name alone chosen first_found
 list_envelopes_of_notice_means schema n it =
     selects_mean schema envelopes n it (columns_of envelopes) ((0, column_of (codes "receipt") Integer true) ∷ []) list_envelopes_of_notice (envelopes_has n) (Some (equals_e (codes "notice") 1)) _ _ _ list_envelopes_of_notice_read
     (one_test schema it.place (at_tree envelopes n) it.found envelopes.name (outputs_of (at_tree envelopes n) [] (columns_of envelopes)) (1, column_of (codes "notice") Text true) 1 (left (columns_of envelopes)) _ (refl, refl, refl, tt) refl refl (inl (inl refl, refl), refl, refl))
+    (refl, refl, refl, tt) (refl, tt) (rw (it.stored, found_by_tree schema envelopes n it))
+
+abbrev pub list_envelopes_of_tenderer : List ℕ
+list_envelopes_of_tenderer = codes "SELECT receipt, notice, lot, tenderer, moment, length, digest, security, state, reading, stated, corrected, corrections, responsive, quality, failed FROM envelopes WHERE notice = ?1 AND lot = ?2 AND tenderer = ?3 ORDER BY receipt"
+
+list_envelopes_of_tenderer_read : IsSelect list_envelopes_of_tenderer (codes "envelopes") (names_of (columns_of envelopes)) (Some (both_e (both_e (equals_e (codes "notice") 1) (equals_e (codes "lot") 2)) (equals_e (codes "tenderer") 3))) (codes "receipt" ∷ [])
+unfolding everything parsed_in
+list_envelopes_of_tenderer_read = record { is = refl; statement = refl; formats = refl }
+
+pub list_envelopes_of_tenderer_means : (schema : Schema) (n : ℕ) → IsIn schema envelopes n → Means schema list_envelopes_of_tenderer (Select (record { lets = []; body = select n (2 ∷ 3 ∷ 4 ∷ []) (range_with_len 1 16) (1 ∷ []) }) (names_of (columns_of envelopes)))
+unfolding same_name alone chosen first_found
+list_envelopes_of_tenderer_means schema n it =
+    selects_mean schema envelopes n it (columns_of envelopes) ((0, column_of (codes "receipt") Integer true) ∷ []) list_envelopes_of_tenderer (envelopes_has n) (Some (both_e (both_e (equals_e (codes "notice") 1) (equals_e (codes "lot") 2)) (equals_e (codes "tenderer") 3))) _ _ _ list_envelopes_of_tenderer_read
+    (three_tests schema it.place (at_tree envelopes n) it.found envelopes.name (outputs_of (at_tree envelopes n) [] (columns_of envelopes)) (1, column_of (codes "notice") Text true) (2, column_of (codes "lot") Text true) (3, column_of (codes "tenderer") Text true) 1 2 3 (left (columns_of envelopes)) _ refl refl
+    (refl, refl, refl, tt) refl refl (inl refl, refl, refl, refl) (refl, refl, refl, tt) refl refl (inl refl, refl, refl, refl) (refl, refl, refl, tt) refl refl (inl refl, refl, refl, refl))
     (refl, refl, refl, tt) (refl, tt) (rw (it.stored, found_by_tree schema envelopes n it))
 
 abbrev pub list_securities_of_notice : List ℕ

@@ -229,6 +229,18 @@ impl<S: Alter> Lookups for SqlShelf<S> {
         }
     }
 
+    fn list_envelopes_of_tenderer(
+        &mut self,
+        notice: &Id,
+        lot: &Id,
+        tenderer: &Id,
+    ) -> Result<Vec<EnvelopeRow>, ShelfFault> {
+        match lists::list_envelopes_of_tenderer(self.alloc, &mut self.conn, notice, lot, tenderer) {
+            Ok(rows) => Ok(rows),
+            Err(fault) => Err(self.count(fault)),
+        }
+    }
+
     fn list_securities_of_notice(&mut self, notice: &Id) -> Result<Vec<SecurityRow>, ShelfFault> {
         match lists::list_securities_of_notice(self.alloc, &mut self.conn, notice) {
             Ok(rows) => Ok(rows),

@@ -20,6 +20,8 @@ pub enum Change {
     Lot(&'static str, &'static str, &'static str, u64),
     /// A tender that is sealed.
     Sealed(u64, &'static str),
+    /// One that is sealed, for a lot and from a tenderer.
+    Tender(u64, (&'static str, &'static str), &'static str),
     /// One that was opened, with its price as stated and as corrected.
     Priced(u64, &'static str, (u64, u64)),
     /// One that was opened and couldn't be read.
@@ -73,6 +75,9 @@ fn put_of_numbers(change: Change) -> Option<Put> {
     match change {
         Change::Sealed(receipt, notice) => {
             Some(Put::Envelope(rows::envelope(receipt, notice, None)?))
+        }
+        Change::Tender(receipt, lot, tenderer) => {
+            Some(Put::Envelope(rows::tender(receipt, lot, tenderer)?))
         }
         Change::Priced(receipt, notice, price) => {
             let reading = Some(rows::price(price.0, price.1)?);

@@ -192,3 +192,65 @@ static MANY_MOVED: [Step; 2] = [
 fn records_are_listed_where_they_moved_to(rt: HostRuntime) {
     assert!(rt; holds(rt.alloc(), &[], &MANY_MOVED));
 }
+
+// Tenders of two notices, two lots and two tenderers, in no order. Then one of them is opened, and one comes to the other tenderer.
+static TENDERS: [Step; 2] = [
+    Step {
+        before: &[],
+        changes: &[
+            Change::Tender(4, ("N1", "L1"), "T1"),
+            Change::Tender(2, ("N1", "L1"), "T2"),
+            Change::Tender(5, ("N2", "L1"), "T1"),
+            Change::Tender(1, ("N1", "L1"), "T1"),
+            Change::Tender(3, ("N1", "L2"), "T1"),
+        ],
+        after: &[
+            (
+                Look::All(List::Own(("N1", "L1"), "T1")),
+                &[(&["N1"], &[1, 1]), (&["N1"], &[4, 1])],
+            ),
+            (
+                Look::All(List::Own(("N1", "L1"), "T2")),
+                &[(&["N1"], &[2, 1])],
+            ),
+            (
+                Look::All(List::Own(("N1", "L2"), "T1")),
+                &[(&["N1"], &[3, 1])],
+            ),
+            (
+                Look::All(List::Own(("N2", "L1"), "T1")),
+                &[(&["N2"], &[5, 1])],
+            ),
+            (Look::All(List::Own(("N1", "L2"), "T2")), &[]),
+            (Look::All(List::Own(("L1", "N1"), "T1")), &[]),
+        ],
+    },
+    Step {
+        before: &[],
+        changes: &[
+            Change::Unreadable(1, "N1"),
+            Change::Tender(4, ("N1", "L1"), "T2"),
+        ],
+        after: &[
+            (
+                Look::All(List::Own(("N1", "L1"), "T1")),
+                &[(&["N1"], &[1, 0])],
+            ),
+            (
+                Look::All(List::Own(("N1", "L1"), "T2")),
+                &[(&["N1"], &[2, 1]), (&["N1"], &[4, 1])],
+            ),
+        ],
+    },
+];
+
+#[test]
+fn tenders_are_listed_by_their_tenderers(rt: HostRuntime) {
+    assert!(rt;
+        holds(
+            rt.alloc(),
+            &[(Look::All(List::Own(("N1", "L1"), "T1")), &[])],
+            &TENDERS
+        )
+    );
+}

@@ -37,13 +37,14 @@ pub enum Key {
     Clock,
 }
 
-/// All records of one kind: of the office, of a notice, of a line or of a contract.
+/// All records of one kind: of the office, of a notice, of a line, of a contract, or of a lot and a tenderer.
 #[derive(Clone, Copy)]
 pub enum List {
     Lines,
     Lots(&'static str),
     LotsOfLine(&'static str),
     Envelopes(&'static str),
+    Own((&'static str, &'static str), &'static str),
     Securities(&'static str),
     Awards(&'static str),
     Contracts(&'static str),
@@ -126,6 +127,10 @@ fn is_list(shelf: &mut MemoryShelf, list: List, wanted: &[Shown]) -> Option<bool
         List::Lots(notice) => are_listed(shelf.list_lots_of_notice(&id(notice)?), wanted),
         List::LotsOfLine(line) => are_listed(shelf.list_lots_of_line(&id(line)?), wanted),
         List::Envelopes(notice) => are_listed(shelf.list_envelopes_of_notice(&id(notice)?), wanted),
+        List::Own(lot, tenderer) => are_listed(
+            shelf.list_envelopes_of_tenderer(&id(lot.0)?, &id(lot.1)?, &id(tenderer)?),
+            wanted,
+        ),
         List::Securities(notice) => {
             are_listed(shelf.list_securities_of_notice(&id(notice)?), wanted)
         }

@@ -151,6 +151,15 @@ pub fn envelope(receipt: u64, notice: &str, reading: Option<Reading>) -> Option<
     })
 }
 
+/// A sealed tender of this receipt: for the lot of this notice and name, from this tenderer.
+pub fn tender(receipt: u64, lot: (&str, &str), tenderer: &str) -> Option<EnvelopeRow> {
+    Some(EnvelopeRow {
+        lot: id(lot.1)?,
+        tenderer: id(tenderer)?,
+        ..envelope(receipt, lot.0, None)?
+    })
+}
+
 /// A seal of one byte.
 pub fn seal(alloc: Global, receipt: u64, byte: u8) -> Option<SealRow> {
     Some(SealRow {

@@ -9,15 +9,17 @@ ghost use Rattle.office_base.specs.Rows.{holds_of};
 ghost use Rattle.office_base.specs.RuleParts.{is_in_time};
 ghost use Rattle.office_base.specs.Shelves.{Looks, LooksUp};
 ghost use Rattle.office_plans.specs.Asking.{given_by};
+ghost use Rattle.office_plans.specs.OwnTenders.{own_rows};
 ghost use Rattle.office_plans.specs.Replies.{said};
 ghost use Rattle.office_plans.specs.Effects.{HasEffect};
 ghost use Rattle.office_machine.specs.Replies.{received_reply};
-ghost use Rattle.tender_core.specs.Rules.Present.{present_rows, received};
+ghost use Rattle.tender_core.specs.Rules.Present.{received};
 
 use crate::decided::planned;
-use crate::of_lot::envelopes_of_lot;
+use crate::of_lot::own_envelopes;
 use crate::planned::Planned;
 use crate::reply::Reply;
+use office_acts::command::Caller;
 use office_acts::sealed::Sealed;
 use office_acts::tender::NamedSecurity;
 use office_base::records::EnvelopeState;
@@ -30,15 +32,21 @@ use tender_core::asking::Asking;
 use tender_core::present::{PresentRows, decide_present};
 use tender_core::tenders::is_in_time;
 
-// The rows that it is decided on.
-fn load<H: Lookups>(shelf: &mut H, notice: &Id, lot: &Id) -> Result<PresentRows, ShelfFault>
-    ensures { LooksUp H.meaning shelf.old shelf.new result (λ s rows. rows ≡ present_rows s notice.now lot.now) }
+// The rows that it is decided on. Of the lot's tenders the rule asks for the caller's own alone, which may be few among many.
+fn load<H: Lookups>(
+    alloc: Global,
+    shelf: &mut H,
+    caller: &Caller,
+    notice: &Id,
+    lot: &Id,
+) -> Result<PresentRows, ShelfFault>
+    ensures { LooksUp H.meaning shelf.old shelf.new result (λ s rows. rows ≡ own_rows caller.now s notice.now lot.now) }
 {
     let clock = shelf.get_clock()?;
     Ok(PresentRows {
         notice: shelf.get_notice(notice)?,
         lot: shelf.get_lot(notice, lot)?,
-        envelopes: envelopes_of_lot(shelf, notice, lot)?,
+        envelopes: own_envelopes(alloc, shelf, caller, notice, lot)?,
         clock,
     })
 }
@@ -86,7 +94,7 @@ pub fn plan<H: Lookups>(
     requires { may asking.now.caller.now kinds.Present ≡ true }
     ensures { Looks H.meaning shelf.old shelf.new (λ s. HasEffect (given_by asking.now s (Present notice lot security sealed.entry)) result) }
 {
-    let rows = load(shelf, &notice, &lot)?;
+    let rows = load(alloc, shelf, asking.caller, &notice, &lot)?;
     let t = asking.time(&rows.clock);
     let reply = reply_of(t, &rows, &security, &sealed);
     let decided = decide_present(
