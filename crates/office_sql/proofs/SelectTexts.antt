@@ -356,12 +356,12 @@ list_envelopes_of_tenderer_read : IsSelect list_envelopes_of_tenderer (codes "en
 unfolding everything parsed_in
 list_envelopes_of_tenderer_read = record { is = refl; statement = refl; formats = refl }
 
-pub list_envelopes_of_tenderer_means : (schema : Schema) (n : ℕ) → IsIn schema envelopes n → Means schema list_envelopes_of_tenderer (Select (record { lets = []; body = select n (2 ∷ 3 ∷ 4 ∷ []) (range_with_len 1 16) (1 ∷ []) }) (names_of (columns_of envelopes)))
+pub list_envelopes_of_tenderer_means : (schema : Schema) (n : ℕ) → IsIn schema envelopes n → Means schema list_envelopes_of_tenderer (Select (record { lets = []; body = select n (2 ∷ 3 ∷ 4 ∷ []) (0 ∷ range_with_len 2 15) (0 ∷ []) }) (names_of (columns_of envelopes)))
 unfolding same_name alone chosen first_found
 list_envelopes_of_tenderer_means schema n it =
     selects_mean schema envelopes n it (columns_of envelopes) ((0, column_of (codes "receipt") Integer true) ∷ []) list_envelopes_of_tenderer (envelopes_has n) (Some (both_e (both_e (equals_e (codes "notice") 1) (equals_e (codes "lot") 2)) (equals_e (codes "tenderer") 3))) _ _ _ list_envelopes_of_tenderer_read
     (three_tests schema it.place (at_tree envelopes n) it.found envelopes.name (outputs_of (at_tree envelopes n) [] (columns_of envelopes)) (1, column_of (codes "notice") Text true) (2, column_of (codes "lot") Text true) (3, column_of (codes "tenderer") Text true) 1 2 3 (left (columns_of envelopes)) _ refl refl
-    (refl, refl, refl, tt) refl refl (inl refl, refl, refl, refl) (refl, refl, refl, tt) refl refl (inl refl, refl, refl, refl) (refl, refl, refl, tt) refl refl (inl refl, refl, refl, refl))
+    (refl, refl, refl, tt) refl refl (inl (inl refl, refl), refl, refl) (refl, refl, refl, tt) refl refl (inl (inl refl, refl), refl, refl) (refl, refl, refl, tt) refl refl (inl (inl refl, refl), refl, refl))
     (refl, refl, refl, tt) (refl, tt) (rw (it.stored, found_by_tree schema envelopes n it))
 
 abbrev pub list_securities_of_notice : List ℕ

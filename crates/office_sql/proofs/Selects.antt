@@ -151,7 +151,7 @@ select_list_envelopes_of_notice old new rows t was k h =
 
 pub select_list_envelopes_of_tenderer : (old new : State) (rows : List Row) (t : Tables) → Holds old.now t → (k l m : List ℕ) → Shown list_envelopes_of_tenderer (Text k ∷ Text l ∷ Text m ∷ []) old new rows → map envelope_read rows ≡ envelopes_of_tenderer k l m t
 select_list_envelopes_of_tenderer old new rows t was k l m h =
-    lists nat_cmp nat_cmp_total numbers_exact envelope_key envelope_row envelope_read old new rows (was.places Envelopes) t.envelopes (was.stands Envelopes) list_envelopes_of_tenderer (Text k ∷ Text l ∷ Text m ∷ []) (2 ∷ 3 ∷ 4 ∷ []) (range_with_len 1 16) (1 ∷ []) _ (list_envelopes_of_tenderer_means old.now.schema (was.places Envelopes) (was.tables Envelopes)) (of_tenderer k l m) (λ v x. three_tested x.notice x.lot x.tenderer k l m)
+    lists nat_cmp nat_cmp_total numbers_exact envelope_key (by_rowid envelope_row) (read_by_rowid envelope_read) envelope_row envelope_read (λ v x. refl) old new rows (was.places Envelopes) t.envelopes (was.stands Envelopes) list_envelopes_of_tenderer (Text k ∷ Text l ∷ Text m ∷ []) (2 ∷ 3 ∷ 4 ∷ []) (0 ∷ range_with_len 2 15) (0 ∷ []) _ (list_envelopes_of_tenderer_means old.now.schema (was.places Envelopes) (was.tables Envelopes)) (of_tenderer k l m) (λ v x. three_tested x.notice x.lot x.tenderer k l m)
     (λ (x : EnvelopeRow). Int (pos x.receipt) ∷ []) (λ v x. refl) (λ x y. then_equal _ ∙ ap is_lt (numbers_cmp x.receipt y.receipt)) h
 
 pub select_list_securities_of_notice : (old new : State) (rows : List Row) (t : Tables) → Holds old.now t → (k : List ℕ) → Shown list_securities_of_notice (Text k ∷ []) old new rows → map security_read rows ≡ securities_of_notice k t

@@ -234,7 +234,7 @@ module _ (schema : Schema) (at : ℕ) (table : Table) (found : slice_get schema.
   both_lower : (d : ℕ) (shown : List Output) (p q : ℕ × Column) (m n b : ℕ) (l : Carried) → nat_lt 1 b ≡ true
       → Has table (b - 1 - 1) (p ∷ []) → nat_lt 1 (b - 1) ≡ true → nat_lt 1 (b - 1 - 1 - 1) ≡ true → IsTested p
       → Has table (b - 1 - 1 - 1 - 1 - 1) (q ∷ []) → nat_lt 1 (b - 1 - 1 - 1 - 1) ≡ true → nat_lt 1 (b - 1 - 1 - 1 - 1 - 1 - 1) ≡ true → IsTested q
-      → lower_to (suc (suc (suc d))) (scope shown) (both_e (equals_e p.1.name m) (equals_e q.1.name n)) (at_budget b l) ≡ Ok (op2 by.And (column_test p.0 (m - 1)) (column_test q.0 (n - 1)), at_budget (b - 1 - 1 - 1 - 1 - 1 - 1 - 1) nothing)
+      → lower_to (suc (suc (suc d))) (scope shown) (both_e (equals_e p.1.name m) (equals_e q.1.name n)) (at_budget b l) ≡ Ok (op2 by.And (column_test (place_of table p.0) (m - 1)) (column_test (place_of table q.0) (n - 1)), at_budget (b - 1 - 1 - 1 - 1 - 1 - 1 - 1) nothing)
   both_lower d shown p q m n b l enough has₁ first₁ still₁ is₁ has₂ first₂ still₂ is₂ =
       and_is (scope shown) (both_e (equals_e p.1.name m) (equals_e q.1.name n)) (equals_e p.1.name m) (equals_e q.1.name n) _ _ b _ _ l _ _ enough (suc (suc d)) (out_both (equals_e p.1.name m) (equals_e q.1.name n))
       (tested_lowers d shown p m (b - 1) nothing has₁ first₁ still₁ is₁) (tested_lowers d shown q n (b - 1 - 1 - 1 - 1) nothing has₂ first₂ still₂ is₂)
@@ -245,7 +245,7 @@ module _ (schema : Schema) (at : ℕ) (table : Table) (found : slice_get schema.
       → Has table (b - 1 - 1 - 1 - 1 - 1 - 1) (q ∷ []) → nat_lt 1 (b - 1 - 1 - 1 - 1 - 1) ≡ true → nat_lt 1 (b - 1 - 1 - 1 - 1 - 1 - 1 - 1) ≡ true → IsTested q
       → Has table (b - 1 - 1 - 1 - 1 - 1 - 1 - 1 - 1 - 1) (r ∷ []) → nat_lt 1 (b - 1 - 1 - 1 - 1 - 1 - 1 - 1 - 1) ≡ true → nat_lt 1 (b - 1 - 1 - 1 - 1 - 1 - 1 - 1 - 1 - 1 - 1) ≡ true → IsTested r
       → body.tests lower (scope shown) [] (Some (both_e (both_e (equals_e p.1.name m) (equals_e q.1.name n)) (equals_e r.1.name o))) (at_budget b l)
-      ≡ Ok (column_test p.0 (m - 1) ∷ column_test q.0 (n - 1) ∷ column_test r.0 (o - 1) ∷ [], at_budget (b - 1 - 1 - 1 - 1 - 1 - 1 - 1 - 1 - 1 - 1 - 1) nothing)
+      ≡ Ok (column_test (place_of table p.0) (m - 1) ∷ column_test (place_of table q.0) (n - 1) ∷ column_test (place_of table r.0) (o - 1) ∷ [], at_budget (b - 1 - 1 - 1 - 1 - 1 - 1 - 1 - 1 - 1 - 1 - 1) nothing)
   unfolding body.tests
   three_tests shown p q r m n o b l enough more has₁ first₁ still₁ is₁ has₂ first₂ still₂ is₂ has₃ first₃ still₃ is₃ =
       rw (and_is (scope shown) (both_e (both_e (equals_e p.1.name m) (equals_e q.1.name n)) (equals_e r.1.name o)) (both_e (equals_e p.1.name m) (equals_e q.1.name n)) (equals_e r.1.name o) _ _ b _ _ l _ _ enough 699 (out_both (both_e (equals_e p.1.name m) (equals_e q.1.name n)) (equals_e r.1.name o))
