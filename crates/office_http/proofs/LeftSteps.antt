@@ -7,16 +7,16 @@ use Rattle.office_http.specs.Meaning.{Meant}
 use Rattle.office_http.specs.Answering.{LeftAfter, StopsAfter, is_accepted, tables_after}
 
 -- what could be left before may be left of an answer that changes nothing
-left_before : (accepted : Bool) {Before IsAfter : Type 0} → Before → LeftAfter accepted true Before IsAfter
-left_before false before = before
-left_before true before = inl before
+left_before : (accepted : Bool) (Before IsAfter : Type 0) → Before → LeftAfter accepted true Before IsAfter
+left_before false Before IsAfter before = before
+left_before true Before IsAfter before = inl before
 
 -- where more could be left before
-pub left_weaker : (accepted busy : Bool) {First Before IsAfter : Type 0} → (Before → First) → LeftAfter accepted busy Before IsAfter → LeftAfter accepted busy First IsAfter
-left_weaker false busy more left = more left
-left_weaker true false more left = left
-left_weaker true true more (inl left) = inl (more left)
-left_weaker true true more (inr whole) = inr whole
+pub left_weaker : (accepted busy : Bool) (First Before IsAfter : Type 0) → (Before → First) → LeftAfter accepted busy Before IsAfter → LeftAfter accepted busy First IsAfter
+left_weaker false busy First Before IsAfter more left = more left
+left_weaker true false First Before IsAfter more left = left
+left_weaker true true First Before IsAfter more (inl left) = inl (more left)
+left_weaker true true First Before IsAfter more (inr whole) = inr whole
 
 module _ {S : Type 0} (M : Meaning S) (settings : Settings) (old new : S) (s : Tables) (moment : ℕ) (m : Meant) where
   -- nothing is added to what a stop may leave
@@ -27,7 +27,7 @@ module _ {S : Type 0} (M : Meaning S) (settings : Settings) (old new : S) (s : T
   left_with busy accepted u = LeftAfter accepted busy (M.may_leave old u) (u ≡ tables_after settings s moment m)
 
   pub stays_unavailable : Stays → StopsAfter M settings old new true s moment m
-  stays_unavailable stays u left = left_before (is_accepted s moment m) (stays u left)
+  stays_unavailable stays u left = left_before (is_accepted s moment m) (M.may_leave old u) (u ≡ tables_after settings s moment m) (stays u left)
 
   pub stays_refused : is_accepted s moment m ≡ false → Stays → StopsAfter M settings old new false s moment m
   stays_refused refused stays u left = subst (λ (b : Bool). left_with false b u) (sym refused) (stays u left)
@@ -43,4 +43,4 @@ module _ {S : Type 0} (M : Meaning S) (settings : Settings) (old new : S) (s : T
 -- of two calls, one after the other, the first of which adds nothing
 pub stops_then : {S : Type 0} (M : Meaning S) (settings : Settings) (old mid new : S) (busy : Bool) (s : Tables) (moment : ℕ) (m : Meant)
     → ((u : Tables) → M.may_leave mid u → M.may_leave old u) → StopsAfter M settings mid new busy s moment m → StopsAfter M settings old new busy s moment m
-stops_then M settings old mid new busy s moment m stays stops u left = left_weaker (is_accepted s moment m) busy (stays u) (stops u left)
+stops_then M settings old mid new busy s moment m stays stops u left = left_weaker (is_accepted s moment m) busy (M.may_leave old u) (M.may_leave mid u) (u ≡ tables_after settings s moment m) (stays u) (stops u left)

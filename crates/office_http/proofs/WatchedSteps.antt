@@ -50,7 +50,8 @@ module _ {S : Type 0} (M : Meaning S) where
       subst (λ (h : Held). StandsAs M new h) (sym (office_push w.first w.steps (record { busy = busy; block = b }))) stands,
       record {
         left = λ u left. left_push (M.may_leave w.shelf) w.first w.steps (record { busy = busy; block = b }) u
-            (left_weaker (is_accepted here.tables b.moment (meant_in here b)) busy (stops.left u) (leaves u left));
+            (left_weaker (is_accepted here.tables b.moment (meant_in here b)) busy (LeftBySteps (M.may_leave w.shelf) w.first w.steps u) (M.may_leave old.shelf u)
+            (u ≡ tables_after here.settings here.tables b.moment (meant_in here b)) (stops.left u) (leaves u left));
         sound = λ was. whole (stops.sound was);
       },
     )
