@@ -1,5 +1,5 @@
 -- What is meant by a request can be given.
-use Rattle.std.proofs.Common.{List, Option, Result, Ok, Err}
+use Rattle.std.proofs.Common.{Option, Result, Ok, Err}
 use Rattle.office_acts.specs.declared.command.Caller.{Caller}
 use Rattle.office_values.specs.declared.refusal.Refusal.{Refusal}
 use Rattle.office_values.specs.declared.settings.Settings.{Settings}

@@ -34,7 +34,6 @@ use Rattle.office_http.specs.Inside.Meant.{CanBeMeant}
 use Rattle.office_http.specs.Joined.{joined_steps, joined_with}
 use Rattle.office_http.specs.Meaning.{Meant, Refuses, Gives, Sees, meant, meant_at, meant_by, who}
 use Rattle.office_http.specs.Response.{response_of}
-use Rattle.office_http.specs.Sealed as sealed
 use Rattle.office_http.specs.Sealed.{AlikeTo, AnsweredAlikeUntil, AnsweredRunsAreAlike, AnsweredSealsAreKept, AreAlike, MeaningsReadTenderers, MeansSame, SameSteps, meant_opens}
 use Rattle.office_http.specs.declared.reply.Reply.TheVariants.{Refused}
 use Rattle.office_http.proofs.MeantSteps.{meant_can}

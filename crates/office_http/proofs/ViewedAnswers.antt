@@ -1,5 +1,5 @@
 -- A run or a request that is answered by one office is so by another of which it is a view.
-use Rattle.std.proofs.Common.{◌≡◌, ℕ, ◌⊎◌, inl, inr, Bool, List, [], ◌∷◌, ◌++◌, Option, Result, Ok, Err, refl, sym, ap, ◌∙◌, subst}
+use Rattle.std.proofs.Common.{◌≡◌, ℕ, ◌⊎◌, inl, inr, Bool, List, [], ◌∷◌, ◌++◌, Option, Result, Ok, Err, refl, ap, ◌∙◌, subst}
 use Rattle.std.specs.Prelude.{⊤}
 use Rattle.office_wire.specs.Blocks.{Block}
 use Rattle.office_wire.specs.Runs.{Answers, AnswersOne, CutsRefusal, CutsReply, Ends, Ran, RefusesOne, Served, Serves, Step, office_left, written}

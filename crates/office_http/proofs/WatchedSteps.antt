@@ -5,15 +5,14 @@ use Rattle.office_values.specs.declared.settings.Settings.{Settings}
 use Rattle.office_base.specs.Tables.{Tables}
 use Rattle.office_base.specs.Shelves.{Meaning}
 use Rattle.office_desk.specs.Desks.{DeskOf}
-use Rattle.office_publications.specs.Standing.{Stands}
 use Rattle.office_wire.specs.Blocks.{Block}
-use Rattle.office_wire.specs.Runs.{Answers, Ran, Served, Step, office_left}
+use Rattle.office_wire.specs.Runs.{Ran, Served, Step, office_left}
 use Rattle.office_wire.specs.declared.fault.RunFault.{RunFault}
 use Rattle.office_http.specs.Meaning.{meant}
 use Rattle.office_http.specs.Answering.{Held, IsAnswered, LeftAfter, StandsAs, is_accepted, meant_in, office_answers, tables_after}
 use Rattle.office_http.specs.Stops.{LeftBySteps, StandsWatched, StopsBy, Watched, office_now, watched_answers}
 use Rattle.office_http.proofs.LeftSteps.{left_weaker}
-use Rattle.office_http.proofs.ViewedAnswers.{left_as, ran_as, served_as}
+use Rattle.office_http.proofs.ViewedAnswers.{ran_as, served_as}
 
 -- ---- a step more, behind the others
 

@@ -1,7 +1,6 @@
 -- What the calls of the shelf do to what it holds.
 use Rattle.std.proofs.Common.{Ok, Err, ℕ, arith, ◌≡◌, ◌⊎◌, inl, inr, List, refl, sym, subst, IsTrue}
 use Rattle.std.specs.Prelude.{⊤}
-use Rattle.sqlite_trees.specs.Tree.{Trees}
 use Rattle.sqlite_trees.specs.declared.store.Store.{Ghosts}
 use Rattle.sqlite.specs.Effect.{Database}
 use Rattle.sqlite.specs.Held.{Held, state}

@@ -1,8 +1,7 @@
-use Rattle.std.proofs.Common.{◌∙◌, ap, ℕ, List, inl, inr}
+use Rattle.std.proofs.Common.{◌∙◌, ap, ℕ, List, inr}
 use Rattle.office_http.specs.Response.{response_of}
-use Rattle.office_http.specs.Meaning.{Gives}
 use Rattle.office_http.specs.declared.reply.Reply.TheVariants.{Json}
-use Rattle.office_http.proofs.AnswerSteps.{command_done, command_refused, command_undone, is_unavailable}
+use Rattle.office_http.proofs.AnswerSteps.{command_done, command_refused}
 use Rattle.office_http.proofs.answering.answer_command.Goals as goal
 
 pub returns-in-Err-clause-answered : goal.returns-in-Err-clause-answered

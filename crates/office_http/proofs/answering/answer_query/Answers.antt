@@ -1,8 +1,4 @@
-use Rattle.std.proofs.Common.{◌∙◌, ap}
-use Rattle.office_acts.specs.declared.command.QueryKind.{QueryKind}
-use Rattle.office_http.specs.Answering.{seen_as}
-use Rattle.office_http.specs.Response.{response_of}
-use Rattle.office_http.proofs.AnswerSteps.{is_unavailable, query_refused, query_told}
+use Rattle.office_http.proofs.AnswerSteps.{query_refused}
 use Rattle.office_http.proofs.answering.answer_query.Goals as goal
 
 pub returns-in-Err-clause-answered : goal.returns-in-Err-clause-answered
