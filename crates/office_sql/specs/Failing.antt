@@ -59,3 +59,7 @@ ErrorHasCause old new puts result = HasCleanDisk new → IsTrue old.in_transacti
 -- a whole change fails for these causes, or where a transaction is under way
 abbrev pub ChangeFails : State → State → List Put → Type 0
 ChangeFails old new puts = IsTrue old.in_transaction ⊎ StoreFails old new old.committed puts
+
+-- and so does one that isn't made in an office that the last commit holds
+abbrev pub ChangeHasCause : {T : Type 0} → State → State → List Put → Result T Error → Type 0
+ChangeHasCause old new puts result = HasCleanDisk new → (t : Tables) → ShowsTables old t → IfErr result (IsExcused (ChangeFails old new puts))
