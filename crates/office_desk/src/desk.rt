@@ -5,7 +5,7 @@ ghost use Rattle.office_acts.specs.Queries as queries;
 ghost use Rattle.office_acts.specs.Rights.{may, may_look};
 ghost use Rattle.office_base.specs.Tables.{Tables, after_puts};
 ghost use Rattle.office_base.specs.Faults.{HasRisen};
-ghost use Rattle.office_base.specs.Shelves.{Looks, Alters};
+ghost use Rattle.office_base.specs.Shelves.{Looks, Alters, PutsFail};
 ghost use Rattle.office_publications.specs.Keeping.{KeepsReleases};
 ghost use Rattle.office_publications.specs.Publishing.{publishing};
 ghost use Rattle.office_machine.specs.Machine.{Given, IsRegistered, Reaches};
@@ -20,7 +20,7 @@ use crate::queries::look_at;
 use office_acts::command::{Caller, may, may_look};
 use office_acts::commands::Command;
 use office_acts::queries::Query;
-use office_base::shelf::{Lookups, Shelf};
+use office_base::shelf::{Lookups, Shelf, ShelfFault};
 use office_machine::{fates, laws};
 use office_plans::planned::Planned;
 use office_publications::laws::keeping;
@@ -130,7 +130,24 @@ impl<H: Shelf + Drop> Desk<H> {
         plan_command(self.alloc, shelf, &self.settings, &asking, command)
     }
 
-    /// Does what was planned, all or nothing, and hands out the reply. Once it is done nothing is allocated.
+    /// Does what was planned, all or nothing, and hands out the reply; `commit` for who wants to know whether memory was wanting or the
+    /// store failed. Once it is done nothing is allocated.
+    pub fn carry_out(&mut self, planned: Planned) -> Result<Vec<u8>, ShelfFault>
+        ensures alters { Alters H.meaning self.old.shelf self.new.shelf result (after_puts planned.puts) }
+        ensures settings { self.new.settings ≡ self.old.settings }
+        ensures reply { IfOk result (λ reply. reply.items ≡ planned.reply) }
+        ensures risen { IfErr result (λ _. HasRisen (H.meaning.fault_count self.old.shelf) (H.meaning.fault_count self.new.shelf)) }
+        ensures cause { PutsFail H.meaning self.old.shelf self.new.shelf result planned.puts }
+    {
+        let (puts, reply) = planned.into_parts();
+        match self.shelf.apply(puts) {
+            Ok(()) => Ok(reply),
+            Err(fault) => Err(fault),
+        }
+    }
+
+    /// Does what was planned, all or nothing, and hands out the reply. Once it is done nothing is allocated. `Unavailable` is want of memory
+    /// or a fault of the store: `carry_out` tells which.
     pub fn commit(&mut self, planned: Planned) -> Result<Vec<u8>, Refusal>
         ensures alters { Alters H.meaning self.old.shelf self.new.shelf result (after_puts planned.puts) }
         ensures settings { self.new.settings ≡ self.old.settings }
@@ -145,9 +162,8 @@ impl<H: Shelf + Drop> Desk<H> {
         keeping();
         fates::tenders();
         fates::securities();
-        let (puts, reply) = planned.into_parts();
-        match self.shelf.apply(puts) {
-            Ok(()) => Ok(reply),
+        match self.carry_out(planned) {
+            Ok(reply) => Ok(reply),
             Err(_) => Err(Refusal::Unavailable),
         }
     }

@@ -9,8 +9,8 @@ ghost use Rattle.office_sql.specs.Steps.{Refused, ShowsTables};
 ghost use Rattle.office_store.specs.Founding.{Founded, LeavesNew, LeavesOffice, Enters, IsNoOffice, IsSoundOpen, takes_a_name, has_rowids, is_version_one};
 ghost use Rattle.office_store.specs.SqlMeaning.{LeavesShown};
 
-use crate::faults::fault;
 use office_base::shelf::ShelfFault;
+use office_sql::faults::fault;
 use office_sql::make::make;
 use office_sql::version::ask_version;
 use sqlite::{Alter, Connection, Error, ErrorCode, Row};

@@ -11,10 +11,10 @@ ghost use Rattle.office_sql.specs.Steps.{ShowsTables};
 ghost use Rattle.office_store.specs.Reopening.{OpensAgain, OpensBlank, EntersFiles, EntersOpened, RefusesFiles};
 ghost use Rattle.office_store.specs.SqlMeaning.{LeavesOffices, LeavesShown};
 
-use crate::faults::fault;
 use crate::found::{OpenFault, enter, open_fault};
 use crate::shelf::SqlShelf;
 use office_base::shelf::ShelfFault;
+use office_sql::faults::fault;
 use sqlite::{Connection, Error, File, FileStore, Files, MemStore, Options};
 use sqlite_disk::Disk;
 use std::alloc::Global;
