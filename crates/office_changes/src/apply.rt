@@ -59,8 +59,8 @@ pub fn apply_all<S: Alter>(
 ) -> Result<(), Error>
     ensures applied { HasCleanDisk (state S.Store conn.new) → OnOk result (Applied (state S.Store conn.old) (state S.Store conn.new) puts.now) }
     ensures refused { HasCleanDisk (state S.Store conn.new) → OnErr result (Refused (state S.Store conn.old) (state S.Store conn.new)) }
-    ensures failed { ChangeHasCause (state S.Store conn.old) (state S.Store conn.new) puts.now result }
     ensures survives { Survives (state S.Store conn.old) (state S.Store conn.new) (LeavesPuts (state S.Store conn.old) puts.now) }
+    ensures failed { ChangeHasCause (state S.Store conn.old) (state S.Store conn.new) puts.now result }
 {
     if !conn.is_autocommit() {
         return Err(Error::InvalidQuery);
