@@ -1,4 +1,5 @@
 pub mod Values
+pub mod Refusals
 pub mod Words
 pub mod Readings
 pub mod ItemTexts

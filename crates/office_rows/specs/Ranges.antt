@@ -22,6 +22,10 @@ use Rattle.office_base.specs.declared.records.ReleaseRow.{ReleaseRow}
 use Rattle.office_base.specs.declared.records.CompiledRow.{CompiledRow}
 use Rattle.office_base.specs.declared.records.ClockRow.{ClockRow}
 
+-- no more is asked
+abbrev pub Anything : {X : Type 0} → X → Type 0
+Anything x = Unit {0}
+
 -- a number within bounds
 abbrev pub IsWithin : ℕ → ℕ → ℕ → Type 0
 IsWithin least most n = (least ≤ n) × (n ≤ most)

@@ -18,6 +18,10 @@ number_in (Real x) = 0
 number_in (Text t) = 0
 number_in (Blob b) = 0
 
+-- a whole number that isn't negative
+abbrev pub whole : ℕ → Value
+whole n = Int (pos n)
+
 -- a number, or NULL
 abbrev pub or_null : Option ℕ → Value
 or_null None = Null
