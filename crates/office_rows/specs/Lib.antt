@@ -1,5 +1,5 @@
 pub mod Values
-pub mod Refusals
+pub mod Unwritten
 pub mod Words
 pub mod Readings
 pub mod ItemTexts

@@ -10,7 +10,8 @@ ghost use Rattle.office_values.specs.Texts.{IsTextLine};
 ghost use Rattle.office_acts.specs.SealedBytes.{IsSealed};
 ghost use Rattle.office_rows.specs.Values.{whole, or_null, text_or_null, as_number};
 ghost use Rattle.office_rows.specs.Ranges.{IsWithin, Anything};
-ghost use Rattle.office_rows.specs.Refusals.{NoneIsWritten};
+ghost use Rattle.office_base.specs.Faults.{IsFaultOf};
+ghost use Rattle.office_rows.specs.Unwritten.{IsUnwritten};
 
 use office_acts::sealed::SealedBytes;
 use office_base::json_text::JsonText;
@@ -27,7 +28,7 @@ use std::alloc::Global;
 /// Nothing where a row has so many columns.
 pub fn has_columns(row: &Row, count: usize) -> Result<(), ShelfFault>
     ensures exact { IfOk result (λ _. length row.now ≡ count) }
-    ensures cause { IfErr result (NoneIsWritten (λ (r : Values). r) (λ r. length r ≡ count) row.now) }
+    ensures cause { IfErr result (IsFaultOf (IsUnwritten (λ (r : Values). r) (λ r. length r ≡ count) row.now)) }
 {
     if row.column_count() == count {
         Ok(())
@@ -56,7 +57,7 @@ pub fn is_null(row: &Row, at: usize) -> bool
 /// The bytes of a text.
 pub fn text_at(row: &Row, at: usize) -> Result<&[u8], ShelfFault>
     ensures exact { IfOk result (λ text. Text text.now ≡ column row.now at) }
-    ensures cause { IfErr result (NoneIsWritten Text Anything (column row.now at)) }
+    ensures cause { IfErr result (IsFaultOf (IsUnwritten Text Anything (column row.now at))) }
 {
     match value_at(row, at) {
         ValueRef::Text(text) => Ok(text),
@@ -67,7 +68,7 @@ pub fn text_at(row: &Row, at: usize) -> Result<&[u8], ShelfFault>
 /// The bytes of a text, or NULL.
 pub fn perhaps_text_at(row: &Row, at: usize) -> Result<Option<&[u8]>, ShelfFault>
     ensures exact { IfOk result (λ text. text_or_null (option_map (λ t. t.now) text) ≡ column row.now at) }
-    ensures cause { IfErr result (NoneIsWritten text_or_null Anything (column row.now at)) }
+    ensures cause { IfErr result (IsFaultOf (IsUnwritten text_or_null Anything (column row.now at))) }
 {
     match value_at(row, at) {
         ValueRef::Null => Ok(None),
@@ -78,7 +79,7 @@ pub fn perhaps_text_at(row: &Row, at: usize) -> Result<Option<&[u8]>, ShelfFault
 
 fn blob_at(row: &Row, at: usize) -> Result<&[u8], ShelfFault>
     ensures exact { IfOk result (λ blob. Blob blob.now ≡ column row.now at) }
-    ensures cause { IfErr result (NoneIsWritten Blob Anything (column row.now at)) }
+    ensures cause { IfErr result (IsFaultOf (IsUnwritten Blob Anything (column row.now at))) }
 {
     match value_at(row, at) {
         ValueRef::Blob(blob) => Ok(blob),
@@ -88,7 +89,7 @@ fn blob_at(row: &Row, at: usize) -> Result<&[u8], ShelfFault>
 
 fn number_at(row: &Row, at: usize) -> Result<u64, ShelfFault>
     ensures exact { IfOk result (λ number. whole number ≡ column row.now at) }
-    ensures cause { IfErr result (NoneIsWritten whole Anything (column row.now at)) }
+    ensures cause { IfErr result (IsFaultOf (IsUnwritten whole Anything (column row.now at))) }
 {
     match value_at(row, at) {
         ValueRef::Int(number) if number >= 0 => Ok(number as u64),
@@ -98,7 +99,7 @@ fn number_at(row: &Row, at: usize) -> Result<u64, ShelfFault>
 
 fn perhaps_number_at(row: &Row, at: usize) -> Result<Option<u64>, ShelfFault>
     ensures exact { IfOk result (λ number. or_null number ≡ column row.now at) }
-    ensures cause { IfErr result (NoneIsWritten or_null Anything (column row.now at)) }
+    ensures cause { IfErr result (IsFaultOf (IsUnwritten or_null Anything (column row.now at))) }
 {
     match value_at(row, at) {
         ValueRef::Null => Ok(None),
@@ -110,7 +111,7 @@ fn perhaps_number_at(row: &Row, at: usize) -> Result<Option<u64>, ShelfFault>
 /// An identifier.
 pub fn id_at(row: &Row, at: usize) -> Result<Id, ShelfFault>
     ensures exact { IfOk result (λ id. Text id ≡ column row.now at) }
-    ensures cause { IfErr result (NoneIsWritten Text IsId (column row.now at)) }
+    ensures cause { IfErr result (IsFaultOf (IsUnwritten Text IsId (column row.now at))) }
 {
     Id::read(text_at(row, at)?).ok_or(ShelfFault::Store)
 }
@@ -118,7 +119,7 @@ pub fn id_at(row: &Row, at: usize) -> Result<Id, ShelfFault>
 // The line of text that these bytes are.
 pub(crate) fn line_of(alloc: Global, text: &[u8]) -> Result<TextLine, ShelfFault>
     ensures exact { IfOk result (λ line. line ≡ text.now) }
-    ensures cause { IfErr result (NoneIsWritten (λ (t : List ℕ). t) IsTextLine text.now) }
+    ensures cause { IfErr result (IsFaultOf (IsUnwritten (λ (t : List ℕ). t) IsTextLine text.now)) }
 {
     match TextLine::read(alloc, text) {
         Ok(Some(line)) => Ok(line),
@@ -130,7 +131,7 @@ pub(crate) fn line_of(alloc: Global, text: &[u8]) -> Result<TextLine, ShelfFault
 /// A line of text.
 pub fn line_at(alloc: Global, row: &Row, at: usize) -> Result<TextLine, ShelfFault>
     ensures exact { IfOk result (λ line. Text line ≡ column row.now at) }
-    ensures cause { IfErr result (NoneIsWritten Text IsTextLine (column row.now at)) }
+    ensures cause { IfErr result (IsFaultOf (IsUnwritten Text IsTextLine (column row.now at))) }
 {
     line_of(alloc, text_at(row, at)?)
 }
@@ -138,7 +139,7 @@ pub fn line_at(alloc: Global, row: &Row, at: usize) -> Result<TextLine, ShelfFau
 /// A line of text, or NULL.
 pub fn perhaps_line_at(alloc: Global, row: &Row, at: usize) -> Result<Option<TextLine>, ShelfFault>
     ensures exact { IfOk result (λ line. text_or_null line ≡ column row.now at) }
-    ensures cause { IfErr result (NoneIsWritten text_or_null (λ line. IfSome line IsTextLine) (column row.now at)) }
+    ensures cause { IfErr result (IsFaultOf (IsUnwritten text_or_null (λ line. IfSome line IsTextLine) (column row.now at))) }
 {
     match perhaps_text_at(row, at)? {
         Some(text) => Ok(Some(line_of(alloc, text)?)),
@@ -149,7 +150,7 @@ pub fn perhaps_line_at(alloc: Global, row: &Row, at: usize) -> Result<Option<Tex
 /// A text of JSON.
 pub fn json_at(alloc: Global, row: &Row, at: usize) -> Result<JsonText, ShelfFault>
     ensures exact { IfOk result (λ text. Text text ≡ column row.now at) }
-    ensures cause { IfErr result (NoneIsWritten Text IsUtf8 (column row.now at)) }
+    ensures cause { IfErr result (IsFaultOf (IsUnwritten Text IsUtf8 (column row.now at))) }
 {
     let Ok(text) = str::from_utf8(text_at(row, at)?) else {
         return Err(ShelfFault::Store);
@@ -163,7 +164,7 @@ pub fn json_at(alloc: Global, row: &Row, at: usize) -> Result<JsonText, ShelfFau
 /// A digest or a key.
 pub fn digest_at(row: &Row, at: usize) -> Result<[u8; 32], ShelfFault>
     ensures exact { IfOk result (λ digest. Blob digest ≡ column row.now at) }
-    ensures cause { IfErr result (NoneIsWritten Blob (λ digest. length digest ≡ 32) (column row.now at)) }
+    ensures cause { IfErr result (IsFaultOf (IsUnwritten Blob (λ digest. length digest ≡ 32) (column row.now at))) }
 {
     <[u8; 32]>::try_from(blob_at(row, at)?).map_err(|_| ShelfFault::Store)
 }
@@ -171,7 +172,7 @@ pub fn digest_at(row: &Row, at: usize) -> Result<[u8; 32], ShelfFault>
 /// Sealed bytes.
 pub fn sealed_at(alloc: Global, row: &Row, at: usize) -> Result<SealedBytes, ShelfFault>
     ensures exact { IfOk result (λ sealed. Blob sealed ≡ column row.now at) }
-    ensures cause { IfErr result (NoneIsWritten Blob IsSealed (column row.now at)) }
+    ensures cause { IfErr result (IsFaultOf (IsUnwritten Blob IsSealed (column row.now at))) }
 {
     match Vec::from_slice(alloc, blob_at(row, at)?) {
         Ok(bytes) => SealedBytes::from_vec(bytes).ok_or(ShelfFault::Store),
@@ -182,7 +183,7 @@ pub fn sealed_at(alloc: Global, row: &Row, at: usize) -> Result<SealedBytes, She
 /// A sum of money, up to the most that a line may have.
 pub fn total_at(row: &Row, at: usize) -> Result<Total, ShelfFault>
     ensures exact { IfOk result (λ total. whole total ≡ column row.now at) }
-    ensures cause { IfErr result (NoneIsWritten whole (λ total. total ≤ total_limit) (column row.now at)) }
+    ensures cause { IfErr result (IsFaultOf (IsUnwritten whole (λ total. total ≤ total_limit) (column row.now at))) }
 {
     Total::read(number_at(row, at)?).ok_or(ShelfFault::Store)
 }
@@ -190,7 +191,7 @@ pub fn total_at(row: &Row, at: usize) -> Result<Total, ShelfFault>
 /// An amount of money.
 pub fn amount_at(row: &Row, at: usize) -> Result<Amount, ShelfFault>
     ensures exact { IfOk result (λ amount. whole amount ≡ column row.now at) }
-    ensures cause { IfErr result (NoneIsWritten whole (λ amount. amount ≤ amount_limit) (column row.now at)) }
+    ensures cause { IfErr result (IsFaultOf (IsUnwritten whole (λ amount. amount ≤ amount_limit) (column row.now at))) }
 {
     Amount::read(number_at(row, at)?).ok_or(ShelfFault::Store)
 }
@@ -198,7 +199,7 @@ pub fn amount_at(row: &Row, at: usize) -> Result<Amount, ShelfFault>
 /// A moment.
 pub fn moment_at(row: &Row, at: usize) -> Result<Moment, ShelfFault>
     ensures exact { IfOk result (λ moment. whole moment ≡ column row.now at) }
-    ensures cause { IfErr result (NoneIsWritten whole (λ moment. moment ≤ last_moment) (column row.now at)) }
+    ensures cause { IfErr result (IsFaultOf (IsUnwritten whole (λ moment. moment ≤ last_moment) (column row.now at))) }
 {
     Moment::from_second(number_at(row, at)?).ok_or(ShelfFault::Store)
 }
@@ -206,7 +207,7 @@ pub fn moment_at(row: &Row, at: usize) -> Result<Moment, ShelfFault>
 /// A moment, or NULL.
 pub fn perhaps_moment_at(row: &Row, at: usize) -> Result<Option<Moment>, ShelfFault>
     ensures exact { IfOk result (λ moment. or_null moment ≡ column row.now at) }
-    ensures cause { IfErr result (NoneIsWritten or_null (λ moment. IfSome moment (λ second. second ≤ last_moment)) (column row.now at)) }
+    ensures cause { IfErr result (IsFaultOf (IsUnwritten or_null (λ moment. IfSome moment (λ second. second ≤ last_moment)) (column row.now at))) }
 {
     match perhaps_number_at(row, at)? {
         Some(second) => match Moment::from_second(second) {
@@ -223,7 +224,7 @@ pub fn bounded_at<const LOW: u64, const HIGH: u64>(
     at: usize,
 ) -> Result<Bounded<LOW, HIGH>, ShelfFault>
     ensures exact { IfOk result (λ number. whole number ≡ column row.now at) }
-    ensures cause { IfErr result (NoneIsWritten whole (IsWithin LOW HIGH) (column row.now at)) }
+    ensures cause { IfErr result (IsFaultOf (IsUnwritten whole (IsWithin LOW HIGH) (column row.now at))) }
 {
     Bounded::read(number_at(row, at)?).ok_or(ShelfFault::Store)
 }
@@ -234,7 +235,7 @@ pub fn perhaps_bounded_at<const LOW: u64, const HIGH: u64>(
     at: usize,
 ) -> Result<Option<Bounded<LOW, HIGH>>, ShelfFault>
     ensures exact { IfOk result (λ number. or_null number ≡ column row.now at) }
-    ensures cause { IfErr result (NoneIsWritten or_null (λ number. IfSome number (IsWithin LOW HIGH)) (column row.now at)) }
+    ensures cause { IfErr result (IsFaultOf (IsUnwritten or_null (λ number. IfSome number (IsWithin LOW HIGH)) (column row.now at))) }
 {
     match perhaps_number_at(row, at)? {
         Some(number) => match Bounded::read(number) {
@@ -245,10 +246,21 @@ pub fn perhaps_bounded_at<const LOW: u64, const HIGH: u64>(
     }
 }
 
+/// Nothing where the version of the office's tables stands there, which is 1.
+pub fn version_at(row: &Row, at: usize) -> Result<(), ShelfFault>
+    ensures exact { IfOk result (λ _. whole 1 ≡ column row.now at) }
+    ensures cause { IfErr result (IsFaultOf (IsUnwritten whole (λ version. version ≡ 1) (column row.now at))) }
+{
+    match number_at(row, at)? {
+        1 => Ok(()),
+        _ => Err(ShelfFault::Store),
+    }
+}
+
 /// Yes or no.
 pub fn yes_at(row: &Row, at: usize) -> Result<bool, ShelfFault>
     ensures exact { IfOk result (λ yes. whole (as_number yes) ≡ column row.now at) }
-    ensures cause { IfErr result (NoneIsWritten (λ yes. whole (as_number yes)) Anything (column row.now at)) }
+    ensures cause { IfErr result (IsFaultOf (IsUnwritten (λ yes. whole (as_number yes)) Anything (column row.now at))) }
 {
     match number_at(row, at)? {
         0 => Ok(false),
@@ -260,7 +272,7 @@ pub fn yes_at(row: &Row, at: usize) -> Result<bool, ShelfFault>
 /// Yes, no or NULL.
 pub fn perhaps_yes_at(row: &Row, at: usize) -> Result<Option<bool>, ShelfFault>
     ensures exact { IfOk result (λ yes. or_null (option_map as_number yes) ≡ column row.now at) }
-    ensures cause { IfErr result (NoneIsWritten (λ yes. or_null (option_map as_number yes)) Anything (column row.now at)) }
+    ensures cause { IfErr result (IsFaultOf (IsUnwritten (λ yes. or_null (option_map as_number yes)) Anything (column row.now at))) }
 {
     match perhaps_number_at(row, at)? {
         Some(0) => Ok(Some(false)),

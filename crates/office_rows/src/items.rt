@@ -5,7 +5,8 @@ ghost use Rattle.sqlite_value.specs.declared.value.Value.TheVariants.{Text};
 ghost use Rattle.sqlite_value.specs.Order.{column};
 ghost use Rattle.office_acts.specs.declared.item.Item.{Item as SomeItem};
 ghost use Rattle.office_rows.specs.Ranges.{IsWithin};
-ghost use Rattle.office_rows.specs.Refusals.{NoneIsWritten};
+ghost use Rattle.office_base.specs.Faults.{IsFaultOf};
+ghost use Rattle.office_rows.specs.Unwritten.{IsUnwritten};
 ghost use Rattle.office_rows.specs.ItemTexts.{item_then, items_text, items_in, before, behind, Avoids, IsItem, AreItems};
 
 use crate::columns::{line_of, text_at};
@@ -65,7 +66,7 @@ fn cut(text: &[u8], stop: u8) -> Option<(&[u8], &[u8])>
 // The quantity that these digits write.
 fn quantity_of(digits: &[u8]) -> Result<Quantity, ShelfFault>
     ensures exact { IfOk result (λ quantity. decimal quantity ≡ digits.now) }
-    ensures cause { IfErr result (NoneIsWritten decimal (IsWithin 1 (10 ^ 6)) digits.now) }
+    ensures cause { IfErr result (IsFaultOf (IsUnwritten decimal (IsWithin 1 (10 ^ 6)) digits.now)) }
 {
     let Ok(text) = str::from_utf8(digits) else {
         return Err(ShelfFault::Store);
@@ -87,7 +88,7 @@ fn quantity_of(digits: &[u8]) -> Result<Quantity, ShelfFault>
 fn front_item(alloc: Global, text: &[u8]) -> Result<(Item, &[u8]), ShelfFault>
     ensures exact { IfOk result (λ parts. item_then parts.0 parts.1.now ≡ text.now) }
     ensures right { IfOk result (λ parts. IsItem parts.0) }
-    ensures cause { IfErr result (NoneIsWritten (λ (parts : SomeItem × List ℕ). item_then parts.0 parts.1) (λ parts. IsItem parts.0) text.now) }
+    ensures cause { IfErr result (IsFaultOf (IsUnwritten (λ (parts : SomeItem × List ℕ). item_then parts.0 parts.1) (λ parts. IsItem parts.0) text.now)) }
 {
     let Some((id, text)) = cut(text, b'\t') else {
         return Err(ShelfFault::Store);
@@ -110,7 +111,7 @@ fn front_item(alloc: Global, text: &[u8]) -> Result<(Item, &[u8]), ShelfFault>
 pub fn read_items(alloc: Global, text: &[u8]) -> Result<Items, ShelfFault>
     ensures exact { IfOk result (λ items. items_text items ≡ text.now) }
     ensures read { IfOk result (λ items. items ≡ items_in text.now) }
-    ensures cause { IfErr result (NoneIsWritten items_text AreItems text.now) }
+    ensures cause { IfErr result (IsFaultOf (IsUnwritten items_text AreItems text.now)) }
 {
     let mut found = Vec::new(alloc);
     let mut rest = text;
@@ -127,7 +128,7 @@ pub fn read_items(alloc: Global, text: &[u8]) -> Result<Items, ShelfFault>
 pub(crate) fn items_at(alloc: Global, row: &Row, at: usize) -> Result<Items, ShelfFault>
     ensures exact { IfOk result (λ items. Text (items_text items) ≡ column row.now at) }
     ensures read { IfOk result (λ items. items_in (items_text items) ≡ items) }
-    ensures cause { IfErr result (NoneIsWritten (λ items. Text (items_text items)) AreItems (column row.now at)) }
+    ensures cause { IfErr result (IsFaultOf (IsUnwritten (λ items. Text (items_text items)) AreItems (column row.now at))) }
 {
     read_items(alloc, text_at(row, at)?)
 }

@@ -7,7 +7,8 @@ ghost use Rattle.office_values.specs.Money.{amount_limit, total_limit};
 ghost use Rattle.office_rows.specs.Values.{or_null, text_or_null};
 ghost use Rattle.office_rows.specs.Readings.{reading_word, stated_of, corrected_of, corrections_of, reading_cells, price_in, reading_part};
 ghost use Rattle.office_rows.specs.Ranges.{ReadingFits};
-ghost use Rattle.office_rows.specs.Refusals.{NoneIsWritten};
+ghost use Rattle.office_base.specs.Faults.{IsFaultOf};
+ghost use Rattle.office_rows.specs.Unwritten.{IsUnwritten};
 
 use crate::columns::{amount_at, bounded_at, is_null, perhaps_text_at, total_at};
 use crate::values::signed;
@@ -64,7 +65,7 @@ pub(crate) fn corrections_value(reading: &Option<Reading>) -> ValueRef<'static>
 // The price in the three columns.
 fn price_in(row: &Row) -> Result<Reading, ShelfFault>
     ensures exact { IfOk result (λ reading. reading_cells (Some reading) ≡ Text (codes "priced") ∷ price_in row.now) }
-    ensures cause { IfErr result (NoneIsWritten (λ reading. reading_cells (Some reading)) (λ reading. ReadingFits (Some reading)) (Text (codes "priced") ∷ price_in row.now)) }
+    ensures cause { IfErr result (IsFaultOf (IsUnwritten (λ reading. reading_cells (Some reading)) (λ reading. ReadingFits (Some reading)) (Text (codes "priced") ∷ price_in row.now))) }
 {
     Ok(Reading::Priced {
         stated: total_at(row, WORD + 1)?,
@@ -83,7 +84,7 @@ fn has_no_price(row: &Row) -> bool
 // The reading that this word begins.
 fn reading_of(word: &[u8], row: &Row) -> Result<Reading, ShelfFault>
     ensures exact { IfOk result (λ reading. reading_cells (Some reading) ≡ Text word.now ∷ price_in row.now) }
-    ensures cause { IfErr result (NoneIsWritten (λ reading. reading_cells (Some reading)) (λ reading. ReadingFits (Some reading)) (Text word.now ∷ price_in row.now)) }
+    ensures cause { IfErr result (IsFaultOf (IsUnwritten (λ reading. reading_cells (Some reading)) (λ reading. ReadingFits (Some reading)) (Text word.now ∷ price_in row.now))) }
 {
     if is_word(word, b"priced") {
         price_in(row)
@@ -101,7 +102,7 @@ fn reading_of(word: &[u8], row: &Row) -> Result<Reading, ShelfFault>
 /// The reading in a tender's row; a fault of the store where a price stands behind another word, or none behind `priced`.
 pub(crate) fn reading_at(row: &Row) -> Result<Option<Reading>, ShelfFault>
     ensures exact { IfOk result (λ reading. reading_cells reading ≡ reading_part row.now) }
-    ensures cause { IfErr result (NoneIsWritten reading_cells ReadingFits (reading_part row.now)) }
+    ensures cause { IfErr result (IsFaultOf (IsUnwritten reading_cells ReadingFits (reading_part row.now))) }
 {
     match perhaps_text_at(row, WORD)? {
         Some(word) => Ok(Some(reading_of(word, row)?)),

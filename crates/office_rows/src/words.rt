@@ -4,7 +4,8 @@ ghost use Rattle.sqlite_value.specs.declared.value.Value.TheVariants.{Text};
 ghost use Rattle.sqlite_value.specs.Order.{column};
 ghost use Rattle.office_rows.specs.Values.{text_or_null};
 ghost use Rattle.office_rows.specs.Ranges.{Anything};
-ghost use Rattle.office_rows.specs.Refusals.{NoneIsWritten};
+ghost use Rattle.office_base.specs.Faults.{IsFaultOf};
+ghost use Rattle.office_rows.specs.Unwritten.{IsUnwritten};
 ghost use Rattle.office_rows.specs.Words.{notice_state_text, lot_state_text, envelope_state_text, security_state_text, award_state_text, how_text, entry_kind_text};
 
 use crate::columns::{perhaps_text_at, text_at};
@@ -34,7 +35,7 @@ pub(crate) fn notice_state_text(state: NoticeState) -> &'static [u8]
 
 pub(crate) fn notice_state_at(row: &Row, at: usize) -> Result<NoticeState, ShelfFault>
     ensures exact { IfOk result (λ state. Text (notice_state_text state) ≡ column row.now at) }
-    ensures cause { IfErr result (NoneIsWritten (λ state. Text (notice_state_text state)) Anything (column row.now at)) }
+    ensures cause { IfErr result (IsFaultOf (IsUnwritten (λ state. Text (notice_state_text state)) Anything (column row.now at))) }
 {
     let word = text_at(row, at)?;
     if is_word(word, b"receiving") {
@@ -62,7 +63,7 @@ pub(crate) fn lot_state_text(state: LotState) -> &'static [u8]
 
 pub(crate) fn lot_state_at(row: &Row, at: usize) -> Result<LotState, ShelfFault>
     ensures exact { IfOk result (λ state. Text (lot_state_text state) ≡ column row.now at) }
-    ensures cause { IfErr result (NoneIsWritten (λ state. Text (lot_state_text state)) Anything (column row.now at)) }
+    ensures cause { IfErr result (IsFaultOf (IsUnwritten (λ state. Text (lot_state_text state)) Anything (column row.now at))) }
 {
     let word = text_at(row, at)?;
     if is_word(word, b"undecided") {
@@ -93,7 +94,7 @@ pub(crate) fn envelope_state_text(state: EnvelopeState) -> &'static [u8]
 
 pub(crate) fn envelope_state_at(row: &Row, at: usize) -> Result<EnvelopeState, ShelfFault>
     ensures exact { IfOk result (λ state. Text (envelope_state_text state) ≡ column row.now at) }
-    ensures cause { IfErr result (NoneIsWritten (λ state. Text (envelope_state_text state)) Anything (column row.now at)) }
+    ensures cause { IfErr result (IsFaultOf (IsUnwritten (λ state. Text (envelope_state_text state)) Anything (column row.now at))) }
 {
     let word = text_at(row, at)?;
     if is_word(word, b"sealed") {
@@ -121,7 +122,7 @@ pub(crate) fn security_state_text(state: SecurityState) -> &'static [u8]
 
 pub(crate) fn security_state_at(row: &Row, at: usize) -> Result<SecurityState, ShelfFault>
     ensures exact { IfOk result (λ state. Text (security_state_text state) ≡ column row.now at) }
-    ensures cause { IfErr result (NoneIsWritten (λ state. Text (security_state_text state)) Anything (column row.now at)) }
+    ensures cause { IfErr result (IsFaultOf (IsUnwritten (λ state. Text (security_state_text state)) Anything (column row.now at))) }
 {
     let word = text_at(row, at)?;
     if is_word(word, b"held") {
@@ -148,7 +149,7 @@ pub(crate) fn award_state_text(state: AwardState) -> &'static [u8]
 
 pub(crate) fn award_state_at(row: &Row, at: usize) -> Result<AwardState, ShelfFault>
     ensures exact { IfOk result (λ state. Text (award_state_text state) ≡ column row.now at) }
-    ensures cause { IfErr result (NoneIsWritten (λ state. Text (award_state_text state)) Anything (column row.now at)) }
+    ensures cause { IfErr result (IsFaultOf (IsUnwritten (λ state. Text (award_state_text state)) Anything (column row.now at))) }
 {
     let word = text_at(row, at)?;
     if is_word(word, b"active") {
@@ -176,7 +177,7 @@ pub(crate) fn entry_kind_text(kind: EntryKind) -> &'static [u8]
 
 pub(crate) fn entry_kind_at(row: &Row, at: usize) -> Result<EntryKind, ShelfFault>
     ensures exact { IfOk result (λ kind. Text (entry_kind_text kind) ≡ column row.now at) }
-    ensures cause { IfErr result (NoneIsWritten (λ kind. Text (entry_kind_text kind)) Anything (column row.now at)) }
+    ensures cause { IfErr result (IsFaultOf (IsUnwritten (λ kind. Text (entry_kind_text kind)) Anything (column row.now at))) }
 {
     let word = text_at(row, at)?;
     if is_word(word, b"raise") {
@@ -201,7 +202,7 @@ pub(crate) fn how_text(how: How) -> &'static [u8]
 
 pub(crate) fn perhaps_how_at(row: &Row, at: usize) -> Result<Option<How>, ShelfFault>
     ensures exact { IfOk result (λ how. text_or_null (option_map how_text how) ≡ column row.now at) }
-    ensures cause { IfErr result (NoneIsWritten (λ how. text_or_null (option_map how_text how)) Anything (column row.now at)) }
+    ensures cause { IfErr result (IsFaultOf (IsUnwritten (λ how. text_or_null (option_map how_text how)) Anything (column row.now at))) }
 {
     let Some(word) = perhaps_text_at(row, at)? else {
         return Ok(None);
