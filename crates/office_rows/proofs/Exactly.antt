@@ -5,12 +5,8 @@ use Rattle.sqlite_value.specs.Order.{Row, column}
 use Rattle.office_base.specs.declared.shelf.ShelfFault.{ShelfFault}
 use Rattle.office_base.specs.declared.shelf.ShelfFault.TheVariants.{NoMemory, Store}
 use Rattle.office_base.specs.Faults.{IsFaultOf}
+use Rattle.office_rows.specs.Values.{columns_from}
 use Rattle.office_rows.specs.Unwritten.{IsUnwritten}
-
--- so many columns from here on
-abbrev pub columns_from : Row → ℕ → ℕ → Row
-columns_from r at zero = []
-columns_from r at (suc n) = column r at ∷ columns_from r (suc at) n
 
 shifted : (v : Value) (r : Row) (at n : ℕ) → columns_from (v ∷ r) (suc at) n ≡ columns_from r at n
 shifted v r at zero = refl

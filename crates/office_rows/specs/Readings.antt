@@ -5,7 +5,7 @@ use Rattle.sqlite_value.specs.declared.value.Value.{Value}
 use Rattle.sqlite_value.specs.Order.{Row, column}
 use Rattle.office_base.specs.declared.reading.Reading.{Reading}
 use Rattle.office_base.specs.declared.reading.Reading.TheVariants.{Unreadable, Nonconforming, Priced}
-use Rattle.office_rows.specs.Values.{same_text, number_in, or_null, text_or_null, perhaps_text_in}
+use Rattle.office_rows.specs.Values.{same_text, number_in, or_null, text_or_null, perhaps_text_in, three_from}
 
 -- the word of a reading
 abbrev pub reading_word : Reading → List ℕ
@@ -40,7 +40,7 @@ reading_cells r = text_or_null (option_map reading_word r) ∷ or_null (stated_o
 
 -- the three columns of its price in a tender's row, and all four
 abbrev pub price_in : Row → Row
-price_in row = column row 10 ∷ column row 11 ∷ column row 12 ∷ []
+price_in row = three_from row 10
 
 abbrev pub reading_part : Row → Row
 reading_part row = column row 9 ∷ price_in row

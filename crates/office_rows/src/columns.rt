@@ -1,5 +1,5 @@
 //! One column of a row. What no office writes there is a fault of the store.
-ghost use Rattle.std.specs.Prelude.{◌≡◌, ℕ, ◌≤◌, ◌↔◌, List, length, IsTrue, IsUtf8, IfOk, IfErr, IfSome, option_map};
+ghost use Rattle.std.specs.Prelude.{◌≡◌, ℕ, ◌≤◌, ◌↔◌, List, [], ◌∷◌, length, IsTrue, IsUtf8, IfOk, IfErr, IfSome, option_map};
 ghost use Rattle.sqlite_value.specs.Value.{owned};
 ghost use Rattle.sqlite_value.specs.declared.value.Value.TheVariants.{Null, Text, Blob};
 ghost use Rattle.sqlite_value.specs.Order.{Row as Values, column};
@@ -8,7 +8,7 @@ ghost use Rattle.office_values.specs.Moments.{last_moment};
 ghost use Rattle.office_values.specs.Money.{amount_limit, total_limit};
 ghost use Rattle.office_values.specs.Texts.{IsTextLine};
 ghost use Rattle.office_acts.specs.SealedBytes.{IsSealed};
-ghost use Rattle.office_rows.specs.Values.{whole, or_null, text_or_null, as_number};
+ghost use Rattle.office_rows.specs.Values.{whole, or_null, text_or_null, as_number, three_from};
 ghost use Rattle.office_rows.specs.Ranges.{IsWithin, Anything};
 ghost use Rattle.office_base.specs.Faults.{IsFaultOf};
 ghost use Rattle.office_rows.specs.Unwritten.{IsUnwritten};
@@ -47,11 +47,19 @@ fn value_at(row: &Row, at: usize) -> ValueRef<'_>
     }
 }
 
-/// Whether NULL stands there.
-pub fn is_null(row: &Row, at: usize) -> bool
+// Whether NULL stands there.
+fn is_null(row: &Row, at: usize) -> bool
     ensures { IsTrue result ↔ (Null ≡ column row.now at) }
 {
     matches!(value_at(row, at), ValueRef::Null)
+}
+
+/// Whether NULL stands in these three columns.
+pub fn are_null(row: &Row, at: usize) -> bool
+    requires { at ≤ 1000 }
+    ensures { IsTrue result ↔ (Null ∷ Null ∷ Null ∷ [] ≡ three_from row.now at) }
+{
+    is_null(row, at) && is_null(row, at + 1) && is_null(row, at + 2)
 }
 
 /// The bytes of a text.

@@ -1,8 +1,8 @@
 //! What was read in a tender, as four columns: a word, and behind it the price as stated, as corrected, and the count of corrections.
-ghost use Rattle.std.specs.Prelude.{◌≡◌, ◌≤◌, ◌↔◌, [], ◌∷◌, IsTrue, IfOk, IfErr, IfSome, Some, codes, option_map};
+ghost use Rattle.std.specs.Prelude.{◌≡◌, ◌≤◌, ◌∷◌, IfOk, IfErr, IfSome, Some, codes, option_map};
 ghost use Rattle.sqlite.specs.Values.{bound_value};
 ghost use Rattle.sqlite_value.specs.Value.{owned};
-ghost use Rattle.sqlite_value.specs.declared.value.Value.TheVariants.{Null, Text};
+ghost use Rattle.sqlite_value.specs.declared.value.Value.TheVariants.{Text};
 ghost use Rattle.office_values.specs.Money.{amount_limit, total_limit};
 ghost use Rattle.office_rows.specs.Values.{or_null, text_or_null};
 ghost use Rattle.office_rows.specs.Readings.{reading_word, stated_of, corrected_of, corrections_of, reading_cells, price_in, reading_part};
@@ -10,7 +10,7 @@ ghost use Rattle.office_rows.specs.Ranges.{ReadingFits};
 ghost use Rattle.office_base.specs.Faults.{IsFaultOf};
 ghost use Rattle.office_rows.specs.Unwritten.{IsUnwritten};
 
-use crate::columns::{amount_at, bounded_at, is_null, perhaps_text_at, total_at};
+use crate::columns::{amount_at, are_null, bounded_at, perhaps_text_at, total_at};
 use crate::values::signed;
 use crate::words::is_word;
 use office_base::reading::Reading;
@@ -74,13 +74,6 @@ fn price_in(row: &Row) -> Result<Reading, ShelfFault>
     })
 }
 
-// Whether the three columns are NULL.
-fn has_no_price(row: &Row) -> bool
-    ensures { IsTrue result ↔ (Null ∷ Null ∷ Null ∷ [] ≡ price_in row.now) }
-{
-    is_null(row, WORD + 1) && is_null(row, WORD + 2) && is_null(row, WORD + 3)
-}
-
 // The reading that this word begins.
 fn reading_of(word: &[u8], row: &Row) -> Result<Reading, ShelfFault>
     ensures exact { IfOk result (λ reading. reading_cells (Some reading) ≡ Text word.now ∷ price_in row.now) }
@@ -88,7 +81,7 @@ fn reading_of(word: &[u8], row: &Row) -> Result<Reading, ShelfFault>
 {
     if is_word(word, b"priced") {
         price_in(row)
-    } else if !has_no_price(row) {
+    } else if !are_null(row, WORD + 1) {
         Err(ShelfFault::Store)
     } else if is_word(word, b"unreadable") {
         Ok(Reading::Unreadable)
@@ -106,7 +99,7 @@ pub(crate) fn reading_at(row: &Row) -> Result<Option<Reading>, ShelfFault>
 {
     match perhaps_text_at(row, WORD)? {
         Some(word) => Ok(Some(reading_of(word, row)?)),
-        None if has_no_price(row) => Ok(None),
+        None if are_null(row, WORD + 1) => Ok(None),
         None => Err(ShelfFault::Store),
     }
 }

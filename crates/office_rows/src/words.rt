@@ -175,7 +175,8 @@ pub(crate) fn entry_kind_text(kind: EntryKind) -> &'static [u8]
     }
 }
 
-pub(crate) fn entry_kind_at(row: &Row, at: usize) -> Result<EntryKind, ShelfFault>
+/// What an entry does to its contract.
+pub fn entry_kind_at(row: &Row, at: usize) -> Result<EntryKind, ShelfFault>
     ensures exact { IfOk result (λ kind. Text (entry_kind_text kind) ≡ column row.now at) }
     ensures cause { IfErr result (IsFaultOf (IsUnwritten (λ kind. Text (entry_kind_text kind)) Anything (column row.now at))) }
 {
