@@ -62,8 +62,8 @@ pub fn are_null(row: &Row, at: usize) -> bool
     is_null(row, at) && is_null(row, at + 1) && is_null(row, at + 2)
 }
 
-/// The bytes of a text.
-pub fn text_at(row: &Row, at: usize) -> Result<&[u8], ShelfFault>
+// The bytes of a text.
+pub(crate) fn text_at(row: &Row, at: usize) -> Result<&[u8], ShelfFault>
     ensures exact { IfOk result (λ text. Text text.now ≡ column row.now at) }
     ensures cause { IfErr result (IsFaultOf (IsUnwritten Text Anything (column row.now at))) }
 {
@@ -73,8 +73,8 @@ pub fn text_at(row: &Row, at: usize) -> Result<&[u8], ShelfFault>
     }
 }
 
-/// The bytes of a text, or NULL.
-pub fn perhaps_text_at(row: &Row, at: usize) -> Result<Option<&[u8]>, ShelfFault>
+// The bytes of a text, or NULL.
+pub(crate) fn perhaps_text_at(row: &Row, at: usize) -> Result<Option<&[u8]>, ShelfFault>
     ensures exact { IfOk result (λ text. text_or_null (option_map (λ t. t.now) text) ≡ column row.now at) }
     ensures cause { IfErr result (IsFaultOf (IsUnwritten text_or_null Anything (column row.now at))) }
 {
@@ -136,16 +136,16 @@ pub(crate) fn line_of(alloc: Global, text: &[u8]) -> Result<TextLine, ShelfFault
     }
 }
 
-/// A line of text.
-pub fn line_at(alloc: Global, row: &Row, at: usize) -> Result<TextLine, ShelfFault>
+// A line of text.
+pub(crate) fn line_at(alloc: Global, row: &Row, at: usize) -> Result<TextLine, ShelfFault>
     ensures exact { IfOk result (λ line. Text line ≡ column row.now at) }
     ensures cause { IfErr result (IsFaultOf (IsUnwritten Text IsTextLine (column row.now at))) }
 {
     line_of(alloc, text_at(row, at)?)
 }
 
-/// A line of text, or NULL.
-pub fn perhaps_line_at(alloc: Global, row: &Row, at: usize) -> Result<Option<TextLine>, ShelfFault>
+// A line of text, or NULL.
+pub(crate) fn perhaps_line_at(alloc: Global, row: &Row, at: usize) -> Result<Option<TextLine>, ShelfFault>
     ensures exact { IfOk result (λ line. text_or_null line ≡ column row.now at) }
     ensures cause { IfErr result (IsFaultOf (IsUnwritten text_or_null (λ line. IfSome line IsTextLine) (column row.now at))) }
 {
@@ -155,8 +155,8 @@ pub fn perhaps_line_at(alloc: Global, row: &Row, at: usize) -> Result<Option<Tex
     }
 }
 
-/// A text of JSON.
-pub fn json_at(alloc: Global, row: &Row, at: usize) -> Result<JsonText, ShelfFault>
+// A text of JSON.
+pub(crate) fn json_at(alloc: Global, row: &Row, at: usize) -> Result<JsonText, ShelfFault>
     ensures exact { IfOk result (λ text. Text text ≡ column row.now at) }
     ensures cause { IfErr result (IsFaultOf (IsUnwritten Text IsUtf8 (column row.now at))) }
 {
@@ -169,16 +169,16 @@ pub fn json_at(alloc: Global, row: &Row, at: usize) -> Result<JsonText, ShelfFau
     }
 }
 
-/// A digest or a key.
-pub fn digest_at(row: &Row, at: usize) -> Result<[u8; 32], ShelfFault>
+// A digest or a key.
+pub(crate) fn digest_at(row: &Row, at: usize) -> Result<[u8; 32], ShelfFault>
     ensures exact { IfOk result (λ digest. Blob digest ≡ column row.now at) }
     ensures cause { IfErr result (IsFaultOf (IsUnwritten Blob (λ digest. length digest ≡ 32) (column row.now at))) }
 {
     <[u8; 32]>::try_from(blob_at(row, at)?).map_err(|_| ShelfFault::Store)
 }
 
-/// Sealed bytes.
-pub fn sealed_at(alloc: Global, row: &Row, at: usize) -> Result<SealedBytes, ShelfFault>
+// Sealed bytes.
+pub(crate) fn sealed_at(alloc: Global, row: &Row, at: usize) -> Result<SealedBytes, ShelfFault>
     ensures exact { IfOk result (λ sealed. Blob sealed ≡ column row.now at) }
     ensures cause { IfErr result (IsFaultOf (IsUnwritten Blob IsSealed (column row.now at))) }
 {
@@ -204,16 +204,16 @@ pub fn amount_at(row: &Row, at: usize) -> Result<Amount, ShelfFault>
     Amount::read(number_at(row, at)?).ok_or(ShelfFault::Store)
 }
 
-/// A moment.
-pub fn moment_at(row: &Row, at: usize) -> Result<Moment, ShelfFault>
+// A moment.
+pub(crate) fn moment_at(row: &Row, at: usize) -> Result<Moment, ShelfFault>
     ensures exact { IfOk result (λ moment. whole moment ≡ column row.now at) }
     ensures cause { IfErr result (IsFaultOf (IsUnwritten whole (λ moment. moment ≤ last_moment) (column row.now at))) }
 {
     Moment::from_second(number_at(row, at)?).ok_or(ShelfFault::Store)
 }
 
-/// A moment, or NULL.
-pub fn perhaps_moment_at(row: &Row, at: usize) -> Result<Option<Moment>, ShelfFault>
+// A moment, or NULL.
+pub(crate) fn perhaps_moment_at(row: &Row, at: usize) -> Result<Option<Moment>, ShelfFault>
     ensures exact { IfOk result (λ moment. or_null moment ≡ column row.now at) }
     ensures cause { IfErr result (IsFaultOf (IsUnwritten or_null (λ moment. IfSome moment (λ second. second ≤ last_moment)) (column row.now at))) }
 {
@@ -237,8 +237,8 @@ pub fn bounded_at<const LOW: u64, const HIGH: u64>(
     Bounded::read(number_at(row, at)?).ok_or(ShelfFault::Store)
 }
 
-/// A number within bounds, or NULL.
-pub fn perhaps_bounded_at<const LOW: u64, const HIGH: u64>(
+// A number within bounds, or NULL.
+pub(crate) fn perhaps_bounded_at<const LOW: u64, const HIGH: u64>(
     row: &Row,
     at: usize,
 ) -> Result<Option<Bounded<LOW, HIGH>>, ShelfFault>
@@ -254,8 +254,8 @@ pub fn perhaps_bounded_at<const LOW: u64, const HIGH: u64>(
     }
 }
 
-/// Nothing where the version of the office's tables stands there, which is 1.
-pub fn version_at(row: &Row, at: usize) -> Result<(), ShelfFault>
+// Nothing where the version of the office's tables stands there, which is 1.
+pub(crate) fn version_at(row: &Row, at: usize) -> Result<(), ShelfFault>
     ensures exact { IfOk result (λ _. whole 1 ≡ column row.now at) }
     ensures cause { IfErr result (IsFaultOf (IsUnwritten whole (λ version. version ≡ 1) (column row.now at))) }
 {
@@ -265,8 +265,8 @@ pub fn version_at(row: &Row, at: usize) -> Result<(), ShelfFault>
     }
 }
 
-/// Yes or no.
-pub fn yes_at(row: &Row, at: usize) -> Result<bool, ShelfFault>
+// Yes or no.
+pub(crate) fn yes_at(row: &Row, at: usize) -> Result<bool, ShelfFault>
     ensures exact { IfOk result (λ yes. whole (as_number yes) ≡ column row.now at) }
     ensures cause { IfErr result (IsFaultOf (IsUnwritten (λ yes. whole (as_number yes)) Anything (column row.now at))) }
 {
@@ -277,8 +277,8 @@ pub fn yes_at(row: &Row, at: usize) -> Result<bool, ShelfFault>
     }
 }
 
-/// Yes, no or NULL.
-pub fn perhaps_yes_at(row: &Row, at: usize) -> Result<Option<bool>, ShelfFault>
+// Yes, no or NULL.
+pub(crate) fn perhaps_yes_at(row: &Row, at: usize) -> Result<Option<bool>, ShelfFault>
     ensures exact { IfOk result (λ yes. or_null (option_map as_number yes) ≡ column row.now at) }
     ensures cause { IfErr result (IsFaultOf (IsUnwritten (λ yes. or_null (option_map as_number yes)) Anything (column row.now at))) }
 {
