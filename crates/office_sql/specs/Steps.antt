@@ -8,6 +8,8 @@ use Rattle.sqlite.specs.declared.error.Error.{Error}
 use Rattle.sqlite.specs.declared.error.Error.TheVariants.{InvalidQuery}
 use Rattle.sqlite.specs.Effect.{Database}
 use Rattle.sqlite.specs.Held.{Held, state}
+use Rattle.office_base.specs.Faults.{IsFaultOf}
+use Rattle.office_base.specs.declared.shelf.ShelfFault.{ShelfFault}
 use Rattle.office_base.specs.Tables.{Tables, after_puts}
 use Rattle.office_base.specs.declared.puts.Put.{Put}
 use Rattle.office_sql.specs.Standing.{Holds}
@@ -68,3 +70,7 @@ abbrev pub IsRefusal : {S : Type 0} → Ghosts S → List ℕ → Row → Held S
 IsRefusal {S} g sql params old e =
     ((mid : Held S) × (FailsToQuery sql params (state g (record old { in_transaction = true })) (state g mid) e ⊎ IsTooLate sql params (state g (record old { in_transaction = true })) (state g mid) e))
     ⊎ (e ≡ InvalidQuery)
+
+-- why no record is read of an answer: the query was not answered, or memory was wanting, or the rows are none that an office writes
+abbrev pub IsUnread : {S : Type 0} → Ghosts S → List ℕ → Row → Held S → (List Row → Type 0) → ShelfFault → Type 0
+IsUnread g sql params old unwritten fault = ((e : Error) × IsRefusal g sql params old e) ⊎ ((rows : List Row) × IsAsked g sql params old rows × IsFaultOf (unwritten rows) fault)

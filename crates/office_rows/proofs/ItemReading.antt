@@ -1,0 +1,124 @@
+-- A text is cut at the first of some bytes; and what the parts of an item's text say of the item.
+use Rattle.std.proofs.Common.{◌≡◌, ℕ, zero, suc, ◌+◌, ◌<◌, ◌≤◌, ◌^◌, Bool, true, false, cond, List, [], ◌∷◌, ◌++◌, Option, Some, None, length, take, drop, get_or, length-append, append_assoc, refl, sym, ap, subst, ◌∙◌, arith, true≢false, IsTrue}
+use Rattle.std.specs.Prelude.{◌==◌, not, position, nat_lt}
+use Rattle.std.specs.List.{AllByRecursion, position_or_len}
+use Rattle.std.specs.Fmt.{decimal}
+use Rattle.std.proofs.lemmas.Bool.{eqb-true, cases_Bool}
+use Rattle.std.proofs.lemmas.List.Quantifiers.{position-Some}
+use Rattle.office_acts.specs.declared.item.Item.{Item}
+use Rattle.office_rows.specs.ItemTexts.{item_then, items_text, before, behind, item_rest, Avoids, ItemFits, IsItem, AreItems}
+use Rattle.office_rows.proofs.ItemLemmas.{before_is, behind_is, item_len, item_fits, behind_item, digits_avoid, id_avoids, title_avoids, rest_is, items_back}
+
+-- ---- a cut
+
+pub record IsCut (stop : ℕ) (text : List ℕ) (at : ℕ) : Type 0 where
+  pub before : take at text ≡ before stop text
+  pub behind : drop (at + 1) text ≡ behind stop text
+  pub exact : before stop text ++ (stop ∷ behind stop text) ≡ text
+
+cut_here : (stop : ℕ) (text : List ℕ) (at : ℕ) → at < length text → (get_or text at 0 == stop) ≡ true → ((k : ℕ) → k < at → (get_or text k 0 == stop) ≡ false)
+    → (take at text ≡ before stop text) × (drop (suc at) text ≡ behind stop text) × (before stop text ++ (stop ∷ behind stop text) ≡ text)
+cut_here stop [] at within is first = absurd (omega (arith, within))
+cut_here stop (b ∷ text) zero within is first = (
+  sym (ap (λ c. cond c [] (b ∷ before stop text)) is),
+  sym (ap (λ c. cond c text (behind stop text)) is),
+  (λ i. cond (is i) [] (b ∷ before stop text) ++ (stop ∷ cond (is i) text (behind stop text))) ∙ ap (λ n. n ∷ text) (sym (eqb-true b stop is)),
+)
+cut_here stop (b ∷ text) (suc at) within is first =
+    let no = first 0 (omega arith) in
+    let rest = cut_here stop text at (omega (arith, within)) is (λ k small. first (suc k) (omega (arith, small))) in (
+      ap (λ l. b ∷ l) rest.0 ∙ sym (ap (λ c. cond c [] (b ∷ before stop text)) no),
+      rest.1 ∙ sym (ap (λ c. cond c text (behind stop text)) no),
+      (λ i. cond (no i) [] (b ∷ before stop text) ++ (stop ∷ cond (no i) text (behind stop text))) ∙ ap (λ l. b ∷ l) rest.2,
+    )
+
+pub cut_at : (stop : ℕ) (text : List ℕ) (at : ℕ) → position (λ b. b == stop) text ≡ Some at → IsCut stop text at
+cut_at stop text at e =
+    let found = position-Some (λ b. b == stop) text at 0 e in
+    let parts = cut_here stop text at found.0 found.1 found.2 in
+    let next : at + 1 ≡ suc at = omega arith in
+    record { before = parts.0; behind = ap (λ n. drop n text) next ∙ parts.1; exact = parts.2 }
+
+none_before : (stop : ℕ) (text : List ℕ) → length text ≤ position_or_len (λ b. b == stop) text → Avoids stop text
+none_before stop [] h = tt
+none_before stop (b ∷ text) h = by (b == stop) refl
+  where
+    by : (c : Bool) → (b == stop) ≡ c → Avoids stop (b ∷ text)
+    by true e = absurd (let none : position_or_len (λ b. b == stop) (b ∷ text) ≡ 0 = ap (λ c. cond (not c) (1 + position_or_len (λ b. b == stop) text) 0) e in omega (arith, h, none))
+    by false e = (e, none_before stop text (let more : position_or_len (λ b. b == stop) (b ∷ text) ≡ 1 + position_or_len (λ b. b == stop) text = ap (λ c. cond (not c) (1 + position_or_len (λ b. b == stop) text) 0) e in omega (arith, h, more)))
+
+pub uncut : (stop : ℕ) (text : List ℕ) → position (λ b. b == stop) text ≡ None → Avoids stop text
+uncut stop text e = by (nat_lt (position_or_len (λ b. b == stop) text) (length text)) refl
+  where
+    by : (c : Bool) → nat_lt (position_or_len (λ b. b == stop) text) (length text) ≡ c → Avoids stop text
+    by true h = absurd (Rattle.std.proofs.lemmas.Option.none-some (position_or_len (λ b. b == stop) text) (sym e ∙ ap (λ c. cond c (Some (position_or_len (λ b. b == stop) text)) None) h))
+    by false h = none_before stop text (omega (arith, h))
+
+-- a text in which the byte stands doesn't avoid it
+stands_there : (stop : ℕ) (a b : List ℕ) → Avoids stop (a ++ (stop ∷ b)) → ⊥
+stands_there stop [] b h = true≢false (sym (Rattle.std.proofs.lemmas.Bool.eq-eqb stop stop refl) ∙ h.0)
+stands_there stop (x ∷ a) b h = stands_there stop a b h.1
+
+-- ---- an item's text
+
+pub fits_of : (item : Item) → IsItem item → ItemFits item
+fits_of item h = item_fits item h.id h.title (omega (arith, h.quantity.1))
+
+pub all_fit : (items : List Item) → AllByRecursion IsItem items → AllByRecursion ItemFits items
+all_fit [] h = tt
+all_fit (item ∷ items) h = (fits_of item h.0, all_fit items h.1)
+
+-- what is found where an item's text is cut
+pub record HasParts (item : Item) (rest text : List ℕ) : Type 0 where
+  pub id : before 9 text ≡ item.id
+  pub behind_id : behind 9 text ≡ decimal item.quantity ++ (9 ∷ (item.title ++ (10 ∷ rest)))
+  pub quantity : before 9 (behind 9 text) ≡ decimal item.quantity
+  pub behind_quantity : behind 9 (behind 9 text) ≡ item.title ++ (10 ∷ rest)
+  pub title : before 10 (behind 9 (behind 9 text)) ≡ item.title
+
+pub parts_of : (item : Item) (rest text : List ℕ) → IsItem item → item_then item rest ≡ text → HasParts item rest text
+parts_of item rest text h e = subst (HasParts item rest) e here
+  where
+    fits : ItemFits item
+    fits = fits_of item h
+
+    one : behind 9 (item_then item rest) ≡ decimal item.quantity ++ (9 ∷ (item.title ++ (10 ∷ rest)))
+    one = behind_is 9 item.id _ fits.id
+
+    two : behind 9 (behind 9 (item_then item rest)) ≡ item.title ++ (10 ∷ rest)
+    two = ap (behind 9) one ∙ behind_is 9 (decimal item.quantity) _ (digits_avoid item.quantity fits.quantity)
+
+    here : HasParts item rest (item_then item rest)
+    here = record {
+      id = before_is 9 item.id _ fits.id;
+      behind_id = one;
+      quantity = ap (before 9) one ∙ before_is 9 (decimal item.quantity) _ (digits_avoid item.quantity fits.quantity);
+      behind_quantity = two;
+      title = ap (before 10) two ∙ before_is 10 item.title rest fits.title;
+    }
+
+-- where one of the three cuts can't be made, no item stands at the front
+pub no_id : (item : Item) (rest text : List ℕ) → item_then item rest ≡ text → Avoids 9 text → ⊥
+no_id item rest text e h = stands_there 9 item.id (decimal item.quantity ++ (9 ∷ (item.title ++ (10 ∷ rest)))) (subst (Avoids 9) (sym e) h)
+
+pub no_quantity : (item : Item) (rest text : List ℕ) → HasParts item rest text → Avoids 9 (behind 9 text) → ⊥
+no_quantity item rest text parts h = stands_there 9 (decimal item.quantity) (item.title ++ (10 ∷ rest)) (subst (Avoids 9) parts.behind_id h)
+
+pub no_title : (item : Item) (rest text : List ℕ) → HasParts item rest text → Avoids 10 (behind 9 (behind 9 text)) → ⊥
+no_title item rest text parts h = stands_there 10 item.title rest (subst (Avoids 10) parts.behind_quantity h)
+
+-- ---- items behind others
+
+-- after some items more text follows, and it is items' text: an item is at its front
+pub continues : (found items : List Item) (rest : List ℕ) → AllByRecursion IsItem found → AllByRecursion IsItem items → 0 < length rest → items_text items ≡ items_text found ++ rest
+    → (parts : Item × List ℕ) × IsItem parts.0 × (item_then parts.0 parts.1 ≡ rest)
+continues [] [] rest f h some e = absurd (omega (arith, some, ap length e))
+continues [] (y ∷ items) rest f h some e = ((y, items_text items), h.0, e)
+continues (x ∷ found) [] rest f h some e = absurd (omega (arith, some, ap length (e ∙ sym (behind_item x (items_text found) rest)), item_len x (items_text found ++ rest)))
+continues (x ∷ found) (y ∷ items) rest f h some e =
+    continues found items rest f.1 h.1 some
+    (sym (rest_is y (items_text items) (fits_of y h.0)) ∙ ap item_rest (e ∙ sym (behind_item x (items_text found) rest)) ∙ rest_is x (items_text found ++ rest) (fits_of x f.0))
+
+-- items have their text for themselves
+pub same_items : (xs ys : List Item) → AllByRecursion IsItem xs → AllByRecursion IsItem ys → items_text xs ≡ items_text ys → xs ≡ ys
+same_items xs ys f h e = sym (items_back xs (all_fit xs f)) ∙ ap Rattle.office_rows.specs.ItemTexts.items_in e ∙ items_back ys (all_fit ys h)
