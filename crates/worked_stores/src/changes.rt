@@ -17,10 +17,7 @@ fn caller_of<H: Shelf + Drop>(session: &mut Session<H>, request: &Request) -> Op
     let Ok(credentials) = credentials_of(request) else {
         return None;
     };
-    session
-        .desk
-        .caller(credentials.name, credentials.key)
-        .ok()
+    session.desk.caller(credentials.name, credentials.key).ok()
 }
 
 // What the command in this block would do.

@@ -42,7 +42,8 @@ at 2026-04-02T09:00:00Z clerk POST /contracts/1/pay
 "#;
 
 /// The ledger behind the import of the two lines.
-pub(crate) static TWO_LINES: &str = "LEDGER\nline\tappropriation\tfree\treserved\tcontracted\tpaid\n1000\t1000\t1000\t0\t0\t0\n2000\t500\t500\t0\t0\t0\n";
+pub(crate) static TWO_LINES: &str =
+    "LEDGER\nline\tappropriation\tfree\treserved\tcontracted\tpaid\n1000\t1000\t1000\t0\t0\t0\n2000\t500\t500\t0\t0\t0\n";
 
 /// The ledger before it.
 pub(crate) static NO_LINE: &str = "LEDGER\nline\tappropriation\tfree\treserved\tcontracted\tpaid\n";

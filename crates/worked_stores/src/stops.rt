@@ -2,7 +2,7 @@
 //! had before the command, or all that the command changes; and nothing less where the changes were made.
 use crate::changes::{changes_of, copied};
 use crate::life::{LIFE, NO_LINE, TWO_LINES};
-use crate::stores::{all_changed, changed, made, opened, rows_in};
+use crate::stores::{all_changed, changed, ledger_in, made, opened, rows_in};
 use office_base::puts::Put;
 use office_on_disks::disks::Disks;
 use std::alloc::Global;
@@ -177,16 +177,16 @@ fn a_life_is_stopped(rt: HostRuntime) {
     assert!(rt; leaves_all_or_none(alloc) || leaves_all_or_none(alloc));
 }
 
-// What stands in files behind the first so many commands of a life, and in front of all else the text of the ledger.
-fn rows_of_life(alloc: Global, count: usize) -> Result<Vec<u8>, Wrong> {
+// The text of the ledger behind the first so many commands of a life.
+fn ledger_of_life(alloc: Global, count: usize) -> Result<Vec<u8>, Wrong> {
     let mut changes = changes_of(alloc, &[LIFE])?;
     changes.truncate(count);
-    rows_in(alloc, all_changed(alloc, made(alloc)?, &changes)?)
+    ledger_in(alloc, all_changed(alloc, made(alloc)?, &changes)?)
 }
 
 fn has_ledger(alloc: Global, count: usize, ledger: &str) -> bool {
-    match rows_of_life(alloc, count) {
-        Ok(rows) => rows.starts_with(ledger.as_bytes()),
+    match ledger_of_life(alloc, count) {
+        Ok(text) => text == ledger.as_bytes(),
         Err(_) => false,
     }
 }

@@ -79,7 +79,13 @@ fn append_tables(alloc: Global, bytes: &mut Vec<u8>, disks: Disks) -> Result<(),
     Ok(())
 }
 
-/// The ledger of the office in these files, and behind it all its rows.
+/// The text of the ledger of the office in these files.
+pub(crate) fn ledger_in(alloc: Global, disks: Disks) -> Result<Vec<u8>, Wrong> {
+    let mut office = opened(alloc, disks)?;
+    ledger_of(alloc, &mut office)
+}
+
+/// The same, and behind it all rows of the office.
 pub(crate) fn rows_in(alloc: Global, disks: Disks) -> Result<Vec<u8>, Wrong> {
     let mut office = opened(alloc, disks)?;
     let mut bytes = ledger_of(alloc, &mut office)?;
