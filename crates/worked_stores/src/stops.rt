@@ -186,7 +186,7 @@ fn ledger_of_life(alloc: Global, count: usize) -> Result<Vec<u8>, Wrong> {
 
 fn has_ledger(alloc: Global, count: usize, ledger: &str) -> bool {
     match ledger_of_life(alloc, count) {
-        Ok(text) => text == ledger.as_bytes(),
+        Ok(text) => text.as_slice() == ledger.as_bytes(),
         Err(_) => false,
     }
 }
