@@ -23,7 +23,13 @@ class Topic:
                 title, _, names = line.partition(": ")
                 self.played.append((kind, title, [part.split(" ") for part in names.split(" | ")]))
             else:
-                self.pieces[kind] = rest.strip("\n").split("\n\n")
+                self.pieces[kind] = [sent for it in rest.strip("\n").split("\n\n") for sent in blocks_of(it)]
+
+
+def blocks_of(block):
+    """What a block stands for that may begin with a number: so many blocks, with the number of each, from 1, in place of each `#`."""
+    counted = re.fullmatch(r"(\d+) (.*)", block, re.S)
+    return [counted[2].replace("#", str(number + 1)) for number in range(int(counted[1]))] if counted else [block]
 
 
 def topics():

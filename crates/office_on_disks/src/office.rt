@@ -1,7 +1,8 @@
 //! An office in two files on disks in memory: opened, changed and put down.
 use crate::disks::Disks;
+use office_base::ledger::LedgerRow;
 use office_base::puts::Put;
-use office_base::shelf::Shelf;
+use office_base::shelf::{Lookups, Shelf};
 use office_store::open::OpenRefusal;
 use office_store::shelf::SqlShelf;
 use sqlite::{FileStore, Options};
@@ -45,6 +46,11 @@ impl OfficeOnDisks {
     /// Makes the changes of a command. Whether they are made.
     pub fn apply(&mut self, puts: Vec<Put>) -> bool {
         self.shelf.apply(puts).is_ok()
+    }
+
+    /// The rows of its ledger; None where they can't be had.
+    pub fn ledger(&mut self) -> Option<Vec<LedgerRow>> {
+        self.shelf.ledger().ok()
     }
 
     fn into_shelf(self) -> SqlShelf<FileStore<Fuse<Memory>>> {

@@ -6,6 +6,7 @@ mod found;
 mod pieces;
 mod sections;
 mod stores;
+mod times;
 mod topics;
 
 use std::process::ExitCode;

@@ -1,4 +1,5 @@
 //! The stores that transcripts are played over: an office in memory, one in SQL in memory, and one in a file.
+use crate::times::{play_piece, play_pieces};
 use office_base::shelf::Shelf;
 use office_file::file_shelf::FileShelf;
 use office_in_sql::office::in_sql;
@@ -45,9 +46,9 @@ pub(crate) struct Life<'a> {
 // Lives a life in the office of this shelf.
 fn lived<H: Shelf + Drop>(alloc: Global, shelf: H, life: Life<'_>) -> Result<Told, Wrong> {
     let mut session = Session::new(alloc, shelf, 0)?;
-    session.play_all(life.before)?;
+    play_pieces(&mut session, life.before)?;
     session.told.clear();
-    session.play_all(life.told)?;
+    play_pieces(&mut session, life.told)?;
     Ok(Told {
         sent: session.sent,
         answers: session.told,
@@ -64,7 +65,7 @@ fn continued<H: Shelf + Drop>(
     let mut session = Session::new(alloc, shelf, 0)?;
     session.sent = told.sent;
     session.told = told.answers;
-    session.play(piece)?;
+    play_piece(&mut session, piece)?;
     Ok(Told {
         sent: session.sent,
         answers: session.told,

@@ -2,16 +2,25 @@
 use office_acts::command::Caller;
 use office_base::puts::Put;
 use office_base::shelf::Shelf;
+use office_http::credentials::credentials_of;
 use office_http::{Asked, command_of};
 use office_memory::memory::MemoryShelf;
 use office_plans::planned::Planned;
 use office_wire::counted::CountedReader;
-use office_wire::request::read_request;
+use office_wire::request::{Request, read_request};
 use std::alloc::{AllocError, Global};
 use transcripts::blocks::{Block, read};
 use transcripts::session::{Session, Wrong};
 
-// What the clerk's command in this block would do.
+// Who asks.
+fn caller_of<H: Shelf + Drop>(session: &mut Session<H>, request: &Request) -> Option<Caller> {
+    let Ok(credentials) = credentials_of(request) else {
+        return None;
+    };
+    session.desk.caller(credentials.name, credentials.key).ok()
+}
+
+// What the command in this block would do.
 fn planned<H: Shelf + Drop>(session: &mut Session<H>, block: &Block) -> Option<Planned> {
     let mut reader = CountedReader::new(block.request.as_slice());
     let Ok(request) = read_request(session.alloc, &mut reader) else {
@@ -20,11 +29,11 @@ fn planned<H: Shelf + Drop>(session: &mut Session<H>, block: &Block) -> Option<P
     let Ok(route) = session.routes.route_of(&request) else {
         return None;
     };
-    let Ok(Asked::Does(command)) = command_of(session.alloc, &Caller::Clerk, &route, &request)
-    else {
+    let caller = caller_of(session, &request)?;
+    let Ok(Asked::Does(command)) = command_of(session.alloc, &caller, &route, &request) else {
         return None;
     };
-    match session.desk.plan(block.moment, &Caller::Clerk, command) {
+    match session.desk.plan(block.moment, &caller, command) {
         Ok(planned) => Some(planned),
         Err(_) => None,
     }
@@ -47,7 +56,7 @@ fn is_done<H: Shelf + Drop>(session: &mut Session<H>, planned: Planned, response
     }
 }
 
-// What the clerk's command in this block changes, once it is done. It is answered as its block says.
+// What the command in this block changes, once it is done. It is answered as its block says.
 fn done_of<H: Shelf + Drop>(session: &mut Session<H>, block: &Block) -> Result<Vec<Put>, Wrong> {
     let Some(planned) = planned(session, block) else {
         return Err(Wrong::Unopened);
@@ -95,7 +104,7 @@ fn all_done<H: Shelf + Drop>(
     Ok(changes)
 }
 
-/// What each command of these transcripts changes, all of them the clerk's, beginning with an empty office.
+/// What each command of these transcripts changes, beginning with an empty office.
 pub(crate) fn changes_of(alloc: Global, transcripts: &[&str]) -> Result<Vec<Vec<Put>>, Wrong> {
     all_done(alloc, MemoryShelf::new(alloc), transcripts)
 }

@@ -4,6 +4,8 @@
 #[cfg(test)]
 mod changes;
 #[cfg(test)]
+mod life;
+#[cfg(test)]
 mod no_offices;
 #[cfg(test)]
 mod stops;

@@ -1,6 +1,6 @@
 //! Files in which no office is opened, and those in which one is made beside what stands there.
 use crate::changes::changes_of;
-use crate::stores::all_changed;
+use crate::stores::{all_changed, made};
 use office_on_disks::database::Database;
 use office_on_disks::disks::Disks;
 use office_on_disks::office::{OfficeOnDisks, Unopened};
@@ -35,16 +35,9 @@ fn shown(alloc: Global, statements: &str, question: &str) -> Option<i64> {
     number(alloc, refused(alloc, disks)?, question)
 }
 
-// A new office's files.
-fn made(alloc: Global) -> Option<Disks> {
-    OfficeOnDisks::open(alloc, Disks::blank(alloc))
-        .ok()?
-        .close()
-}
-
 // What a question shows of an office's files behind these statements, once they were refused as no office.
 fn shown_of_office(alloc: Global, statements: &str, question: &str) -> Option<i64> {
-    let disks = changed(alloc, made(alloc)?, statements)?;
+    let disks = changed(alloc, made(alloc).ok()?, statements)?;
     number(alloc, refused(alloc, disks)?, question)
 }
 
@@ -94,7 +87,7 @@ fn versions_are_others(rt: HostRuntime) {
 
 // Whether an office's files are refused behind these statements, and not for want of an office.
 fn is_wrong(alloc: Global, statements: &str) -> Option<bool> {
-    let disks = changed(alloc, made(alloc)?, statements)?;
+    let disks = changed(alloc, made(alloc).ok()?, statements)?;
     Some(matches!(OfficeOnDisks::open(alloc, disks), Err(Unopened::Unusable)))
 }
 

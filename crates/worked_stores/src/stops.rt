@@ -1,12 +1,12 @@
 //! Stops: a disk takes so many calls, and fails at every one behind them. Whatever that number is, the office that is then opened again has the rows that it
 //! had before the command, or all that the command changes; and nothing less where the changes were made.
 use crate::changes::{changes_of, copied};
-use crate::stores::{all_changed, opened, tables_in};
+use crate::life::{LIFE, NO_LINE, TWO_LINES};
+use crate::stores::{all_changed, changed, ledger_in, made, opened, rows_in};
 use office_base::puts::Put;
 use office_on_disks::disks::Disks;
 use std::alloc::Global;
 use transcripts::session::Wrong;
-use transcripts::setup::{MONEY, NOTICE, TENDERERS};
 
 // A command's changes, and all rows of the office before it and behind it.
 #[derive(Drop)]
@@ -40,7 +40,7 @@ fn ended(alloc: Global, disks: Disks, puts: &[Put]) -> Result<Option<Ending>, Wr
 
 // All rows of the office that a process leaves on these disks.
 fn rows_left(alloc: Global, disks: &Disks) -> Result<Vec<u8>, Wrong> {
-    tables_in(alloc, disks.left_by_the_process(alloc)?)
+    rows_in(alloc, disks.left_by_the_process(alloc)?)
 }
 
 // All rows of the office in these files behind these changes.
@@ -88,7 +88,7 @@ fn look_at(
     ending: Ending,
 ) -> Result<bool, Wrong> {
     let of_process = rows_left(alloc, &ending.disks)?;
-    let of_machine = tables_in(alloc, ending.disks.left_by_the_machine(alloc)?)?;
+    let of_machine = rows_in(alloc, ending.disks.left_by_the_machine(alloc)?)?;
     let is_right = found.count(change, ending.is_done, &of_process);
     Ok(found.count(change, ending.is_done, &of_machine) && is_right)
 }
@@ -142,57 +142,59 @@ fn stops(
     Err(Wrong::Stop(2000))
 }
 
-// Stops of the log's disk, and of that of the database file, in this command: what they leave.
-fn both_in(alloc: Global, disks: &Disks, change: &Change<'_>) -> Result<(Found, Found), Wrong> {
-    let of_log = stops(alloc, disks, change, Stopping::Log)?;
-    let of_db = stops(alloc, disks, change, Stopping::Database)?;
-    Ok((of_log, of_db))
+// Stops of the log's disk, and of that of the database file, in a command: the files behind it. Those of the log are to leave what is before it and what is
+// behind it, those of the database file what is behind it.
+fn stopped(alloc: Global, disks: Disks, puts: &[Put]) -> Result<Disks, Wrong> {
+    let change = change_of(alloc, &disks, puts)?;
+    let log = stops(alloc, &disks, &change, Stopping::Log)?;
+    let db = stops(alloc, &disks, &change, Stopping::Database)?;
+    if log.before == 0 || log.behind == 0 || db.behind == 0 {
+        return Err(Wrong::Stop(0));
+    }
+    changed(alloc, disks, puts)
 }
 
-// The same in the last of these commands.
-fn both_in_last(alloc: Global, changes: &[Vec<Put>]) -> Result<(Found, Found), Wrong> {
-    let Some((last, others)) = changes.split_last() else {
-        return Err(Wrong::NotAnOffice);
+// The same in each of these commands, beginning with a new office.
+fn all_stopped(alloc: Global, changes: &[Vec<Put>]) -> Result<Disks, Wrong> {
+    let mut disks = made(alloc)?;
+    for puts in changes {
+        disks = stopped(alloc, disks, puts)?;
+    }
+    Ok(disks)
+}
+
+// Whether stops in each command of a life leave what is before it or what is behind it.
+fn leaves_all_or_none(alloc: Global) -> bool {
+    let Ok(changes) = changes_of(alloc, &[LIFE]) else {
+        return false;
     };
-    let disks = all_changed(alloc, Disks::blank(alloc), others)?;
-    let change = change_of(alloc, &disks, last)?;
-    both_in(alloc, &disks, &change)
-}
-
-// The same in the last command of these transcripts; None where it can't be done.
-fn both(alloc: Global, transcripts: &[&str]) -> Option<(Found, Found)> {
-    let Ok(changes) = changes_of(alloc, transcripts) else {
-        return None;
-    };
-    match both_in_last(alloc, &changes) {
-        Ok(found) => Some(found),
-        Err(_) => None,
-    }
-}
-
-// The first of two tries that doesn't fail: one allocation of a test may be refused.
-fn either(first: Option<(Found, Found)>, second: Option<(Found, Found)>) -> Option<(Found, Found)> {
-    match first {
-        Some(found) => Some(found),
-        None => second,
-    }
-}
-
-// Whether stops in the last command leave what is before it or what is behind it. Those of the log were found to leave both.
-fn leaves_all_or_none(alloc: Global, transcripts: &[&str]) -> bool {
-    let second = both(alloc, transcripts);
-    match either(both(alloc, transcripts), second) {
-        Some((log, db)) => log.before > 0 && log.behind > 0 && db.behind > 0,
-        None => false,
-    }
+    changes.len() == 9 && all_stopped(alloc, &changes).is_ok()
 }
 
 #[test]
-fn an_import_is_stopped(rt: HostRuntime) {
-    assert!(rt; leaves_all_or_none(rt.alloc(), &[TENDERERS, MONEY]));
+fn a_life_is_stopped(rt: HostRuntime) {
+    let alloc = rt.alloc();
+    assert!(rt; leaves_all_or_none(alloc) || leaves_all_or_none(alloc));
 }
 
+// The text of the ledger behind the first so many commands of a life.
+fn ledger_of_life(alloc: Global, count: usize) -> Result<Vec<u8>, Wrong> {
+    let mut changes = changes_of(alloc, &[LIFE])?;
+    changes.truncate(count);
+    ledger_in(alloc, all_changed(alloc, made(alloc)?, &changes)?)
+}
+
+fn has_ledger(alloc: Global, count: usize, ledger: &str) -> bool {
+    match ledger_of_life(alloc, count) {
+        Ok(text) => text.as_slice() == ledger.as_bytes(),
+        Err(_) => false,
+    }
+}
+
+// So each stop in the import of two lines leaves a ledger without lines, or with both.
 #[test]
-fn a_publication_is_stopped(rt: HostRuntime) {
-    assert!(rt; leaves_all_or_none(rt.alloc(), &[MONEY, TENDERERS, NOTICE]));
+fn the_import_has_two_lines(rt: HostRuntime) {
+    let alloc = rt.alloc();
+    assert!(rt; has_ledger(alloc, 1, NO_LINE) || has_ledger(alloc, 1, NO_LINE));
+    assert!(rt; has_ledger(alloc, 2, TWO_LINES) || has_ledger(alloc, 2, TWO_LINES));
 }

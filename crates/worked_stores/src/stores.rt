@@ -5,6 +5,7 @@ use office_on_disks::database::Database;
 use office_on_disks::disks::Disks;
 use office_on_disks::office::{OfficeOnDisks, Unopened};
 use std::alloc::Global;
+use tender_papers::ledger::ledger_text;
 use transcripts::session::Wrong;
 
 /// The office in these files, or a new one.
@@ -16,8 +17,15 @@ pub(crate) fn opened(alloc: Global, disks: Disks) -> Result<OfficeOnDisks, Wrong
     }
 }
 
-// The files of this office behind a command's changes.
-fn changed(alloc: Global, disks: Disks, puts: &[Put]) -> Result<Disks, Wrong> {
+/// A new office's files.
+pub(crate) fn made(alloc: Global) -> Result<Disks, Wrong> {
+    opened(alloc, Disks::blank(alloc))?
+        .close()
+        .ok_or(Wrong::Unopened)
+}
+
+/// The files of this office behind a command's changes.
+pub(crate) fn changed(alloc: Global, disks: Disks, puts: &[Put]) -> Result<Disks, Wrong> {
     let mut office = opened(alloc, disks)?;
     if !office.apply(copied(alloc, puts)?) {
         return Err(Wrong::Unopened);
@@ -55,18 +63,33 @@ const TABLES: [&str; 14] = [
     "SELECT * FROM compiled ORDER BY notice",
 ];
 
-/// All rows of the office in these files.
-pub(crate) fn tables_in(alloc: Global, disks: Disks) -> Result<Vec<u8>, Wrong> {
-    let mut database = Database::open(
-        alloc,
-        opened(alloc, disks)?.close().ok_or(Wrong::Unopened)?,
-    ).ok_or(Wrong::Unopened)?;
-    let mut bytes = Vec::new(alloc);
+// The text of an office's ledger.
+fn ledger_of(alloc: Global, office: &mut OfficeOnDisks) -> Result<Vec<u8>, Wrong> {
+    let rows = office.ledger().ok_or(Wrong::Unopened)?;
+    Ok(ledger_text(alloc, &rows)?.into_vec())
+}
+
+// Appends all rows of the office in these files.
+fn append_tables(alloc: Global, bytes: &mut Vec<u8>, disks: Disks) -> Result<(), Wrong> {
+    let mut database = Database::open(alloc, disks).ok_or(Wrong::Unopened)?;
     for table in TABLES {
         bytes.extend_from_slice(table.as_bytes())?;
-        database
-            .append_all(&mut bytes, table)
-            .ok_or(Wrong::Unopened)?;
+        database.append_all(bytes, table).ok_or(Wrong::Unopened)?;
     }
+    Ok(())
+}
+
+/// The text of the ledger of the office in these files.
+pub(crate) fn ledger_in(alloc: Global, disks: Disks) -> Result<Vec<u8>, Wrong> {
+    let mut office = opened(alloc, disks)?;
+    ledger_of(alloc, &mut office)
+}
+
+/// The same, and behind it all rows of the office.
+pub(crate) fn rows_in(alloc: Global, disks: Disks) -> Result<Vec<u8>, Wrong> {
+    let mut office = opened(alloc, disks)?;
+    let mut bytes = ledger_of(alloc, &mut office)?;
+    let disks = office.close().ok_or(Wrong::Unopened)?;
+    append_tables(alloc, &mut bytes, disks)?;
     Ok(bytes)
 }
