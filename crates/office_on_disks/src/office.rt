@@ -11,7 +11,7 @@ use std::alloc::Global;
 
 /// An office in two files, which is open.
 pub struct OfficeOnDisks {
-    shelf: SqlShelf<FileStore<Fuse<Memory>>>,
+    pub(crate) shelf: SqlShelf<FileStore<Fuse<Memory>>>,
 }
 
 impl Drop for OfficeOnDisks {

@@ -11,3 +11,5 @@ mod no_offices;
 mod stops;
 #[cfg(test)]
 mod stores;
+#[cfg(test)]
+mod wrong_words;

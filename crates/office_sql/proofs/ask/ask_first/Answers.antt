@@ -1,4 +1,4 @@
-use Rattle.std.proofs.Common.{inl}
+use Rattle.std.proofs.Common.{◌≡◌, inl}
 use Rattle.std.specs.Prelude.{IfSome, option_map, slice_get}
 use Rattle.sqlite.specs.Values.{bound}
 use Rattle.office_rows.specs.Unwritten.{IsUnwritten}
