@@ -85,7 +85,7 @@ undone_fails old mid end puts e settled up t shows failed = elim (cases_Bool old
 
 -- the puts were made, and their commit failed
 pub commit_fails : (old mid end : State) (puts : List Put) (e : Error) → Puts (record old { in_transaction = true }) mid puts → old.faults ≤ mid.faults → FailsToCommit mid end e → IsExcused (ChangeFails old end puts) e
-commit_fails old mid end puts e done up (inl (cause, is, why, rest)) = by cause is why
+commit_fails old mid end puts e done up (inl (cause, is, why, back, tells)) = by cause is why
   where
     by : (cause : StoreError) → e ≡ store_error cause → HasCause mid end ⊥ cause → IsExcused (ChangeFails old end puts) e
     by stores.OutOfMemory is why = inl is

@@ -1,7 +1,7 @@
 -- Why a change of an office was not made, as its statement was understood.
 use Rattle.std.proofs.Common.{◌≡◌, ◌⊎◌, inl, inr, ℕ, ◌++◌, List, [], ◌∷◌, Option, None, Some, Ok, Err, Result, true, false, ◌||◌, Bool, refl, sym, ap, subst, subst₂, ◌∙◌, IsTrue, length, append-nil, true≢false}
 use Rattle.std.specs.Prelude.{IfErr, is_some, nat_le, ◌≤◌}
-use Rattle.std.proofs.lemmas.Bool.{cases_Bool}
+use Rattle.std.proofs.lemmas.Bool.{cases_Bool, leb-true}
 use Rattle.sqlite_value.specs.Order.{Row}
 use Rattle.sqlite_trees.specs.declared.error.StoreError.{StoreError}
 use Rattle.sqlite_trees.specs.declared.error.StoreError.TheVariants as stores
@@ -20,7 +20,7 @@ use Rattle.office_base.specs.declared.puts.Put.{Put}
 use Rattle.office_base.specs.declared.puts.Put.TheVariants.{Line, Batch, Tenderer, Notice, Lot, Envelope, Seal, DropSeal, Security, Award, Contract, Entry, Release, Compiled as CompiledOne, Clock}
 use Rattle.office_sql.specs.Failing.{IsExcused, DiskFails, Declines, OneIsDeclined, StoreFails}
 use Rattle.office_sql.specs.Known.{Places, HasTables}
-use Rattle.office_sql.specs.Schema.OfficeTable as table
+use Rattle.office_sql.specs.Schema.OfficeTable.{Lines, Batches, Tenderers, Notices, Lots, Envelopes, Seals, Securities, Awards, Contracts, Entries, Releases, Compiled as CompiledTable, Office}
 use Rattle.office_sql.specs.Standing.{Holds}
 use Rattle.office_sql.specs.Statements.{statement_of, values_of}
 use Rattle.office_sql.specs.Version.{get_version}
@@ -35,12 +35,12 @@ if_err_with (Err e) P Q h f = f e h
 
 -- ---- commands that change rows: they show none, and end no transaction
 
-is_change : Command → Bool
+abbrev pub is_change : Command → Bool
 is_change (InsertOr at way from clauses) = true
 is_change (Delete at q) = true
 is_change _ = false
 
-abbrev shows : Command → Bool
+abbrev pub shows : Command → Bool
 shows k = is_query k || (is_pragma k || false)
 
 other : {k l : Command} → is_change k ≡ true → is_change l ≡ false → k ≡ l → ⊥
@@ -63,7 +63,7 @@ never_escapes held s k change (inr (name, inr back, at)) = other change refl bac
 
 -- why a store failed, but for want of memory
 by_store : (old new : State) (too_big Declined : Type 0) → (too_big → Declined) → (e : Error) → Fails old new too_big e → IsExcused (DiskFails old new ⊎ ((old.is_open ≡ false) ⊎ Declined)) e
-by_store old new too_big Declined big e (cause, is, why, rest) = by cause is why
+by_store old new too_big Declined big e (cause, is, why, back, tells) = by cause is why
   where
     by : (cause : StoreError) → e ≡ store_error cause → HasCause old new too_big cause → IsExcused (DiskFails old new ⊎ ((old.is_open ≡ false) ⊎ Declined)) e
     by stores.OutOfMemory is why = inl is
@@ -76,7 +76,7 @@ by_store old new too_big Declined big e (cause, is, why, rest) = by cause is why
 module _ (text : List ℕ) (params : Row) (old new : State) (command : Command) (means : Means old.now.schema text command) (one : IsOne text (length params)) where
   is_statement : (e : Error) → IsNoStatement old text params e → ⊥
   is_statement e (inl unknown) = subst IsPlain unknown.1 means.plain
-  is_statement e (inr (c, u, inl many)) = many.0 (subst (λ n. length text ≤ n) (sym (from_text old.now.schema text c means.unlisted u).0) one.whole)
+  is_statement e (inr (c, u, inl many)) = many.0 (subst (λ n. length text ≤ n) (sym (from_text old.now.schema text c means.unlisted u).0) (leb-true _ _ one.whole))
   is_statement e (inr (c, u, inr (inl count))) = count.0 (sym one.given ∙ ap length (sym (from_text old.now.schema text c means.unlisted u).1))
   is_statement e (inr (c, u, inr (inr clock))) = clock.0 (subst IsPlain u means.plain).1
 
@@ -120,21 +120,21 @@ record IsKnown (old : State) (put : Put) : Type 0 where
   silent : shows command ≡ false
 
 known : (old : State) (p : Places) → HasTables old.now.schema p → (put : Put) → IsKnown old put
-known old p tables (Line row) = record { command = _; means = put_lines_means old.now.schema (p table.Lines) (tables table.Lines); one = put_lines_one; change = refl; silent = refl }
-known old p tables (Batch row) = record { command = _; means = put_batches_means old.now.schema (p table.Batches) (tables table.Batches); one = put_batches_one; change = refl; silent = refl }
-known old p tables (Tenderer row) = record { command = _; means = put_tenderers_means old.now.schema (p table.Tenderers) (tables table.Tenderers); one = put_tenderers_one; change = refl; silent = refl }
-known old p tables (Notice row) = record { command = _; means = put_notices_means old.now.schema (p table.Notices) (tables table.Notices); one = put_notices_one; change = refl; silent = refl }
-known old p tables (Lot row) = record { command = _; means = put_lots_means old.now.schema (p table.Lots) (tables table.Lots); one = put_lots_one; change = refl; silent = refl }
-known old p tables (Envelope row) = record { command = _; means = put_envelopes_means old.now.schema (p table.Envelopes) (tables table.Envelopes); one = put_envelopes_one; change = refl; silent = refl }
-known old p tables (Seal row) = record { command = _; means = put_seals_means old.now.schema (p table.Seals) (tables table.Seals); one = put_seals_one; change = refl; silent = refl }
-known old p tables (DropSeal receipt) = record { command = _; means = drop_seal_means old.now.schema (p table.Seals) (tables table.Seals); one = drop_seal_one; change = refl; silent = refl }
-known old p tables (Security row) = record { command = _; means = put_securities_means old.now.schema (p table.Securities) (tables table.Securities); one = put_securities_one; change = refl; silent = refl }
-known old p tables (Award row) = record { command = _; means = put_awards_means old.now.schema (p table.Awards) (tables table.Awards); one = put_awards_one; change = refl; silent = refl }
-known old p tables (Contract row) = record { command = _; means = put_contracts_means old.now.schema (p table.Contracts) (tables table.Contracts); one = put_contracts_one; change = refl; silent = refl }
-known old p tables (Entry row) = record { command = _; means = put_entries_means old.now.schema (p table.Entries) (tables table.Entries); one = put_entries_one; change = refl; silent = refl }
-known old p tables (Release row) = record { command = _; means = put_releases_means old.now.schema (p table.Releases) (tables table.Releases); one = put_releases_one; change = refl; silent = refl }
-known old p tables (CompiledOne row) = record { command = _; means = put_compiled_means old.now.schema (p table.Compiled) (tables table.Compiled); one = put_compiled_one; change = refl; silent = refl }
-known old p tables (Clock row) = record { command = _; means = put_office_means old.now.schema (p table.Office) (tables table.Office); one = put_office_one; change = refl; silent = refl }
+known old p tables (Line row) = record { command = _; means = put_lines_means old.now.schema (p Lines) (tables Lines); one = put_lines_one; change = refl; silent = refl }
+known old p tables (Batch row) = record { command = _; means = put_batches_means old.now.schema (p Batches) (tables Batches); one = put_batches_one; change = refl; silent = refl }
+known old p tables (Tenderer row) = record { command = _; means = put_tenderers_means old.now.schema (p Tenderers) (tables Tenderers); one = put_tenderers_one; change = refl; silent = refl }
+known old p tables (Notice row) = record { command = _; means = put_notices_means old.now.schema (p Notices) (tables Notices); one = put_notices_one; change = refl; silent = refl }
+known old p tables (Lot row) = record { command = _; means = put_lots_means old.now.schema (p Lots) (tables Lots); one = put_lots_one; change = refl; silent = refl }
+known old p tables (Envelope row) = record { command = _; means = put_envelopes_means old.now.schema (p Envelopes) (tables Envelopes); one = put_envelopes_one; change = refl; silent = refl }
+known old p tables (Seal row) = record { command = _; means = put_seals_means old.now.schema (p Seals) (tables Seals); one = put_seals_one; change = refl; silent = refl }
+known old p tables (DropSeal receipt) = record { command = _; means = drop_seal_means old.now.schema (p Seals) (tables Seals); one = drop_seal_one; change = refl; silent = refl }
+known old p tables (Security row) = record { command = _; means = put_securities_means old.now.schema (p Securities) (tables Securities); one = put_securities_one; change = refl; silent = refl }
+known old p tables (Award row) = record { command = _; means = put_awards_means old.now.schema (p Awards) (tables Awards); one = put_awards_one; change = refl; silent = refl }
+known old p tables (Contract row) = record { command = _; means = put_contracts_means old.now.schema (p Contracts) (tables Contracts); one = put_contracts_one; change = refl; silent = refl }
+known old p tables (Entry row) = record { command = _; means = put_entries_means old.now.schema (p Entries) (tables Entries); one = put_entries_one; change = refl; silent = refl }
+known old p tables (Release row) = record { command = _; means = put_releases_means old.now.schema (p Releases) (tables Releases); one = put_releases_one; change = refl; silent = refl }
+known old p tables (CompiledOne row) = record { command = _; means = put_compiled_means old.now.schema (p CompiledTable) (tables CompiledTable); one = put_compiled_one; change = refl; silent = refl }
+known old p tables (Clock row) = record { command = _; means = put_office_means old.now.schema (p Office) (tables Office); one = put_office_one; change = refl; silent = refl }
 
 excused_with : (P Q : Type 0) (e : Error) → IsExcused P e → (P → Q) → IsExcused Q e
 excused_with P Q e (inl memory) f = inl memory
@@ -153,4 +153,4 @@ put_fails old new put t was e h =
 -- ---- the question of the version
 
 pub begin_fails : (old new : State) (t : Tables) → Holds old.now t → (e : Error) → IsNotRun old new get_version [] e → IsExcused (StoreFails old new old.now []) e
-begin_fails old new t was e h = not_run get_version [] old new _ (get_version_means old.now.schema (was.places table.Office) (was.tables table.Office)) get_version_one _ e h
+begin_fails old new t was e h = not_run get_version [] old new _ (get_version_means old.now.schema (was.places Office) (was.tables Office)) get_version_one _ e h
