@@ -1,6 +1,6 @@
 -- Why a change of an office was not made, as its statement was understood.
 use Rattle.std.proofs.Common.{◌≡◌, ◌⊎◌, inl, inr, ℕ, ◌++◌, List, [], ◌∷◌, Option, None, Some, Ok, Err, Result, true, false, ◌||◌, Bool, refl, sym, ap, subst, subst₂, ◌∙◌, IsTrue, length, append-nil, true≢false}
-use Rattle.std.specs.Prelude.{IfErr, is_some, nat_le, ◌≤◌}
+use Rattle.std.specs.Prelude.{IsErrAnd, IfErr, is_some, nat_le, ◌≤◌}
 use Rattle.std.proofs.lemmas.Bool.{cases_Bool, leb-true}
 use Rattle.sqlite_value.specs.Order.{Row}
 use Rattle.sqlite_trees.specs.declared.error.StoreError.{StoreError}
@@ -32,6 +32,11 @@ use Rattle.office_sql.proofs.PutTexts.{put_lines_means, put_lines_one, put_batch
 pub if_err_with : {A E : Type 0} (r : Result A E) (P Q : E → Type 0) → IfErr r P → ((e : E) → P e → Q e) → IfErr r Q
 if_err_with (Ok a) P Q h f = tt
 if_err_with (Err e) P Q h f = f e h
+
+-- what the exit of a `?` answers
+pub same_err : {T E : Type 0} (r : Result T E) (e : E) (P : E → Type 0) → IsErrAnd r (λ y. y ≡ e) → P e → IfErr r P
+same_err (Ok a) e P same h = tt
+same_err (Err y) e P same h = subst P (sym same) h
 
 -- ---- commands that change rows: they show none, and end no transaction
 
