@@ -1,6 +1,6 @@
 -- Why changes one after another were not made.
 use Rattle.std.proofs.Common.{◌≡◌, ◌⊎◌, inl, inr, ◌≤◌, ℕ, true, false, Bool, List, [], ◌∷◌, ◌++◌, Option, Result, Ok, Err, refl, sym, ap, subst, ◌∙◌, IsTrue, true≢false, arith}
-use Rattle.std.specs.Prelude.{IfErr}
+use Rattle.std.specs.Prelude.{IsErrAnd, IfErr}
 use Rattle.std.proofs.lemmas.Bool.{cases_Bool}
 use Rattle.std.proofs.lemmas.List.{append_assoc}
 use Rattle.sqlite_trees.specs.declared.error.StoreError.{StoreError}
@@ -23,6 +23,11 @@ excused_with P Q e (inr cause) f = inr (f cause)
 pub if_err_with : {A E : Type 0} (r : Result A E) (P Q : E → Type 0) → IfErr r P → ((e : E) → P e → Q e) → IfErr r Q
 if_err_with (Ok a) P Q h f = tt
 if_err_with (Err e) P Q h f = f e h
+
+-- what the exit of a `?` answers
+pub same_err : {T E : Type 0} (r : Result T E) (e : E) (P : E → Type 0) → IsErrAnd r (λ y. y ≡ e) → P e → IfErr r P
+same_err (Ok a) e P same h = tt
+same_err (Err y) e P same h = subst P (sym same) h
 
 -- ---- lists of puts
 

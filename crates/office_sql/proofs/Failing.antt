@@ -1,24 +1,23 @@
 -- Why a change of an office was not made, as its statement was understood.
-use Rattle.std.proofs.Common.{◌≡◌, ◌⊎◌, inl, inr, ℕ, ◌++◌, List, [], ◌∷◌, Option, None, Some, Ok, Err, Result, true, false, ◌||◌, Bool, refl, sym, ap, subst, subst₂, ◌∙◌, IsTrue, length, append-nil, true≢false}
-use Rattle.std.specs.Prelude.{IfErr, is_some, nat_le, ◌≤◌}
-use Rattle.std.proofs.lemmas.Bool.{cases_Bool, leb-true}
+use Rattle.std.proofs.Common.{◌≡◌, ◌⊎◌, inl, inr, ℕ, List, [], ◌∷◌, None, Some, Ok, Err, Result, true, false, ◌||◌, Bool, refl, sym, ap, subst, subst₂, ◌∙◌, length, append-nil, true≢false}
+use Rattle.std.specs.Prelude.{IsErrAnd, IfErr, is_some, ◌≤◌}
+use Rattle.std.proofs.lemmas.Bool.{leb-true}
 use Rattle.sqlite_value.specs.Order.{Row}
 use Rattle.sqlite_trees.specs.declared.error.StoreError.{StoreError}
 use Rattle.sqlite_trees.specs.declared.error.StoreError.TheVariants as stores
 use Rattle.sqlite_schema.specs.declared.command.Command.{Command}
-use Rattle.sqlite_schema.specs.declared.command.Command.TheVariants.{Select, InsertOr, Delete}
+use Rattle.sqlite_schema.specs.declared.command.Command.TheVariants.{InsertOr, Delete}
 use Rattle.sqlite_resolve.specs.declared.compiled.Compiled.{Compiled}
 use Rattle.sqlite.specs.declared.error.Error.{Error}
 use Rattle.sqlite.specs.Clock.{timed}
-use Rattle.sqlite.specs.Does.{Does}
 use Rattle.sqlite.specs.Effect.{is_query}
 use Rattle.sqlite.specs.Listing.{understood}
-use Rattle.sqlite.specs.State.{State, Fails, IsNotRun, IsNoStatement, IsStatement, IsMisplaced, Escapes, EndsScope, ExecutesIn, ExecutesInside, RunsAlone, RunsCommand, HasCause, is_pragma, shows_rows, mode_of, text_of, store_error}
+use Rattle.sqlite.specs.State.{State, Fails, IsNotRun, IsNoStatement, IsStatement, IsMisplaced, Escapes, EndsScope, ExecutesIn, ExecutesInside, RunsAlone, RunsCommand, HasCause, is_pragma, shows_rows, store_error}
 use Rattle.sqlite.proofs.Callers.{IsPlain, command_of}
 use Rattle.office_base.specs.Tables.{Tables}
 use Rattle.office_base.specs.declared.puts.Put.{Put}
 use Rattle.office_base.specs.declared.puts.Put.TheVariants.{Line, Batch, Tenderer, Notice, Lot, Envelope, Seal, DropSeal, Security, Award, Contract, Entry, Release, Compiled as CompiledOne, Clock}
-use Rattle.office_sql.specs.Failing.{IsExcused, DiskFails, Declines, OneIsDeclined, StoreFails}
+use Rattle.office_sql.specs.Failing.{IsExcused, DiskFails, Declines, StoreFails}
 use Rattle.office_sql.specs.Known.{Places, HasTables}
 use Rattle.office_sql.specs.Schema.OfficeTable.{Lines, Batches, Tenderers, Notices, Lots, Envelopes, Seals, Securities, Awards, Contracts, Entries, Releases, Compiled as CompiledTable, Office}
 use Rattle.office_sql.specs.Standing.{Holds}
@@ -32,6 +31,11 @@ use Rattle.office_sql.proofs.PutTexts.{put_lines_means, put_lines_one, put_batch
 pub if_err_with : {A E : Type 0} (r : Result A E) (P Q : E → Type 0) → IfErr r P → ((e : E) → P e → Q e) → IfErr r Q
 if_err_with (Ok a) P Q h f = tt
 if_err_with (Err e) P Q h f = f e h
+
+-- what the exit of a `?` answers
+pub same_err : {T E : Type 0} (r : Result T E) (e : E) (P : E → Type 0) → IsErrAnd r (λ y. y ≡ e) → P e → IfErr r P
+same_err (Ok a) e P same h = tt
+same_err (Err y) e P same h = subst P (sym same) h
 
 -- ---- commands that change rows: they show none, and end no transaction
 

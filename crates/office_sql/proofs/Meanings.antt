@@ -1,5 +1,5 @@
 -- What a caller asks of a statement's text, and what the grammar makes of it.
-use Rattle.std.proofs.Common.{◌≡◌, [], List, Ok, Err, Option, Result, ℕ, ap, subst, sym, ◌∙◌, length, true, false}
+use Rattle.std.proofs.Common.{◌≡◌, [], List, Ok, Err, Option, Result, ℕ, ap, subst, sym, length, true, false}
 use Rattle.std.specs.Prelude.{nat_le}
 use Rattle.sqlite_schema.specs.declared.schema.Schema.{Schema}
 use Rattle.sqlite_schema.specs.declared.command.Command.{Command}

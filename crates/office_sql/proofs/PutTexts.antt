@@ -1,5 +1,5 @@
 -- What the text of each put means, whatever the schema has beside its table.
-use Rattle.std.proofs.Common.{List, ℕ, ◌∷◌, [], refl, codes}
+use Rattle.std.proofs.Common.{ℕ, ◌∷◌, [], refl, codes}
 use Rattle.sqlite_schema.specs.declared.schema.Schema.{Schema}
 use Rattle.sqlite_schema.specs.declared.command.Command.TheVariants.{InsertOr}
 use Rattle.sqlite_schema.specs.declared.command.Conflict.TheVariants.{Abort}

@@ -1,4 +1,4 @@
-use Rattle.std.proofs.Common.{rules, arith, ◌≡◌, OnOk, IfErr, subst, IsTrue}
+use Rattle.std.proofs.Common.{rules, arith, ◌≡◌, OnOk, IfErr, refl, subst, IsTrue}
 use Rattle.sqlite.specs.Held.{state}
 use Rattle.sqlite.specs.State.{HasCleanDisk, Survives}
 use Rattle.sqlite.proofs.StateLemmas.{survives_then}
@@ -6,7 +6,7 @@ use Rattle.sqlite.proofs.Callers.{survives_begin}
 use Rattle.office_sql.specs.Steps.{Applied, Refused, LeavesPuts}
 use Rattle.office_changes.proofs.Steps.{rolled, put_leaves, applies, on_err, on_ok_with, begun_refused}
 use Rattle.office_sql.specs.Failing.{IsExcused, ChangeFails}
-use Rattle.office_changes.proofs.Failing.{if_err_with, undone_fails, commit_fails}
+use Rattle.office_changes.proofs.Failing.{if_err_with, same_err, undone_fails, commit_fails}
 use Rattle.office_changes.proofs.apply.apply_all.Goals as goal
 
 pub returns-in_err-put_all-clause-refused : goal.returns-in_err-put_all-clause-refused
@@ -60,8 +60,9 @@ returns-in_err-put_all-clause-failed g c clean t shows =
     let same : end ≡ c.conn-1.given.0 = search rules in
     let late : HasCleanDisk (state g.S.Store end) = search rules in
     let early : HasCleanDisk (state g.S.Store mid) = omega (arith, c.drop-tx.ensures.survives.clean) in
-    subst (λ h. IsExcused (ChangeFails (state g.S.Store old) (state g.S.Store h) c.args.puts.now) _) same
-    (undone_fails (state g.S.Store old) (state g.S.Store mid) (state g.S.Store end) c.args.puts.now _ settled c.drop-tx.ensures.survives.counts t shows (λ held. (rw begun at c.in_err-put_all.ensures.failed) early _ t held))
+    same_err c.from_residual.result _ _ c.from_residual.ensures.1
+    (subst (λ h. IsExcused (ChangeFails (state g.S.Store old) (state g.S.Store h) c.args.puts.now) _) same
+    (undone_fails (state g.S.Store old) (state g.S.Store mid) (state g.S.Store end) c.args.puts.now _ settled c.drop-tx.ensures.survives.counts t shows (λ held. (rw begun at c.in_err-put_all.ensures.failed) early refl t held)))
 
 pub returns-clause-failed : goal.returns-clause-failed
 returns-clause-failed g c clean t shows =
