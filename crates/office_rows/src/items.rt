@@ -115,7 +115,7 @@ pub fn read_items(alloc: Global, text: &[u8]) -> Result<Items, ShelfFault>
 {
     let mut found = Vec::new(alloc);
     let mut rest = text;
-    while !rest.is_empty() {
+    'items: while !rest.is_empty() {
         let (item, behind) = front_item(alloc, rest)?;
         if found.push(item).is_err() {
             return Err(ShelfFault::NoMemory);
