@@ -1,13 +1,19 @@
 -- A text is cut at the first of some bytes; and what the parts of an item's text say of the item.
-use Rattle.std.proofs.Common.{◌≡◌, ℕ, zero, suc, ◌+◌, ◌-◌, ◌<◌, ◌≤◌, ◌^◌, Bool, true, false, cond, List, [], ◌∷◌, ◌++◌, Option, Some, None, length, take, drop, get_or, length-append, append_assoc, refl, sym, ap, subst, ◌∙◌, arith, true≢false, IsTrue}
+use Rattle.std.proofs.Common.{◌≡◌, ℕ, zero, suc, ◌+◌, ◌-◌, ◌<◌, ◌≤◌, ◌^◌, Bool, true, false, cond, List, [], ◌∷◌, ◌++◌, Option, Some, None, Result, Ok, Err, length, take, drop, get_or, length-append, append_assoc, refl, sym, ap, subst, ◌∙◌, arith, true≢false, IsTrue}
 use Rattle.std.specs.Prelude.{◌==◌, not, position, nat_lt}
 use Rattle.std.specs.List.{AllByRecursion, position_or_len}
 use Rattle.std.specs.Fmt.{decimal}
+use Rattle.std.specs.Prelude.{IsUtf8}
+use Rattle.std.specs.Str.Parse.{ParsesUnsigned}
+use Rattle.std.proofs.lemmas.Fmt.{parse-decimal, IsAscii-decimal}
+use Rattle.std.proofs.lemmas.Str.{IsUtf8-from_ascii}
 use Rattle.std.proofs.lemmas.Bool.{eqb-true, ltb-false}
 use Rattle.std.proofs.lemmas.List.Quantifiers.{position-Some}
 use Rattle.std.proofs.lemmas.List.{take_rest}
 use Rattle.office_acts.specs.declared.item.Item.{Item}
 use Rattle.office_rows.specs.ItemTexts.{item_then, items_text, before, behind, item_rest, Avoids, ItemFits, IsItem, AreItems}
+use Rattle.office_rows.specs.Ranges.{IsWithin}
+use Rattle.office_rows.specs.Unwritten.{IsUnwritten}
 use Rattle.office_rows.proofs.ItemLemmas.{before_is, behind_is, item_len, item_fits, behind_item, digits_avoid, id_avoids, title_avoids, rest_is, items_back}
 
 -- ---- a cut
@@ -127,3 +133,30 @@ continues (x ∷ found) (y ∷ items) rest f h some e =
 -- items have their text for themselves
 pub same_items : (xs ys : List Item) → AllByRecursion IsItem xs → AllByRecursion IsItem ys → items_text xs ≡ items_text ys → xs ≡ ys
 same_items xs ys f h e = sym (items_back xs (all_fit xs f)) ∙ ap Rattle.office_rows.specs.ItemTexts.items_in e ∙ items_back ys (all_fit ys h)
+
+-- ---- a quantity's digits
+
+ok_or_else : {E : Type 0} → ℕ → Result ℕ E → ℕ
+ok_or_else d (Ok n) = n
+ok_or_else d (Err e) = d
+
+is_ok : {E : Type 0} → Result ℕ E → Bool
+is_ok (Ok n) = true
+is_ok (Err e) = false
+
+pub no_words : (digits : List ℕ) → ¬ (IsUtf8 digits) → IsUnwritten decimal (IsWithin 1 (10 ^ 6)) digits
+no_words digits h = record { none = λ n fits e. h (subst IsUtf8 e (IsUtf8-from_ascii (decimal n) (IsAscii-decimal n (omega (arith, fits.1))))) }
+
+module _ {E : Type 0} (digits text : List ℕ) (same : text ≡ digits) where
+  pub no_number : (e : E) → ParsesUnsigned 64 10 text (Err e) → IsUnwritten decimal (IsWithin 1 (10 ^ 6)) digits
+  unfolding is_ok
+  no_number e h = record { none = λ n fits is. true≢false (sym (ap is_ok (parse-decimal 64 n text (Err e) (omega (arith, fits.1)) (omega (arith, fits.1)) (same ∙ sym is) h))) }
+
+  pub other_number : (number : ℕ) → ParsesUnsigned {E = E} 64 10 text (Ok number) → (IsWithin 1 (10 ^ 6) number → decimal number ≡ digits → ⊥) → IsUnwritten decimal (IsWithin 1 (10 ^ 6)) digits
+  unfolding ok_or_else
+  other_number number h no = record { none = by }
+    where
+      by : (n : ℕ) → IsWithin 1 (10 ^ 6) n → decimal n ≡ digits → ⊥
+      by n fits is =
+          let one : number ≡ n = ap (ok_or_else number) (parse-decimal {E = E} 64 n text (Ok number) (omega (arith, fits.1)) (omega (arith, fits.1)) (same ∙ sym is) h) in
+          no (subst (IsWithin 1 (10 ^ 6)) (sym one) fits) (ap decimal one ∙ is)
