@@ -39,7 +39,20 @@ fn has_no_lot(row: &Row, at: usize) -> bool
     are_null(row, at) && has_no_contract(row, at + 3)
 }
 
-// The entry that stands from this column on; None where there is none.
+// The entry that stands from this column on.
+fn entry_at(row: &Row, at: usize) -> Result<JoinedEntry, ShelfFault>
+    requires { at ≤ 100 }
+    ensures exact { IfOk result (λ entry. entry_cells (Some entry) ≡ entry_part row.now at) }
+    ensures cause { IfErr result (IsFaultOf (IsUnwritten (λ entry. entry_cells (Some entry)) EntryFits (entry_part row.now at))) }
+{
+    Ok(JoinedEntry {
+        entry: id_at(row, at)?,
+        kind: entry_kind_at(row, at + 1)?,
+        amount: bounded_at(row, at + 2)?,
+    })
+}
+
+// The same; None where there is none.
 fn entry_from(row: &Row, at: usize) -> Result<Option<JoinedEntry>, ShelfFault>
     requires { at ≤ 100 }
     ensures exact { IfOk result (λ entry. entry_cells entry ≡ entry_part row.now at) }
@@ -48,14 +61,24 @@ fn entry_from(row: &Row, at: usize) -> Result<Option<JoinedEntry>, ShelfFault>
     if has_no_entry(row, at) {
         return Ok(None);
     }
-    Ok(Some(JoinedEntry {
-        entry: id_at(row, at)?,
-        kind: entry_kind_at(row, at + 1)?,
-        amount: bounded_at(row, at + 2)?,
-    }))
+    Ok(Some(entry_at(row, at)?))
 }
 
-// The contract that stands from this column on, with its entry; None where there is none.
+// The contract that stands from this column on, with its entry.
+fn contract_at(row: &Row, at: usize) -> Result<JoinedContract, ShelfFault>
+    requires { at ≤ 90 }
+    ensures exact { IfOk result (λ contract. contract_cells (Some contract) ≡ contract_part row.now at) }
+    ensures cause { IfErr result (IsFaultOf (IsUnwritten (λ contract. contract_cells (Some contract)) ContractFits (contract_part row.now at))) }
+{
+    Ok(JoinedContract {
+        contract: bounded_at(row, at)?,
+        signed: total_at(row, at + 1)?,
+        released: total_at(row, at + 2)?,
+        entry: entry_from(row, at + 3)?,
+    })
+}
+
+// The same; None where there is none.
 fn contract_from(row: &Row, at: usize) -> Result<Option<JoinedContract>, ShelfFault>
     requires { at ≤ 90 }
     ensures exact { IfOk result (λ contract. contract_cells contract ≡ contract_part row.now at) }
@@ -64,12 +87,7 @@ fn contract_from(row: &Row, at: usize) -> Result<Option<JoinedContract>, ShelfFa
     if has_no_contract(row, at) {
         return Ok(None);
     }
-    Ok(Some(JoinedContract {
-        contract: bounded_at(row, at)?,
-        signed: total_at(row, at + 1)?,
-        released: total_at(row, at + 2)?,
-        entry: entry_from(row, at + 3)?,
-    }))
+    Ok(Some(contract_at(row, at)?))
 }
 
 // The lot that stands from this column on, with its contract.
@@ -86,7 +104,7 @@ fn lot_at(row: &Row, at: usize) -> Result<JoinedLot, ShelfFault>
     })
 }
 
-// The lot that stands from this column on, with its contract; None where there is none.
+// The same; None where there is none.
 fn lot_from(row: &Row, at: usize) -> Result<Option<JoinedLot>, ShelfFault>
     requires { at ≤ 80 }
     ensures exact { IfOk result (λ lot. lot_cells lot ≡ lot_part row.now at) }

@@ -1,20 +1,27 @@
 -- A text is cut at the first of some bytes; and what the parts of an item's text say of the item.
-use Rattle.std.proofs.Common.{◌≡◌, ℕ, zero, suc, ◌+◌, ◌<◌, ◌≤◌, ◌^◌, Bool, true, false, cond, List, [], ◌∷◌, ◌++◌, Option, Some, None, length, take, drop, get_or, length-append, append_assoc, refl, sym, ap, subst, ◌∙◌, arith, true≢false, IsTrue}
+use Rattle.std.proofs.Common.{◌≡◌, ℕ, zero, suc, ◌+◌, ◌-◌, ◌<◌, ◌≤◌, ◌^◌, Bool, true, false, cond, List, [], ◌∷◌, ◌++◌, Option, Some, None, Result, Ok, Err, length, take, drop, get_or, length-append, append_assoc, refl, sym, ap, subst, ◌∙◌, arith, true≢false, IsTrue}
 use Rattle.std.specs.Prelude.{◌==◌, not, position, nat_lt}
 use Rattle.std.specs.List.{AllByRecursion, position_or_len}
 use Rattle.std.specs.Fmt.{decimal}
-use Rattle.std.proofs.lemmas.Bool.{eqb-true, cases_Bool}
+use Rattle.std.specs.Prelude.{IsUtf8}
+use Rattle.std.specs.Str.Parse.{ParsesUnsigned}
+use Rattle.std.proofs.lemmas.Fmt.{parse-decimal, IsAscii-decimal}
+use Rattle.std.proofs.lemmas.Str.{IsUtf8-from_ascii}
+use Rattle.std.proofs.lemmas.Bool.{eqb-true, ltb-false}
 use Rattle.std.proofs.lemmas.List.Quantifiers.{position-Some}
+use Rattle.std.proofs.lemmas.List.{take_rest}
 use Rattle.office_acts.specs.declared.item.Item.{Item}
 use Rattle.office_rows.specs.ItemTexts.{item_then, items_text, before, behind, item_rest, Avoids, ItemFits, IsItem, AreItems}
+use Rattle.office_rows.specs.Ranges.{IsWithin}
+use Rattle.office_rows.specs.Unwritten.{IsUnwritten}
 use Rattle.office_rows.proofs.ItemLemmas.{before_is, behind_is, item_len, item_fits, behind_item, digits_avoid, id_avoids, title_avoids, rest_is, items_back}
 
 -- ---- a cut
 
 pub record IsCut (stop : ℕ) (text : List ℕ) (at : ℕ) : Type 0 where
-  pub before : take at text ≡ before stop text
-  pub behind : drop (at + 1) text ≡ behind stop text
-  pub exact : before stop text ++ (stop ∷ behind stop text) ≡ text
+  pub front : take at text ≡ before stop text
+  pub rest : take (length text - (at + 1)) (drop (at + 1) text) ≡ behind stop text
+  pub whole : take at text ++ (stop ∷ take (length text - (at + 1)) (drop (at + 1) text)) ≡ text
 
 cut_here : (stop : ℕ) (text : List ℕ) (at : ℕ) → at < length text → (get_or text at 0 == stop) ≡ true → ((k : ℕ) → k < at → (get_or text k 0 == stop) ≡ false)
     → (take at text ≡ before stop text) × (drop (suc at) text ≡ behind stop text) × (before stop text ++ (stop ∷ behind stop text) ≡ text)
@@ -37,22 +44,26 @@ cut_at stop text at e =
     let found = position-Some (λ b. b == stop) text at 0 e in
     let parts = cut_here stop text at found.0 found.1 found.2 in
     let next : at + 1 ≡ suc at = omega arith in
-    record { before = parts.0; behind = ap (λ n. drop n text) next ∙ parts.1; exact = parts.2 }
+    let rest : take (length text - (at + 1)) (drop (at + 1) text) ≡ behind stop text = take_rest text (at + 1) ∙ ap (λ n. drop n text) next ∙ parts.1 in
+    record { front = parts.0; rest = rest; whole = (λ i. parts.0 i ++ (stop ∷ rest i)) ∙ parts.2 }
+
+none_head : (stop b : ℕ) (text : List ℕ) (c : Bool) → (b == stop) ≡ c → length (b ∷ text) ≤ position_or_len (λ b. b == stop) (b ∷ text)
+    → (length text ≤ position_or_len (λ b. b == stop) text → Avoids stop text) → Avoids stop (b ∷ text)
+none_head stop b text true e h rest =
+    absurd (let none : position_or_len (λ b. b == stop) (b ∷ text) ≡ 0 = ap (λ c. cond (not c) (1 + position_or_len (λ b. b == stop) text) 0) e in omega (arith, h, none))
+none_head stop b text false e h rest =
+    (e, rest (let more : position_or_len (λ b. b == stop) (b ∷ text) ≡ 1 + position_or_len (λ b. b == stop) text = ap (λ c. cond (not c) (1 + position_or_len (λ b. b == stop) text) 0) e in omega (arith, h, more)))
 
 none_before : (stop : ℕ) (text : List ℕ) → length text ≤ position_or_len (λ b. b == stop) text → Avoids stop text
 none_before stop [] h = tt
-none_before stop (b ∷ text) h = by (b == stop) refl
-  where
-    by : (c : Bool) → (b == stop) ≡ c → Avoids stop (b ∷ text)
-    by true e = absurd (let none : position_or_len (λ b. b == stop) (b ∷ text) ≡ 0 = ap (λ c. cond (not c) (1 + position_or_len (λ b. b == stop) text) 0) e in omega (arith, h, none))
-    by false e = (e, none_before stop text (let more : position_or_len (λ b. b == stop) (b ∷ text) ≡ 1 + position_or_len (λ b. b == stop) text = ap (λ c. cond (not c) (1 + position_or_len (λ b. b == stop) text) 0) e in omega (arith, h, more)))
+none_before stop (b ∷ text) h = none_head stop b text (b == stop) refl h (none_before stop text)
 
 pub uncut : (stop : ℕ) (text : List ℕ) → position (λ b. b == stop) text ≡ None → Avoids stop text
 uncut stop text e = by (nat_lt (position_or_len (λ b. b == stop) text) (length text)) refl
   where
     by : (c : Bool) → nat_lt (position_or_len (λ b. b == stop) text) (length text) ≡ c → Avoids stop text
     by true h = absurd (Rattle.std.proofs.lemmas.Option.none-some (position_or_len (λ b. b == stop) text) (sym e ∙ ap (λ c. cond c (Some (position_or_len (λ b. b == stop) text)) None) h))
-    by false h = none_before stop text (omega (arith, h))
+    by false h = none_before stop text (ltb-false _ _ h)
 
 -- a text in which the byte stands doesn't avoid it
 stands_there : (stop : ℕ) (a b : List ℕ) → Avoids stop (a ++ (stop ∷ b)) → ⊥
@@ -122,3 +133,30 @@ continues (x ∷ found) (y ∷ items) rest f h some e =
 -- items have their text for themselves
 pub same_items : (xs ys : List Item) → AllByRecursion IsItem xs → AllByRecursion IsItem ys → items_text xs ≡ items_text ys → xs ≡ ys
 same_items xs ys f h e = sym (items_back xs (all_fit xs f)) ∙ ap Rattle.office_rows.specs.ItemTexts.items_in e ∙ items_back ys (all_fit ys h)
+
+-- ---- a quantity's digits
+
+ok_or_else : {E : Type 0} → ℕ → Result ℕ E → ℕ
+ok_or_else d (Ok n) = n
+ok_or_else d (Err e) = d
+
+is_ok : {E : Type 0} → Result ℕ E → Bool
+is_ok (Ok n) = true
+is_ok (Err e) = false
+
+pub no_words : (digits : List ℕ) → ¬ (IsUtf8 digits) → IsUnwritten decimal (IsWithin 1 (10 ^ 6)) digits
+no_words digits h = record { none = λ n fits e. h (subst IsUtf8 e (IsUtf8-from_ascii (decimal n) (IsAscii-decimal n (omega (arith, fits.1))))) }
+
+module _ {E : Type 0} (digits text : List ℕ) (same : text ≡ digits) where
+  pub no_number : (e : E) → ParsesUnsigned 64 10 text (Err e) → IsUnwritten decimal (IsWithin 1 (10 ^ 6)) digits
+  unfolding is_ok
+  no_number e h = record { none = λ n fits is. true≢false (sym (ap is_ok (parse-decimal 64 n text (Err e) (omega (arith, fits.1)) (omega (arith, fits.1)) (same ∙ sym is) h))) }
+
+  pub other_number : (number : ℕ) → ParsesUnsigned {E = E} 64 10 text (Ok number) → (IsWithin 1 (10 ^ 6) number → decimal number ≡ digits → ⊥) → IsUnwritten decimal (IsWithin 1 (10 ^ 6)) digits
+  unfolding ok_or_else
+  other_number number h no = record { none = by }
+    where
+      by : (n : ℕ) → IsWithin 1 (10 ^ 6) n → decimal n ≡ digits → ⊥
+      by n fits is =
+          let one : number ≡ n = ap (ok_or_else number) (parse-decimal {E = E} 64 n text (Ok number) (omega (arith, fits.1)) (omega (arith, fits.1)) (same ∙ sym is) h) in
+          no (subst (IsWithin 1 (10 ^ 6)) (sym one) fits) (ap decimal one ∙ is)

@@ -25,6 +25,13 @@ use sqlite::Row;
 use sqlite_value::value::ValueRef;
 use std::alloc::Global;
 
+// Whether two texts are the same.
+pub(crate) fn is_same(text: &[u8], other: &[u8]) -> bool
+    ensures { IsTrue result ↔ (text.now ≡ other.now) }
+{
+    text == other
+}
+
 /// Nothing where a row has so many columns.
 pub fn has_columns(row: &Row, count: usize) -> Result<(), ShelfFault>
     ensures exact { IfOk result (λ _. length row.now ≡ count) }
@@ -145,7 +152,11 @@ pub(crate) fn line_at(alloc: Global, row: &Row, at: usize) -> Result<TextLine, S
 }
 
 // A line of text, or NULL.
-pub(crate) fn perhaps_line_at(alloc: Global, row: &Row, at: usize) -> Result<Option<TextLine>, ShelfFault>
+pub(crate) fn perhaps_line_at(
+    alloc: Global,
+    row: &Row,
+    at: usize,
+) -> Result<Option<TextLine>, ShelfFault>
     ensures exact { IfOk result (λ line. text_or_null line ≡ column row.now at) }
     ensures cause { IfErr result (IsFaultOf (IsUnwritten text_or_null (λ line. IfSome line IsTextLine) (column row.now at))) }
 {

@@ -9,7 +9,7 @@ ghost use Rattle.office_base.specs.Faults.{IsFaultOf};
 ghost use Rattle.office_rows.specs.Unwritten.{IsUnwritten};
 ghost use Rattle.office_rows.specs.ItemTexts.{item_then, items_text, items_in, before, behind, Avoids, IsItem, AreItems};
 
-use crate::columns::{line_of, text_at};
+use crate::columns::{is_same, line_of, text_at};
 use itoa::Buffer;
 use office_acts::item::{Item, Items, Quantity};
 use office_base::shelf::ShelfFault;
@@ -77,7 +77,7 @@ fn quantity_of(digits: &[u8]) -> Result<Quantity, ShelfFault>
     let Some(quantity) = Quantity::read(number) else {
         return Err(ShelfFault::Store);
     };
-    if Buffer::new().format(number).as_bytes() == digits {
+    if is_same(Buffer::new().format(number).as_bytes(), digits) {
         Ok(quantity)
     } else {
         Err(ShelfFault::Store)
@@ -90,13 +90,13 @@ fn front_item(alloc: Global, text: &[u8]) -> Result<(Item, &[u8]), ShelfFault>
     ensures right { IfOk result (λ parts. IsItem parts.0) }
     ensures cause { IfErr result (IsFaultOf (IsUnwritten (λ (parts : SomeItem × List ℕ). item_then parts.0 parts.1) (λ parts. IsItem parts.0) text.now)) }
 {
-    let Some((id, text)) = cut(text, b'\t') else {
+    let Some((id, behind_id)) = cut(text, b'\t') else {
         return Err(ShelfFault::Store);
     };
-    let Some((quantity, text)) = cut(text, b'\t') else {
+    let Some((quantity, behind_quantity)) = cut(behind_id, b'\t') else {
         return Err(ShelfFault::Store);
     };
-    let Some((title, rest)) = cut(text, b'\n') else {
+    let Some((title, rest)) = cut(behind_quantity, b'\n') else {
         return Err(ShelfFault::Store);
     };
     let item = Item {
@@ -115,7 +115,7 @@ pub fn read_items(alloc: Global, text: &[u8]) -> Result<Items, ShelfFault>
 {
     let mut found = Vec::new(alloc);
     let mut rest = text;
-    while !rest.is_empty() {
+    'items: while !rest.is_empty() {
         let (item, behind) = front_item(alloc, rest)?;
         if found.push(item).is_err() {
             return Err(ShelfFault::NoMemory);

@@ -10,9 +10,8 @@ ghost use Rattle.office_rows.specs.Ranges.{ReadingFits};
 ghost use Rattle.office_base.specs.Faults.{IsFaultOf};
 ghost use Rattle.office_rows.specs.Unwritten.{IsUnwritten};
 
-use crate::columns::{amount_at, are_null, bounded_at, perhaps_text_at, total_at};
+use crate::columns::{amount_at, are_null, bounded_at, is_same, perhaps_text_at, total_at};
 use crate::values::signed;
-use crate::words::is_word;
 use office_base::reading::Reading;
 use office_base::shelf::ShelfFault;
 use sqlite::Row;
@@ -79,13 +78,13 @@ fn reading_of(word: &[u8], row: &Row) -> Result<Reading, ShelfFault>
     ensures exact { IfOk result (λ reading. reading_cells (Some reading) ≡ Text word.now ∷ price_in row.now) }
     ensures cause { IfErr result (IsFaultOf (IsUnwritten (λ reading. reading_cells (Some reading)) (λ reading. ReadingFits (Some reading)) (Text word.now ∷ price_in row.now))) }
 {
-    if is_word(word, b"priced") {
+    if is_same(word, b"priced") {
         price_in(row)
     } else if !are_null(row, WORD + 1) {
         Err(ShelfFault::Store)
-    } else if is_word(word, b"unreadable") {
+    } else if is_same(word, b"unreadable") {
         Ok(Reading::Unreadable)
-    } else if is_word(word, b"nonconforming") {
+    } else if is_same(word, b"nonconforming") {
         Ok(Reading::Nonconforming)
     } else {
         Err(ShelfFault::Store)

@@ -1,5 +1,5 @@
 //! States and kinds, as the words that stand for them in a row.
-ghost use Rattle.std.specs.Prelude.{◌≡◌, ◌↔◌, IsTrue, IfOk, IfErr, option_map};
+ghost use Rattle.std.specs.Prelude.{◌≡◌, IfOk, IfErr, option_map};
 ghost use Rattle.sqlite_value.specs.declared.value.Value.TheVariants.{Text};
 ghost use Rattle.sqlite_value.specs.Order.{column};
 ghost use Rattle.office_rows.specs.Values.{text_or_null};
@@ -8,20 +8,13 @@ ghost use Rattle.office_base.specs.Faults.{IsFaultOf};
 ghost use Rattle.office_rows.specs.Unwritten.{IsUnwritten};
 ghost use Rattle.office_rows.specs.Words.{notice_state_text, lot_state_text, envelope_state_text, security_state_text, award_state_text, how_text, entry_kind_text};
 
-use crate::columns::{perhaps_text_at, text_at};
+use crate::columns::{is_same, perhaps_text_at, text_at};
 use office_acts::contract::How;
 use office_base::records::{
     AwardState, EntryKind, EnvelopeState, LotState, NoticeState, SecurityState,
 };
 use office_base::shelf::ShelfFault;
 use sqlite::Row;
-
-// Whether a text is this word.
-pub(crate) fn is_word(text: &[u8], word: &[u8]) -> bool
-    ensures { IsTrue result ↔ (text.now ≡ word.now) }
-{
-    text == word
-}
 
 pub(crate) fn notice_state_text(state: NoticeState) -> &'static [u8]
     ensures { result.now ≡ notice_state_text state }
@@ -38,11 +31,11 @@ pub(crate) fn notice_state_at(row: &Row, at: usize) -> Result<NoticeState, Shelf
     ensures cause { IfErr result (IsFaultOf (IsUnwritten (λ state. Text (notice_state_text state)) Anything (column row.now at))) }
 {
     let word = text_at(row, at)?;
-    if is_word(word, b"receiving") {
+    if is_same(word, b"receiving") {
         Ok(NoticeState::Receiving)
-    } else if is_word(word, b"opened") {
+    } else if is_same(word, b"opened") {
         Ok(NoticeState::Opened)
-    } else if is_word(word, b"cancelled") {
+    } else if is_same(word, b"cancelled") {
         Ok(NoticeState::Cancelled)
     } else {
         Err(ShelfFault::Store)
@@ -66,15 +59,15 @@ pub(crate) fn lot_state_at(row: &Row, at: usize) -> Result<LotState, ShelfFault>
     ensures cause { IfErr result (IsFaultOf (IsUnwritten (λ state. Text (lot_state_text state)) Anything (column row.now at))) }
 {
     let word = text_at(row, at)?;
-    if is_word(word, b"undecided") {
+    if is_same(word, b"undecided") {
         Ok(LotState::Undecided)
-    } else if is_word(word, b"awarded") {
+    } else if is_same(word, b"awarded") {
         Ok(LotState::Awarded)
-    } else if is_word(word, b"contracted") {
+    } else if is_same(word, b"contracted") {
         Ok(LotState::Contracted)
-    } else if is_word(word, b"unsuccessful") {
+    } else if is_same(word, b"unsuccessful") {
         Ok(LotState::Unsuccessful)
-    } else if is_word(word, b"cancelled") {
+    } else if is_same(word, b"cancelled") {
         Ok(LotState::Cancelled)
     } else {
         Err(ShelfFault::Store)
@@ -97,13 +90,13 @@ pub(crate) fn envelope_state_at(row: &Row, at: usize) -> Result<EnvelopeState, S
     ensures cause { IfErr result (IsFaultOf (IsUnwritten (λ state. Text (envelope_state_text state)) Anything (column row.now at))) }
 {
     let word = text_at(row, at)?;
-    if is_word(word, b"sealed") {
+    if is_same(word, b"sealed") {
         Ok(EnvelopeState::Sealed)
-    } else if is_word(word, b"withdrawn") {
+    } else if is_same(word, b"withdrawn") {
         Ok(EnvelopeState::Withdrawn)
-    } else if is_word(word, b"returned") {
+    } else if is_same(word, b"returned") {
         Ok(EnvelopeState::Returned)
-    } else if is_word(word, b"opened") {
+    } else if is_same(word, b"opened") {
         Ok(EnvelopeState::Opened)
     } else {
         Err(ShelfFault::Store)
@@ -125,11 +118,11 @@ pub(crate) fn security_state_at(row: &Row, at: usize) -> Result<SecurityState, S
     ensures cause { IfErr result (IsFaultOf (IsUnwritten (λ state. Text (security_state_text state)) Anything (column row.now at))) }
 {
     let word = text_at(row, at)?;
-    if is_word(word, b"held") {
+    if is_same(word, b"held") {
         Ok(SecurityState::Held)
-    } else if is_word(word, b"returned") {
+    } else if is_same(word, b"returned") {
         Ok(SecurityState::Returned)
-    } else if is_word(word, b"forfeited") {
+    } else if is_same(word, b"forfeited") {
         Ok(SecurityState::Forfeited)
     } else {
         Err(ShelfFault::Store)
@@ -152,13 +145,13 @@ pub(crate) fn award_state_at(row: &Row, at: usize) -> Result<AwardState, ShelfFa
     ensures cause { IfErr result (IsFaultOf (IsUnwritten (λ state. Text (award_state_text state)) Anything (column row.now at))) }
 {
     let word = text_at(row, at)?;
-    if is_word(word, b"active") {
+    if is_same(word, b"active") {
         Ok(AwardState::Active)
-    } else if is_word(word, b"failed") {
+    } else if is_same(word, b"failed") {
         Ok(AwardState::Failed)
-    } else if is_word(word, b"cancelled") {
+    } else if is_same(word, b"cancelled") {
         Ok(AwardState::Cancelled)
-    } else if is_word(word, b"signed") {
+    } else if is_same(word, b"signed") {
         Ok(AwardState::Signed)
     } else {
         Err(ShelfFault::Store)
@@ -181,11 +174,11 @@ pub fn entry_kind_at(row: &Row, at: usize) -> Result<EntryKind, ShelfFault>
     ensures cause { IfErr result (IsFaultOf (IsUnwritten (λ kind. Text (entry_kind_text kind)) Anything (column row.now at))) }
 {
     let word = text_at(row, at)?;
-    if is_word(word, b"raise") {
+    if is_same(word, b"raise") {
         Ok(EntryKind::Raise)
-    } else if is_word(word, b"cut") {
+    } else if is_same(word, b"cut") {
         Ok(EntryKind::Cut)
-    } else if is_word(word, b"payment") {
+    } else if is_same(word, b"payment") {
         Ok(EntryKind::Payment)
     } else {
         Err(ShelfFault::Store)
@@ -208,9 +201,9 @@ pub(crate) fn perhaps_how_at(row: &Row, at: usize) -> Result<Option<How>, ShelfF
     let Some(word) = perhaps_text_at(row, at)? else {
         return Ok(None);
     };
-    if is_word(word, b"regular") {
+    if is_same(word, b"regular") {
         Ok(Some(How::Regular))
-    } else if is_word(word, b"default") {
+    } else if is_same(word, b"default") {
         Ok(Some(How::ForDefault))
     } else {
         Err(ShelfFault::Store)
