@@ -1,5 +1,5 @@
 //! Packages as texts, put together from the texts of releases as they are kept: no release is read or written again.
-ghost use Rattle.std.specs.Prelude.{◌≡◌, ◌∷◌, ◌++◌, List, ℕ, true, false, IfOk, OnOk};
+ghost use Rattle.std.specs.Prelude.{◌≡◌, ◌∷◌, ◌++◌, [], List, ℕ, true, false, IfOk, OnOk};
 ghost use Rattle.serde_json.specs.Data.{Data, Members};
 ghost use Rattle.serde_json.specs.View.{view};
 ghost use Rattle.serde_json.specs.Written.{compact_text, comma_if, members_text, has_float};
@@ -264,7 +264,8 @@ fn opened_releases(
 {
     let before = before_list(alloc, settings, published, "releases")?;
     let behind = behind_list(alloc, settings, notice, "/releases", b"]")?;
-    with_room(before, behind, room)
+    let package = with_room(before, behind, room)?;
+    Ok(package)
 }
 
 /// Opens the text of the release package of a notice, the last of whose releases is of this moment. Its releases are put into it as they are
@@ -296,7 +297,8 @@ fn opened_record(
     let mut before = before_list(alloc, settings, published, "records")?;
     push_record(alloc, &mut before, settings, notice, compiled)?;
     let behind = behind_list(alloc, settings, notice, "/record", b"]}]")?;
-    with_room(before, behind, room)
+    let package = with_room(before, behind, room)?;
+    Ok(package)
 }
 
 /// Opens the text of the record package of a notice, with the compiled release. The same holds of its releases as of those of

@@ -27,7 +27,7 @@ returns c rows d ds kept at_last shown =
     let at : moment_text c.args.published ≡ last_date (d ∷ ds) = ap moment_text (sym at_last) ∙ sym (kept_last rows d ds kept) in
     let whole : record_of settings notice (d ∷ ds) compiled ≡ one =
     ap object (record_in_order (ocid_text settings.prefix notice) compiled d (items_of ds) shown.filled) in
-    ap (λ pack. completed pack rows) c.in_ok-with_room.ensures
+    ap (λ pack. completed pack rows) c.in_ok-package.ensures
     ∙ ap (λ (r : List ℕ). with_record ++ (spliced false rows ++ r)) c.in_ok-behind.ensures
     ∙ ap (λ (r : List ℕ). with_record ++ r) (sym (append_assoc (spliced false rows) (93 ∷ []) (125 ∷ 93 ∷ tail)) ∙ ap (λ (r : List ℕ). r ++ 125 ∷ 93 ∷ tail) (kept_list false rows (d ∷ ds) kept))
     ∙ c.in_ok-push_record.ensures items (93 ∷ tail) (array_of (d ∷ ds)) refl shown.no_float

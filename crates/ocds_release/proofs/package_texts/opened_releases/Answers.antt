@@ -22,7 +22,7 @@ returns c rows d ds kept at_last =
     let tail : List ℕ = members_text true (tail_members settings notice route) in
     let items : List ℕ = items_text false (items_of (d ∷ ds)) in
     let at : moment_text c.args.published ≡ last_date (d ∷ ds) = ap moment_text (sym at_last) ∙ sym (kept_last rows d ds kept) in
-    ap (λ pack. completed pack rows) c.in_ok-with_room.ensures
+    ap (λ pack. completed pack rows) c.in_ok-package.ensures
     ∙ ap (λ (r : List ℕ). before ++ (spliced false rows ++ r)) c.in_ok-behind.ensures
     ∙ ap (λ (r : List ℕ). before ++ r) (sym (append_assoc (spliced false rows) (93 ∷ []) tail) ∙ ap (λ (r : List ℕ). r ++ tail) (kept_list false rows (d ∷ ds) kept))
     ∙ c.in_ok-before.ensures notice route items (array_of (d ∷ ds)) refl
