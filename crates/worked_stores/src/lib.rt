@@ -6,6 +6,8 @@ mod changes;
 #[cfg(test)]
 mod no_offices;
 #[cfg(test)]
+mod shut;
+#[cfg(test)]
 mod stops;
 #[cfg(test)]
 mod stores;
