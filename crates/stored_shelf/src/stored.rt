@@ -14,7 +14,7 @@ pub trait StoredShelf: Shelf {
     fn is_shut(&mut self) -> Result<bool, ShelfFault>
         ensures { TellsShut Self.meaning is_open self.old self.new result };
 
-    /// Closes the store, so that its file alone is the office, without a log beside it. A fault leaves what a stop would. No clause can tie
-    /// a file of the host to what it holds.
+    /// Closes the store, so that its file alone is the office, and no page of it stands in a log. A fault leaves what a stop would. No
+    /// clause can tie a file of the host to what it holds.
     fn close(self) -> Result<(), ShelfFault>;
 }
