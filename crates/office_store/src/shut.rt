@@ -1,5 +1,5 @@
 //! Whether the store of an office was shut for good.
-ghost use Rattle.std.specs.Prelude.{◌≡◌, not, IfOk, OnOk};
+ghost use Rattle.std.specs.Prelude.{◌≡◌, not, IsTrue, IfOk, OnOk};
 ghost use Rattle.sqlite.specs.Held.{state};
 ghost use Rattle.sqlite.specs.State.{HasCleanDisk, Survives};
 ghost use Rattle.office_base.specs.Shelves.{Keeps, CountsFaults};
@@ -11,6 +11,16 @@ use crate::shelf::SqlShelf;
 use office_base::shelf::{Lookups, ShelfFault};
 use sqlite::{Alter, Connection, Error, ErrorCode};
 
+// What the refusal of a statement tells of its store.
+fn tell(error: Error) -> Result<bool, ShelfFault>
+    ensures { IfOk result (λ shut. IsTrue shut × (error ≡ Error.SqliteFailure ErrorCode.Closed)) }
+{
+    match error {
+        Error::SqliteFailure(ErrorCode::Closed) => Ok(true),
+        error => Err(fault(error)),
+    }
+}
+
 // A store that is open reads a statement, and one that was shut says that it is.
 fn ask<S: Alter>(conn: &mut Connection<S>) -> Result<bool, ShelfFault>
     ensures told { HasCleanDisk (state S.Store conn.new) → IfOk result (λ shut. shut ≡ not (state S.Store conn.old).is_open) }
@@ -18,11 +28,10 @@ fn ask<S: Alter>(conn: &mut Connection<S>) -> Result<bool, ShelfFault>
     ensures kept { HasCleanDisk (state S.Store conn.new) → Refused (state S.Store conn.old) (state S.Store conn.new) }
     ensures survives { Survives (state S.Store conn.old) (state S.Store conn.new) (λ _. ⊥) }
 {
-    match conn.prepare("SELECT version FROM office") {
-        Ok(_) => Ok(false),
-        Err(Error::SqliteFailure(ErrorCode::Closed)) => Ok(true),
-        Err(error) => Err(fault(error)),
+    if let Err(error) = conn.prepare("SELECT version FROM office") {
+        return tell(error);
     }
+    Ok(false)
 }
 
 impl<S: Alter> SqlShelf<S> {
