@@ -191,9 +191,9 @@ impl<H: Shelf + Drop> Desk<H> {
 }
 
 impl<H: StoredShelf + Drop> Desk<H> {
-    /// Whether a fault shut the store for good. Nothing changes. `NoMemory` where there is none to ask.
+    /// Whether a fault shut the store for good. Nothing changes. A fault as of the shelf.
     pub fn is_shut(&mut self) -> Result<bool, ShelfFault>
-        ensures told { TellsShut H.meaning H.is_open self.old.shelf self.new.shelf result }
+        ensures told { TellsShut H.meaning H.store self.old.shelf self.new.shelf result }
         ensures settings { self.new.settings ≡ self.old.settings }
     {
         self.shelf.is_shut()

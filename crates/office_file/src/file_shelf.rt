@@ -190,7 +190,10 @@ impl Shelf for FileShelf {
 }
 
 impl StoredShelf for FileShelf {
-    ghost is_open = { λ shelf. (file_state shelf.shelf.0).is_open };
+    ghost store = { record {
+      is_open = λ shelf. (file_state shelf.shelf.0).is_open;
+      disk_faults = λ shelf. (file_state shelf.shelf.0).faults;
+    } };
 
     fn is_shut(&mut self) -> Result<bool, ShelfFault> {
         self.shelf.is_shut()

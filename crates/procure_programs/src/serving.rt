@@ -67,7 +67,7 @@ fn take_turns<C: Clock, H: StoredShelf + Drop>(
     office: &mut Office<H>,
     count: u32,
 ) -> Result<(), ProgramFault>
-    ensures { ServesInTurn H.meaning H.is_open count office.old office.new result }
+    ensures { ServesInTurn H.meaning H.store count office.old office.new result }
 {
     'connections: for taken in 0..count {
         if let Ok((stream, _)) = listener.accept() {
@@ -94,7 +94,7 @@ pub fn serve<C: Clock, H: StoredShelf + Drop>(
     ensures before { H.meaning.honest office.new.shelf → H.meaning.honest office.old.shelf }
     ensures serves { Serves H.meaning count office.old office.new }
     ensures kept { KeepsServing H.meaning count office.old office.new }
-    ensures turns { ServesInTurn H.meaning H.is_open count office.old office.new result }
+    ensures turns { ServesInTurn H.meaning H.store count office.old office.new result }
     ensures fault { IfErr result (λ fault. (fault ≡ ProgramFault.Store) ⊎ (fault ≡ ProgramFault.Input)) }
 {
     laws::kept();
