@@ -11,6 +11,7 @@ ghost use Rattle.office_publications.specs.Publishing.{publishing};
 ghost use Rattle.office_machine.specs.Machine.{Given, IsRegistered, Reaches};
 ghost use Rattle.office_values.specs.declared.settings.Settings.{Settings as SettingsOf};
 ghost use Rattle.office_plans.specs.Asking.{given};
+ghost use Rattle.stored_shelf.specs.Shutting.{TellsShut};
 ghost use Rattle.office_desk.specs.Callers.{caller_of, names_no_tenderer};
 ghost use Rattle.office_desk.specs.Steps.{Does, IsPlan, IsPlanned, IsAnswered, IsSeen, Joins, read_text};
 
@@ -29,6 +30,7 @@ use office_values::refusal::Refusal;
 use office_values::settings::Settings;
 use std::alloc::Global;
 use std::marker::Model;
+use stored_shelf::stored::StoredShelf;
 use tender_core::asking::Asking;
 
 /// A desk: it answers commands and queries from what a shelf holds.
@@ -201,5 +203,15 @@ impl<H: Shelf + Drop> Desk<H> {
             return Err(Refusal::Forbidden);
         }
         look_at(self.alloc, &mut self.shelf, &self.settings, caller, query)
+    }
+}
+
+impl<H: StoredShelf + Drop> Desk<H> {
+    /// Whether a fault shut the store for good. Nothing changes. A fault as of the shelf.
+    pub fn is_shut(&mut self) -> Result<bool, ShelfFault>
+        ensures told { TellsShut H.meaning H.store self.old.shelf self.new.shelf result }
+        ensures settings { self.new.settings ≡ self.old.settings }
+    {
+        self.shelf.is_shut()
     }
 }

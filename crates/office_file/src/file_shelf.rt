@@ -20,6 +20,7 @@ use office_values::id::Id;
 use office_values::money::Amount;
 use sqlite::{File, FileStore};
 use std::rt::HostRuntime;
+use stored_shelf::stored::StoredShelf;
 
 /// An office in a file of the host: the shelf over its tables. It is a type of its own, without parameters, so that what stands over any
 /// shelf can be proved to stand over this one.
@@ -185,5 +186,21 @@ impl Lookups for FileShelf {
 impl Shelf for FileShelf {
     fn apply(&mut self, puts: Vec<Put>) -> Result<(), ShelfFault> {
         self.shelf.apply(puts)
+    }
+}
+
+impl StoredShelf for FileShelf {
+    ghost store = { record {
+      is_open = λ shelf. (file_state shelf.shelf.0).is_open;
+      disk_faults = λ shelf. (file_state shelf.shelf.0).faults;
+    } };
+
+    fn is_shut(&mut self) -> Result<bool, ShelfFault> {
+        self.shelf.is_shut()
+    }
+
+    fn close(self) -> Result<(), ShelfFault> {
+        let FileShelf { shelf } = self;
+        shelf.close()
     }
 }

@@ -5,4 +5,5 @@ mod Reopening
 mod Joined
 mod Taking
 mod Readying
+mod Shutting
 pub mod Adding

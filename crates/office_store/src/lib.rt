@@ -6,4 +6,5 @@ mod joined_rows;
 pub mod ledger_rows;
 pub mod open;
 pub mod shelf;
+pub mod shut;
 mod sums;

@@ -114,6 +114,14 @@ impl<D: Disk + Drop> SqlShelf<FileStore<D>> {
             Err(error) => Err(fault(error)),
         }
     }
+
+    /// As `close_files`, and the files are closed. It gives nothing back that a clause could name.
+    pub fn close(self) -> Result<(), ShelfFault> {
+        match self.close_files() {
+            Ok(_) => Ok(()),
+            Err(fault) => Err(fault),
+        }
+    }
 }
 
 impl SqlShelf<FileStore<File>> {

@@ -69,7 +69,7 @@ impl<S: Alter> SqlShelf<S> {
     }
 
     // Counts a fault.
-    fn count(&mut self, fault: ShelfFault) -> ShelfFault
+    pub(crate) fn count(&mut self, fault: ShelfFault) -> ShelfFault
         ensures fault { result ≡ fault }
         ensures kept { self.new.0 ≡ self.old.0 }
         ensures counted { self.new.1 ≡ one_fault_more self.old.1 }

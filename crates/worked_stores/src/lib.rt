@@ -8,6 +8,8 @@ mod life;
 #[cfg(test)]
 mod no_offices;
 #[cfg(test)]
+mod shut;
+#[cfg(test)]
 mod stops;
 #[cfg(test)]
 mod stores;
