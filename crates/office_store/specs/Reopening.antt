@@ -1,16 +1,12 @@
 -- What an opening of two files finds in them, what it does and what it leaves, and what a closing leaves for the next.
-use Rattle.std.specs.Prelude.{◌≡◌, ◌⊎◌, ⊤, IsTrue, Option, None, Some, length}
+use Rattle.std.specs.Prelude.{◌≡◌, ◌⊎◌, ⊤, IsTrue, length}
 use Rattle.sqlite_disk.specs.declared.Disk.{Ghosts}
 use Rattle.sqlite_disk.specs.declared.Files.{Files}
-use Rattle.sqlite_disk.specs.declared.modelled.Modelled.{Modelled}
-use Rattle.sqlite_disk.specs.declared.calls.Calls as calls
-use Rattle.sqlite_disk.specs.declared.start.Start as start
-use Rattle.sqlite_std_file.specs.File.{IsFresh}
-use Rattle.sqlite_wal.specs.Files.{outcomes, image_at}
+use Rattle.sqlite_wal.specs.Files.{outcomes}
 use Rattle.sqlite_wal.specs.Reads.{AreClean}
 use Rattle.sqlite_wal.specs.Recovery.{Image}
 use Rattle.sqlite_store.specs.declared.store.FileStore.{FileStore}
-use Rattle.sqlite_store.specs.FileStore.{view, recovers}
+use Rattle.sqlite_store.specs.FileStore.{recovers}
 use Rattle.sqlite_trees.specs.Tree.{Trees}
 use Rattle.sqlite_trees.specs.declared.store.Store.{Ghosts as StoreGhosts}
 use Rattle.sqlite.specs.Held.{Held, state}
@@ -112,8 +108,11 @@ module _ {D : Type 0} {g : Ghosts D} where
       ⊎ ((before : Held (FileStore D g)) × Found (image_of g files) before × IsReason over_files (image_of g files) why before
       × LeavesFound (MayCommit why (file_state before)) before rest)
 
-module _ {S H : Type 0} {g : calls.Ghosts H} {first : start.Ghosts S} where
-  -- An opening at a path was refused: before its two files were opened, so that nothing was written; or behind that, as that of files with these bytes.
-  abbrev pub RefusesPath : OpenFault → Option (Leftover (Modelled H S g first) _) → Type 0
-  RefusesPath why None = why ≡ fault.NotAnOffice → ⊥
-  RefusesPath why (Some rest) = ⊤
+  -- files as they were opened: they read as these bytes, and a stop leaves these
+  pub record AreAsOpened (image : Image) (files : Files D) : Type 0 where
+    pub seen : image_of g files ≡ image
+    pub left : (after : Image) → outcomes g files.log files.db after → after ≡ image
+
+  -- the same of the files at a path, which are known by their bytes alone
+  abbrev pub RefusesImage : Image → OpenFault → Leftover D g → Type 0
+  RefusesImage image why rest = (files : Files D) × AreAsOpened image files × RefusesFiles files why rest

@@ -6,5 +6,6 @@ pub mod found;
 mod joined_rows;
 pub mod ledger_rows;
 pub mod open;
+pub mod path;
 pub mod shelf;
 mod sums;
