@@ -72,12 +72,12 @@ impl<S: Start> SqlShelf<FileStore<FileFrom<S>>> {
     ) -> Result<SqlShelf<FileStore<FileFrom<S>>>, (OpenFault, Option<Leftover<FileFrom<S>>>)>
         ensures is_open { IfOk result (λ shelf. HasCleanDisk (file_state shelf.0) → IsTrue (file_state shelf.0).is_open) }
         ensures sound { IfOk result (λ shelf. HasCleanDisk (file_state shelf.0) → LeavesShown (file_state shelf.0)) }
+        ensures count { IfOk result (λ shelf. shelf.1 ≡ 0) }
         ensures held { IfOk result (λ shelf. OpensHeld (image_at S.Start) shelf.0) }
         ensures blank { IfOk result (λ shelf. OpensBlank (image_at S.Start) shelf.0) }
         ensures enters { IfOk result (λ shelf. HasCleanDisk (file_state shelf.0) → EntersFound (image_at S.Start) shelf.0) }
-        ensures count { IfOk result (λ shelf. shelf.1 ≡ 0) }
-        ensures unopened { IfErr result (λ refusal. refusal.1 ≡ None → refusal.0 ≡ OpenFault.NotAnOffice → ⊥) }
         ensures refused { IfErr result (λ refusal. IfSome refusal.1 (λ left. RefusesImage (image_at S.Start) refusal.0 left)) }
+        ensures unopened { IfErr result (λ refusal. refusal.1 ≡ None → refusal.0 ≡ OpenFault.NotAnOffice → ⊥) }
     {
         let files = match files_at(rt, path, start) {
             Ok(files) => files,
