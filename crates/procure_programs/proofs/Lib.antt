@@ -1,1 +1,2 @@
 pub mod ServingSteps
+mod OpenedFiles
