@@ -70,7 +70,7 @@ found_now image now stays opened found =
 -- ---- a refused opening
 
 still : {D : Type 0} {g : Ghosts D} (before now : Held (FileStore D g)) (files : Files D) → Refused (file_state before) (file_state now) → IsCopied now files
-    → HoldStill files (file_state before).committed.trees
+    → HoldStill g files (file_state before).committed.trees
 still before now files kept copied =
     let same : (file_state now).committed.trees ≡ (file_state before).committed.trees = ap (λ (d : Database). d.trees) (kept.committed copied.was_open) in
     record {

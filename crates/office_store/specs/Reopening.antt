@@ -48,6 +48,20 @@ IsReason g image fault.NotAnOffice before = IsNoOffice g before × HoldsNoOffice
 IsReason g image fault.NoMemory before = ⊤
 IsReason g image fault.Store before = ⊤
 
+-- both files may be used again
+abbrev pub AreUsable : {D : Type 0} → Ghosts D → Files D → Type 0
+AreUsable g files = IsTrue (g.is_usable files.log) × IsTrue (g.is_usable files.db)
+
+-- two files hold this database, as they read now and after a stop, with their log and without it
+pub record HoldStill {D : Type 0} (g : Ghosts D) (files : Files D) (db : Trees) : Type 0 where
+  pub seen : HoldsAlone (image_of g files) db
+  pub left : (image : Image) → outcomes g files.log files.db image → HoldsAlone image db
+
+-- two files as they were opened: they read as these bytes, and a stop leaves these
+pub record AreAsOpened {D : Type 0} (g : Ghosts D) (image : Image) (files : Files D) : Type 0 where
+  pub seen : image_of g files ≡ image
+  pub left : (after : Image) → outcomes g files.log files.db after → after ≡ image
+
 module _ {D : Type 0} {g : Ghosts D} where
   -- what an opening found in two files with these bytes: what they hold, and a stop right then leaves that and nothing else
   pub record Found (image : Image) (before : Held (FileStore D g)) : Type 0 where
@@ -72,30 +86,21 @@ module _ {D : Type 0} {g : Ghosts D} where
   abbrev pub EntersFound : Image → Held (FileStore D g) → Type 0
   EntersFound image now = (before : Held (FileStore D g)) × Found image before × Entered over_files before now
 
-  -- both files may be used again
-  abbrev pub AreUsable : Files D → Type 0
-  AreUsable files = IsTrue (g.is_usable files.log) × IsTrue (g.is_usable files.db)
-
-  -- two files hold this database, as they read now and after a stop, with their log and without it
-  pub record HoldStill (files : Files D) (db : Trees) : Type 0 where
-    pub seen : HoldsAlone (image_of g files) db
-    pub left : (image : Image) → outcomes g files.log files.db image → HoldsAlone image db
-
   -- what a closing leaves of a connection: its files, or, where it failed, its store
   abbrev pub IsLeftOf : Held (FileStore D g) → Leftover D g → Type 0
-  IsLeftOf now (left.Files files) = AreUsable files × (AreClean g files.log files.db → IsCopied now files)
+  IsLeftOf now (left.Files files) = AreUsable g files × (AreClean g files.log files.db → IsCopied now files)
   IsLeftOf now (left.Unopened files) = ⊥
   IsLeftOf now (left.Store store) = IsClosed now store
 
   -- What was found stays: the files hold it, or, where they couldn't be closed, a stop leaves it or what the opening committed.
   abbrev pub LeavesFound : (Trees → Type 0) → Held (FileStore D g) → Leftover D g → Type 0
-  LeavesFound Commits before (left.Files files) = HoldStill files (file_state before).committed.trees
+  LeavesFound Commits before (left.Files files) = HoldStill g files (file_state before).committed.trees
   LeavesFound Commits before (left.Unopened files) = ⊥
   LeavesFound Commits before (left.Store store) = (db : Trees) → recovers store db → (db ≡ (file_state before).committed.trees) ⊎ Commits db
 
   -- files that come back may be used
   abbrev pub IsUsableLeft : Leftover D g → Type 0
-  IsUsableLeft (left.Files files) = AreUsable files
+  IsUsableLeft (left.Files files) = AreUsable g files
   IsUsableLeft (left.Unopened files) = ⊤
   IsUsableLeft (left.Store store) = ⊤
 
@@ -108,11 +113,6 @@ module _ {D : Type 0} {g : Ghosts D} where
       ⊎ ((before : Held (FileStore D g)) × Found (image_of g files) before × IsReason over_files (image_of g files) why before
       × LeavesFound (MayCommit why (file_state before)) before rest)
 
-  -- files as they were opened: they read as these bytes, and a stop leaves these
-  pub record AreAsOpened (image : Image) (files : Files D) : Type 0 where
-    pub seen : image_of g files ≡ image
-    pub left : (after : Image) → outcomes g files.log files.db after → after ≡ image
-
   -- the same of the files at a path, which are known by their bytes alone
   abbrev pub RefusesImage : Image → OpenFault → Leftover D g → Type 0
-  RefusesImage image why rest = (files : Files D) × AreAsOpened image files × RefusesFiles files why rest
+  RefusesImage image why rest = (files : Files D) × AreAsOpened g image files × RefusesFiles files why rest

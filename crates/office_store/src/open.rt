@@ -89,7 +89,7 @@ impl<D: Disk + Drop> SqlShelf<FileStore<D>> {
     /// Closes the office, and gives its files back. A refusal gives nothing back.
     pub fn close_files(self) -> Result<Files<D>, ShelfFault>
         ensures copied { IfOk result (λ files. AreClean D.Disk files.log files.db → IsCopied self.0 files) }
-        ensures usable { IfOk result (λ files. AreUsable files) }
+        ensures usable { IfOk result (λ files. AreUsable D.Disk files) }
     {
         match self.into_connection().close_files() {
             Ok(files) => Ok(files),
