@@ -1,8 +1,9 @@
 //! An office in a file of the host.
 ghost use Rattle.std.specs.Prelude.{◌≡◌, IfOk, IsTrue};
+ghost use Rattle.sqlite_wal.specs.Files.{image_at};
 ghost use Rattle.sqlite.specs.Files.{file_state, over_files};
 ghost use Rattle.sqlite.specs.State.{HasCleanDisk};
-ghost use Rattle.office_store.specs.Reopening.{EntersOpened};
+ghost use Rattle.office_store.specs.Reopening.{EntersFound, OpensBlank, OpensHeld};
 ghost use Rattle.office_store.specs.SqlMeaning.{sql_meaning, inside, LeavesShown};
 
 use office_base::counts::Sequence;
@@ -14,42 +15,51 @@ use office_base::records::{
 };
 use office_base::shelf::{Lookups, Shelf, ShelfFault};
 use office_store::found::OpenFault;
+use office_store::path::Room;
 use office_store::shelf::SqlShelf;
 use office_values::given::AskedNumber;
 use office_values::id::Id;
 use office_values::money::Amount;
-use sqlite::{File, FileStore};
+use sqlite::{FileFrom, FileStore, Start};
 use std::rt::HostRuntime;
 use stored_shelf::stored::StoredShelf;
 
-/// An office in a file of the host: the shelf over its tables. It is a type of its own, without parameters, so that what stands over any
-/// shelf can be proved to stand over this one.
-pub struct FileShelf {
-    shelf: SqlShelf<FileStore<File>>,
+/// An office in a file of the host, which held what `S` says: the shelf over its tables. It is a type of its own, so that what stands over
+/// any shelf can be proved to stand over this one.
+pub struct FileShelf<S: Start> {
+    shelf: SqlShelf<FileStore<FileFrom<S>>>,
 }
 
-impl Drop for FileShelf {
+impl<S: Start> Drop for FileShelf<S> {
     fn drop(self) {
         let FileShelf { shelf: _ } = self;
     }
 }
 
-impl FileShelf {
-    /// The office in this file, or a new one where no name of the office's is taken there. No clause can tie it to the path.
-    pub fn open(rt: &HostRuntime, path: &str) -> Result<FileShelf, OpenFault>
+impl<S: Start> FileShelf<S> {
+    /// The office in this file, or a new one where no name of the office's tables is taken there. No clause can tie the path to a file: `S`
+    /// stands for what the two files there hold. What a refusal leaves of them says `SqlShelf::open_from`.
+    pub fn open(
+        rt: &HostRuntime,
+        path: &str,
+        start: S,
+        room: Room,
+    ) -> Result<FileShelf<S>, OpenFault>
         ensures is_open { IfOk result (λ shelf. HasCleanDisk (file_state shelf.shelf.0) → IsTrue (file_state shelf.shelf.0).is_open) }
         ensures sound { IfOk result (λ shelf. HasCleanDisk (file_state shelf.shelf.0) → LeavesShown (file_state shelf.shelf.0)) }
-        ensures enters { IfOk result (λ shelf. HasCleanDisk (file_state shelf.shelf.0) → EntersOpened shelf.shelf.0) }
+        ensures held { IfOk result (λ shelf. OpensHeld (image_at S.Start) shelf.shelf.0) }
+        ensures blank { IfOk result (λ shelf. OpensBlank (image_at S.Start) shelf.shelf.0) }
+        ensures enters { IfOk result (λ shelf. HasCleanDisk (file_state shelf.shelf.0) → EntersFound (image_at S.Start) shelf.shelf.0) }
         ensures count { IfOk result (λ shelf. shelf.shelf.1 ≡ 0) }
     {
-        match SqlShelf::open(rt, path) {
+        match SqlShelf::open_from(rt, path, start, room) {
             Ok(shelf) => Ok(FileShelf { shelf }),
-            Err(fault) => Err(fault),
+            Err((fault, _)) => Err(fault),
         }
     }
 }
 
-impl Lookups for FileShelf {
+impl<S: Start> Lookups for FileShelf<S> {
     ghost meaning = { inside (λ s. s.shelf) (sql_meaning over_files) };
 
     ghost held_sorted = { λ shelf t held. held.0 };
@@ -183,7 +193,7 @@ impl Lookups for FileShelf {
     }
 }
 
-impl Shelf for FileShelf {
+impl<S: Start> Shelf for FileShelf<S> {
     fn apply(&mut self, puts: Vec<Put>) -> Result<(), ShelfFault> {
         self.shelf.apply(puts)
     }

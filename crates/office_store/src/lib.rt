@@ -5,6 +5,7 @@ pub mod found;
 mod joined_rows;
 pub mod ledger_rows;
 pub mod open;
+pub mod path;
 pub mod shelf;
 pub mod shut;
 mod sums;

@@ -1,2 +1,3 @@
 pub mod ServingSteps
+mod OpenedFiles
 mod Turns

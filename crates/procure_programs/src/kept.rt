@@ -1,5 +1,9 @@
 //! `serve`, `ledger`, `minutes` and `record`: the programs over an office that is kept. Each closes the store in the end, so that its file
 //! alone is the office.
+ghost use Rattle.std.specs.Prelude.{IfOk};
+ghost use Rattle.office_desk.specs.Desks.{DeskOf};
+ghost use Rattle.procure_programs.specs.Serving.{Serves};
+
 use crate::config::no_memory;
 use crate::serving::serve;
 use crate::showing::show;
@@ -31,7 +35,10 @@ pub(crate) fn serve_office<H: StoredShelf + Drop>(
     shelf: H,
     port: u16,
     count: u32,
-) -> Result<(), ProgramFault> {
+) -> Result<(), ProgramFault>
+    ensures serves { IfOk result ((after : DeskOf _) × (H.meaning.honest after.shelf → H.meaning.honest shelf)
+        × Serves H.meaning count (record { shelf = shelf; settings = settings }) after) }
+{
     let alloc = rt.alloc();
     let Ok(mut office) = Office::new(alloc, Desk::new(alloc, settings, shelf)) else {
         return Err(no_memory());

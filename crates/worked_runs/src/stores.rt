@@ -4,6 +4,8 @@ use office_base::shelf::Shelf;
 use office_file::file_shelf::FileShelf;
 use office_in_sql::office::in_sql;
 use office_memory::memory::MemoryShelf;
+use office_store::path::Room;
+use sqlite::Unknown;
 use std::alloc::Global;
 use std::fs;
 use transcripts::session::{Session, Wrong};
@@ -75,13 +77,19 @@ fn continued<H: Shelf + Drop>(
 // Plays pieces more to the office in the file, which is opened again for each.
 fn reopened(rt: &HostRuntime, path: &str, mut told: Told, pieces: &[&str]) -> Result<Told, Wrong> {
     for piece in pieces {
-        match FileShelf::open(rt, path) {
+        match FileShelf::open(rt, path, Unknown, ROOM) {
             Ok(shelf) => told = continued(rt.alloc(), shelf, told, piece)?,
             Err(_) => return Err(Wrong::Unopened),
         }
     }
     Ok(told)
 }
+
+// Little enough for a file to be read and copied again and again.
+const ROOM: Room = Room {
+    pages: 64,
+    frames: 100,
+};
 
 // The file of an office, and the one beside it that keeps what was written last.
 const PATH: &str = "worked_runs.office";
