@@ -14,7 +14,7 @@ BEGUN, STEP = 1_767_603_600, 60
 # 2026-03-01T12:00:00Z
 DEADLINE = 1_772_366_400
 HELLO = "2cf24dba5fb0a30e26e83b2ac5b9e29e1b161e5c1fa7425e73043362938b9824"
-LINES, BATCHES, ROWS = 10_000, 20, 500
+LINES, BATCHES, ROWS, TITLE = 2_500, 30, 250, b"Roads and bridges ".ljust(200, b".")
 STRIDE = 7919
 
 
@@ -75,10 +75,15 @@ def life():
     return Play("a life", steps, looks + [request(b"GET", b"/notices/N1/register", caller=CLERK)])
 
 
+def turn(number):
+    """Which line a row names: first each in its turn, and then, within each file, such as stand far apart in the table."""
+    files = LINES // ROWS
+    return number if number < LINES else number % ROWS * files + number // ROWS % files
+
+
 def imports():
-    """Files of many rows, whose lines lie all over the table: enough for the log to be moved into the file several times."""
-    places = [number * STRIDE % LINES for number in range(BATCHES * ROWS)]
-    rows = [b"%d,add,%d,Roads" % (100_000 + place, place + 1) for place in places]
+    """Files of many long rows, which write most pages of the table each: enough for the log to be moved into the file twice."""
+    rows = [b"%d,add,%d,%s" % (100_000 + turn(number) * STRIDE % LINES, number + 1, TITLE) for number in range(BATCHES * ROWS)]
     steps = [Step("an import", BEGUN + STEP * at, import_of(b"B%d" % at, rows[at * ROWS:(at + 1) * ROWS])) for at in range(BATCHES)]
     return Play("imports", steps, [look(b"/ledger")])
 
