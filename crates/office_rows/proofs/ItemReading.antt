@@ -1,5 +1,5 @@
 -- A text is cut at the first of some bytes; and what the parts of an item's text say of the item.
-use Rattle.std.proofs.Common.{◌≡◌, inl, inr, ℕ, zero, suc, ◌+◌, ◌-◌, ◌<◌, ◌≤◌, ◌^◌, Bool, true, false, cond, List, [], ◌∷◌, ◌++◌, Option, Some, None, Result, Ok, Err, length, take, drop, get_or, length-append, append_assoc, append-nil, refl, sym, ap, subst, ◌∙◌, arith, true≢false, IsTrue}
+use Rattle.std.proofs.Common.{◌≡◌, inl, inr, ℕ, zero, suc, ◌+◌, ◌-◌, ◌<◌, ◌≤◌, ◌^◌, Bool, true, false, cond, List, [], ◌∷◌, ◌++◌, Option, Some, None, Result, Ok, Err, length, take, drop, get_or, append_assoc, append-nil, refl, sym, ap, subst, ◌∙◌, arith, true≢false}
 use Rattle.std.specs.Prelude.{◌==◌, not, position, nat_lt}
 use Rattle.std.specs.List.{AllByRecursion, position_or_len}
 use Rattle.std.specs.Fmt.{decimal}
@@ -19,7 +19,7 @@ use Rattle.office_base.specs.declared.shelf.ShelfFault.TheVariants.{Store}
 use Rattle.office_base.specs.Faults.{IsFaultOf}
 use Rattle.office_rows.specs.Ranges.{IsWithin}
 use Rattle.office_rows.specs.Unwritten.{IsUnwritten}
-use Rattle.office_rows.proofs.ItemLemmas.{before_is, behind_is, item_len, item_fits, behind_item, digits_avoid, id_avoids, title_avoids, rest_is, items_back, items_text-push}
+use Rattle.office_rows.proofs.ItemLemmas.{before_is, behind_is, item_len, item_fits, behind_item, digits_avoid, rest_is, items_back, items_text-push}
 
 -- ---- a cut
 
