@@ -3,11 +3,11 @@ use Rattle.std.specs.Prelude.{ℕ, ◌+◌, ◌++◌}
 use Rattle.sqlite_value.specs.Order.{Row}
 use Rattle.office_rows.specs.Values.{three_from}
 
-abbrev pub entry_part : Row → ℕ → Row
-entry_part r at = three_from r at
+abbrev pub columns_of_entry : Row → ℕ → Row
+columns_of_entry r at = three_from r at
 
-abbrev pub contract_part : Row → ℕ → Row
-contract_part r at = three_from r at ++ entry_part r (at + 3)
+abbrev pub columns_of_contract : Row → ℕ → Row
+columns_of_contract r at = three_from r at ++ columns_of_entry r (at + 3)
 
-abbrev pub lot_part : Row → ℕ → Row
-lot_part r at = three_from r at ++ contract_part r (at + 3)
+abbrev pub columns_of_lot : Row → ℕ → Row
+columns_of_lot r at = three_from r at ++ columns_of_contract r (at + 3)

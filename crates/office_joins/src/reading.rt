@@ -3,7 +3,7 @@ ghost use Rattle.std.specs.Prelude.{◌≡◌, ◌≤◌, ◌↔◌, IsTrue, IfO
 ghost use Rattle.office_base.specs.Faults.{IsFaultOf};
 ghost use Rattle.office_rows.specs.Unwritten.{IsUnwritten};
 ghost use Rattle.office_joins.specs.Cells.{entry_cells, contract_cells, lot_cells, joined_cells};
-ghost use Rattle.office_joins.specs.Parts.{entry_part, contract_part, lot_part};
+ghost use Rattle.office_joins.specs.Parts.{columns_of_entry, columns_of_contract, columns_of_lot};
 ghost use Rattle.office_joins.specs.Fits.{EntryFits, ContractFits, LotFits, JoinedFits};
 ghost use Rattle.office_joins.specs.Reading.{joined_read, joined_lot_read};
 ghost use Rattle.office_joins.specs.ReadBack.{JoinedRowsComeBack, JoinedLotsComeBack};
@@ -18,7 +18,7 @@ use sqlite::Row;
 // Whether no entry stands from this column on.
 fn has_no_entry(row: &Row, at: usize) -> bool
     requires { at ≤ 100 }
-    ensures { IsTrue result ↔ (entry_cells None ≡ entry_part row.now at) }
+    ensures { IsTrue result ↔ (entry_cells None ≡ columns_of_entry row.now at) }
 {
     are_null(row, at)
 }
@@ -26,7 +26,7 @@ fn has_no_entry(row: &Row, at: usize) -> bool
 // Whether no contract stands from this column on.
 fn has_no_contract(row: &Row, at: usize) -> bool
     requires { at ≤ 90 }
-    ensures { IsTrue result ↔ (contract_cells None ≡ contract_part row.now at) }
+    ensures { IsTrue result ↔ (contract_cells None ≡ columns_of_contract row.now at) }
 {
     are_null(row, at) && has_no_entry(row, at + 3)
 }
@@ -34,7 +34,7 @@ fn has_no_contract(row: &Row, at: usize) -> bool
 // Whether no lot stands from this column on.
 fn has_no_lot(row: &Row, at: usize) -> bool
     requires { at ≤ 80 }
-    ensures { IsTrue result ↔ (lot_cells None ≡ lot_part row.now at) }
+    ensures { IsTrue result ↔ (lot_cells None ≡ columns_of_lot row.now at) }
 {
     are_null(row, at) && has_no_contract(row, at + 3)
 }
@@ -42,8 +42,8 @@ fn has_no_lot(row: &Row, at: usize) -> bool
 // The entry that stands from this column on.
 fn entry_at(row: &Row, at: usize) -> Result<JoinedEntry, ShelfFault>
     requires { at ≤ 100 }
-    ensures exact { IfOk result (λ entry. entry_cells (Some entry) ≡ entry_part row.now at) }
-    ensures cause { IfErr result (IsFaultOf (IsUnwritten (λ entry. entry_cells (Some entry)) EntryFits (entry_part row.now at))) }
+    ensures exact { IfOk result (λ entry. entry_cells (Some entry) ≡ columns_of_entry row.now at) }
+    ensures cause { IfErr result (IsFaultOf (IsUnwritten (λ entry. entry_cells (Some entry)) EntryFits (columns_of_entry row.now at))) }
 {
     Ok(JoinedEntry {
         entry: id_at(row, at)?,
@@ -55,8 +55,8 @@ fn entry_at(row: &Row, at: usize) -> Result<JoinedEntry, ShelfFault>
 // The same; None where there is none.
 fn entry_from(row: &Row, at: usize) -> Result<Option<JoinedEntry>, ShelfFault>
     requires { at ≤ 100 }
-    ensures exact { IfOk result (λ entry. entry_cells entry ≡ entry_part row.now at) }
-    ensures cause { IfErr result (IsFaultOf (IsUnwritten entry_cells (λ entry. IfSome entry EntryFits) (entry_part row.now at))) }
+    ensures exact { IfOk result (λ entry. entry_cells entry ≡ columns_of_entry row.now at) }
+    ensures cause { IfErr result (IsFaultOf (IsUnwritten entry_cells (λ entry. IfSome entry EntryFits) (columns_of_entry row.now at))) }
 {
     if has_no_entry(row, at) {
         return Ok(None);
@@ -67,8 +67,8 @@ fn entry_from(row: &Row, at: usize) -> Result<Option<JoinedEntry>, ShelfFault>
 // The contract that stands from this column on, with its entry.
 fn contract_at(row: &Row, at: usize) -> Result<JoinedContract, ShelfFault>
     requires { at ≤ 90 }
-    ensures exact { IfOk result (λ contract. contract_cells (Some contract) ≡ contract_part row.now at) }
-    ensures cause { IfErr result (IsFaultOf (IsUnwritten (λ contract. contract_cells (Some contract)) ContractFits (contract_part row.now at))) }
+    ensures exact { IfOk result (λ contract. contract_cells (Some contract) ≡ columns_of_contract row.now at) }
+    ensures cause { IfErr result (IsFaultOf (IsUnwritten (λ contract. contract_cells (Some contract)) ContractFits (columns_of_contract row.now at))) }
 {
     Ok(JoinedContract {
         contract: bounded_at(row, at)?,
@@ -81,8 +81,8 @@ fn contract_at(row: &Row, at: usize) -> Result<JoinedContract, ShelfFault>
 // The same; None where there is none.
 fn contract_from(row: &Row, at: usize) -> Result<Option<JoinedContract>, ShelfFault>
     requires { at ≤ 90 }
-    ensures exact { IfOk result (λ contract. contract_cells contract ≡ contract_part row.now at) }
-    ensures cause { IfErr result (IsFaultOf (IsUnwritten contract_cells (λ contract. IfSome contract ContractFits) (contract_part row.now at))) }
+    ensures exact { IfOk result (λ contract. contract_cells contract ≡ columns_of_contract row.now at) }
+    ensures cause { IfErr result (IsFaultOf (IsUnwritten contract_cells (λ contract. IfSome contract ContractFits) (columns_of_contract row.now at))) }
 {
     if has_no_contract(row, at) {
         return Ok(None);
@@ -93,8 +93,8 @@ fn contract_from(row: &Row, at: usize) -> Result<Option<JoinedContract>, ShelfFa
 // The lot that stands from this column on, with its contract.
 fn lot_at(row: &Row, at: usize) -> Result<JoinedLot, ShelfFault>
     requires { at ≤ 80 }
-    ensures exact { IfOk result (λ lot. joined_lot_cells lot ≡ lot_part row.now at) }
-    ensures cause { IfErr result (IsFaultOf (IsUnwritten joined_lot_cells LotFits (lot_part row.now at))) }
+    ensures exact { IfOk result (λ lot. joined_lot_cells lot ≡ columns_of_lot row.now at) }
+    ensures cause { IfErr result (IsFaultOf (IsUnwritten joined_lot_cells LotFits (columns_of_lot row.now at))) }
 {
     Ok(JoinedLot {
         notice: id_at(row, at)?,
@@ -107,8 +107,8 @@ fn lot_at(row: &Row, at: usize) -> Result<JoinedLot, ShelfFault>
 // The same; None where there is none.
 fn lot_from(row: &Row, at: usize) -> Result<Option<JoinedLot>, ShelfFault>
     requires { at ≤ 80 }
-    ensures exact { IfOk result (λ lot. lot_cells lot ≡ lot_part row.now at) }
-    ensures cause { IfErr result (IsFaultOf (IsUnwritten lot_cells (λ lot. IfSome lot LotFits) (lot_part row.now at))) }
+    ensures exact { IfOk result (λ lot. lot_cells lot ≡ columns_of_lot row.now at) }
+    ensures cause { IfErr result (IsFaultOf (IsUnwritten lot_cells (λ lot. IfSome lot LotFits) (columns_of_lot row.now at))) }
 {
     if has_no_lot(row, at) {
         return Ok(None);

@@ -1,9 +1,9 @@
 -- A text is cut at the first of some bytes; and what the parts of an item's text say of the item.
-use Rattle.std.proofs.Common.{◌≡◌, ℕ, zero, suc, ◌+◌, ◌-◌, ◌<◌, ◌≤◌, ◌^◌, Bool, true, false, cond, List, [], ◌∷◌, ◌++◌, Option, Some, None, Result, Ok, Err, length, take, drop, get_or, length-append, append_assoc, refl, sym, ap, subst, ◌∙◌, arith, true≢false, IsTrue}
+use Rattle.std.proofs.Common.{◌≡◌, inl, inr, ℕ, zero, suc, ◌+◌, ◌-◌, ◌<◌, ◌≤◌, ◌^◌, Bool, true, false, cond, List, [], ◌∷◌, ◌++◌, Option, Some, None, Result, Ok, Err, length, take, drop, get_or, append_assoc, append-nil, refl, sym, ap, subst, ◌∙◌, arith, true≢false}
 use Rattle.std.specs.Prelude.{◌==◌, not, position, nat_lt}
 use Rattle.std.specs.List.{AllByRecursion, position_or_len}
 use Rattle.std.specs.Fmt.{decimal}
-use Rattle.std.specs.Prelude.{IsUtf8}
+use Rattle.std.specs.Prelude.{◌⊎◌, IsUtf8, IfOk, IfErr, IfSome, IfNone, ok_or}
 use Rattle.std.specs.Str.Parse.{ParsesUnsigned}
 use Rattle.std.proofs.lemmas.Fmt.{parse-decimal, IsAscii-decimal}
 use Rattle.std.proofs.lemmas.Str.{IsUtf8-from_ascii}
@@ -11,10 +11,15 @@ use Rattle.std.proofs.lemmas.Bool.{eqb-true, ltb-false}
 use Rattle.std.proofs.lemmas.List.Quantifiers.{position-Some}
 use Rattle.std.proofs.lemmas.List.{take_rest}
 use Rattle.office_acts.specs.declared.item.Item.{Item}
-use Rattle.office_rows.specs.ItemTexts.{item_then, items_text, before, behind, item_rest, Avoids, ItemFits, IsItem, AreItems}
+use Rattle.office_rows.specs.ItemTexts.{item_then, items_text, items_in, before, behind, item_rest, Avoids, ItemFits, IsItem, AreItems}
+use Rattle.office_acts.specs.Identified.{repeats_id}
+use Rattle.office_acts.specs.Items.{item_id}
+use Rattle.office_base.specs.declared.shelf.ShelfFault.{ShelfFault}
+use Rattle.office_base.specs.declared.shelf.ShelfFault.TheVariants.{Store}
+use Rattle.office_base.specs.Faults.{IsFaultOf}
 use Rattle.office_rows.specs.Ranges.{IsWithin}
 use Rattle.office_rows.specs.Unwritten.{IsUnwritten}
-use Rattle.office_rows.proofs.ItemLemmas.{before_is, behind_is, item_len, item_fits, behind_item, digits_avoid, id_avoids, title_avoids, rest_is, items_back}
+use Rattle.office_rows.proofs.ItemLemmas.{before_is, behind_is, item_len, item_fits, behind_item, digits_avoid, rest_is, items_back, items_text-push}
 
 -- ---- a cut
 
@@ -132,7 +137,7 @@ continues (x ∷ found) (y ∷ items) rest f h some e =
 
 -- items have their text for themselves
 pub same_items : (xs ys : List Item) → AllByRecursion IsItem xs → AllByRecursion IsItem ys → items_text xs ≡ items_text ys → xs ≡ ys
-same_items xs ys f h e = sym (items_back xs (all_fit xs f)) ∙ ap Rattle.office_rows.specs.ItemTexts.items_in e ∙ items_back ys (all_fit ys h)
+same_items xs ys f h e = sym (items_back xs (all_fit xs f)) ∙ ap items_in e ∙ items_back ys (all_fit ys h)
 
 -- ---- a quantity's digits
 
@@ -147,16 +152,54 @@ is_ok (Err e) = false
 pub no_words : (digits : List ℕ) → ¬ (IsUtf8 digits) → IsUnwritten decimal (IsWithin 1 (10 ^ 6)) digits
 no_words digits h = record { none = λ n fits e. h (subst IsUtf8 e (IsUtf8-from_ascii (decimal n) (IsAscii-decimal n (omega (arith, fits.1))))) }
 
-module _ {E : Type 0} (digits text : List ℕ) (same : text ≡ digits) where
-  pub no_number : (e : E) → ParsesUnsigned 64 10 text (Err e) → IsUnwritten decimal (IsWithin 1 (10 ^ 6)) digits
-  unfolding is_ok
-  no_number e h = record { none = λ n fits is. true≢false (sym (ap is_ok (parse-decimal 64 n text (Err e) (omega (arith, fits.1)) (omega (arith, fits.1)) (same ∙ sym is) h))) }
+pub no_number : {E : Type 0} (digits text : List ℕ) → text ≡ digits → (e : E) → ParsesUnsigned 64 10 text (Err e) → IsUnwritten decimal (IsWithin 1 (10 ^ 6)) digits
+unfolding is_ok
+no_number digits text same e h = record { none = λ n fits is. true≢false (sym (ap is_ok (parse-decimal 64 n text (Err e) (omega (arith, fits.1)) (omega (arith, fits.1)) (same ∙ sym is) h))) }
 
-  pub other_number : (number : ℕ) → ParsesUnsigned {E = E} 64 10 text (Ok number) → (IsWithin 1 (10 ^ 6) number → decimal number ≡ digits → ⊥) → IsUnwritten decimal (IsWithin 1 (10 ^ 6)) digits
-  unfolding ok_or_else
-  other_number number h no = record { none = by }
+pub other_number : {E : Type 0} (digits text : List ℕ) → text ≡ digits → (number : ℕ) (r : Result ℕ E) → r ≡ Ok number → ParsesUnsigned 64 10 text r
+    → (IsWithin 1 (10 ^ 6) number → decimal number ≡ digits → ⊥) → IsUnwritten decimal (IsWithin 1 (10 ^ 6)) digits
+unfolding ok_or_else
+other_number digits text same number r ok h fails = record { none = by }
+  where
+    by : (n : ℕ) → IsWithin 1 (10 ^ 6) n → decimal n ≡ digits → ⊥
+    by n fits is =
+        let one : number ≡ n = ap (ok_or_else number) (sym ok ∙ parse-decimal 64 n text r (omega (arith, fits.1)) (omega (arith, fits.1)) (same ∙ sym is) h) in
+        fails (subst (IsWithin 1 (10 ^ 6)) (sym one) fits) (ap decimal one ∙ is)
+
+-- ---- the loop over a text's items
+
+pub some_left : (rest : List ℕ) (is_empty : Bool) → is_empty ≡ (length rest == 0) → is_empty ≡ false → 0 < length rest
+some_left [] is_empty e f = absurd (true≢false (sym e ∙ f))
+some_left (b ∷ rest) is_empty e f = omega arith
+
+pub none_left : (front rest text : List ℕ) (is_empty : Bool) → is_empty ≡ (length rest == 0) → is_empty ≡ true → front ++ rest ≡ text → front ≡ text
+none_left front [] text is_empty e t h = sym (append-nil front) ∙ h
+none_left front (b ∷ rest) text is_empty e t h = absurd (omega (arith, eqb-true (length (b ∷ rest)) 0 (sym e ∙ t)))
+
+pub one_more : (found : List Item) (item : Item) (new : List Item) (behind rest text : List ℕ) → new ≡ found ++ (item ∷ []) → item_then item behind ≡ rest → items_text found ++ rest ≡ text
+    → items_text new ++ behind ≡ text
+one_more found item new behind rest text pushed front before =
+    ap (λ l. items_text l ++ behind) pushed ∙ ap (λ l. l ++ behind) (items_text-push found item) ∙ append_assoc (items_text found) (item_then item []) behind
+    ∙ ap (λ l. items_text found ++ l) (sym (behind_item item [] behind) ∙ front) ∙ before
+
+pub items_unwritten : (found : List Item) (rest text : List ℕ) → AllByRecursion IsItem found → items_text found ++ rest ≡ text → 0 < length rest
+    → IsUnwritten (λ (parts : Item × List ℕ). item_then parts.0 parts.1) (λ parts. IsItem parts.0) rest → IsUnwritten items_text AreItems text
+items_unwritten found rest text f before some h =
+    record { none = λ items fits e. let next = continues found items rest f fits.each some (e ∙ sym before) in h.none next.0 next.1 next.2 }
+
+module _ (found : List Item) (text : List ℕ) (f : AllByRecursion IsItem found) (is : items_text found ≡ text) where
+  pub items_read : (o : Option (List Item)) (r : Result (List Item) ShelfFault) → IfSome o (λ all. all ≡ found) → r ≡ ok_or o Store → IfOk r (λ items. items ≡ items_in text)
+  items_read None r h e = subst (λ r. IfOk r (λ items. items ≡ items_in text)) (sym e) tt
+  items_read (Some all) r h e = subst (λ r. IfOk r (λ items. items ≡ items_in text)) (sym e) (h ∙ sym (items_back found (all_fit found f)) ∙ ap items_in is)
+
+  no_items : (length found ≡ 0) ⊎ (repeats_id item_id found ≡ true) → IsUnwritten items_text AreItems text
+  no_items why = record { none = λ items fits e. by items fits (same_items items found fits.each f (e ∙ sym is)) why }
     where
-      by : (n : ℕ) → IsWithin 1 (10 ^ 6) n → decimal n ≡ digits → ⊥
-      by n fits is =
-          let one : number ≡ n = ap (ok_or_else number) (parse-decimal {E = E} 64 n text (Ok number) (omega (arith, fits.1)) (omega (arith, fits.1)) (same ∙ sym is) h) in
-          no (subst (IsWithin 1 (10 ^ 6)) (sym one) fits) (ap decimal one ∙ is)
+      by : (items : List Item) → AreItems items → items ≡ found → (length found ≡ 0) ⊎ (repeats_id item_id found ≡ true) → ⊥
+      by items fits same (inl none) = omega (arith, fits.some, ap length same, none)
+      by items fits same (inr twice) = true≢false (sym twice ∙ ap (repeats_id item_id) (sym same) ∙ fits.differ)
+
+  pub items_refused : (o : Option (List Item)) (r : Result (List Item) ShelfFault) → IfNone o ((length found ≡ 0) ⊎ (repeats_id item_id found ≡ true)) → r ≡ ok_or o Store
+      → IfErr r (IsFaultOf (IsUnwritten items_text AreItems text))
+  items_refused None r h e = subst (λ r. IfErr r (IsFaultOf (IsUnwritten items_text AreItems text))) (sym e) (no_items h)
+  items_refused (Some all) r h e = subst (λ r. IfErr r (IsFaultOf (IsUnwritten items_text AreItems text))) (sym e) tt

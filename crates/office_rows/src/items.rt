@@ -99,12 +99,19 @@ fn front_item(alloc: Global, text: &[u8]) -> Result<(Item, &[u8]), ShelfFault>
     let Some((title, rest)) = cut(behind_quantity, b'\n') else {
         return Err(ShelfFault::Store);
     };
-    let item = Item {
-        id: Id::read(id).ok_or(ShelfFault::Store)?,
-        title: line_of(alloc, title)?,
-        quantity: quantity_of(quantity)?,
+    let Some(id) = Id::read(id) else {
+        return Err(ShelfFault::Store);
     };
-    Ok((item, rest))
+    let quantity = quantity_of(quantity)?;
+    let title = line_of(alloc, title)?;
+    Ok((
+        Item {
+            id,
+            title,
+            quantity,
+        },
+        rest,
+    ))
 }
 
 /// The items that a text writes; a fault of the store where it isn't the text of items.

@@ -1,8 +1,6 @@
 use Rattle.std.proofs.Common.{rules, arith, List, ℕ, ◌≡◌, ◌++◌, ◌+◌, [], ◌∷◌, take, ap, subst, ◌∙◌, sym}
 use Rattle.std.proofs.lemmas.List.{take_more, take_all}
 use Rattle.std.specs.List.{AllByRecursion}
-use Rattle.office_acts.specs.Identified.{repeats_id}
-use Rattle.office_acts.specs.Items.{item_id}
 use Rattle.office_rows.specs.ItemTexts.{item_then, items_text, items_in, IsItem}
 use Rattle.office_rows.proofs.ItemLemmas.{items_text-push, all-push, items_back}
 use Rattle.office_rows.proofs.ItemReading.{all_fit}
