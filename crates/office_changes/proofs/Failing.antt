@@ -1,5 +1,5 @@
 -- Why changes one after another were not made.
-use Rattle.std.proofs.Common.{◌≡◌, ◌⊎◌, inl, inr, ◌≤◌, ℕ, true, false, Bool, List, [], ◌∷◌, ◌++◌, Option, Result, Ok, Err, refl, sym, ap, subst, ◌∙◌, IsTrue, true≢false, arith}
+use Rattle.std.proofs.Common.{◌≡◌, inl, inr, ◌≤◌, ℕ, true, false, List, [], ◌∷◌, ◌++◌, Option, Result, Ok, Err, refl, sym, ap, subst, ◌∙◌, IsTrue, true≢false, arith}
 use Rattle.std.specs.Prelude.{IsErrAnd, IfErr}
 use Rattle.std.proofs.lemmas.Bool.{cases_Bool}
 use Rattle.std.proofs.lemmas.List.{append_assoc}
@@ -11,9 +11,8 @@ use Rattle.sqlite.specs.State.{State, HasCause, store_error}
 use Rattle.sqlite.specs.declared.error.Error.{Error}
 use Rattle.office_base.specs.Tables.{Tables, after_put, after_puts}
 use Rattle.office_base.specs.declared.puts.Put.{Put}
-use Rattle.office_sql.specs.Failing.{IsExcused, DiskFails, Declines, OneIsDeclined, StoreFails, ChangeFails}
+use Rattle.office_sql.specs.Failing.{IsExcused, OneIsDeclined, StoreFails, ChangeFails}
 use Rattle.office_sql.specs.Standing.{Holds}
-use Rattle.office_sql.specs.Statements.{statement_of, values_of}
 use Rattle.office_sql.specs.Steps.{Puts, ShowsTables}
 
 pub excused_with : (P Q : Type 0) (e : Error) → IsExcused P e → (P → Q) → IsExcused Q e

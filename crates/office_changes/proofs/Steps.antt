@@ -1,9 +1,7 @@
 -- Changes one after another.
-use Rattle.std.proofs.Common.{◌≡◌, inl, inr, Err, Ok, true, false, Result, List, [], ◌∷◌, ◌++◌, ℕ, refl, sym, subst, ◌∙◌, IsTrue}
+use Rattle.std.proofs.Common.{◌≡◌, Err, Ok, true, false, Result, List, [], ◌∷◌, ◌++◌, refl, sym, subst, ◌∙◌, IsTrue}
 use Rattle.std.specs.Prelude.{OnErr, OnOk}
-use Rattle.sqlite_value.specs.Order.{Row}
 use Rattle.sqlite_trees.specs.Tree.{Trees}
-use Rattle.sqlite.specs.declared.error.Error.{Error}
 use Rattle.sqlite.specs.State.{State, IsRolledBack, Shows}
 use Rattle.office_base.specs.Tables.{Tables, after_put, after_puts}
 use Rattle.office_base.specs.declared.puts.Put.{Put}

@@ -61,7 +61,7 @@ returns-in_err-put_all-clause-failed g c clean t shows =
     let late : HasCleanDisk (state g.S.Store end) = search rules in
     let early : HasCleanDisk (state g.S.Store mid) = omega (arith, c.drop-tx.ensures.survives.clean) in
     same_err c.from_residual.result _ _ c.from_residual.ensures.1
-    (subst (λ h. IsExcused (ChangeFails (state g.S.Store old) (state g.S.Store h) c.args.puts.now) _) same
+    (subst (λ h. IsExcused (ChangeFails (state g.S.Store old) (state g.S.Store h) c.args.puts.now) c.in_err-put_all.field-0.0) same
     (undone_fails (state g.S.Store old) (state g.S.Store mid) (state g.S.Store end) c.args.puts.now _ settled c.drop-tx.ensures.survives.counts t shows (λ held. (rw begun at c.in_err-put_all.ensures.failed) early refl t held)))
 
 pub returns-clause-failed : goal.returns-clause-failed

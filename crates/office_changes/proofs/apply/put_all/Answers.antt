@@ -53,6 +53,6 @@ returns-in_err-put_one-clause-failed g c clean inside t was =
     let rest = drop (c.puts.put-index + 1) c.args.puts.now in
     let more : take (c.puts.put-index + 1) c.args.puts.now ≡ done ++ here = search (rules, take_more) in
     let whole : done ++ here ++ rest ≡ c.args.puts.now = ap (λ l. l ++ rest) (sym more) ∙ take-append-drop (c.puts.put-index + 1) c.args.puts.now in
-    same_err c.from_residual-2.result _ _ c.from_residual-2.ensures.1
+    same_err c.from_residual-in_err-put_one.result _ _ c.from_residual-in_err-put_one.ensures.1
     (excused_with _ _ _ (c.in_err-put_one.ensures.failed late first.goes.mode _ (first.tables t was)) (λ cause.
     subst (StoreFails old new old.now) whole (fails_early old new old.now (done ++ here) rest (fails_later old mid new done here first c.puts.invariant.1.counts c.puts.invariant.1.limit cause))))
