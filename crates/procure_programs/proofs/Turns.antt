@@ -1,5 +1,5 @@
 -- One connection after another.
-use Rattle.std.proofs.Common.{◌≡◌, ◌⊎◌, inl, inr, ℕ, ◌+◌, ◌<◌, ◌≤◌, Bool, true, false, Result, Ok, Err, refl, sym, subst, ◌∙◌, arith}
+use Rattle.std.proofs.Common.{◌≡◌, ◌⊎◌, inl, inr, ℕ, zero, suc, ◌+◌, ◌<◌, ◌≤◌, Bool, true, false, Result, Ok, Err, refl, sym, subst, ◌∙◌, arith}
 use Rattle.std.specs.Prelude.{IfErr, Unit}
 use Rattle.office_base.specs.Shelves.{Meaning}
 use Rattle.office_base.specs.declared.shelf.ShelfFault.{ShelfFault}
@@ -43,9 +43,13 @@ module _ {S : Type 0} (M : Meaning S) (store : Standing S) where
   for_serves zero first new same = subst (λ (d : DeskOf S). Serves M zero first d) (sym same) (served_none M zero first)
   for_serves (suc n) first new it = served_within M (n + 1) (suc n) first new (omega arith) (goes_serves n first it.0 new (for_serves n first it.0 it.1) it.2)
 
+  pub one_more : (n : ℕ) (first mid new : DeskOf S) → GoesOnFor M store n first mid → GoesOn M store mid new → GoesOnFor M store (n + 1) first new
+  one_more n first mid new so_far last =
+      let next : suc n ≡ n + 1 = omega arith in subst (λ (k : ℕ). GoesOnFor M store k first new) next (mid, so_far, last)
+
   pub turns_before : (count : ℕ) (old new : DeskOf S) (result : Result (Unit {0}) ProgramFault) → ServesInTurn M store count old new result → M.honest new.shelf → M.honest old.shelf
   turns_before count old new (Ok done) it honest = for_before count old new it honest
-  turns_before count old new (Err Store) it honest = for_before it.0 old it.2 it.3 (asked_before it.2 new (Ok true) it.4 honest)
+  turns_before count old new (Err Store) it honest = for_before it.0 old it.2 it.3 (asked_before it.2 new it.4 it.5 honest)
   turns_before count old new (Err Input) it honest = for_before it.0 old it.2 it.3 (subst (λ (d : DeskOf S). M.honest d.shelf) it.4 honest)
   turns_before count old new (Err (Arguments e)) it honest = absurd it.4
   turns_before count old new (Err (Settings name)) it honest = absurd it.4
@@ -55,7 +59,7 @@ module _ {S : Type 0} (M : Meaning S) (store : Standing S) where
   pub turns_serve : (count : ℕ) (old new : DeskOf S) (result : Result (Unit {0}) ProgramFault) → ServesInTurn M store count old new result → Serves M count old new
   turns_serve count old new (Ok done) it = for_serves count old new it
   turns_serve count old new (Err Store) it =
-      served_within M (it.0 + 1) count old new (omega (arith, it.1)) (asked_serves it.0 old it.2 new (Ok true) (for_serves it.0 old it.2 it.3) it.4)
+      served_within M (it.0 + 1) count old new (omega (arith, it.1)) (asked_serves it.0 old it.2 new it.4 (for_serves it.0 old it.2 it.3) it.5)
   turns_serve count old new (Err Input) it =
       served_within M it.0 count old new (omega (arith, it.1)) (subst (λ (d : DeskOf S). Serves M it.0 old d) (sym it.4) (for_serves it.0 old it.2 it.3))
   turns_serve count old new (Err (Arguments e)) it = absurd it.4

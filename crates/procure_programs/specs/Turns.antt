@@ -1,12 +1,16 @@
 -- How an office in a store is served, one connection after another, until its store is shut.
-use Rattle.std.specs.Prelude.{◌≡◌, ◌⊎◌, ℕ, ◌<◌, Bool, true, false, Result, Ok, Err, Unit}
+use Rattle.std.specs.Prelude.{◌≡◌, ◌⊎◌, ℕ, ◌<◌, Bool, false, Result, Ok, Err, result_unwrap_or, IsTrue, Unit}
 use Rattle.office_base.specs.Shelves.{Meaning}
 use Rattle.office_base.specs.declared.shelf.ShelfFault.{ShelfFault}
-use Rattle.stored_shelf.specs.Shutting.{Standing, TellsShut, is_known_shut}
+use Rattle.stored_shelf.specs.Shutting.{Standing, TellsShut}
 use Rattle.office_desk.specs.Desks.{DeskOf}
 use Rattle.office_http.specs.Joined.{IsServedOnce}
 use Rattle.procure_config.specs.declared.fault.ProgramFault.{ProgramFault}
 use Rattle.procure_config.specs.declared.fault.ProgramFault.TheVariants.{Store, Input}
+
+-- the answer is that the store is shut; where it couldn't be asked, nothing is known
+abbrev pub is_known_shut : Result Bool ShelfFault → Bool
+is_known_shut answer = result_unwrap_or answer false
 
 -- one connection was served, and then it was asked whether the store is shut, with this answer
 pub record ServesAndAsks {S : Type 0} (M : Meaning S) (store : Standing S) (old new : DeskOf S) (answer : Result Bool ShelfFault) : Type 0 where
@@ -28,7 +32,7 @@ GoesOnFor {S = S} M store (suc n) old new = (mid : DeskOf S) × GoesOnFor M stor
 
 -- what comes behind them where not all connections are taken: one more, behind which the store is shut; or the clock can't be read
 abbrev pub EndsBy : {S : Type 0} → Meaning S → Standing S → ProgramFault → DeskOf S → DeskOf S → Type 0
-EndsBy M store Store old new = ServesAndAsks M store old new (Ok true)
+EndsBy M store Store old new = (answer : Result Bool ShelfFault) × ServesAndAsks M store old new answer × IsTrue (is_known_shut answer)
 EndsBy M store Input old new = new ≡ old
 EndsBy M store _ old new = ⊥
 

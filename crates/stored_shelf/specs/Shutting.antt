@@ -1,5 +1,5 @@
 -- Whether a store was shut for good.
-use Rattle.std.specs.Prelude.{◌≡◌, ◌⊎◌, ℕ, ◌≤◌, Bool, false, not, Result, Ok, Err, IfOk, IfErr, OnOk}
+use Rattle.std.specs.Prelude.{◌≡◌, ◌⊎◌, ℕ, ◌≤◌, Bool, not, Result, IfOk, IfErr, OnOk}
 use Rattle.office_base.specs.Faults.{one_fault_more}
 use Rattle.office_base.specs.Shelves.{Meaning, Keeps, CountsFaults}
 use Rattle.office_base.specs.declared.shelf.ShelfFault.{ShelfFault}
@@ -21,8 +21,3 @@ TellsShut M store old new result =
     × (M.honest new → IfErr result (λ fault. (fault ≡ NoMemory) ⊎ (one_fault_more (store.disk_faults old) ≤ store.disk_faults new)))
     × Keeps M old new
     × CountsFaults M old new result
-
--- the store is known to be shut
-abbrev pub is_known_shut : Result Bool ShelfFault → Bool
-is_known_shut (Ok shut) = shut
-is_known_shut (Err fault) = false
