@@ -3,7 +3,7 @@ use crate::disks::Disks;
 use office_base::ledger::LedgerRow;
 use office_base::puts::Put;
 use office_base::shelf::{Lookups, Shelf};
-use office_store::open::OpenRefusal;
+use office_store::found::OpenFault;
 use office_store::shelf::SqlShelf;
 use sqlite::{FileStore, Options};
 use sqlite_disk::{Fuse, Memory};
@@ -38,8 +38,10 @@ impl OfficeOnDisks {
         }
         match SqlShelf::open_files(alloc, files, Options::new(7)) {
             Ok(shelf) => Ok(OfficeOnDisks { shelf }),
-            Err(OpenRefusal::NotAnOffice(files)) => Err(Unopened::NotAnOffice(Disks { files })),
-            Err(_) => Err(Unopened::Unusable),
+            Err((OpenFault::NotAnOffice, left)) => Err(Unopened::NotAnOffice(Disks {
+                files: left.into_files(),
+            })),
+            Err((OpenFault::NoMemory | OpenFault::Store, _left)) => Err(Unopened::Unusable),
         }
     }
 

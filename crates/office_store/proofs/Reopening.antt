@@ -1,5 +1,5 @@
 -- The last commit, found again, files with no database, and what a refused opening leaves.
-use Rattle.std.proofs.Common.{arith, ◌≡◌, ◌⊎◌, inl, inr, [], refl, sym, ap, ap₂, subst, ◌∙◌, IsTrue, ⊥}
+use Rattle.std.proofs.Common.{arith, ◌≡◌, ◌⊎◌, inl, inr, [], refl, sym, ap, ap₂, subst, ◌∙◌, IsTrue}
 use Rattle.std.proofs.Math.Logic.{∥∥₁_elim}
 use Rattle.std.specs.Prelude.{length}
 use Rattle.sqlite_disk.specs.declared.Disk.{Ghosts}
@@ -39,7 +39,7 @@ finds_in files now found = record { holds = found.holds; reads = found.reads }
 -- the office that files hold is shown by what was opened there
 pub held_shown : {D : Type 0} {g : Ghosts D} (image : Image) (now : Held (FileStore D g)) → IsOpened now → FindsIn image (file_state now)
     → (t : Tables) → HoldsOffice image t → ShowsTables (file_state now) t
-held_shown image now opened found t (db, held, d, is, holds) is_open =
+held_shown image now opened found t (db, held, (d, is, holds)) is_open =
     let trees : (file_state now).committed.trees ≡ d.trees = ∥∥₁_elim held (Trees-set _ _) (found.holds db) ∙ is in
     let schema : (file_state now).committed.schema ≡ d.schema = schema_once (file_state now).committed d (opened.1 is_open).1 holds.sound trees in
     let same : d ≡ (file_state now).committed = λ i. record { schema = (sym schema) i; trees = (sym trees) i } in
@@ -49,7 +49,7 @@ held_shown image now opened found t (db, held, d, is, holds) is_open =
 pub closed_holds : {D : Type 0} {g : Ghosts D} (old : Held (FileStore D g)) (files : Files D) → IsCopied old files
     → (t : Tables) → ShowsTables (file_state old) t → HoldsOffice (image_of g files) t
 closed_holds old files copied t shows =
-    ((file_state old).committed.trees, copied.seen.both, (file_state old).committed, refl, shows copied.was_open)
+    ((file_state old).committed.trees, copied.seen.both, ((file_state old).committed, refl, shows copied.was_open))
 
 -- no database is found in a file with no bytes, so that what was opened lists nothing
 pub bare_schema : {D : Type 0} {g : Ghosts D} (image : Image) (new : Held (FileStore D g)) → length image.db ≡ 0 → IsOpened new → FindsIn image (file_state new) → new.schema ≡ no_schema

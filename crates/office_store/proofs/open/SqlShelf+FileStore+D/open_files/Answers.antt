@@ -45,7 +45,7 @@ returns-in-Err-enter-clause-refused g c clean =
       spared = c.in-Err-enter.ensures.spared;
       none = c.in-Err-enter.ensures.none;
       known = c.in-Err-enter.ensures.known;
-    }) c.in-Ok.ensures.opened c.in-Ok.ensures.found c.let_go.ensures clean)
+    }) c.in-Ok.ensures.opened c.in-Ok.ensures.found c.let_go.ensures.left clean)
 
 pub returns-in-Err-clause-refused : goal.returns-in-Err-clause-refused
 returns-in-Err-clause-refused g c clean = inl (c.open_fault.ensures, c.in-Err.ensures.unharmed clean)
