@@ -1,4 +1,4 @@
-use Rattle.std.proofs.Common.{◌≡◌, ◌∙◌, ◌++◌, ◌∷◌, [], ℕ, List, ap, codes, true, false}
+use Rattle.std.proofs.Common.{◌≡◌, ◌∙◌, ◌++◌, ◌∷◌, [], ℕ, List, ap, true, false}
 use Rattle.serde_json.specs.Data.{Members, member}
 use Rattle.serde_json.specs.Written.{members_text}
 use Rattle.office_values.specs.Moments.{moment_text}
