@@ -2,7 +2,7 @@
 //! had before the command, or all that the command changes; and nothing less where the changes were made.
 use crate::changes::{changes_of, copied};
 use crate::life::{LIFE, NO_LINE, TWO_LINES};
-use crate::stores::{all_changed, changed, ledger_in, made, opened, rows_in};
+use crate::stores::{all_changed, ledger_in, made, opened, rows_in};
 use office_base::puts::Put;
 use office_on_disks::disks::Disks;
 use std::alloc::Global;
@@ -142,39 +142,89 @@ fn stops(
     Err(Wrong::Stop(2000))
 }
 
-// Stops of the log's disk, and of that of the database file, in a command: the files behind it. Those of the log are to leave what is before it and what is
+// Stops of the log's disk, and of that of the database file, in a command. Those of the log are to leave what is before it and what is
 // behind it, those of the database file what is behind it.
-fn stopped(alloc: Global, disks: Disks, puts: &[Put]) -> Result<Disks, Wrong> {
-    let change = change_of(alloc, &disks, puts)?;
-    let log = stops(alloc, &disks, &change, Stopping::Log)?;
-    let db = stops(alloc, &disks, &change, Stopping::Database)?;
+fn stopped(alloc: Global, disks: &Disks, puts: &[Put]) -> Result<(), Wrong> {
+    let change = change_of(alloc, disks, puts)?;
+    let log = stops(alloc, disks, &change, Stopping::Log)?;
+    let db = stops(alloc, disks, &change, Stopping::Database)?;
     if log.before == 0 || log.behind == 0 || db.behind == 0 {
         return Err(Wrong::Stop(0));
     }
-    changed(alloc, disks, puts)
+    Ok(())
 }
 
-// The same in each of these commands, beginning with a new office.
-fn all_stopped(alloc: Global, changes: &[Vec<Put>]) -> Result<Disks, Wrong> {
-    let mut disks = made(alloc)?;
-    for puts in changes {
-        disks = stopped(alloc, disks, puts)?;
+// The same in the last of the first so many commands of a life.
+fn stopped_in_life(alloc: Global, count: usize) -> Result<(), Wrong> {
+    let mut changes = changes_of(alloc, &[LIFE])?;
+    if changes.len() != 9 {
+        return Err(Wrong::Stop(0));
     }
-    Ok(disks)
+    changes.truncate(count);
+    let Some(last) = changes.pop() else {
+        return Err(Wrong::Stop(0));
+    };
+    let disks = all_changed(alloc, made(alloc)?, &changes)?;
+    stopped(alloc, &disks, &last)
 }
 
-// Whether stops in each command of a life leave what is before it or what is behind it.
-fn leaves_all_or_none(alloc: Global) -> bool {
-    let Ok(changes) = changes_of(alloc, &[LIFE]) else {
-        return false;
-    };
-    changes.len() == 9 && all_stopped(alloc, &changes).is_ok()
+// Whether stops in this command of a life leave what is before it or what is behind it.
+fn leaves_all_or_none(alloc: Global, command: usize) -> bool {
+    stopped_in_life(alloc, command).is_ok()
 }
 
 #[test]
-fn a_life_is_stopped(rt: HostRuntime) {
+fn a_registration_is_stopped(rt: HostRuntime) {
     let alloc = rt.alloc();
-    assert!(rt; leaves_all_or_none(alloc) || leaves_all_or_none(alloc));
+    assert!(rt; leaves_all_or_none(alloc, 1) || leaves_all_or_none(alloc, 1));
+}
+
+#[test]
+fn an_import_is_stopped(rt: HostRuntime) {
+    let alloc = rt.alloc();
+    assert!(rt; leaves_all_or_none(alloc, 2) || leaves_all_or_none(alloc, 2));
+}
+
+#[test]
+fn a_publication_is_stopped(rt: HostRuntime) {
+    let alloc = rt.alloc();
+    assert!(rt; leaves_all_or_none(alloc, 3) || leaves_all_or_none(alloc, 3));
+}
+
+#[test]
+fn a_presentation_is_stopped(rt: HostRuntime) {
+    let alloc = rt.alloc();
+    assert!(rt; leaves_all_or_none(alloc, 4) || leaves_all_or_none(alloc, 4));
+}
+
+#[test]
+fn an_opening_is_stopped(rt: HostRuntime) {
+    let alloc = rt.alloc();
+    assert!(rt; leaves_all_or_none(alloc, 5) || leaves_all_or_none(alloc, 5));
+}
+
+#[test]
+fn an_examination_is_stopped(rt: HostRuntime) {
+    let alloc = rt.alloc();
+    assert!(rt; leaves_all_or_none(alloc, 6) || leaves_all_or_none(alloc, 6));
+}
+
+#[test]
+fn an_award_is_stopped(rt: HostRuntime) {
+    let alloc = rt.alloc();
+    assert!(rt; leaves_all_or_none(alloc, 7) || leaves_all_or_none(alloc, 7));
+}
+
+#[test]
+fn a_signature_is_stopped(rt: HostRuntime) {
+    let alloc = rt.alloc();
+    assert!(rt; leaves_all_or_none(alloc, 8) || leaves_all_or_none(alloc, 8));
+}
+
+#[test]
+fn a_payment_is_stopped(rt: HostRuntime) {
+    let alloc = rt.alloc();
+    assert!(rt; leaves_all_or_none(alloc, 9) || leaves_all_or_none(alloc, 9));
 }
 
 // The text of the ledger behind the first so many commands of a life.
