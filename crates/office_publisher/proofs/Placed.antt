@@ -1,5 +1,5 @@
 -- Releases taken one after another by their places.
-use Rattle.std.specs.Prelude.{◌≡◌, ◌≤◌, ◌<◌, ◌-◌, ℕ, zero, suc, ◌+◌, List, [], ◌∷◌, Option, Some, None, IfSome, All, drop, length, map, get_or, slice_get}
+use Rattle.std.specs.Prelude.{◌≡◌, ◌≤◌, ◌<◌, ◌-◌, ℕ, zero, suc, ◌+◌, List, [], ◌∷◌, Option, Some, None, Result, Ok, Err, IfOk, IfSome, All, drop, length, map, get_or, slice_get}
 use Rattle.std.proofs.Common.{refl, sym, ap, ◌∙◌, subst, arith}
 use Rattle.std.specs.List.{AllByRecursion}
 use Rattle.std.proofs.lemmas.List.{drop_all}
@@ -9,6 +9,11 @@ use Rattle.office_base.specs.declared.records.ReleaseRow.{ReleaseRow}
 use Rattle.office_publications.specs.Told.{IsInRange}
 use Rattle.office_publisher.specs.Extent.{IsExtentOf}
 use Rattle.office_publisher.specs.declared.packages.Extent.{Extent}
+
+-- what holds of a value holds of it in another form
+pub ok_then : {A E : Type 0} (P Q : A → Type 0) (r : Result A E) → ((a : A) → P a → Q a) → IfOk r P → IfOk r Q
+ok_then P Q (Ok a) then h = then a h
+ok_then P Q (Err e) then h = tt
 
 pub next_is : (rows : List ReleaseRow) (k : ℕ) (r : ReleaseRow) → slice_get rows k ≡ Some r → drop k rows ≡ r ∷ drop (k + 1) rows
 next_is [] k r is = absurd cc
