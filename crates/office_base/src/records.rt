@@ -216,6 +216,12 @@ pub struct CompiledRow {
     pub text: JsonText,
 }
 
+/// A notice whose tenders may be withdrawn after the deadline, at the price of their securities (Model Law, article 17).
+#[derive(Clone, Drop)]
+pub struct LateRow {
+    pub notice: Id,
+}
+
 /// The moment of the last accepted command, and the last numbers given to receipts and awards.
 #[derive(Clone, Copy)]
 pub struct ClockRow {
