@@ -100,7 +100,8 @@ pub enum EnvelopeState {
 }
 
 /// A tender that was received: the length and the SHA-256 of its bytes, and the security that came with it; what its opening read in it,
-/// whether its examination found it responsive and of which quality, and whether its tenderer failed to sign.
+/// whether its examination found it responsive and of which quality, and whether it is out of the running: its tenderer failed to sign, or
+/// took it back after the deadline.
 #[derive(Clone, Drop)]
 pub struct EnvelopeRow {
     pub receipt: GivenNumber,

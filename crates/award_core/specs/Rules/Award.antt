@@ -31,7 +31,7 @@ is_responsive (Some b) = b
 abbrev pub price_of : EnvelopeRow → ℕ
 price_of e = price_in e.reading
 
--- opened, priced, examined as responsive, and not failed
+-- opened, priced, examined as responsive, and not out of the running: its tenderer neither failed to sign nor took it back late
 abbrev pub is_admissible : EnvelopeRow → Bool
 is_admissible e = is_read e.state && is_priced e.reading && is_responsive e.responsive && not e.failed
 
