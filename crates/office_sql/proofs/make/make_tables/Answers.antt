@@ -1,7 +1,7 @@
 use Rattle.std.proofs.Common.{arith, [], ◌∷◌}
 use Rattle.sqlite.specs.Held.{state}
 use Rattle.sqlite.specs.State.{HasCleanDisk}
-use Rattle.office_sql.specs.Schema.OfficeTable.{Lines, Batches, Tenderers, Notices, Lots, Envelopes, Seals, Securities, Awards, Contracts, Entries, Releases, Compiled, Office}
+use Rattle.office_sql.specs.Schema.OfficeTable.{Lines, Batches, Tenderers, Notices, Lots, Envelopes, Seals, Securities, Awards, Contracts, Entries, Releases, Compiled, Office, LateRules}
 use Rattle.office_sql.proofs.MakingSteps.{makes_then, goes_then, goes_refused}
 use Rattle.office_sql.proofs.Stepping.{on_ok_with, on_err, on_err_with}
 use Rattle.office_sql.proofs.make.make_tables.Goals as goal
