@@ -110,11 +110,12 @@ abbrev pub late_puts : List ℕ → LateWithdrawal → List Put
 late_puts notice Refused = []
 late_puts notice Forfeits = puts.Late (record { notice = notice }) ∷ []
 
--- what a publication puts: the lines of its lots, the lots, the notice and the clock, and what it says of late withdrawals
+-- the lines of its lots, the lots, the notice and the clock
 abbrev pub publish_parts : ClockRow → ℕ → List ℕ → List LineRow → NewNotice → List Put
 publish_parts clock t notice lines new =
     map (line_put lines new.lots) new.lots ++ map (lot_put notice) new.lots ++ (notice_put t notice new ∷ puts.Clock (record clock { moment = t }) ∷ [])
 
+-- what a publication puts: these, and what it says of late withdrawals
 abbrev pub publish_effect : ClockRow → ℕ → List ℕ → List LineRow → NewNotice → List Put
 publish_effect clock t notice lines new = publish_parts clock t notice lines new ++ late_puts notice new.late_withdrawal
 
