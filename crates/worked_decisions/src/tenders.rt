@@ -137,14 +137,22 @@ const IN_TIME: Withdrawn = Withdrawn {
     late: false,
 };
 
+// Taken back in time.
+const TAKEN_BACK: &[Made] = &[
+    WITHDRAWN,
+    Made::NoSeal(1),
+    Made::Clock([8, 3, 0]),
+    Made::Security(1, SecurityState::Returned),
+];
+
 static WITHDRAWALS: [(Case, Wanted); 4] = [
-    (Case::Withdrawn(IN_TIME), Wanted::Puts(&TAKEN_BACK)),
+    (Case::Withdrawn(IN_TIME), Wanted::Puts(TAKEN_BACK)),
     (
         Case::Withdrawn(Withdrawn {
             late: true,
             ..IN_TIME
         }),
-        Wanted::Puts(&TAKEN_BACK),
+        Wanted::Puts(TAKEN_BACK),
     ),
     (
         Case::Withdrawn(Withdrawn {
@@ -160,13 +168,6 @@ static WITHDRAWALS: [(Case, Wanted); 4] = [
         }),
         Wanted::Refused("DeadlinePassed"),
     ),
-];
-
-static TAKEN_BACK: [Made; 4] = [
-    WITHDRAWN,
-    Made::NoSeal(1),
-    Made::Clock([8, 3, 0]),
-    Made::Security(1, SecurityState::Returned),
 ];
 
 #[test]
