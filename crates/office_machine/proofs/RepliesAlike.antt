@@ -175,7 +175,7 @@ module _ (th : Theirs) (W : ℕ → Bool) where
           blind-option th W (λ o. Awarded lot (option_map (winning s.clock) o) (release_of s.notices notice) t) (λ _ _. refl) (winner (notice_at notice s) (envelopes_of_lot notice lot s)) (winner (notice_at notice s) (envelopes_of_lot notice lot other))
           (pairs-winner th W (notice_at notice s) (envelopes_of_lot notice lot s) (envelopes_of_lot notice lot other) (of_lot notice lot))
       same_reply (commands.Fail award) after = refl
-      same_reply (commands.Sign award) after = refl
+      same_reply (commands.Sign award named) after = refl
       same_reply (commands.AmendContract contract entry kind amount rationale) after = left_same contract (contract_release (contract_at contract s) s.notices) (after tt)
       same_reply (commands.Pay contract entry amount) after = left_same contract (contract_release (contract_at contract s) s.notices) (after tt)
       same_reply (commands.End contract how) after = left_same contract (contract_release (contract_at contract s) s.notices) (after tt)
