@@ -116,6 +116,7 @@ shown_apart packages shows trees s caller (queries.Releases notice) = ap (packag
 shown_apart packages shows trees s caller (queries.Record notice) = ap (package_told (notice_at notice s)) (shows trees (queries.Record notice) s)
 shown_apart packages shows trees s caller (queries.Tender receipt) = refl
 shown_apart packages shows trees s caller (queries.Security security) = refl
+shown_apart packages shows trees s caller (queries.Performance contract) = refl
 
 pub looks_apart : LooksReadNoMerges
 looks_apart packages shows trees s caller query =

@@ -130,6 +130,8 @@ module _ (th : Theirs) (W : ℕ → Bool) where
     shown_alike packages blindly rows caller (queries.Tender receipt) = tender_alike caller (envelope_at receipt s) (find_envelope es' receipt) (found receipt)
     shown_alike packages blindly rows caller (queries.Security security) =
         told_same th caller (shown packages s caller (queries.Security security)) (shown packages other caller (queries.Security security)) refl
+    shown_alike packages blindly rows caller (queries.Performance contract) =
+        told_same th caller (shown packages s caller (queries.Performance contract)) (shown packages other caller (queries.Performance contract)) refl
 
     told_if : (caller : Caller) (b : Bool) (r r' : Reply) → ToldAlike th caller r r' → ToldAlike th caller (cond b r (Refused Forbidden)) (cond b r' (Refused Forbidden))
     told_if caller true r r' a = a
