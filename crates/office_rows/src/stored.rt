@@ -3,9 +3,9 @@ ghost use Rattle.std.specs.Prelude.{◌≡◌, IfOk, map, take, slice_get, optio
 ghost use Rattle.sqlite_value.specs.Order.{Row as Values, column, bytes};
 ghost use Rattle.office_rows.specs.Values.{number_in};
 ghost use Rattle.office_rows.specs.Budget.{line_read, batch_read};
-ghost use Rattle.office_rows.specs.Notices.{tenderer_read, notice_read, late_read, lot_read};
+ghost use Rattle.office_rows.specs.Notices.{tenderer_read, notice_read, former_read, late_read, lot_read};
 ghost use Rattle.office_rows.specs.Tenders.{envelope_read, seal_read, security_read};
-ghost use Rattle.office_rows.specs.Awards.{award_read, contract_read, entry_read};
+ghost use Rattle.office_rows.specs.Awards.{award_read, contract_read, entry_read, performance_read};
 ghost use Rattle.office_rows.specs.Releases.{release_read, compiled_read, clock_read};
 
 use crate::columns::{
@@ -20,7 +20,7 @@ use crate::words::{
 };
 use office_base::records::{
     AwardRow, BatchRow, ClockRow, CompiledRow, ContractRow, EntryRow, EnvelopeRow, LateRow,
-    LineRow, LotRow, NoticeRow, ReleaseRow, SealRow, SecurityRow, TendererRow,
+    LineRow, LotRow, NoticeRow, PerformanceRow, ReleaseRow, SealRow, SecurityRow, TendererRow,
 };
 use office_base::shelf::ShelfFault;
 use office_values::money::Amount;
@@ -90,6 +90,36 @@ impl Stored for NoticeRow {
             opened: perhaps_moment_at(row, 8)?,
             amendments: bounded_at(row, 9)?,
             releases: bounded_at(row, 10)?,
+            performance: amount_at(row, 11)?,
+        })
+    }
+}
+
+/// A notice as an earlier program kept it, which knew no performance securities: none is asked.
+#[derive(Drop)]
+pub struct FormerNotice {
+    pub row: NoticeRow,
+}
+
+impl Stored for FormerNotice {
+    ghost read = { λ r. record { row = former_read r } };
+
+    fn from_row(alloc: Global, row: &Row) -> Result<FormerNotice, ShelfFault> {
+        Ok(FormerNotice {
+            row: NoticeRow {
+                notice: id_at(row, 0)?,
+                title: line_at(alloc, row, 1)?,
+                published: moment_at(row, 2)?,
+                deadline: moment_at(row, 3)?,
+                validity: bounded_at(row, 4)?,
+                standstill: bounded_at(row, 5)?,
+                weight: bounded_at(row, 6)?,
+                performance: Amount::read(0).unwrap(),
+                state: notice_state_at(row, 7)?,
+                opened: perhaps_moment_at(row, 8)?,
+                amendments: bounded_at(row, 9)?,
+                releases: bounded_at(row, 10)?,
+            },
         })
     }
 }
@@ -240,6 +270,19 @@ impl Stored for LateRow {
     fn from_row(_alloc: Global, row: &Row) -> Result<LateRow, ShelfFault> {
         Ok(LateRow {
             notice: id_at(row, 0)?,
+        })
+    }
+}
+
+impl Stored for PerformanceRow {
+    ghost read = { performance_read };
+
+    fn from_row(_alloc: Global, row: &Row) -> Result<PerformanceRow, ShelfFault> {
+        Ok(PerformanceRow {
+            contract: bounded_at(row, 0)?,
+            reference: id_at(row, 1)?,
+            amount: bounded_at(row, 2)?,
+            state: security_state_at(row, 3)?,
         })
     }
 }
