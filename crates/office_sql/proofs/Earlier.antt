@@ -6,7 +6,7 @@ use Rattle.sqlite.specs.Effect.{Database}
 use Rattle.sqlite.specs.State.{State}
 use Rattle.office_base.specs.Tables.{Tables}
 use Rattle.office_sql.specs.Schema.{OfficeTable, table_of, late_rules}
-use Rattle.office_sql.specs.Schema.OfficeTable.{LateRules, Office}
+use Rattle.office_sql.specs.Schema.OfficeTable.{LateRules, FormerNotices, Performances, Office}
 use Rattle.office_sql.specs.Known.{IsIn, Places}
 use Rattle.office_sql.specs.Standing.{StandFor, Stands, Holds}
 use Rattle.office_sql.specs.Making.{AreMade, Makes}
