@@ -44,9 +44,7 @@ fn is_completed(alloc: Global) -> Result<bool, Wrong> {
 #[test]
 fn a_file_without_the_table_gets_it(rt: HostRuntime) {
     let alloc = rt.alloc();
-    assert!(rt;
-        matches!(is_completed(alloc), Ok(true)) || matches!(is_completed(alloc), Ok(true))
-    );
+    assert!(rt; matches!(is_completed(alloc), Ok(true)) || matches!(is_completed(alloc), Ok(true)));
 }
 
 // Whether files of that program to which this was added can't be used.
@@ -70,8 +68,10 @@ fn its_name_is_taken(rt: HostRuntime) {
 fn is_left(alloc: Global, disks: Disks, before: &[u8]) -> Result<bool, Wrong> {
     let of_process = reopened(alloc, disks.left_by_the_process(alloc)?)?;
     let of_machine = reopened(alloc, disks.left_by_the_machine(alloc)?)?;
-    Ok(rows_in(alloc, of_process, tables())? == before
-        && rows_in(alloc, of_machine, tables())? == before)
+    Ok(
+        rows_in(alloc, of_process, tables())? == before
+            && rows_in(alloc, of_machine, tables())? == before,
+    )
 }
 
 // How an opening on disks that take so many calls ended.
