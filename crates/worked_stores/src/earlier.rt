@@ -1,5 +1,5 @@
 //! A file of an earlier program, which made no table of late withdrawals: opened, it is the same office with that table, wherever a stop comes.
-use crate::earlier_file::{EARLIER_ROWS, EARLIER_TABLES};
+use crate::earlier_file::{EARLIER_LOTS, EARLIER_ROWS, EARLIER_TABLES};
 use crate::stores::{TABLES, opened, reopened, rows_in};
 use office_on_disks::database::Database;
 use office_on_disks::disks::Disks;
@@ -17,6 +17,7 @@ fn earlier(alloc: Global, statements: &str) -> Result<Disks, Wrong> {
     let mut database = Database::open(alloc, Disks::blank(alloc)).ok_or(Wrong::Unopened)?;
     if database.changes(EARLIER_TABLES)
         && database.changes(EARLIER_ROWS)
+        && database.changes(EARLIER_LOTS)
         && database.changes(statements)
     {
         database.close().ok_or(Wrong::Unopened)
