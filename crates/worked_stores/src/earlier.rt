@@ -1,5 +1,5 @@
 //! A file of an earlier program, which made no table of late withdrawals: opened, it is the same office with that table, wherever a stop comes.
-use crate::earlier_file::{EARLIER_ROWS, EARLIER_TABLES};
+use crate::earlier_file::{EARLIER_LOTS, EARLIER_ROWS, EARLIER_TABLES};
 use crate::stores::{TABLES, opened, reopened, rows_in};
 use office_on_disks::database::Database;
 use office_on_disks::disks::Disks;
@@ -17,6 +17,7 @@ fn earlier(alloc: Global, statements: &str) -> Result<Disks, Wrong> {
     let mut database = Database::open(alloc, Disks::blank(alloc)).ok_or(Wrong::Unopened)?;
     if database.changes(EARLIER_TABLES)
         && database.changes(EARLIER_ROWS)
+        && database.changes(EARLIER_LOTS)
         && database.changes(statements)
     {
         database.close().ok_or(Wrong::Unopened)
@@ -44,9 +45,7 @@ fn is_completed(alloc: Global) -> Result<bool, Wrong> {
 #[test]
 fn a_file_without_the_table_gets_it(rt: HostRuntime) {
     let alloc = rt.alloc();
-    assert!(rt;
-        matches!(is_completed(alloc), Ok(true)) || matches!(is_completed(alloc), Ok(true))
-    );
+    assert!(rt; matches!(is_completed(alloc), Ok(true)) || matches!(is_completed(alloc), Ok(true)));
 }
 
 // Whether files of that program to which this was added can't be used.
@@ -70,8 +69,10 @@ fn its_name_is_taken(rt: HostRuntime) {
 fn is_left(alloc: Global, disks: Disks, before: &[u8]) -> Result<bool, Wrong> {
     let of_process = reopened(alloc, disks.left_by_the_process(alloc)?)?;
     let of_machine = reopened(alloc, disks.left_by_the_machine(alloc)?)?;
-    Ok(rows_in(alloc, of_process, tables())? == before
-        && rows_in(alloc, of_machine, tables())? == before)
+    Ok(
+        rows_in(alloc, of_process, tables())? == before
+            && rows_in(alloc, of_machine, tables())? == before,
+    )
 }
 
 // How an opening on disks that take so many calls ended.
