@@ -43,7 +43,7 @@ pub record AreMade (done : List OfficeTable) (db : Database) : Type 0 where
 
 -- all tables of an office, the last that is made first
 abbrev pub all_tables : List OfficeTable
-all_tables = Performances ∷ LateRules ∷ Office ∷ Merges ∷ Releases ∷ Entries ∷ Contracts ∷ Awards ∷ Securities ∷ Seals ∷ Envelopes ∷ Lots ∷ Notices ∷ FormerNotices ∷ Tenderers ∷ Batches ∷ Lines ∷ []
+all_tables = Performances ∷ Notices ∷ LateRules ∷ Office ∷ Merges ∷ Releases ∷ Entries ∷ Contracts ∷ Awards ∷ Securities ∷ Seals ∷ Envelopes ∷ Lots ∷ FormerNotices ∷ Tenderers ∷ Batches ∷ Lines ∷ []
 
 -- each table that was there is there, with its rows
 abbrev pub KeepsOthers : Database → Database → Type 0
