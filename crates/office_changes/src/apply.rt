@@ -9,8 +9,8 @@ use office_sql::puts;
 use sqlite::{Alter, Connection, Error, Transaction};
 use std::alloc::Global;
 
-// Ready for changes: the store is open, whatever stands there.
-fn begin<S: Alter>(tx: &mut Transaction<'_, S>) -> Result<(), Error>
+/// Ready for changes: the store is open, whatever stands there.
+pub(crate) fn begin<S: Alter>(tx: &mut Transaction<'_, S>) -> Result<(), Error>
     ensures same_reference { tx.new.conn.ghost_name ≡ tx.old.conn.ghost_name }
     ensures puts { HasCleanDisk (state S.Store tx.new.conn.now) → IsTrue (state S.Store tx.old.conn.now).in_transaction → OnOk result (Puts (state S.Store tx.old.conn.now) (state S.Store tx.new.conn.now) []) }
     ensures refused { HasCleanDisk (state S.Store tx.new.conn.now) → OnErr result (Refused (state S.Store tx.old.conn.now) (state S.Store tx.new.conn.now)) }

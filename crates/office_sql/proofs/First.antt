@@ -16,14 +16,18 @@ use Rattle.sqlite_rules.proofs.ListLemmas.{all_has}
 use Rattle.sqlite_tied.specs.Compute.{everything}
 use Rattle.sqlite.specs.Effect.{Database, IsDatabase}
 use Rattle.sqlite.specs.State.{State, ExecutesInside}
-use Rattle.office_base.specs.Rows.{row_put}
-use Rattle.office_base.specs.Tables.{Tables}
+use Rattle.std.specs.Cmp.Lexicographic.{nat_list_cmp_total}
+use Rattle.office_values.specs.Ids.{id_cmp}
+use Rattle.office_base.specs.Rows.{row_put, IsInOrder}
+use Rattle.office_base.specs.Tables.{Tables, notice_key}
+use Rattle.office_base.proofs.ExactKeys.{ids_exact}
 use Rattle.office_base.specs.declared.records.ClockRow.{ClockRow}
 use Rattle.office_rows.specs.Laws.{ComesBack}
+use Rattle.office_rows.specs.Notices.{former_row, former_in}
 use Rattle.office_rows.specs.Releases.{clock_row, clock_read, clock_in}
 use Rattle.office_sql.specs.Clock.{clock_key, clock_cmp}
 use Rattle.office_sql.specs.First.{lacks, lacking, has_late, drop_notices, drop_version, StandForFirst, HoldsFirst, HoldsOffice, ShowsOffice, Renews, Begins}
-use Rattle.office_sql.specs.Kept.{by_rowid, read_by_rowid}
+use Rattle.office_sql.specs.Kept.{behind, by_rowid, read_by_rowid}
 use Rattle.office_sql.specs.Known.{IsIn, Places, HasTables, at_tree}
 use Rattle.office_sql.specs.Making.{AreMade, KeepsOffice, Makes}
 use Rattle.office_sql.specs.Schema.{OfficeTable, table_of, notices, former_notices, office, performance, late_rules}
@@ -34,6 +38,7 @@ use Rattle.office_sql.proofs.Deletes.{IsDelete, delete_means}
 use Rattle.office_sql.proofs.Emptied.{empties}
 use Rattle.office_sql.proofs.Founds.{nothing as no_rows}
 use Rattle.office_sql.proofs.Held.{goes_on}
+use Rattle.office_sql.proofs.KeptRows.{in_order-table_of}
 use Rattle.office_sql.proofs.MakingSteps.{goes_then}
 use Rattle.office_sql.proofs.Meanings.{Means, parsed_in}
 use Rattle.office_sql.proofs.PutTexts.{put_office, put_office_means}
@@ -53,6 +58,12 @@ second_version db t was = record { place = was.places Office; table = was.tables
 pub late_there : (late : Bool) (db : Database) (t : Tables) → HoldsFirst late db t → has_late db.schema ≡ late
 late_there true db t was = ap is_some (was.tables LateRules refl).named
 late_there false db t was = ap is_some (was.missing LateRules refl)
+
+-- its notices are in the order of their identifiers
+pub first_sorted : (late : Bool) (db : Database) (t : Tables) → HoldsFirst late db t → IsInOrder id_cmp notice_key t.notices
+first_sorted late db t was =
+    let stand = was.stands FormerNotices refl in
+    subst (IsInOrder id_cmp notice_key) stand.is (in_order-table_of id_cmp nat_list_cmp_total ids_exact notice_key (behind former_row) former_in (db.trees (was.places FormerNotices)))
 
 -- ---- the tables that it lacks are made
 
