@@ -1,7 +1,7 @@
 mod Once
 mod Shelves
 mod Founding
-mod Completing
+mod Migrating
 mod Reopening
 mod Joined
 mod Taking

@@ -13,13 +13,13 @@ use Rattle.sqlite.specs.Closing.{IsCopied}
 use Rattle.sqlite.proofs.Callers.{finds_again}
 use Rattle.sqlite.proofs.ListingLemmas.{empty_is_sound}
 use Rattle.office_base.specs.Tables.{Tables}
-use Rattle.office_sql.specs.Earlier.{HoldsOffice, ShowsOffice}
+use Rattle.office_sql.specs.First.{HoldsOffice, ShowsOffice}
 use Rattle.office_store.proofs.Founding.{no_schema}
 use Rattle.office_store.proofs.Once.{schema_once}
 
 is_sound : (db : Database) (t : Tables) → HoldsOffice db t → IsDatabase db
 is_sound db t (inl was) = was.sound
-is_sound db t (inr was) = was.sound
+is_sound db t (inr was) = was.1.sound
 
 pub shows_again : {D : Type 0} {g : Ghosts D} (old new : Held (FileStore D g)) (files : Files D) → (AreClean g files.log files.db → IsCopied old files) → IsOpened new → Finds files new
     → (t : Tables) → ShowsOffice (file_state old) t → ShowsOffice (file_state new) t

@@ -1,5 +1,5 @@
 -- What an opening finds in a database, and what it makes there.
-use Rattle.std.specs.Prelude.{◌≡◌, ◌⊎◌, ◌&&◌, ℕ, Bool, true, false, nat_eq, pos, IsTrue, List, [], ◌∷◌, codes}
+use Rattle.std.specs.Prelude.{◌≡◌, ◌⊎◌, ◌&&◌, ℕ, Bool, true, false, not, nat_eq, pos, IsTrue, List, [], ◌∷◌, codes}
 use Rattle.std.specs.List.{list_any}
 use Rattle.sqlite_value.specs.declared.value.Value.TheVariants.{Int}
 use Rattle.sqlite_value.specs.Order.{Row}
@@ -12,7 +12,7 @@ use Rattle.sqlite.specs.Effect.{IsDatabase}
 use Rattle.sqlite.specs.Held.{Held, state}
 use Rattle.sqlite.specs.State.{State}
 use Rattle.office_base.specs.Tables.{Tables, no_tables}
-use Rattle.office_sql.specs.Earlier.{has_later, HoldsEarlier}
+use Rattle.office_sql.specs.First.{HoldsFirst}
 use Rattle.office_sql.specs.Making.{KeepsOthers}
 use Rattle.office_sql.specs.Standing.{Holds}
 use Rattle.office_sql.specs.Steps.{Leaves, Refused, IsAsked}
@@ -23,10 +23,11 @@ abbrev pub office_names : List (List ℕ)
 office_names =
     codes "lines" ∷ codes "batches" ∷ codes "tenderers" ∷ codes "notices" ∷ codes "lots" ∷ codes "envelopes" ∷ codes "seals"
     ∷ codes "securities" ∷ codes "awards" ∷ codes "contracts" ∷ codes "entries" ∷ codes "releases" ∷ codes "compiled" ∷ codes "office" ∷ codes "late_rules"
+    ∷ codes "notices_2" ∷ codes "performance"
     ∷ codes "lots_of_line" ∷ codes "envelopes_of_notice" ∷ codes "securities_of_notice" ∷ codes "awards_of_notice" ∷ codes "contracts_of_notice"
     ∷ codes "sqlite_autoindex_lines_1" ∷ codes "sqlite_autoindex_batches_1" ∷ codes "sqlite_autoindex_tenderers_1" ∷ codes "sqlite_autoindex_notices_1"
     ∷ codes "sqlite_autoindex_lots_1" ∷ codes "sqlite_autoindex_entries_1" ∷ codes "sqlite_autoindex_releases_1" ∷ codes "sqlite_autoindex_compiled_1"
-    ∷ codes "sqlite_autoindex_late_rules_1" ∷ []
+    ∷ codes "sqlite_autoindex_late_rules_1" ∷ codes "sqlite_autoindex_notices_2_1" ∷ []
 
 -- a table, an index or a view of the schema has one of them, so that a CREATE of the office would be refused
 abbrev pub takes_a_name : Schema → Bool
@@ -41,9 +42,18 @@ abbrev pub is_version_one : List Row → Bool
 is_version_one ((Int (pos n) ∷ []) ∷ []) = nat_eq n 1
 is_version_one _ = false
 
--- these rows were the answer to the question for the version
-abbrev pub Answered : {S : Type 0} → Ghosts S → Held S → Bool → Type 0
-Answered g old first = (rows : List Row) × IsAsked g get_version [] old rows × (is_version_one rows ≡ first)
+-- the rows are one, and it is version 2
+abbrev pub is_version_two : List Row → Bool
+is_version_two ((Int (pos n) ∷ []) ∷ []) = nat_eq n 2
+is_version_two _ = false
+
+-- neither
+abbrev pub is_other_version : List Row → Bool
+is_other_version rows = not (is_version_one rows) && not (is_version_two rows)
+
+-- such rows were the answer to the question for the version
+abbrev pub Answered : {S : Type 0} → Ghosts S → Held S → (List Row → Bool) → Type 0
+Answered g old version = (rows : List Row) × IsAsked g get_version [] old rows × IsTrue (version rows)
 
 -- an office was made, and stands empty beside what was there
 pub record Founded (old new : State) : Type 0 where
@@ -62,31 +72,33 @@ IsSoundOpen s = IsTrue s.is_open → IsDatabase s.committed
 abbrev pub LeavesNew : State → Trees → Type 0
 LeavesNew old trees = IsTrue old.is_open × (IsDatabase old.committed → Leaves no_tables trees)
 
--- an office of an earlier program has all tables now, with its content, beside what was there
-pub record Completed (old new : State) : Type 0 where
+-- an office of version 1 became one of version 2, with its content
+pub record Migrated (old new : State) : Type 0 where
   pub was_open : IsTrue old.is_open
   pub is_open : IsTrue new.is_open
-  pub tables : (t : Tables) → HoldsEarlier old.committed t → Holds new.committed t
-  pub others : KeepsOthers old.committed new.committed
+  pub tables : (late : Bool) (t : Tables) → HoldsFirst late old.committed t → Holds new.committed t
   -- a stop leaves it and nothing else
   pub only : (db : Trees) → new.may_leave db → db ≡ new.committed.trees
 
--- what the commit of the tables that an office of an earlier program lacks leaves
-abbrev pub LeavesCompleted : State → Trees → Type 0
-LeavesCompleted old trees = IsTrue old.is_open × ((t : Tables) → HoldsEarlier old.committed t → Leaves t trees)
+-- what the commit of a migration leaves: the whole of an office of version 2, with the content that stood there
+abbrev pub LeavesMigrated : State → Trees → Type 0
+LeavesMigrated old trees = IsTrue old.is_open × ((late : Bool) (t : Tables) → HoldsFirst late old.committed t → Leaves t trees)
 
--- what an opening may commit: the whole of an empty office, or the whole of an office of an earlier program with the tables that it lacked
+-- what an opening may commit: the whole of an empty office, or the whole of one that was migrated
 abbrev pub LeavesOffice : State → Trees → Type 0
-LeavesOffice old trees = (IsTrue old.is_open × Leaves no_tables trees) ⊎ LeavesCompleted old trees
+LeavesOffice old trees = (IsTrue old.is_open × Leaves no_tables trees) ⊎ LeavesMigrated old trees
 
--- the last commit is as it was; or the tables that came later weren't there, and were made
-abbrev pub Readied : State → State → Type 0
-Readied old new = Refused old new ⊎ ((has_later old.committed.schema ≡ false) × Completed old new)
+-- an office of version 1 was migrated, and of one of version 2 the last commit is as it was
+abbrev pub Readied : Bool → State → State → Type 0
+Readied true old new = Migrated old new
+Readied false old new = Refused old new
 
--- an office of version 1 was there, and has all tables now; or nothing answered, no name was taken, and an office was made
+-- an office of version 2 was there, and is as it was; or one of version 1, and it was migrated; or nothing answered, no name was taken, and an office was made
 abbrev pub Enters : {S : Type 0} → Ghosts S → Held S → Held S → Type 0
-Enters g old new = (Answered g old true × Readied (state g old) (state g new)) ⊎ (HasNoVersion g old × (takes_a_name old.schema ≡ false) × Founded (state g old) (state g new))
+Enters g old new =
+    (Answered g old is_version_two × Refused (state g old) (state g new)) ⊎ ((Answered g old is_version_one × Migrated (state g old) (state g new))
+    ⊎ (HasNoVersion g old × (takes_a_name old.schema ≡ false) × Founded (state g old) (state g new)))
 
 -- what answered is another version or no single row; or nothing answered, and a name is taken
 abbrev pub IsNoOffice : {S : Type 0} → Ghosts S → Held S → Type 0
-IsNoOffice g old = Answered g old false ⊎ (HasNoVersion g old × (takes_a_name old.schema ≡ true))
+IsNoOffice g old = Answered g old is_other_version ⊎ (HasNoVersion g old × (takes_a_name old.schema ≡ true))

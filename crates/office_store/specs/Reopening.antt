@@ -11,13 +11,13 @@ use Rattle.sqlite.specs.Files.{file_state, over_files, image_of, Finds, IsOpened
 use Rattle.sqlite.specs.Closing.{IsCopied}
 use Rattle.sqlite.specs.declared.file.Leftover.{Leftover}
 use Rattle.office_base.specs.Tables.{Tables, no_tables}
-use Rattle.office_sql.specs.Earlier.{ShowsOffice}
+use Rattle.office_sql.specs.First.{ShowsOffice}
 use Rattle.office_sql.specs.Steps.{ShowsTables, Refused}
 use Rattle.office_store.specs.Founding.{Enters, IsNoOffice, LeavesOffice}
 use Rattle.office_store.specs.declared.open.OpenRefusal.{OpenRefusal}
 use Rattle.office_store.specs.declared.open.OpenRefusal.TheVariants as refusal
 
--- what stood there was entered: its content is kept, be it of this program or of an earlier one, and a stop leaves what was or the whole office
+-- what stood there was entered: its content is kept, be it of version 1 or 2, and a stop leaves what was or the whole office
 pub record Entered {S : Type 0} (g : StoreGhosts S) (before now : Held S) : Type 0 where
   pub enters : Enters g before now
   pub kept : (t : Tables) → ShowsOffice (state g before) t → ShowsTables (state g now) t

@@ -5,13 +5,13 @@ ghost use Rattle.sqlite_catalog.specs.Change.{is_used};
 ghost use Rattle.sqlite.specs.Held.{state};
 ghost use Rattle.sqlite.specs.State.{HasCleanDisk, Survives};
 ghost use Rattle.office_base.specs.Tables.{Tables};
-ghost use Rattle.office_sql.specs.Earlier.{ShowsOffice};
+ghost use Rattle.office_sql.specs.First.{ShowsOffice};
 ghost use Rattle.office_sql.specs.Steps.{Refused, ShowsTables};
-ghost use Rattle.office_store.specs.Founding.{Founded, LeavesNew, LeavesOffice, Enters, IsNoOffice, IsSoundOpen, takes_a_name, has_rowids, is_version_one};
+ghost use Rattle.office_store.specs.Founding.{Founded, LeavesNew, LeavesMigrated, LeavesOffice, Readied, Enters, IsNoOffice, IsSoundOpen, takes_a_name, has_rowids, is_version_one, is_version_two};
 ghost use Rattle.office_store.specs.SqlMeaning.{LeavesShown};
 
-use crate::complete::ready;
 use crate::faults::fault;
+use crate::migrate::migrated;
 use office_base::shelf::ShelfFault;
 use office_sql::make::make;
 use office_sql::version::ask_version;
@@ -20,6 +20,7 @@ use sqlite_catalog::layout::is_used;
 use sqlite_schema::names::same_name;
 use sqlite_schema::schema::Schema;
 use sqlite_value::value::ValueRef;
+use std::alloc::Global;
 
 /// Why no office was opened.
 #[derive(Clone, Copy, Debug, PartialEq, Eq)]
@@ -28,19 +29,26 @@ pub enum OpenFault {
     NoMemory,
     /// The store failed, or keeps its tables in another form than this program makes.
     Store,
-    /// What stands there is no office of version 1: it has another version or no single row of one, or it has none, and a name of
-    /// the office's is taken.
+    /// What stands there is no office of version 1 or 2: it has another version or no single row of one, or it has none, and a
+    /// name of the office's is taken.
     NotAnOffice,
+}
+
+// The fault of a shelf, as one of an opening.
+fn opening(fault: ShelfFault) -> OpenFault
+    ensures { result ≡ OpenFault.NotAnOffice → ⊥ }
+{
+    match fault {
+        ShelfFault::NoMemory => OpenFault::NoMemory,
+        ShelfFault::Store => OpenFault::Store,
+    }
 }
 
 /// The fault of a store, as one of an opening.
 pub(crate) fn open_fault(error: Error) -> OpenFault
     ensures { result ≡ OpenFault.NotAnOffice → ⊥ }
 {
-    match fault(error) {
-        ShelfFault::NoMemory => OpenFault::NoMemory,
-        ShelfFault::Store => OpenFault::Store,
-    }
+    opening(fault(error))
 }
 
 /// Makes an office, in one transaction.
@@ -72,7 +80,7 @@ fn any_is_used(schema: &Schema, names: &[&[u8]]) -> bool
 fn takes_a_name(schema: &Schema) -> bool
     ensures { result ≡ takes_a_name schema.now }
 {
-    let names: [&[u8]; 29] = [
+    let names: [&[u8]; 32] = [
         b"lines",
         b"batches",
         b"tenderers",
@@ -88,6 +96,8 @@ fn takes_a_name(schema: &Schema) -> bool
         b"compiled",
         b"office",
         b"late_rules",
+        b"notices_2",
+        b"performance",
         b"lots_of_line",
         b"envelopes_of_notice",
         b"securities_of_notice",
@@ -102,6 +112,7 @@ fn takes_a_name(schema: &Schema) -> bool
         b"sqlite_autoindex_releases_1",
         b"sqlite_autoindex_compiled_1",
         b"sqlite_autoindex_late_rules_1",
+        b"sqlite_autoindex_notices_2_1",
     ];
     any_is_used(schema, names.as_slice())
 }
@@ -115,6 +126,15 @@ fn is_version_one(rows: &[Row]) -> bool
     matches!(rows[0].get_ref(0), Ok(ValueRef::Int(1)))
 }
 
+fn is_version_two(rows: &[Row]) -> bool
+    ensures { result ≡ is_version_two rows.now }
+{
+    if rows.len() != 1 || rows[0].column_count() != 1 {
+        return false;
+    }
+    matches!(rows[0].get_ref(0), Ok(ValueRef::Int(2)))
+}
+
 // Whether the key of the table `office` is its rowid, as this program makes it.
 fn has_rowids(schema: &Schema) -> bool
     ensures { result ≡ has_rowids schema.now }
@@ -124,7 +144,7 @@ fn has_rowids(schema: &Schema) -> bool
 }
 
 // A store that answered may have been shut by the end of the transaction in which it was asked: this one is open.
-pub(crate) fn still_open<S: Alter>(conn: &mut Connection<S>) -> Result<(), OpenFault>
+fn still_open<S: Alter>(conn: &mut Connection<S>) -> Result<(), OpenFault>
     ensures is_open { HasCleanDisk (state S.Store conn.new) → OnOk result (IsTrue (state S.Store conn.new).is_open) }
     ensures cause { IfErr result (λ e. e ≡ OpenFault.NotAnOffice → ⊥) }
     ensures kept { HasCleanDisk (state S.Store conn.new) → Refused (state S.Store conn.old) (state S.Store conn.new) }
@@ -136,9 +156,26 @@ pub(crate) fn still_open<S: Alter>(conn: &mut Connection<S>) -> Result<(), OpenF
     Ok(())
 }
 
-/// Enters the office that is there, with the tables that an earlier program didn't make, or makes one where no name of the office's is taken. The
+// An office of this version is used as it is, one of version 1 becomes one.
+fn ready<S: Alter>(alloc: Global, conn: &mut Connection<S>, is_first: bool) -> Result<(), OpenFault>
+    ensures readied { HasCleanDisk (state S.Store conn.new) → OnOk result (Readied is_first (state S.Store conn.old) (state S.Store conn.new)) }
+    ensures is_open { HasCleanDisk (state S.Store conn.new) → OnOk result (IsTrue (state S.Store conn.new).is_open) }
+    ensures cause { IfErr result (λ e. e ≡ OpenFault.NotAnOffice → ⊥) }
+    ensures kept { HasCleanDisk (state S.Store conn.new) → OnErr result (Refused (state S.Store conn.old) (state S.Store conn.new)) }
+    ensures survives { Survives (state S.Store conn.old) (state S.Store conn.new) (LeavesMigrated (state S.Store conn.old)) }
+{
+    if !is_first {
+        return still_open(conn);
+    }
+    match migrated(alloc, conn) {
+        Ok(()) => Ok(()),
+        Err(fault) => Err(opening(fault)),
+    }
+}
+
+/// Enters the office that is there, where one of version 1 becomes one of version 2, or makes one where no name of the office's is taken. The
 /// store is open then.
-pub(crate) fn enter<S: Alter>(conn: &mut Connection<S>) -> Result<(), OpenFault>
+pub(crate) fn enter<S: Alter>(alloc: Global, conn: &mut Connection<S>) -> Result<(), OpenFault>
     ensures enters { HasCleanDisk (state S.Store conn.new) → OnOk result (Enters S.Store conn.old conn.new) }
     ensures none { HasCleanDisk (state S.Store conn.new) → IfErr result (λ e. e ≡ OpenFault.NotAnOffice → IsNoOffice S.Store conn.old) }
     ensures found { HasCleanDisk (state S.Store conn.new) → (t : Tables) → ShowsOffice (state S.Store conn.old) t → OnOk result (ShowsTables (state S.Store conn.new) t) }
@@ -155,13 +192,15 @@ pub(crate) fn enter<S: Alter>(conn: &mut Connection<S>) -> Result<(), OpenFault>
     let has_key = has_rowids(conn.schema());
     match ask_version(conn) {
         Ok(rows) => {
-            if !is_version_one(rows.as_slice()) {
+            let is_first = is_version_one(rows.as_slice());
+            let is_second = is_version_two(rows.as_slice());
+            if !is_first && !is_second {
                 return Err(OpenFault::NotAnOffice);
             }
             if !has_key {
                 return Err(OpenFault::Store);
             }
-            match ready(conn) {
+            match ready(alloc, conn, is_first) {
                 Ok(()) => Ok(()),
                 Err(fault) => Err(fault),
             }

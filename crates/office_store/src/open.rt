@@ -53,7 +53,7 @@ impl SqlShelf<MemStore> {
         let Ok(mut conn) = Connection::open_in_memory(alloc) else {
             return Err(OpenFault::NoMemory);
         };
-        match enter(&mut conn) {
+        match enter(alloc, &mut conn) {
             Ok(()) => Ok(SqlShelf {
                 alloc,
                 conn,
@@ -89,7 +89,7 @@ impl<D: Disk + Drop> SqlShelf<FileStore<D>> {
                 ShelfFault::Store => return Err(OpenRefusal::Store),
             },
         };
-        match enter(&mut conn) {
+        match enter(alloc, &mut conn) {
             Ok(()) => Ok(SqlShelf {
                 alloc,
                 conn,
@@ -128,7 +128,7 @@ impl SqlShelf<FileStore<File>> {
             Ok(conn) => conn,
             Err(error) => return Err(open_fault(error)),
         };
-        match enter(&mut conn) {
+        match enter(rt.alloc(), &mut conn) {
             Ok(()) => Ok(SqlShelf {
                 alloc: rt.alloc(),
                 conn,

@@ -1,30 +1,34 @@
-use Rattle.std.proofs.Common.{rules, arith, ◌≡◌, ◌∙◌, ap, sym, subst, inl, inr, [], true, false, true≢false}
+use Rattle.std.proofs.Common.{rules, arith, ◌≡◌, refl, subst, inl, inr, [], true, false}
 use Rattle.sqlite.specs.Held.{state}
 use Rattle.sqlite.specs.declared.error.Error.TheVariants.{SqlInputError}
 use Rattle.sqlite.specs.State.{HasCleanDisk, IsLive}
 use Rattle.sqlite.proofs.StateLemmas.{survives_then}
 use Rattle.office_sql.specs.Steps.{IsRefusal}
 use Rattle.office_sql.specs.Version.{get_version}
-use Rattle.office_sql.proofs.Earlier.{shown_version}
-use Rattle.office_store.specs.Founding.{is_version_one, takes_a_name, LeavesOffice}
+use Rattle.office_store.specs.Founding.{is_version_one, is_other_version, takes_a_name, LeavesOffice}
 use Rattle.office_store.proofs.Founding.{sound_after, founded_after, leaves_before, refused_on, shown_is_left}
-use Rattle.office_store.proofs.Completing.{leaves_completed_before, readied_after, office_on}
+use Rattle.office_store.proofs.Migrating.{leaves_migrated_before, readied_after, readied_enters, readied_shows, never_other, shown_version}
 use Rattle.office_store.proofs.found.enter.Goals as goal
 
 pub returns-in-Ok-ready-clause-enters : goal.returns-in-Ok-ready-clause-enters
 returns-in-Ok-ready-clause-enters g c clean =
-    let old = state g.S.Store c.args.conn.now in
+    let held = c.args.conn.now in
+    let old = state g.S.Store held in
     let mid = state g.S.Store c.ask_version.new.conn in
     let early : HasCleanDisk mid = omega (arith, clean, c.ready.ensures.survives.clean) in
-    let one : is_version_one c.in-Ok.rows.items ≡ true = search rules in
-    inl ((c.in-Ok.rows.items, c.in-Ok.ensures.asked early, one), readied_after old mid (state g.S.Store c.ready.new.conn) (c.ask_version.ensures.kept early) (c.in-Ok-ready.ensures.readied clean))
+    let one : is_other_version c.in-Ok.rows.items ≡ false = search rules in
+    let readied = readied_after _ old mid (state g.S.Store c.ready.new.conn) (c.ask_version.ensures.kept early) (c.in-Ok-ready.ensures.readied clean) in
+    readied_enters g.S.Store held c.ready.new.conn c.in-Ok.rows.items (c.in-Ok.ensures.asked early) one (is_version_one c.in-Ok.rows.items) refl readied
 
 pub returns-in-Ok-ready-clause-found : goal.returns-in-Ok-ready-clause-found
 returns-in-Ok-ready-clause-found g c clean t shows =
-    let old = state g.S.Store c.args.conn.now in
+    let held = c.args.conn.now in
+    let old = state g.S.Store held in
     let mid = state g.S.Store c.ask_version.new.conn in
+    let end = state g.S.Store c.ready.new.conn in
     let early : HasCleanDisk mid = omega (arith, clean, c.ready.ensures.survives.clean) in
-    c.in-Ok-ready.ensures.shows clean t (office_on old mid t (c.ask_version.ensures.kept early) shows)
+    let readied = readied_after _ old mid end (c.ask_version.ensures.kept early) (c.in-Ok-ready.ensures.readied clean) in
+    readied_shows g.S.Store held c.in-Ok.rows.items (λ n clock is. c.in-Ok.ensures.one early n clock is) end t shows (c.in-Ok.ensures.asked early).was_open readied
 
 pub returns-in-Ok-ready-clause-sound : goal.returns-in-Ok-ready-clause-sound
 returns-in-Ok-ready-clause-sound g c clean =
@@ -37,7 +41,7 @@ returns-in-Ok-ready-clause-survives g c =
     survives_then old mid (state g.S.Store c.ready.new.conn) _ _ (LeavesOffice old) (λ _ db none. absurd none)
     (λ clean db leaves.
     let early : HasCleanDisk mid = omega (arith, c.ready.ensures.survives.clean) in
-    leaves_completed_before old mid db (c.ask_version.ensures.kept early) leaves)
+    leaves_migrated_before old mid db (c.ask_version.ensures.kept early) leaves)
     c.ask_version.ensures.survives c.ready.ensures.survives
 
 pub returns-in-Ok-clause-kept : goal.returns-in-Ok-clause-kept
@@ -53,18 +57,18 @@ returns-in-Ok-clause-survives g c =
     survives_then old mid (state g.S.Store c.ready.new.conn) _ _ (LeavesOffice old) (λ _ db none. absurd none)
     (λ clean db leaves.
     let early : HasCleanDisk mid = omega (arith, c.ready.ensures.survives.clean) in
-    leaves_completed_before old mid db (c.ask_version.ensures.kept early) leaves)
+    leaves_migrated_before old mid db (c.ask_version.ensures.kept early) leaves)
     c.ask_version.ensures.survives c.ready.ensures.survives
 
-pub returns-then-not-is_version_one-clause-none : goal.returns-then-not-is_version_one-clause-none
-returns-then-not-is_version_one-clause-none g c clean why =
-    let other : is_version_one c.in-Ok.rows.items ≡ false = search rules in
+pub returns-then-not-is_first-and-not-is_second-clause-none : goal.returns-then-not-is_first-and-not-is_second-clause-none
+returns-then-not-is_first-and-not-is_second-clause-none g c clean why =
+    let other : is_other_version c.in-Ok.rows.items ≡ true = search rules in
     inl (c.in-Ok.rows.items, c.in-Ok.ensures.asked clean, other)
 
-pub returns-then-not-is_version_one-clause-known : goal.returns-then-not-is_version_one-clause-known
-returns-then-not-is_version_one-clause-known g c clean t shows why =
-    let other : is_version_one c.in-Ok.rows.items ≡ false = search rules in
-    true≢false (sym (ap is_version_one (c.in-Ok.ensures.one clean (shown_version (state g.S.Store c.args.conn.now) t shows))) ∙ other)
+pub returns-then-not-is_first-and-not-is_second-clause-known : goal.returns-then-not-is_first-and-not-is_second-clause-known
+returns-then-not-is_first-and-not-is_second-clause-known g c clean t shows why =
+    let other : is_other_version c.in-Ok.rows.items ≡ true = search rules in
+    never_other g.S.Store c.args.conn.now c.in-Ok.rows.items (λ n clock is. c.in-Ok.ensures.one clean n clock is) t shows (c.in-Ok.ensures.asked clean).was_open other
 
 pub returns-then-taken-clause-none : goal.returns-then-taken-clause-none
 returns-then-taken-clause-none g c clean why =
@@ -75,7 +79,7 @@ returns-then-taken-clause-none g c clean why =
 pub returns-then-taken-clause-known : goal.returns-then-taken-clause-known
 returns-then-taken-clause-known g c clean t shows why =
     let input : c.in-Err-SqlInputError.field-0 ≡ SqlInputError c.in-Err-SqlInputError.field-0-0 = search rules in
-    c.in-Err-SqlInputError.ensures.taken clean (shown_version (state g.S.Store c.args.conn.now) t shows) c.in-Err-SqlInputError.field-0-0 input
+    shown_version g.S.Store c.args.conn.now t shows (λ n clock is. c.in-Err-SqlInputError.ensures.taken clean n clock is c.in-Err-SqlInputError.field-0-0 input)
 
 pub returns-in-Ok-found-clause-enters : goal.returns-in-Ok-found-clause-enters
 returns-in-Ok-found-clause-enters g c clean =
@@ -87,11 +91,11 @@ returns-in-Ok-found-clause-enters g c clean =
     let live : IsLive old = search rules in
     let none : takes_a_name c.args.conn.now.schema ≡ false = search rules in
     let input : c.in-Err-SqlInputError.field-0 ≡ SqlInputError c.in-Err-SqlInputError.field-0-0 = search rules in
-    inr (
+    inr (inr (
       (c.in-Err-SqlInputError.field-0-0, subst (IsRefusal g.S.Store get_version [] c.args.conn.now) input (c.in-Err-SqlInputError.ensures.refused early)),
       none,
       founded_after old mid end kept (c.in-Ok-found.ensures.founded clean (sound_after old mid kept live)),
-    )
+    ))
 
 pub returns-in-Ok-found-clause-is_open : goal.returns-in-Ok-found-clause-is_open
 returns-in-Ok-found-clause-is_open g c clean =
@@ -112,7 +116,7 @@ pub returns-in-Ok-found-clause-found : goal.returns-in-Ok-found-clause-found
 returns-in-Ok-found-clause-found g c clean t shows =
     let early : HasCleanDisk (state g.S.Store c.ask_version.new.conn) = omega (arith, c.found.ensures.survives.clean) in
     let input : c.in-Err-SqlInputError.field-0 ≡ SqlInputError c.in-Err-SqlInputError.field-0-0 = search rules in
-    absurd (c.in-Err-SqlInputError.ensures.taken early (shown_version (state g.S.Store c.args.conn.now) t shows) c.in-Err-SqlInputError.field-0-0 input)
+    absurd (shown_version g.S.Store c.args.conn.now t shows (λ n clock is. c.in-Err-SqlInputError.ensures.taken early n clock is c.in-Err-SqlInputError.field-0-0 input))
 
 pub returns-in-Ok-found-clause-survives : goal.returns-in-Ok-found-clause-survives
 returns-in-Ok-found-clause-survives g c =
