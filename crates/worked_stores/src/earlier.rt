@@ -1,15 +1,28 @@
-//! A file of an earlier program, which made no table of late withdrawals: opened, it is the same office with that table, wherever a stop comes.
+//! Files of version 1: opened, they are the same office in version 2, wherever a stop comes.
 use crate::earlier_file::{EARLIER_LOTS, EARLIER_ROWS, EARLIER_TABLES};
-use crate::stores::{TABLES, opened, reopened, rows_in};
+use crate::stores::{OTHERS, SECOND, opened, reopened, rows_in};
 use office_on_disks::database::Database;
 use office_on_disks::disks::Disks;
 use office_on_disks::office::{OfficeOnDisks, Unopened};
 use std::alloc::Global;
 use transcripts::session::Wrong;
 
-// The tables that it made.
-fn tables() -> &'static [&'static str] {
-    &TABLES[..14]
+// Its version and clock, and its notices, as version 2 keeps them: no performance securities are asked.
+const FIRST: [&str; 2] = [
+    "SELECT 2, moment, receipts, awards FROM office",
+    "SELECT *, 0 FROM notices ORDER BY notice",
+];
+
+// All rows of an office of version 1, as version 2 keeps them.
+fn first_rows(alloc: Global, disks: Disks) -> Result<Vec<u8>, Wrong> {
+    let tables: [&[&str]; 2] = [FIRST.as_slice(), OTHERS.as_slice()];
+    rows_in(alloc, disks, tables.as_slice())
+}
+
+// All rows of one of version 2 but those of the tables that came later.
+fn second_rows(alloc: Global, disks: Disks) -> Result<Vec<u8>, Wrong> {
+    let tables: [&[&str]; 2] = [SECOND.as_slice(), OTHERS.as_slice()];
+    rows_in(alloc, disks, tables.as_slice())
 }
 
 // The files that it left, with what these statements add.
@@ -26,26 +39,42 @@ fn earlier(alloc: Global, statements: &str) -> Result<Disks, Wrong> {
     }
 }
 
-// Whether there are rows of late withdrawals in these files, where there is such a table.
-fn late_rules(alloc: Global, disks: Disks) -> Option<i64> {
-    Database::open(alloc, disks)?.number("SELECT count(*) FROM late_rules")
+// What the program of after made, which knew late withdrawals: one notice that asks for their seals.
+const LATE_RULES: &str =
+    "CREATE TABLE late_rules (notice TEXT NOT NULL PRIMARY KEY CHECK (length(notice) BETWEEN 1 AND 32)) STRICT; INSERT INTO late_rules VALUES ('N2')";
+
+// How many late rules, performance securities and notices of version 1 there are in these files, where there are such tables.
+fn later_rows(alloc: Global, disks: Disks) -> Option<[i64; 3]> {
+    let mut database = Database::open(alloc, disks)?;
+    Some([
+        database.number("SELECT count(*) FROM late_rules")?,
+        database.number("SELECT count(*) FROM performance")?,
+        database.number("SELECT count(*) FROM notices")?,
+    ])
 }
 
-// Whether the office is the same once it was opened, and again, and has that table then.
-fn is_completed(alloc: Global) -> Result<bool, Wrong> {
-    let before = rows_in(alloc, earlier(alloc, "")?, tables())?;
-    let once = reopened(alloc, earlier(alloc, "")?)?;
+// Whether the office is the same once it was opened, and again, and has so many late rules and nothing else of what came later.
+fn is_migrated(alloc: Global, statements: &str, late_rules: i64) -> Result<bool, Wrong> {
+    let before = first_rows(alloc, earlier(alloc, statements)?)?;
+    let once = reopened(alloc, earlier(alloc, statements)?)?;
     let twice = reopened(alloc, once.left_by_the_process(alloc)?)?;
-    let is_there = late_rules(alloc, once.left_by_the_process(alloc)?) == Some(0);
-    let is_same = rows_in(alloc, once, tables())? == before;
-    Ok(is_there && is_same && rows_in(alloc, twice, tables())? == before)
+    let later = later_rows(alloc, twice.left_by_the_process(alloc)?);
+    let is_same = second_rows(alloc, once)? == before && second_rows(alloc, twice)? == before;
+    Ok(is_same && later == Some([late_rules, 0, 0]))
 }
 
 // At a second try where the first isn't right: one allocation of a test may be refused.
 #[test]
-fn a_file_without_the_table_gets_it(rt: HostRuntime) {
+fn a_file_of_version_one_becomes_one_of_version_two(rt: HostRuntime) {
     let alloc = rt.alloc();
-    assert!(rt; matches!(is_completed(alloc), Ok(true)) || matches!(is_completed(alloc), Ok(true)));
+    assert!(rt;
+        matches!(is_migrated(alloc, "", 0), Ok(true))
+            || matches!(is_migrated(alloc, "", 0), Ok(true))
+    );
+    assert!(rt;
+        matches!(is_migrated(alloc, LATE_RULES, 1), Ok(true))
+            || matches!(is_migrated(alloc, LATE_RULES, 1), Ok(true))
+    );
 }
 
 // Whether files of that program to which this was added can't be used.
@@ -57,11 +86,13 @@ fn is_unusable(alloc: Global, statements: &str) -> bool {
 }
 
 #[test]
-fn its_name_is_taken(rt: HostRuntime) {
+fn a_name_is_taken(rt: HostRuntime) {
     let alloc = rt.alloc();
     let view = "CREATE VIEW late_rules AS SELECT 1";
     assert!(rt; is_unusable(alloc, view) || is_unusable(alloc, view));
-    let index = "CREATE INDEX late_rules ON lots (title)";
+    let view = "CREATE VIEW performance AS SELECT 1";
+    assert!(rt; is_unusable(alloc, view) || is_unusable(alloc, view));
+    let index = "CREATE INDEX notices_2 ON lots (title)";
     assert!(rt; is_unusable(alloc, index) || is_unusable(alloc, index));
 }
 
@@ -69,10 +100,7 @@ fn its_name_is_taken(rt: HostRuntime) {
 fn is_left(alloc: Global, disks: Disks, before: &[u8]) -> Result<bool, Wrong> {
     let of_process = reopened(alloc, disks.left_by_the_process(alloc)?)?;
     let of_machine = reopened(alloc, disks.left_by_the_machine(alloc)?)?;
-    Ok(
-        rows_in(alloc, of_process, tables())? == before
-            && rows_in(alloc, of_machine, tables())? == before,
-    )
+    Ok(second_rows(alloc, of_process)? == before && second_rows(alloc, of_machine)? == before)
 }
 
 // How an opening on disks that take so many calls ended.
@@ -97,7 +125,7 @@ fn opening(alloc: Global, disks: Disks, before: &[u8]) -> Result<Opening, Wrong>
 // Opens the files on disks of which one takes ever more calls, until none is stopped.
 fn stops(alloc: Global, of_log: bool) -> Result<bool, Wrong> {
     let disks = earlier(alloc, "")?;
-    let before = rows_in(alloc, disks.left_by_the_process(alloc)?, tables())?;
+    let before = first_rows(alloc, disks.left_by_the_process(alloc)?)?;
     for calls in 0..2000 {
         let fused = if of_log {
             disks.fused(alloc, calls, u64::MAX)?

@@ -37,13 +37,17 @@ pub(crate) fn all_changed(
     Ok(disks)
 }
 
-/// Each of an office's tables, in the order of its keys, the one that came later at the end.
-pub(crate) const TABLES: [&str; 15] = [
+/// Its version and clock, and its notices, as version 2 has them.
+pub(crate) const SECOND: [&str; 2] = [
     "SELECT * FROM office ORDER BY version",
+    "SELECT * FROM notices_2 ORDER BY notice",
+];
+
+/// The tables that both versions have, each in the order of its keys.
+pub(crate) const OTHERS: [&str; 12] = [
     "SELECT * FROM lines ORDER BY line",
     "SELECT * FROM batches ORDER BY batch",
     "SELECT * FROM tenderers ORDER BY tenderer",
-    "SELECT * FROM notices ORDER BY notice",
     "SELECT * FROM lots ORDER BY notice, lot",
     "SELECT * FROM envelopes ORDER BY receipt",
     "SELECT * FROM seals ORDER BY receipt",
@@ -53,18 +57,30 @@ pub(crate) const TABLES: [&str; 15] = [
     "SELECT * FROM entries ORDER BY contract, entry",
     "SELECT * FROM releases ORDER BY notice, seq",
     "SELECT * FROM compiled ORDER BY notice",
+];
+
+/// The tables that an office of version 1 may lack, and the one that version 2 keeps empty.
+pub(crate) const LATER: [&str; 3] = [
     "SELECT * FROM late_rules ORDER BY notice",
+    "SELECT * FROM performance ORDER BY contract",
+    "SELECT * FROM notices ORDER BY notice",
 ];
 
 /// All rows that these questions have for their answers in these files, whether or not they are an office's.
-pub(crate) fn rows_in(alloc: Global, disks: Disks, questions: &[&str]) -> Result<Vec<u8>, Wrong> {
+pub(crate) fn rows_in(
+    alloc: Global,
+    disks: Disks,
+    questions: &[&[&str]],
+) -> Result<Vec<u8>, Wrong> {
     let mut database = Database::open(alloc, disks).ok_or(Wrong::Unopened)?;
     let mut bytes = Vec::new(alloc);
-    for question in questions {
-        bytes.extend_from_slice(question.as_bytes())?;
-        database
-            .append_all(&mut bytes, question)
-            .ok_or(Wrong::Unopened)?;
+    for some in questions {
+        for question in *some {
+            bytes.extend_from_slice(b"; ")?;
+            database
+                .append_all(&mut bytes, question)
+                .ok_or(Wrong::Unopened)?;
+        }
     }
     Ok(bytes)
 }
@@ -76,5 +92,6 @@ pub(crate) fn reopened(alloc: Global, disks: Disks) -> Result<Disks, Wrong> {
 
 /// All rows of the office in these files.
 pub(crate) fn tables_in(alloc: Global, disks: Disks) -> Result<Vec<u8>, Wrong> {
-    rows_in(alloc, reopened(alloc, disks)?, TABLES.as_slice())
+    let tables: [&[&str]; 3] = [SECOND.as_slice(), OTHERS.as_slice(), LATER.as_slice()];
+    rows_in(alloc, reopened(alloc, disks)?, tables.as_slice())
 }
