@@ -10,7 +10,7 @@ use transcripts::session::Wrong;
 // Its version and clock, and its notices, as version 2 keeps them: no performance securities are asked.
 const FIRST: [&str; 2] = [
     "SELECT 2, moment, receipts, awards FROM office",
-    "SELECT *, 0 FROM notices ORDER BY notice",
+    "SELECT notice, title, published, deadline, validity, standstill, weight, state, opened, amendments, releases, 0 FROM notices ORDER BY notice",
 ];
 
 // All rows of an office of version 1, as version 2 keeps them.
