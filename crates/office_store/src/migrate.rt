@@ -43,9 +43,9 @@ pub(crate) fn migrated<S: Alter>(alloc: Global, conn: &mut Connection<S>) -> Res
     if !conn.is_autocommit() {
         return Err(ShelfFault::Store);
     }
-    let has_late = has_late(conn.schema());
+    let has_table = has_late(conn.schema());
     let stood = former(alloc, conn)?;
-    match migrate(conn, &stood.clock, stood.notices.as_slice(), has_late) {
+    match migrate(conn, &stood.clock, stood.notices.as_slice(), has_table) {
         Ok(()) => Ok(()),
         Err(error) => Err(fault(error)),
     }
