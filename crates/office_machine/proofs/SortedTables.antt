@@ -1,6 +1,6 @@
 -- The tables stay in the order of their keys.
 use Rattle.std.proofs.Common.{List, [], ◌∷◌}
-use Rattle.office_base.specs.Tables.{Tables, IsSorted, line_key, batch_key, tenderer_key, notice_key, lot_key, envelope_key, seal_key, security_key, award_key, contract_key, entry_key, release_key, compiled_key, late_key, after_put, after_puts}
+use Rattle.office_base.specs.Tables.{Tables, IsSorted, line_key, batch_key, tenderer_key, notice_key, lot_key, envelope_key, seal_key, security_key, award_key, contract_key, entry_key, release_key, compiled_key, late_key, performance_key, after_put, after_puts}
 use Rattle.office_base.specs.declared.puts.Put.{Put}
 use Rattle.office_base.specs.declared.puts.Put.TheVariants as puts
 use Rattle.office_machine.specs.Machine.{Means, Given, Reaches, puts_of}
