@@ -1,5 +1,5 @@
 -- An office that an earlier program made: its version, which tables it has, and what it is once it has them all.
-use Rattle.std.proofs.Common.{◌≡◌, ◌⊎◌, inl, inr, ℕ, List, [], true, false, refl, ap, sym, subst, ◌∙◌}
+use Rattle.std.proofs.Common.{◌≡◌, inl, inr, ℕ, [], true, false, refl, ap, sym, subst}
 use Rattle.std.specs.Prelude.{is_some}
 use Rattle.sqlite_schema.specs.declared.schema.Schema.{Schema}
 use Rattle.sqlite.specs.Effect.{Database}

@@ -6,7 +6,7 @@ ghost use Rattle.sqlite.specs.State.{HasCleanDisk, Survives, ExecutesInside};
 ghost use Rattle.office_base.specs.Tables.{first_clock};
 ghost use Rattle.office_rows.specs.Releases.{clock_row};
 ghost use Rattle.office_sql.specs.Schema.{OfficeTable, table_of, put_office};
-ghost use Rattle.office_sql.specs.Schema.OfficeTable.{Lines, Batches, Tenderers, Notices, Lots, Envelopes, Seals, Securities, Awards, Contracts, Entries, Releases, Compiled, Office, LateRules};
+ghost use Rattle.office_sql.specs.Schema.OfficeTable.{Lines, Batches, Tenderers, Notices, Lots, Envelopes, Seals, Securities, Awards, Contracts, Entries, Releases, Compiled, Office};
 ghost use Rattle.office_sql.specs.Making.{IsCreate, IsIndexing, Makes, Indexes, Founds, all_tables};
 ghost use Rattle.office_sql.specs.Earlier.{later_tables, has_later, Completes};
 ghost use Rattle.office_sql.specs.Steps.{Refused};
