@@ -1,5 +1,5 @@
 -- The performance securities are those named at accepted signings, each in the state of its fate.
-use Rattle.std.specs.Prelude.{◌≡◌, ℕ, Bool, true, false, not, cond, List, [], ◌∷◌, ◌++◌, map, filter, Option, Some, None, is_some, IsSome, option_map, option_and_then, max}
+use Rattle.std.specs.Prelude.{◌≡◌, ℕ, Bool, true, false, not, cond, List, [], ◌∷◌, ◌++◌, Option, Some, None, is_some, IsSome, option_map, option_and_then}
 use Rattle.std.proofs.Common.{refl, sym, ap, ◌∙◌, subst}
 use Rattle.std.specs.List.{AllByRecursion}
 use Rattle.std.specs.Cmp.{nat_cmp_total}
@@ -13,25 +13,23 @@ use Rattle.office_acts.specs.declared.commands.Command.{Command}
 use Rattle.office_acts.specs.declared.commands.Command.TheVariants.{Import, Register, Publish, AmendNotice, Cancel, Open, Present, Modify, Withdraw, Examine, Award, Fail, Sign, AmendContract, Pay, End}
 use Rattle.office_values.specs.declared.refusal.Refusal.{Refusal}
 use Rattle.office_base.specs.declared.records.AwardRow.{AwardRow}
-use Rattle.office_base.specs.declared.records.ContractRow.{ContractRow}
 use Rattle.office_base.specs.declared.records.PerformanceRow.{PerformanceRow}
 use Rattle.office_base.specs.declared.records.SecurityState.{SecurityState}
 use Rattle.office_base.specs.declared.records.SecurityState.TheVariants as security
 use Rattle.office_base.specs.States.{is_held}
-use Rattle.office_base.specs.Tables.{Tables, same_number, performance_key, performance_at, contract_at, find_performance, put_performance}
-use Rattle.office_machine.specs.Fates.{named_for, named_after, performance_named, performance_decided, performance_after, fate_of_performance, ended_fate, PerformanceIs, HasPerformance}
+use Rattle.office_base.specs.Tables.{Tables, performance_key, performance_at, contract_at, find_performance}
+use Rattle.office_machine.specs.Fates.{named_for, named_after, performance_named, performance_decided, performance_after, fate_of_performance, ended_fate, HasPerformance}
 use Rattle.office_base.specs.Rules.{first_of}
-use Rattle.office_base.specs.Parents.{notice_of_award, lot_of_award, envelope_of_award, securities_of_award, notice_of_contract}
+use Rattle.office_base.specs.Parents.{envelope_of_award, securities_of_award}
 use Rattle.office_base.specs.RuleParts.{put_if, performance_settled, settled_performance}
-use Rattle.office_base.specs.declared.records.NoticeRow.{NoticeRow}
 use Rattle.office_base.specs.declared.records.ReleaseRow.{ReleaseRow}
 use Rattle.office_base.specs.declared.records.CompiledRow.{CompiledRow}
-use Rattle.office_base.specs.Tables.{find_contract, award_at, entries_of_contract, after_puts, no_tables}
+use Rattle.office_base.specs.Tables.{award_at, entries_of_contract, after_puts}
 use Rattle.award_core.specs.Rules.Sign.{sign_parts, sign_effect, performance_put, performance_row}
 use Rattle.award_core.specs.Rules.End.{end_parts, end_effect, ended_state}
 use Rattle.award_core.specs.Rules.Fail.{isnt_active}
 use Rattle.office_base.specs.States.{is_active}
-use Rattle.office_machine.specs.Machine.{Given, Means, Reaches, time_of, effect, next, publication, publication_puts, command_tests, with_trees}
+use Rattle.office_machine.specs.Machine.{Given, Means, Reaches, time_of, effect, publication, publication_puts, command_tests, with_trees}
 use Rattle.office_machine.specs.Fates.{PerformancesHaveFates, PerformancesAreKept}
 use Rattle.office_machine.proofs.AllLawful.{lawful}
 use Rattle.office_machine.proofs.Runs.{along}
@@ -49,7 +47,6 @@ use Rattle.office_base.specs.declared.puts.Put.{Put}
 use Rattle.office_machine.proofs.Keyed as keyed
 use Rattle.office_machine.proofs.RowsChanged.{found_key, row_at-changed_put}
 use Rattle.office_base.proofs.RowLaws.{row_at-row_put}
-use Rattle.office_base.specs.Tables.{contract_key}
 
 -- ---- what one row goes through, whatever the tables
 

@@ -5,7 +5,6 @@ use Rattle.std.specs.List.{AllByRecursion}
 use Rattle.std.specs.Cmp.{nat_cmp_total}
 use Rattle.std.specs.FinMap.{nat_cmp-IsAntisymmetric}
 use Rattle.std.specs.Ordering.{nat_cmp, eq_by_cmp}
-use Rattle.office_acts.specs.declared.tender.NamedSecurity.{NamedSecurity}
 use Rattle.office_acts.specs.declared.command.Caller.{Caller}
 use Rattle.office_acts.specs.declared.commands.Command.TheVariants.{Withdraw}
 use Rattle.office_values.specs.declared.refusal.Refusal.{Refusal}
@@ -20,22 +19,22 @@ use Rattle.office_base.specs.declared.records.SecurityState.TheVariants as secur
 use Rattle.office_base.specs.declared.puts.Put.TheVariants as puts
 use Rattle.office_base.specs.States.{is_sealed, is_held}
 use Rattle.office_base.specs.Rules.{first_of}
-use Rattle.office_base.specs.RuleParts.{clock_put, is_past_deadline, is_late, passed_over, settled, security_settled, put_if}
+use Rattle.office_base.specs.RuleParts.{is_past_deadline, passed_over, settled}
 use Rattle.tender_core.specs.Rules.Modify.{withdrawn}
 use Rattle.tender_core.specs.Rules.Withdraw.{withdraw_conditions, withdraw_effect, taken_back_puts, cant_be_taken_back}
 use Rattle.office_base.specs.Tables.{Tables, envelope_key, seal_key, envelope_at, seal_at, security_at, notice_at, find_envelope, find_security, find_seal, put_envelope, put_security, after_puts}
 use Rattle.office_base.specs.Parents.{notice_of_envelope, lot_of_envelope, security_of_envelope, late_of_envelope}
 use Rattle.office_machine.specs.Machine.{Given}
 use Rattle.office_machine.specs.Readings.{Readings}
-use Rattle.office_machine.specs.Fates.{Reception, came, tender_decided, fate_of_tender, security_decided, fate_of_security, is_kept, has_number, carries, is_effective, withdrawn_security, EnvelopeIs, SecurityIs}
+use Rattle.office_machine.specs.Fates.{Reception, came, tender_decided, fate_of_tender, security_decided, is_kept, has_number, carries, is_effective, withdrawn_security, EnvelopeIs}
 use Rattle.office_machine.proofs.Passed.{none_holds}
 use Rattle.office_machine.proofs.RowsChanged.{found_key, row_at-changed_put, row_at-row_drop}
 use Rattle.office_machine.proofs.Views.{EnvelopeFits, Change, IsFair, after_change}
 use Rattle.office_machine.proofs.Added.{equal_numbers}
-use Rattle.office_machine.proofs.Matched.{EnvelopeStands, EnvelopeKeeps, SecurityKeeps}
+use Rattle.office_machine.proofs.Matched.{EnvelopeStands, EnvelopeKeeps}
 use Rattle.office_machine.proofs.Steps.{cond_keeps, settled_keep, settled_goes, taking_back, fair_taking_back, fair_withdrawal}
 use Rattle.office_machine.proofs.Seen.{seen, alike, LotFits, lines-puts, order-puts}
-use Rattle.office_machine.proofs.FatesHold.{IsKept, Keeps, given, still_sealed, still_held}
+use Rattle.office_machine.proofs.FatesHold.{IsKept, Keeps, given, still_sealed}
 use Rattle.office_machine.proofs.FatesChanged.{kept_by_change, is_sealed_state, securities_put, securities_left, effective, not_effective}
 
 -- the parts of rows that a withdrawal leaves

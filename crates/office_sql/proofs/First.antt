@@ -1,5 +1,5 @@
 -- An office of version 1: its version, which tables it has, and the first half of its migration.
-use Rattle.std.proofs.Common.{◌≡◌, inl, inr, ℕ, Bool, List, [], ◌∷◌, Ok, None, append-nil, true, false, refl, ap, sym, subst, ◌∙◌, true≢false}
+use Rattle.std.proofs.Common.{◌≡◌, ℕ, Bool, List, [], ◌∷◌, None, append-nil, true, false, refl, ap, sym, subst, ◌∙◌, true≢false}
 use Rattle.std.specs.Prelude.{is_some, codes}
 use Rattle.std.specs.declared.cmp.Ordering.{Ordering}
 use Rattle.sqlite_value.specs.declared.value.Value.{Value}
@@ -15,7 +15,7 @@ use Rattle.sqlite_rules.specs.Lists.{Has}
 use Rattle.sqlite_rules.proofs.ListLemmas.{all_has}
 use Rattle.sqlite_tied.specs.Compute.{everything}
 use Rattle.sqlite.specs.Effect.{Database, IsDatabase}
-use Rattle.sqlite.specs.State.{State, ExecutesInside}
+use Rattle.sqlite.specs.State.{State}
 use Rattle.std.specs.Cmp.Lexicographic.{nat_list_cmp_total}
 use Rattle.office_values.specs.Ids.{id_cmp}
 use Rattle.office_base.specs.Rows.{row_put, IsInOrder}
@@ -26,14 +26,14 @@ use Rattle.office_rows.specs.Laws.{ComesBack}
 use Rattle.office_rows.specs.Notices.{former_row, former_in}
 use Rattle.office_rows.specs.Releases.{clock_row, clock_read, clock_in}
 use Rattle.office_sql.specs.Clock.{clock_key, clock_cmp}
-use Rattle.office_sql.specs.First.{lacks, lacking, has_late, drop_notices, drop_version, StandForFirst, HoldsFirst, HoldsOffice, ShowsOffice, Renews, Begins}
+use Rattle.office_sql.specs.First.{lacks, lacking, has_late, drop_notices, drop_version, StandForFirst, HoldsFirst, Renews, Begins}
 use Rattle.office_sql.specs.Kept.{behind, by_rowid, read_by_rowid}
 use Rattle.office_sql.specs.Known.{IsIn, Places, HasTables, at_tree}
 use Rattle.office_sql.specs.Making.{AreMade, KeepsOffice, Makes}
 use Rattle.office_sql.specs.Schema.{OfficeTable, table_of, notices, former_notices, office, performance, late_rules}
 use Rattle.office_sql.specs.Schema.OfficeTable.{Notices, LateRules, FormerNotices, Performances, Office}
 use Rattle.office_sql.specs.Standing.{Stand, StandFor, Stands, Holds}
-use Rattle.office_sql.specs.Version.{HasVersion, ShowsVersion}
+use Rattle.office_sql.specs.Version.{HasVersion}
 use Rattle.office_sql.proofs.Deletes.{IsDelete, delete_means}
 use Rattle.office_sql.proofs.Emptied.{empties}
 use Rattle.office_sql.proofs.Founds.{nothing as no_rows}

@@ -31,7 +31,7 @@ use Rattle.office_sql.specs.Clock.{clock_key, clock_cmp}
 use Rattle.office_rows.specs.ItemTexts.{items_text, items_in}
 use Rattle.office_rows.specs.Laws.{ComesBack, LotComesBack}
 use Rattle.office_sql.specs.Schema.{OfficeTable}
-use Rattle.office_sql.specs.Schema.OfficeTable.{Lines, Batches, Tenderers, Notices, Lots, Envelopes, Seals, Securities, Awards, Contracts, Entries, Releases, Compiled, Office, LateRules, FormerNotices, Performances}
+use Rattle.office_sql.specs.Schema.OfficeTable.{Lines, Batches, Tenderers, Notices, Lots, Envelopes, Seals, Securities, Awards, Contracts, Entries, Releases, Compiled, Office, LateRules, Performances}
 use Rattle.office_sql.specs.Kept.{behind, by_rowid, read_by_rowid}
 use Rattle.office_sql.specs.Standing.{StandFor, Stands}
 use Rattle.office_sql.specs.Steps.{Puts}

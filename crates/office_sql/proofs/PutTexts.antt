@@ -10,7 +10,7 @@ use Rattle.office_sql.specs.Schema.{lines, batches, tenderers, notices, lots, en
 use Rattle.office_sql.specs.Known.{IsIn, at_tree}
 use Rattle.office_sql.proofs.Meanings.{Means, parsed_in}
 use Rattle.office_sql.proofs.Keyed.{keyed}
-use Rattle.office_sql.specs.Schema.OfficeTable.{Lines, Batches, Tenderers, Notices, Lots, Envelopes, Seals, Securities, Awards, Contracts, Entries, Releases, Compiled, Office, LateRules, FormerNotices, Performances}
+use Rattle.office_sql.specs.Schema.OfficeTable.{Lines, Batches, Tenderers, Notices, Lots, Envelopes, Seals, Securities, Awards, Contracts, Entries, Releases, Compiled, Office, LateRules, Performances}
 use Rattle.office_sql.proofs.Selecting.{found_by_tree}
 use Rattle.office_sql.proofs.Upserts.{IsUpsert, InsertsRows, NamesKey, Updates, on_conflict, columns_in, rows_in, clause_in, upserts_mean}
 use Rattle.office_sql.proofs.Stored.{line_terms, line_cells, batch_terms, batch_cells, tenderer_terms, tenderer_cells, notice_terms, notice_cells, lot_terms, lot_cells, envelope_terms, envelope_cells, seal_terms, seal_cells, security_terms, security_cells, award_terms, award_cells, contract_terms, contract_cells, entry_terms, entry_cells, release_terms, release_cells, compiled_terms, compiled_cells, clock_terms, clock_cells, late_terms, late_cells, performance_terms, performance_cells}

@@ -15,7 +15,7 @@ use Rattle.sqlite_catalog.proofs.ReadLemmas.{tables_once}
 use Rattle.sqlite.specs.Effect.{Database, IsDatabase}
 use Rattle.office_base.specs.Tables.{Tables}
 use Rattle.office_sql.specs.Schema.{OfficeTable, table_of}
-use Rattle.office_sql.specs.Schema.OfficeTable.{Lines, Batches, Tenderers, Notices, Lots, Envelopes, Seals, Securities, Awards, Contracts, Entries, Releases, Compiled, Office, LateRules, FormerNotices, Performances}
+use Rattle.office_sql.specs.Schema.OfficeTable.{Lines, Batches, Tenderers, Notices, Lots, Envelopes, Seals, Securities, Awards, Contracts, Entries, Releases, Compiled, Office, LateRules, Performances}
 use Rattle.office_sql.specs.Known.{IsIn, at_tree}
 use Rattle.office_sql.specs.Standing.{Stand, StandFor, Holds}
 

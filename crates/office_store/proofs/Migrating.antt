@@ -10,8 +10,7 @@ use Rattle.sqlite.specs.State.{State}
 use Rattle.office_base.specs.Tables.{Tables}
 use Rattle.office_base.specs.declared.records.ClockRow.{ClockRow}
 use Rattle.office_base.specs.declared.records.NoticeRow.{NoticeRow}
-use Rattle.office_sql.specs.First.{has_late, HoldsFirst, HoldsOffice, ShowsFirst, ShowsOffice}
-use Rattle.office_sql.specs.Standing.{Holds}
+use Rattle.office_sql.specs.First.{has_late, HoldsFirst, ShowsFirst, ShowsOffice}
 use Rattle.office_sql.specs.Steps.{IsAsked, Refused, ShowsTables}
 use Rattle.office_sql.specs.Version.{get_version, one_version, ShowsVersion}
 use Rattle.office_sql.proofs.First.{late_there, first_version, second_version}

@@ -9,9 +9,9 @@ use Rattle.office_base.specs.declared.records.PerformanceRow.{PerformanceRow}
 use Rattle.office_base.specs.declared.records.SecurityState.{SecurityState}
 use Rattle.office_base.specs.declared.records.SecurityState.TheVariants as security_in
 use Rattle.office_machine.specs.Fates.{fate_of_performance}
-use Rattle.office_machine.specs.Replies.{OfContract, Refused, Signed}
+use Rattle.office_machine.specs.Replies.{Refused, Signed}
 use Rattle.office_machine.specs.Requests.{Request}
-use Rattle.office_machine.specs.Worked.Office.{accepted, awarded, awards, by_clerk, deadline, decided, demanding, examines, february, l1, lot, money, n1, office, opens, pots, pots_are, presents, published, secured, setup, standstill_end, t1, tenderers, told}
+use Rattle.office_machine.specs.Worked.Office.{accepted, awarded, awards, by_clerk, deadline, decided, demanding, examines, february, l1, lot, money, n1, office, opens, pots, pots_are, presents, published, secured, standstill_end, t1, tenderers, told}
 
 -- a notice that asks for a performance security of 70, whose lot is awarded at 600
 abbrev pub won : List Request

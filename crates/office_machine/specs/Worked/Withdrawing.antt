@@ -1,17 +1,13 @@
 -- Worked examples of tenders that are withdrawn after the deadline, where their notice lets them at the price of their securities.
-use Rattle.std.specs.Prelude.{◌++◌, ◌+◌, ◌-◌, ◌∷◌, ◌≡◌, List, None, Option, Some, [], codes, map, ℕ}
-use Rattle.office_acts.specs.declared.command.Caller.TheVariants.{Clerk, Public}
+use Rattle.std.specs.Prelude.{◌++◌, ◌+◌, ◌-◌, ◌∷◌, ◌≡◌, List, None, Some, [], codes, ℕ}
 use Rattle.office_acts.specs.declared.commands.Command.TheVariants.{Modify, Publish, Withdraw}
 use Rattle.office_acts.specs.declared.notice.Criteria.TheVariants.{Price}
 use Rattle.office_acts.specs.declared.queries.Query.TheVariants as queries
 use Rattle.office_values.specs.declared.refusal.Refusal.TheVariants.{AlreadyDecided, AlreadyPresented, DeadlinePassed, Expired, NotSealed}
-use Rattle.office_base.specs.declared.records.EnvelopeRow.{EnvelopeRow}
 use Rattle.office_base.specs.declared.records.EnvelopeState.TheVariants as envelope
 use Rattle.office_base.specs.declared.records.SecurityState.TheVariants as security_in
-use Rattle.office_base.specs.declared.records.SealRow.{SealRow}
-use Rattle.office_base.specs.Tables.{Tables}
 use Rattle.office_machine.specs.Fates.{fate_of_security, fate_of_tender}
-use Rattle.office_machine.specs.Replies.{Awarded, Examined, OfNotice, OpenedAll, Reply, Refused, Withdrew}
+use Rattle.office_machine.specs.Replies.{Awarded, Examined, Refused, Withdrew}
 use Rattle.office_machine.specs.Requests.{Request}
 use Rattle.office_machine.specs.Worked.Office.{accepted, awards, by, by_clerk, cancels, deadline, decided, examines, expiry, february, l1, lenient, lot, money, n1, office, opens, pots, pots_are, presents, published, setup, states_of_securities, states_of_tenders, t1, t2, tenderers, told}
 

@@ -1,5 +1,4 @@
 use Rattle.std.proofs.Common.{rules, ◌≡◌, true, false}
-use Rattle.sqlite.specs.Held.{state}
 use Rattle.office_store.proofs.found.ready.Goals as goal
 
 pub returns-then-not-is_first-clause-readied : goal.returns-then-not-is_first-clause-readied
