@@ -6,11 +6,7 @@ ghost use Rattle.sqlite.specs.State.{HasCleanDisk, Survives, ExecutesInside};
 ghost use Rattle.office_base.specs.Tables.{first_clock};
 ghost use Rattle.office_rows.specs.Releases.{clock_row};
 ghost use Rattle.office_sql.specs.Schema.{OfficeTable, table_of, put_office};
-<<<<<<< HEAD
 ghost use Rattle.office_sql.specs.Schema.OfficeTable.{Lines, Batches, Tenderers, Notices, Lots, Envelopes, Seals, Securities, Awards, Contracts, Entries, Releases, Compiled, Office, LateRules, FormerNotices, Performances};
-=======
-ghost use Rattle.office_sql.specs.Schema.OfficeTable.{Lines, Batches, Tenderers, Notices, Lots, Envelopes, Seals, Securities, Awards, Contracts, Entries, Releases, Compiled, Office};
->>>>>>> late
 ghost use Rattle.office_sql.specs.Making.{IsCreate, IsIndexing, Makes, Indexes, Founds, all_tables};
 ghost use Rattle.office_sql.specs.Steps.{Refused};
 
