@@ -3,7 +3,7 @@
 The program is $PROCURE, or build/procure where that isn't set. A fault of a run ends the script with status 1 and a line that says what is wrong; a tool that
 is missing ends it with status 3 and a line that says how to get it.
 """
-import argparse, contextlib, os, re, shutil, socket, subprocess, sys, threading, time
+import argparse, contextlib, functools, itertools, os, re, shutil, socket, subprocess, sys, threading, time
 
 ROOT = os.path.dirname(os.path.dirname(os.path.abspath(__file__)))
 CONFIG = os.path.join(ROOT, "crates", "procure", "data", "office.toml")
@@ -15,6 +15,8 @@ OK = b"HTTP/1.1 200 OK\r\n"
 LENGTH = re.compile(rb"\r\nContent-Length: (\d+)\r\n")
 # Names that come in no order: this prime divides no count of tens.
 STRIDE = 7919
+# Who holds this chooses the next port.
+TURN = threading.Lock()
 
 
 def fail(what):
@@ -102,10 +104,31 @@ def is_whole(response):
     return head.startswith(OK) and b"\r\nContent-Length: %d\r\n" % len(body) in head + b"\r\n"
 
 
+@functools.cache
+def own_ports():
+    """A hundred ports in turn, which no other script takes while this one runs, and the socket whose name keeps them for it. (To clients the kernel gives those above 32767.)"""
+    name = socket.socket(socket.AF_UNIX)
+    for first in range(20000, 32000, 100):
+        try:
+            name.bind(f"\0procure-ports-{first}")
+            return itertools.cycle(range(first, first + 100)), name
+        except OSError:
+            pass
+    fail("too many scripts run already")
+
+
 def free_port():
-    with socket.socket() as listener:
-        listener.bind((HOST, 0))
-        return listener.getsockname()[1]
+    """A port where nothing listens."""
+    with TURN:
+        for port in itertools.islice(own_ports()[0], 100):
+            with socket.socket() as listener:
+                listener.setsockopt(socket.SOL_SOCKET, socket.SO_REUSEADDR, 1)
+                try:
+                    listener.bind((HOST, port))
+                    return port
+                except OSError:
+                    pass
+    fail("no port is free")
 
 
 def connect(port, patience=0):

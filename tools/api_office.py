@@ -4,6 +4,7 @@ import json, os, re, socket, subprocess, sys, time
 import jsonschema, yaml
 from jsonschema.exceptions import best_match
 
+from common import free_port
 from transcripts import PHRASES
 
 ROOT = os.path.dirname(os.path.dirname(os.path.abspath(__file__)))
@@ -140,9 +141,7 @@ class Office:
     """An office in a file of this folder, served on a free port."""
 
     def __init__(self, program, folder):
-        with socket.socket() as listener:
-            listener.bind(("127.0.0.1", 0))
-            self.port = listener.getsockname()[1]
+        self.port = free_port()
         self.process = subprocess.Popen([program, "serve", CONFIG, os.path.join(folder, "office.db"), str(self.port), "1000000"])
 
     def wait(self):

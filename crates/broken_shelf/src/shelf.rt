@@ -97,6 +97,7 @@ impl Lookups for BrokenShelf {
       leaves_sound = λ s. Unit {0};
       fault_count = λ s. s.faults;
       may_break = Unit {0};
+      has_failed = λ old new puts. Unit {0};
     } };
 
     ghost held_sorted = { λ shelf t held. held.1 };

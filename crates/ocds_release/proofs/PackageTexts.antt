@@ -1,17 +1,18 @@
 -- The texts of packages, member by member.
-use Rattle.std.proofs.Common.{◌≡◌, ◌<◌, ◌+◌, ◌-◌, ℕ, zero, suc, List, [], ◌∷◌, ◌++◌, map, length, get_or, Bool, true, false, if◌then◌else◌, ◌==◌, refl, sym, ap, ◌∙◌, arith, rules, codes, true≢false}
+use Rattle.std.proofs.Common.{◌≡◌, ◌<◌, ◌-◌, ℕ, zero, suc, List, [], ◌∷◌, ◌++◌, map, length, get_or, Bool, true, false, if◌then◌else◌, ◌==◌, refl, sym, ap, ◌∙◌, arith, rules, codes, true≢false}
 use Rattle.std.proofs.lemmas.List.{append_assoc}
 use Rattle.json.specs.Print.{quoted}
-use Rattle.serde_json.specs.Data.{Data, null, array, Items, item, no_items, object, Members, member, no_members, put}
+use Rattle.serde_json.specs.Data.{Data, null, array, Items, item, object, Members, member, no_members, put}
 use Rattle.serde_json.specs.View.{items_of}
 use Rattle.serde_json.specs.Written.{compact_text, comma_if, items_text, members_text, has_float, items_have_float}
 use Rattle.office_values.specs.Moments.{moment_text}
 use Rattle.office_base.specs.declared.records.ReleaseRow.{ReleaseRow}
 use Rattle.ocds_merge.specs.Compile.{date_of, last_date}
-use Rattle.ocds_release.specs.Objects.{text, texts, array_of, with_entries, is_empty_list}
+use Rattle.ocds_release.specs.Objects.{text, texts, with_entries, is_empty_list}
 use Rattle.ocds_release.specs.KeptReleases.{AreKept}
 use Rattle.ocds_release.specs.Inside.Parts.{data_of}
-use Rattle.ocds_release.specs.Inside.Splicing.{moment_of, spliced, member_text, with_extensions}
+use Rattle.ocds_release.specs.Inside.Splicing.{member_text, with_extensions}
+use Rattle.ocds_release.specs.Opened.{moment_of, moment_of_last, spliced}
 use Rattle.ocds_release.specs.declared.part.Part.{Part}
 use Rattle.ocds_release.specs.declared.part.Part.TheVariants as parts
 
@@ -59,6 +60,32 @@ pushed new old later k d ms e =
     ∙ append_assoc old (member_text later k (compact_text d)) (members_text true ms)
     ∙ ap (λ (r : List ℕ). old ++ r) (joins later k d ms)
 
+-- ---- a list that is opened, and what stands in it
+
+pub opened : (new old : List ℕ) (later : Bool) (k : List ℕ) (d : Data) (items : List ℕ) (ms : Members) → new ≡ old ++ member_text later k (91 ∷ [])
+    → compact_text d ≡ 91 ∷ items → new ++ (items ++ members_text true ms) ≡ old ++ members_text later (member k d ms)
+opened new old later k d items ms e list =
+    let text = comma_if later in
+    let rest = members_text true ms in
+    ap (λ (r : List ℕ). r ++ (items ++ rest)) e
+    ∙ append_assoc old (member_text later k (91 ∷ [])) (items ++ rest)
+    ∙ ap (λ (r : List ℕ). old ++ r) (
+    append_assoc text (quoted k ++ 58 ∷ 91 ∷ []) (items ++ rest)
+    ∙ ap (λ (r : List ℕ). text ++ r) (append_assoc (quoted k) (58 ∷ 91 ∷ []) (items ++ rest))
+    ∙ ap (λ (r : List ℕ). text ++ (quoted k ++ 58 ∷ (r ++ rest))) (sym list)
+    ∙ ap (λ (r : List ℕ). text ++ r) (sym (append_assoc (quoted k) (58 ∷ compact_text d) rest))
+    ∙ sym (append_assoc text (quoted k ++ 58 ∷ compact_text d) rest)
+    ∙ joins later k d ms)
+
+-- an object's text that is closed, with more behind it
+pub before_rest : (new items old start members rest : List ℕ) → new ++ (items ++ 125 ∷ []) ≡ start ++ members → start ≡ old ++ 123 ∷ []
+    → new ++ (items ++ 125 ∷ rest) ≡ old ++ ((123 ∷ members) ++ rest)
+before_rest new items old start members rest body opens =
+    ap (λ (r : List ℕ). new ++ r) (sym (append_assoc items (125 ∷ []) rest))
+    ∙ sym (append_assoc new (items ++ 125 ∷ []) rest)
+    ∙ ap (λ (r : List ℕ). r ++ rest) (body ∙ ap (λ (r : List ℕ). r ++ members) opens ∙ append_assoc old (123 ∷ []) members)
+    ∙ append_assoc old (123 ∷ members) rest
+
 pub empty_none : (n : ℕ) → (n == 0) ≡ true → n ≡ 0
 empty_none zero h = refl
 empty_none (suc n) h = let no : (suc n == 0) ≡ false = grind (arith, rules) in absurd (true≢false (sym h ∙ no))
@@ -100,8 +127,7 @@ kept_date (r ∷ rs) [] n h low = absurd h
 kept_date (r ∷ rs) (d ∷ ds) zero h low = h.0.date
 kept_date (r ∷ rs) (d ∷ ds) (suc n) h low = kept_date rs ds n h.1 (omega arith)
 
-pub kept_last : (rs : List ReleaseRow) (d : Data) (ds : List Data) → AreKept rs (d ∷ ds)
-    → last_date (d ∷ ds) ≡ moment_text (get_or (map moment_of rs) (length rs - 1) 0)
+pub kept_last : (rs : List ReleaseRow) (d : Data) (ds : List Data) → AreKept rs (d ∷ ds) → last_date (d ∷ ds) ≡ moment_text (moment_of_last rs)
 kept_last [] d ds h = absurd h
 kept_last (r ∷ rs) d ds h =
     let e : length (r ∷ rs) ≡ length (d ∷ ds) = kept_length (r ∷ rs) (d ∷ ds) h in

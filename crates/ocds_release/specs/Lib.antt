@@ -11,5 +11,6 @@ pub mod Events
 pub mod EventReleases
 pub mod Packages
 pub mod KeptReleases
+pub mod Opened
 pub mod Examples
 pub mod Inside

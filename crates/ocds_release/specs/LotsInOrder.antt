@@ -1,5 +1,5 @@
 -- Lots in the order of their identifiers.
-use Rattle.std.specs.Prelude.{ℕ, List, [], ◌∷◌}
+use Rattle.std.specs.Prelude.{List, [], ◌∷◌}
 use Rattle.std.specs.Ordering.{match_ordering}
 use Rattle.office_values.specs.Ids.{id_cmp}
 use Rattle.office_acts.specs.declared.lot.NewLot.{NewLot}

@@ -1,5 +1,5 @@
 -- Tenders whose lots have come to a status (OCDS 1.1, Tender, status; lots are an extension of it).
-use Rattle.std.specs.Prelude.{ℕ, List, [], ◌∷◌, codes, map}
+use Rattle.std.specs.Prelude.{ℕ, List, [], ◌∷◌, codes}
 use Rattle.serde_json.specs.Data.{Data, Members, object, no_members}
 use Rattle.ocds_release.specs.Objects.{text, array_of, object_of, with_entries}
 use Rattle.ocds_release.specs.TenderStatuses.{status_code}

@@ -1,14 +1,15 @@
-//! Packages as texts, from the texts of releases as they are kept: no release is read or written again.
-ghost use Rattle.std.specs.Prelude.{◌≡◌, ◌∷◌, ◌++◌, ◌-◌, [], List, true, false, IfOk, OnOk, map, length, get_or};
+//! Packages as texts, put together from the texts of releases as they are kept: no release is read or written again.
+ghost use Rattle.std.specs.Prelude.{◌≡◌, ◌∷◌, ◌++◌, [], List, ℕ, true, false, IfOk, OnOk};
 ghost use Rattle.serde_json.specs.Data.{Data, Members};
 ghost use Rattle.serde_json.specs.View.{view};
 ghost use Rattle.serde_json.specs.Written.{compact_text, comma_if, members_text, has_float};
 ghost use Rattle.json.specs.Print.{quoted};
 ghost use Rattle.office_values.specs.Moments.{moment_text};
+ghost use Rattle.office_base.specs.declared.records.ReleaseRow.{ReleaseRow as Kept};
 ghost use Rattle.ocds_release.specs.Inside.Parts.{data_of};
-ghost use Rattle.ocds_release.specs.Inside.Splicing.{moment_of, spliced, member_text, first_members, head_members, tail_members, ordered_package, ordered_record};
+ghost use Rattle.ocds_release.specs.Inside.Splicing.{member_text, first_members, head_members, tail_members, ordered_package, ordered_record};
 ghost use Rattle.ocds_release.specs.KeptReleases.{AreKept, HasText};
-ghost use Rattle.ocds_release.specs.Objects.{array_of};
+ghost use Rattle.ocds_release.specs.Opened.{completed, moment_of_last};
 ghost use Rattle.ocds_release.specs.Packages.{release_package as releases_in, record_package as record_in};
 
 use crate::object::object_with;
@@ -21,15 +22,47 @@ use office_values::moment::Moment;
 use office_values::settings::Settings;
 use serde_json::Value;
 use std::alloc::{AllocError, Global};
+use std::marker::Model;
 
-// The moment of the last release.
-fn last_moment(releases: &[ReleaseRow]) -> Moment
-    ensures { result ≡ get_or (map moment_of releases.now) (length releases.now - 1) 0 }
-{
-    if releases.is_empty() {
-        Moment::EPOCH
-    } else {
-        releases[releases.len() - 1].moment
+// What is left free behind a package's text, so that a response's head finds room beside it.
+const SPARE: usize = 256;
+
+/// The text of a package into which the releases of a notice are put, one after another. It stands in one buffer, which takes no more memory
+/// while they, with a comma each, come to as many bytes as it was opened for.
+#[derive(Drop)]
+pub struct PackageText {
+    text: Vec<u8>,
+    behind: Vec<u8>,
+    later: bool,
+}
+
+impl Model for PackageText {
+    ghost use Rattle.ocds_release.specs.Opened.{Opened};
+
+    ghost Value = { Opened };
+
+    ghost view = { λ p. record { written = p.text.items; behind = p.behind.items; later = p.later } };
+}
+
+impl PackageText {
+    /// Puts a release behind those that are there.
+    pub fn put(&mut self, release: &ReleaseRow) -> Result<(), NoMemory>
+        ensures { OnOk result ((rows : List Kept) → completed self.new rows ≡ completed self.old (release.now ∷ rows)) }
+    {
+        push_comma(&mut self.text, self.later)?;
+        self.text
+            .extend_from_slice(release.text.as_str().as_bytes())?;
+        self.later = true;
+        Ok(())
+    }
+
+    /// The text, closed behind the releases that are there.
+    pub fn close(self) -> Result<Vec<u8>, NoMemory>
+        ensures { IfOk result (λ text. text.items ≡ completed self []) }
+    {
+        let mut text = self.text;
+        text.extend_from_slice(self.behind.as_slice())?;
+        Ok(text)
     }
 }
 
@@ -40,22 +73,6 @@ fn push_comma(text: &mut Vec<u8>, later: bool) -> Result<(), AllocError>
         text.push(b',')?;
     }
     Ok(())
-}
-
-// The list of the releases.
-fn list_text(alloc: Global, releases: &[ReleaseRow]) -> Result<Vec<u8>, AllocError>
-    ensures { IfOk result (λ text. text.items ≡ 91 ∷ (spliced false releases.now ++ 93 ∷ [])) }
-{
-    let mut text = Vec::new(alloc);
-    text.push(b'[')?;
-    let mut later = false;
-    for release in releases {
-        push_comma(&mut text, later)?;
-        text.extend_from_slice(release.text.as_str().as_bytes())?;
-        later = true;
-    }
-    text.push(b']')?;
-    Ok(text)
 }
 
 fn quoted_text(alloc: Global, text: &str) -> Result<Vec<u8>, AllocError>
@@ -165,127 +182,137 @@ fn push_tail<'a>(
     Ok(())
 }
 
-// A package that was published at a moment, with the text of its list.
-fn package_text<'a>(
+// A package's text before what stands in its list.
+fn before_list(
     alloc: Global,
-    settings: &'a Settings,
-    notice: Id,
+    settings: &Settings,
     published: Moment,
-    route: &'a str,
-    name: &'a str,
-    list: &[u8],
+    name: &str,
 ) -> Result<Vec<u8>, AllocError>
-    ensures { IfOk result (λ text. (d : Data) → list.now ≡ compact_text d → text.items ≡ compact_text (ordered_package settings.now notice (moment_text published) route.now name.now d)) }
+    ensures { IfOk result (λ text. (notice route items : List ℕ) (d : Data) → compact_text d ≡ 91 ∷ items
+        → text.items ++ (items ++ members_text true (tail_members settings.now notice route)) ≡ compact_text (ordered_package settings.now notice (moment_text published) route name.now d)) }
 {
     let mut text = Vec::new(alloc);
     text.push(b'{')?;
     push_head(alloc, &mut text, settings, published)?;
-    push_member(alloc, &mut text, true, name, list)?;
+    push_member(alloc, &mut text, true, name, b"[")?;
+    Ok(text)
+}
+
+// A package's text behind what stands in its list, with what closes the list.
+fn behind_list<'a>(
+    alloc: Global,
+    settings: &'a Settings,
+    notice: Id,
+    route: &'a str,
+    closing: &[u8],
+) -> Result<Vec<u8>, AllocError>
+    ensures { IfOk result (λ text. text.items ≡ closing.now ++ members_text true (tail_members settings.now notice route.now)) }
+{
+    let mut text = Vec::new(alloc);
+    text.extend_from_slice(closing)?;
     push_tail(alloc, &mut text, settings, notice, route)?;
     Ok(text)
 }
 
-// The list of the one record.
-fn record_text<'a>(
+// Pushes a record up to what stands in its list of releases.
+fn push_record(
     alloc: Global,
-    settings: &'a Settings,
+    text: &mut Vec<u8>,
+    settings: &Settings,
     notice: Id,
-    list: &[u8],
     compiled: &Value,
-) -> Result<Vec<u8>, AllocError>
-    ensures { IfOk result (λ text. (d : Data) → list.now ≡ compact_text d → has_float (view compiled.now) ≡ false
-        → text.items ≡ compact_text (array_of (ordered_record settings.now notice (view compiled.now) d ∷ []))) }
+) -> Result<(), AllocError>
+    ensures { OnOk result ((items rest : List ℕ) (d : Data) → compact_text d ≡ 91 ∷ items → has_float (view compiled.now) ≡ false
+        → text.new.items ++ (items ++ 125 ∷ rest) ≡ text.old.items ++ (compact_text (ordered_record settings.now notice (view compiled.now) d) ++ rest)) }
 {
-    let mut text = Vec::new(alloc);
-    text.push(b'[')?;
     text.push(b'{')?;
-    push_value(alloc, &mut text, false, "compiledRelease", compiled)?;
+    push_value(alloc, text, false, "compiledRelease", compiled)?;
     push_part(
         alloc,
-        &mut text,
+        text,
         true,
         "ocid",
         &Part::Ocid(settings.prefix, notice),
     )?;
-    push_member(alloc, &mut text, true, "releases", list)?;
-    text.push(b'}')?;
-    text.push(b']')?;
-    Ok(text)
+    push_member(alloc, text, true, "releases", b"[")?;
+    Ok(())
 }
 
-fn release_package_bytes(
+// A package's text whose releases come to so many bytes.
+fn with_room(text: Vec<u8>, behind: Vec<u8>, room: usize) -> Result<PackageText, AllocError>
+    ensures { IfOk result (λ pack. pack ≡ record { written = text.items; behind = behind.items; later = false }) }
+{
+    let mut text = text;
+    text.reserve_exact(room.saturating_add(behind.len()).saturating_add(SPARE))?;
+    Ok(PackageText {
+        text,
+        behind,
+        later: false,
+    })
+}
+
+fn opened_releases(
     alloc: Global,
     settings: &Settings,
     notice: Id,
-    releases: &[ReleaseRow],
-) -> Result<Vec<u8>, AllocError>
-    ensures { IfOk result (λ text. (d : Data) (ds : List Data) → AreKept releases.now (d ∷ ds)
-        → text.items ≡ compact_text (releases_in settings.now notice (d ∷ ds))) }
+    published: Moment,
+    room: usize,
+) -> Result<PackageText, AllocError>
+    ensures { IfOk result (λ pack. (rows : List Kept) (d : Data) (ds : List Data) → AreKept rows (d ∷ ds) → moment_of_last rows ≡ published
+        → completed pack rows ≡ compact_text (releases_in settings.now notice (d ∷ ds))) }
 {
-    let list = list_text(alloc, releases)?;
-    let published = last_moment(releases);
-    let text = package_text(
-        alloc,
-        settings,
-        notice,
-        published,
-        "/releases",
-        "releases",
-        list.as_slice(),
-    )?;
-    Ok(text)
+    let before = before_list(alloc, settings, published, "releases")?;
+    let behind = behind_list(alloc, settings, notice, "/releases", b"]")?;
+    let package = with_room(before, behind, room)?;
+    Ok(package)
 }
 
-/// The text of the release package of a notice, from the texts of its releases as they are kept, in sequence. It is meant for a list that
-/// isn't empty. Time and memory grow with the bytes of the texts.
-pub fn release_package_text(
+/// Opens the text of the release package of a notice, the last of whose releases is of this moment. Its releases are put into it as they are
+/// kept, in sequence: at least one. There is room for so many bytes of them.
+pub fn open_releases(
     alloc: Global,
     settings: &Settings,
     notice: &Id,
-    releases: &[ReleaseRow],
-) -> Result<Vec<u8>, NoMemory>
-    ensures { IfOk result (λ text. (d : Data) (ds : List Data) → AreKept releases.now (d ∷ ds)
-        → text.items ≡ compact_text (releases_in settings.now notice.now (d ∷ ds))) }
+    published: Moment,
+    room: usize,
+) -> Result<PackageText, NoMemory>
+    ensures { IfOk result (λ pack. (rows : List Kept) (d : Data) (ds : List Data) → AreKept rows (d ∷ ds) → moment_of_last rows ≡ published
+        → completed pack rows ≡ compact_text (releases_in settings.now notice.now (d ∷ ds))) }
 {
-    Ok(release_package_bytes(alloc, settings, *notice, releases)?)
+    Ok(opened_releases(alloc, settings, *notice, published, room)?)
 }
 
-fn record_package_bytes(
+fn opened_record(
     alloc: Global,
     settings: &Settings,
     notice: Id,
-    releases: &[ReleaseRow],
+    published: Moment,
     compiled: &Value,
-) -> Result<Vec<u8>, AllocError>
-    ensures { IfOk result (λ text. (d : Data) (ds : List Data) → AreKept releases.now (d ∷ ds) → HasText (view compiled.now)
-        → text.items ≡ compact_text (record_in settings.now notice (d ∷ ds) (view compiled.now))) }
+    room: usize,
+) -> Result<PackageText, AllocError>
+    ensures { IfOk result (λ pack. (rows : List Kept) (d : Data) (ds : List Data) → AreKept rows (d ∷ ds) → moment_of_last rows ≡ published → HasText (view compiled.now)
+        → completed pack rows ≡ compact_text (record_in settings.now notice (d ∷ ds) (view compiled.now))) }
 {
-    let list = list_text(alloc, releases)?;
-    let records = record_text(alloc, settings, notice, list.as_slice(), compiled)?;
-    let published = last_moment(releases);
-    let text = package_text(
-        alloc,
-        settings,
-        notice,
-        published,
-        "/record",
-        "records",
-        records.as_slice(),
-    )?;
-    Ok(text)
+    let mut before = before_list(alloc, settings, published, "records")?;
+    push_record(alloc, &mut before, settings, notice, compiled)?;
+    let behind = behind_list(alloc, settings, notice, "/record", b"]}]")?;
+    let package = with_room(before, behind, room)?;
+    Ok(package)
 }
 
-/// The text of the record package of a notice, from the texts of its releases as they are kept, in sequence, and the compiled release. The
-/// same holds of it as of `release_package_text`.
-pub fn record_package_text(
+/// Opens the text of the record package of a notice, with the compiled release. The same holds of its releases as of those of
+/// `open_releases`.
+pub fn open_record(
     alloc: Global,
     settings: &Settings,
     notice: &Id,
-    releases: &[ReleaseRow],
+    published: Moment,
     compiled: &Value,
-) -> Result<Vec<u8>, NoMemory>
-    ensures { IfOk result (λ text. (d : Data) (ds : List Data) → AreKept releases.now (d ∷ ds) → HasText (view compiled.now)
-        → text.items ≡ compact_text (record_in settings.now notice.now (d ∷ ds) (view compiled.now))) }
+    room: usize,
+) -> Result<PackageText, NoMemory>
+    ensures { IfOk result (λ pack. (rows : List Kept) (d : Data) (ds : List Data) → AreKept rows (d ∷ ds) → moment_of_last rows ≡ published → HasText (view compiled.now)
+        → completed pack rows ≡ compact_text (record_in settings.now notice.now (d ∷ ds) (view compiled.now))) }
 {
-    Ok(record_package_bytes(alloc, settings, *notice, releases, compiled)?)
+    Ok(opened_record(alloc, settings, *notice, published, compiled, room)?)
 }

@@ -2,7 +2,7 @@
 ghost use Rattle.std.specs.Prelude.{◌≡◌};
 ghost use Rattle.office_values.specs.declared.refusal.Refusal.TheVariants.{Unavailable};
 ghost use Rattle.office_base.specs.Tables.{Tables, IsSorted};
-ghost use Rattle.office_base.specs.Tables.{line_at, batch_at, tenderer_at, notice_at, lot_at, envelope_at, seal_at, security_at, award_at, contract_at, entry_at, release_at, compiled_at, lots_of_notice, lots_of_line, envelopes_of_notice, envelopes_of_tenderer, securities_of_notice, awards_of_notice, contracts_of_notice, entries_of_contract, releases_of_notice, after_puts};
+ghost use Rattle.office_base.specs.Tables.{line_at, batch_at, tenderer_at, notice_at, lot_at, envelope_at, seal_at, security_at, award_at, contract_at, entry_at, release_at, compiled_at, lots_of_notice, lots_of_line, envelopes_of_notice, envelopes_of_tenderer, securities_of_notice, awards_of_notice, contracts_of_notice, entries_of_contract, releases_of_notice};
 ghost use Rattle.office_base.specs.Joined.{reservations, sums_of_line, ledger_of, LinesFit};
 ghost use Rattle.office_base.specs.Shelves.{Meaning, Keeps, LooksUp, AddsUp, Changes};
 
@@ -174,5 +174,5 @@ pub trait Lookups {
 pub trait Shelf: Lookups {
     /// Makes all changes, in order, or none.
     fn apply(&mut self, puts: Vec<Put>) -> Result<(), ShelfFault>
-        ensures { Changes Self.meaning self.old self.new result (after_puts puts.items) };
+        ensures { Changes Self.meaning self.old self.new result puts.items };
 }

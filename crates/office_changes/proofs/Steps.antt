@@ -1,10 +1,8 @@
 -- Changes one after another.
-use Rattle.std.proofs.Common.{◌≡◌, inl, inr, Err, Ok, true, false, Result, List, [], ◌∷◌, ◌++◌, ℕ, refl, sym, subst, ◌∙◌, IsTrue}
+use Rattle.std.proofs.Common.{◌≡◌, Err, Ok, true, false, Result, List, [], ◌∷◌, ◌++◌, refl, sym, subst, ◌∙◌, IsTrue}
 use Rattle.std.specs.Prelude.{OnErr, OnOk}
-use Rattle.sqlite_value.specs.Order.{Row}
 use Rattle.sqlite_trees.specs.Tree.{Trees}
-use Rattle.sqlite.specs.declared.error.Error.{Error}
-use Rattle.sqlite.specs.State.{State, IsUnchanged, IsRolledBack, IsNotRun, Shows}
+use Rattle.sqlite.specs.State.{State, IsRolledBack, Shows}
 use Rattle.office_base.specs.Tables.{Tables, after_put, after_puts}
 use Rattle.office_base.specs.declared.puts.Put.{Put}
 use Rattle.office_sql.specs.Standing.{Holds}
@@ -24,12 +22,6 @@ on_ok_with (Err e) P Q h f = tt
 
 -- ---- within a transaction
 
-pub puts_none : (a b : State) → IsTrue a.in_transaction → IsUnchanged a b → Puts a b []
-puts_none a b inside h = record {
-  goes = record { mode = subst IsTrue (sym h.0.mode) inside; was_open = h.0.was_open; is_open = h.0.is_open; committed = h.0.committed_is };
-  tables = λ t holds. subst (λ d. Holds d t) (sym h.0.now_is) holds;
-}
-
 pub goes_then : (a b c : State) → Goes a b → Goes b c → Goes a c
 goes_then a b c first second = record { mode = second.mode; was_open = first.was_open; is_open = second.is_open; committed = second.committed ∙ first.committed }
 
@@ -40,17 +32,6 @@ puts_push a b c done p first second = record {
 }
 
 -- ---- nothing was committed
-
-pub unchanged : (old new : State) → IsUnchanged old new → Refused old new
-unchanged old new same = record { was_open = λ _. same.0.was_open; committed = λ _. same.0.committed_is }
-
-undone : (old new : State) → IsRolledBack old new → Refused old new
-undone old new back = record { was_open = back.was_open; committed = λ o. (back.undone o).1 }
-
-pub not_run_kept : (sql : List ℕ) (params : Row) (old new : State) (e : Error) → IsNotRun old new sql params e → Refused old new
-unfolding IsNotRun
-not_run_kept sql params old new e (inl none) = unchanged old new none.1
-not_run_kept sql params old new e (inr failed) = undone old new failed.3
 
 pub goes_refused : (a b c : State) → Goes a b → Refused b c → Refused a c
 goes_refused a b c first second = record { was_open = λ o. first.was_open; committed = λ o. second.committed o ∙ first.committed }

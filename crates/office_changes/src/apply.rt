@@ -2,6 +2,7 @@
 ghost use Rattle.std.specs.Prelude.{◌≡◌, false, [], ◌∷◌, IsTrue, OnOk, OnErr};
 ghost use Rattle.sqlite.specs.Held.{state};
 ghost use Rattle.sqlite.specs.State.{HasCleanDisk, Survives};
+ghost use Rattle.office_sql.specs.Failing.{ErrorHasCause, ChangeHasCause};
 ghost use Rattle.office_sql.specs.Steps.{Puts, Applied, Refused, LeavesPuts};
 
 use office_base::puts::Put;
@@ -9,21 +10,11 @@ use office_sql::puts;
 use sqlite::{Alter, Connection, Error, Transaction};
 use std::alloc::Global;
 
-// Ready for changes: the store is open, whatever stands there.
-fn begin<S: Alter>(tx: &mut Transaction<'_, S>) -> Result<(), Error>
-    ensures same_reference { tx.new.conn.ghost_name ≡ tx.old.conn.ghost_name }
-    ensures puts { HasCleanDisk (state S.Store tx.new.conn.now) → IsTrue (state S.Store tx.old.conn.now).in_transaction → OnOk result (Puts (state S.Store tx.old.conn.now) (state S.Store tx.new.conn.now) []) }
-    ensures refused { HasCleanDisk (state S.Store tx.new.conn.now) → OnErr result (Refused (state S.Store tx.old.conn.now) (state S.Store tx.new.conn.now)) }
-    ensures survives { Survives (state S.Store tx.old.conn.now) (state S.Store tx.new.conn.now) (λ _. ⊥) }
-{
-    let _ready = tx.prepare("SELECT version FROM office")?;
-    Ok(())
-}
-
 fn put_one<S: Alter>(alloc: Global, tx: &mut Transaction<'_, S>, put: &Put) -> Result<(), Error>
     ensures same_reference { tx.new.conn.ghost_name ≡ tx.old.conn.ghost_name }
     ensures puts { HasCleanDisk (state S.Store tx.new.conn.now) → IsTrue (state S.Store tx.old.conn.now).in_transaction → OnOk result (Puts (state S.Store tx.old.conn.now) (state S.Store tx.new.conn.now) (put.now ∷ [])) }
     ensures refused { HasCleanDisk (state S.Store tx.new.conn.now) → IsTrue (state S.Store tx.old.conn.now).in_transaction → OnErr result (Refused (state S.Store tx.old.conn.now) (state S.Store tx.new.conn.now)) }
+    ensures failed { ErrorHasCause (state S.Store tx.old.conn.now) (state S.Store tx.new.conn.now) (put.now ∷ []) result }
     ensures survives { Survives (state S.Store tx.old.conn.now) (state S.Store tx.new.conn.now) (λ _. ⊥) }
 {
     match put {
@@ -50,16 +41,17 @@ fn put_all<S: Alter>(alloc: Global, tx: &mut Transaction<'_, S>, puts: &[Put]) -
     ensures same_reference { tx.new.conn.ghost_name ≡ tx.old.conn.ghost_name }
     ensures puts { HasCleanDisk (state S.Store tx.new.conn.now) → OnOk result (Puts (state S.Store tx.old.conn.now) (state S.Store tx.new.conn.now) puts.now) }
     ensures refused { HasCleanDisk (state S.Store tx.new.conn.now) → OnErr result (Refused (state S.Store tx.old.conn.now) (state S.Store tx.new.conn.now)) }
+    ensures failed { ErrorHasCause (state S.Store tx.old.conn.now) (state S.Store tx.new.conn.now) puts.now result }
     ensures survives { Survives (state S.Store tx.old.conn.now) (state S.Store tx.new.conn.now) (λ _. ⊥) }
 {
-    begin(tx)?;
+    puts::begin(tx)?;
     'puts: for put in puts {
         put_one(alloc, tx, put)?;
     }
     Ok(())
 }
 
-/// All changes in turn in one transaction, or none. No changes are a transaction too.
+/// All changes in turn in one transaction, or none. No changes are a transaction too. `InvalidQuery` where a transaction is under way.
 pub fn apply_all<S: Alter>(
     alloc: Global,
     conn: &mut Connection<S>,
@@ -68,6 +60,7 @@ pub fn apply_all<S: Alter>(
     ensures applied { HasCleanDisk (state S.Store conn.new) → OnOk result (Applied (state S.Store conn.old) (state S.Store conn.new) puts.now) }
     ensures refused { HasCleanDisk (state S.Store conn.new) → OnErr result (Refused (state S.Store conn.old) (state S.Store conn.new)) }
     ensures survives { Survives (state S.Store conn.old) (state S.Store conn.new) (LeavesPuts (state S.Store conn.old) puts.now) }
+    ensures failed { ChangeHasCause (state S.Store conn.old) (state S.Store conn.new) puts.now result }
 {
     if !conn.is_autocommit() {
         return Err(Error::InvalidQuery);

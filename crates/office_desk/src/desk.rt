@@ -5,12 +5,13 @@ ghost use Rattle.office_acts.specs.Queries as queries;
 ghost use Rattle.office_acts.specs.Rights.{may, may_look};
 ghost use Rattle.office_base.specs.Tables.{Tables, after_puts};
 ghost use Rattle.office_base.specs.Faults.{HasRisen};
-ghost use Rattle.office_base.specs.Shelves.{Looks, Alters};
+ghost use Rattle.office_base.specs.Shelves.{Looks, Alters, PutsFail};
 ghost use Rattle.office_publications.specs.Keeping.{KeepsReleases};
 ghost use Rattle.office_publications.specs.Publishing.{publishing};
 ghost use Rattle.office_machine.specs.Machine.{Given, IsRegistered, Reaches};
 ghost use Rattle.office_values.specs.declared.settings.Settings.{Settings as SettingsOf};
 ghost use Rattle.office_plans.specs.Asking.{given};
+ghost use Rattle.stored_shelf.specs.Shutting.{TellsShut};
 ghost use Rattle.office_desk.specs.Callers.{caller_of, names_no_tenderer};
 ghost use Rattle.office_desk.specs.Steps.{Does, IsPlan, IsPlanned, IsAnswered, IsSeen, Joins, read_text};
 
@@ -20,7 +21,7 @@ use crate::queries::look_at;
 use office_acts::command::{Caller, may, may_look};
 use office_acts::commands::Command;
 use office_acts::queries::Query;
-use office_base::shelf::{Lookups, Shelf};
+use office_base::shelf::{Lookups, Shelf, ShelfFault};
 use office_machine::{fates, laws};
 use office_plans::planned::Planned;
 use office_publications::laws::keeping;
@@ -29,6 +30,7 @@ use office_values::refusal::Refusal;
 use office_values::settings::Settings;
 use std::alloc::Global;
 use std::marker::Model;
+use stored_shelf::stored::StoredShelf;
 use tender_core::asking::Asking;
 
 /// A desk: it answers commands and queries from what a shelf holds.
@@ -130,7 +132,24 @@ impl<H: Shelf + Drop> Desk<H> {
         plan_command(self.alloc, shelf, &self.settings, &asking, command)
     }
 
-    /// Does what was planned, all or nothing, and hands out the reply. Once it is done nothing is allocated.
+    /// Does what was planned, all or nothing, and hands out the reply; `commit` for who wants to know whether memory was wanting or the
+    /// store failed. Once it is done nothing is allocated.
+    pub fn carry_out(&mut self, planned: Planned) -> Result<Vec<u8>, ShelfFault>
+        ensures alters { Alters H.meaning self.old.shelf self.new.shelf result (after_puts planned.puts) }
+        ensures settings { self.new.settings ≡ self.old.settings }
+        ensures reply { IfOk result (λ reply. reply.items ≡ planned.reply) }
+        ensures risen { IfErr result (λ _. HasRisen (H.meaning.fault_count self.old.shelf) (H.meaning.fault_count self.new.shelf)) }
+        ensures cause { PutsFail H.meaning self.old.shelf self.new.shelf result planned.puts }
+    {
+        let (puts, reply) = planned.into_parts();
+        match self.shelf.apply(puts) {
+            Ok(()) => Ok(reply),
+            Err(fault) => Err(fault),
+        }
+    }
+
+    /// Does what was planned, all or nothing, and hands out the reply. Once it is done nothing is allocated. `Unavailable` is want of memory
+    /// or a fault of the store: `carry_out` tells which.
     pub fn commit(&mut self, planned: Planned) -> Result<Vec<u8>, Refusal>
         ensures alters { Alters H.meaning self.old.shelf self.new.shelf result (after_puts planned.puts) }
         ensures settings { self.new.settings ≡ self.old.settings }
@@ -145,9 +164,8 @@ impl<H: Shelf + Drop> Desk<H> {
         keeping();
         fates::tenders();
         fates::securities();
-        let (puts, reply) = planned.into_parts();
-        match self.shelf.apply(puts) {
-            Ok(()) => Ok(reply),
+        match self.carry_out(planned) {
+            Ok(reply) => Ok(reply),
             Err(_) => Err(Refusal::Unavailable),
         }
     }
@@ -185,5 +203,15 @@ impl<H: Shelf + Drop> Desk<H> {
             return Err(Refusal::Forbidden);
         }
         look_at(self.alloc, &mut self.shelf, &self.settings, caller, query)
+    }
+}
+
+impl<H: StoredShelf + Drop> Desk<H> {
+    /// Whether a fault shut the store for good. Nothing changes. A fault as of the shelf.
+    pub fn is_shut(&mut self) -> Result<bool, ShelfFault>
+        ensures told { TellsShut H.meaning H.store self.old.shelf self.new.shelf result }
+        ensures settings { self.new.settings ≡ self.old.settings }
+    {
+        self.shelf.is_shut()
     }
 }

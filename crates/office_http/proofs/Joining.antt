@@ -1,5 +1,7 @@
 -- Texts that are put one behind another.
-use Rattle.std.proofs.Common.{◌≡◌, ℕ, List, [], ◌++◌, append_assoc}
+use Rattle.std.proofs.Common.{◌≡◌, ℕ, ◌+◌, ◌-◌, List, [], ◌++◌, append_assoc, take, drop, length, sym, ap, ◌∙◌, append-nil, arith}
+use Rattle.std.proofs.Math.Seq.{drop-append_seam, take-append_seam}
+use Rattle.std.proofs.lemmas.List.{length-append}
 
 -- a text behind what was there, where it is known otherwise
 pub put_as : (old new text shown : List ℕ) → new ≡ old ++ text → text ≡ shown → new ≡ old ++ shown
@@ -22,3 +24,22 @@ pub eight_behind : (out first second third fourth fifth sixth seventh eighth a b
     → eighth ≡ out ++ (a ++ b ++ c ++ d ++ e ++ f ++ g ++ h)
 eight_behind out first second third fourth fifth sixth seventh eighth a b c d e f g h at_first at_second at_third at_fourth at_fifth at_sixth at_seventh at_eighth =
     rw (at_eighth, at_seventh, at_sixth, at_fifth, at_fourth, at_third, at_second, at_first) (simp append_assoc)
+
+-- a text that is put behind another and turned to its front; n is how long both are
+pub turned : (old front joined out : List ℕ) (n : ℕ) → n ≡ length joined → joined ≡ old ++ front
+    → out ≡ drop (n - length front) joined ++ take (n - length front) joined → out ≡ front ++ old
+turned old front joined out n many is turns =
+    let long : length joined ≡ length old + length front = ap length is ∙ length-append old front in
+    let seam : n - length front ≡ length old = omega (arith, many, long) in
+    turns
+    ∙ ap (λ (k : ℕ). drop k joined ++ take k joined) seam
+    ∙ ap (λ (xs : List ℕ). drop (length old) xs ++ take (length old) xs) is
+    ∙ (λ i. drop-append_seam old front i ++ take-append_seam old front i)
+
+-- a text of this length behind the head that tells it
+pub around : (start : ℕ → List ℕ) (close body front shown out : List ℕ) (n : ℕ) → n ≡ length body → front ≡ start n ++ close → shown ≡ front
+    → out ≡ shown ++ body → out ≡ start (length body) ++ [] ++ close ++ body
+around start close body front shown out n many made same joined =
+    joined
+    ∙ ap (λ (xs : List ℕ). xs ++ body)
+    (same ∙ made ∙ ap (λ (k : ℕ). start k ++ close) many ∙ ap (λ (xs : List ℕ). xs ++ close) (sym (append-nil (start (length body)))))

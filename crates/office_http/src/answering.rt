@@ -88,7 +88,7 @@ fn answer_query<H: Shelf + Drop>(
         Ok(text) => text,
         Err(refusal) => return refuse(alloc, refusal, None),
     };
-    match seen_response(alloc, query.kind(), &text) {
+    match seen_response(alloc, query.kind(), text) {
         Ok(response) => Answer::built(response),
         Err(_) => Answer::constant(unavailable()),
     }

@@ -5,6 +5,7 @@ ghost use Rattle.office_machine.specs.Machine.{Given, Reaches};
 ghost use Rattle.office_publications.specs.Keeping.{KeepsReleases};
 ghost use Rattle.office_publications.specs.Publishing.{publishing};
 ghost use Rattle.office_publications.specs.Standing.{Stands};
+ghost use Rattle.stored_shelf.specs.Shutting.{TellsShut};
 ghost use Rattle.office_desk.specs.Steps.{IsKept};
 ghost use Rattle.office_wire.specs.Counting.{HasStopped};
 ghost use Rattle.office_wire.specs.Runs.{Step, Ran, Served, office_left};
@@ -14,7 +15,7 @@ ghost use Rattle.office_http.specs.Stops.{StopsBy, StopsOnce};
 
 use crate::answering::{answer_request, fault_response};
 use crate::laws;
-use office_base::shelf::{Lookups, Shelf};
+use office_base::shelf::{Lookups, Shelf, ShelfFault};
 use office_desk::desk::Desk;
 use office_requests::routes::Routes;
 use office_values::moment::Moment;
@@ -28,6 +29,7 @@ use office_wire::watched::WatchedWriter;
 use std::alloc::{AllocError, Global};
 use std::io::{BufRead, Write};
 use std::marker::Model;
+use stored_shelf::stored::StoredShelf;
 
 /// An office that is asked over HTTP: its desk, and the table of its routes.
 pub struct Office<H: Shelf + Drop> {
@@ -65,6 +67,16 @@ impl<H: Shelf + Drop> Office<H> {
     {
         let Office { desk, routes: _ } = self;
         desk
+    }
+}
+
+impl<H: StoredShelf + Drop> Office<H> {
+    /// Whether a fault shut the store for good. Nothing changes. A fault as of the shelf.
+    pub fn is_shut(&mut self) -> Result<bool, ShelfFault>
+        ensures told { TellsShut H.meaning H.store self.old.shelf self.new.shelf result }
+        ensures settings { self.new.settings ≡ self.old.settings }
+    {
+        self.desk.is_shut()
     }
 }
 

@@ -1,5 +1,5 @@
 //! The bytes of a response.
-ghost use Rattle.std.specs.Prelude.{◌≡◌, ◌++◌, IfOk, None, Some, option_map};
+ghost use Rattle.std.specs.Prelude.{◌≡◌, ◌++◌, [], IfOk, None, Some, codes, option_map};
 ghost use Rattle.http.specs.StatusCode.{IsStatusCode};
 ghost use Rattle.office_values.specs.Refusals.{told, Record};
 ghost use Rattle.office_values.specs.declared.refusal.Refusal.TheVariants.{BadHead, TooLong, Coding, Unavailable};
@@ -144,19 +144,49 @@ pub(crate) fn accepted_response(alloc: Global, text: &[u8]) -> Result<Vec<u8>, A
     response(alloc, 200, JSON, "", "", text)
 }
 
+// Puts a text before what is there; takes no further room where there is enough.
+fn put_before(out: &mut Vec<u8>, front: &[u8]) -> Result<(), AllocError>
+    ensures { IfOk result (λ _. out.new.items ≡ front.now ++ out.old.items) }
+{
+    out.reserve_exact(front.len())?;
+    out.extend_from_slice(front)?;
+    out.rotate_right(front.len());
+    Ok(())
+}
+
+// A head of status 200 before a body of this length.
+fn ok_head(alloc: Global, media: &str, length: usize) -> Result<Vec<u8>, AllocError>
+    ensures { IfOk result (λ out. out.items ≡ head_start 200 media.now length ++ codes "\r\nConnection: close\r\n\r\n") }
+{
+    let mut out = Vec::with_capacity(alloc, HEAD_ROOM)?;
+    put_head(&mut out, 200, media, length)?;
+    out.extend_from_slice(b"\r\nConnection: close\r\n\r\n")?;
+    Ok(out)
+}
+
+// A response of status 200 in the memory of its body.
+fn response_around(alloc: Global, media: &str, body: Vec<u8>) -> Result<Vec<u8>, AllocError>
+    ensures { IfOk result (λ out. out.items ≡ response_with 200 media.now [] body.items) }
+{
+    let head = ok_head(alloc, media, body.len())?;
+    let mut out = body;
+    put_before(&mut out, &head)?;
+    Ok(out)
+}
+
 // The response to a query of this kind, with what is seen.
 pub(crate) fn seen_response(
     alloc: Global,
     kind: QueryKind,
-    text: &[u8],
+    text: Vec<u8>,
 ) -> Result<Vec<u8>, AllocError>
-    ensures { IfOk result (λ out. out.items ≡ response_of (seen_as kind text.now)) }
+    ensures { IfOk result (λ out. out.items ≡ response_of (seen_as kind text.items)) }
 {
     match kind {
         QueryKind::Ledger | QueryKind::Minutes | QueryKind::Register => {
-            response(alloc, 200, PLAIN_TEXT, "", "", text)
+            response_around(alloc, PLAIN_TEXT, text)
         }
-        _ => response(alloc, 200, JSON, "", "", text),
+        _ => response_around(alloc, JSON, text),
     }
 }
 

@@ -7,12 +7,13 @@ use Rattle.office_ledger.specs.declared.joined.JoinedRow.{JoinedRow}
 use Rattle.office_ledger.specs.declared.joined.JoinedLot.{JoinedLot}
 use Rattle.office_ledger.specs.declared.joined.JoinedContract.{JoinedContract}
 use Rattle.office_ledger.specs.declared.joined.JoinedEntry.{JoinedEntry}
-use Rattle.office_joins.specs.Cells.{kind_text, joined_cells}
-use Rattle.office_joins.specs.Reading.{kind_in, joined_read, joined_lot_read}
+use Rattle.office_rows.specs.Words.{entry_kind_text, entry_kind_in}
+use Rattle.office_joins.specs.Cells.{joined_cells}
+use Rattle.office_joins.specs.Reading.{joined_read, joined_lot_read}
 use Rattle.office_joins.specs.Shows.{joined_lot_cells}
 use Rattle.office_joins.specs.ReadBack.{JoinedRowsComeBack, JoinedLotsComeBack}
 
-kind_back : (k : EntryKind) → kind_in (kind_text k) ≡ k
+kind_back : (k : EntryKind) → entry_kind_in (entry_kind_text k) ≡ k
 kind_back Raise = refl
 kind_back Cut = refl
 kind_back Payment = refl
@@ -20,7 +21,7 @@ kind_back Payment = refl
 abbrev with_kind_of : JoinedEntry → EntryKind → Option JoinedEntry
 with_kind_of e k = Some (record { entry = e.entry; kind = k; amount = e.amount })
 
-lot_back : (l : JoinedLot) → joined_lot_read (joined_lot_cells l) ≡ l
+pub lot_back : (l : JoinedLot) → joined_lot_read (joined_lot_cells l) ≡ l
 lot_back l = by l.contract
   where
     with_contract : Option JoinedContract → JoinedLot
@@ -34,7 +35,7 @@ lot_back l = by l.contract
     by None = refl
     by (Some c) = entry_by c c.entry
 
-row_back : (r : JoinedRow) → joined_read (joined_cells r) ≡ r
+pub row_back : (r : JoinedRow) → joined_read (joined_cells r) ≡ r
 row_back r = by r.lot
   where
     with_lot : Option JoinedLot → JoinedRow

@@ -16,3 +16,4 @@ pub mod LotsShown
 pub mod LotsJoining
 pub mod BackAgain
 pub mod Stored
+pub mod Parted

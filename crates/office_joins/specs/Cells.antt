@@ -1,5 +1,5 @@
 -- What rows of the four tables show of records, and what the select shows of joined rows.
-use Rattle.std.specs.Prelude.{◌≡◌, ℕ, pos, List, [], ◌∷◌, Option, Some, None, codes}
+use Rattle.std.specs.Prelude.{◌≡◌, pos, List, [], ◌∷◌, Option, Some, None}
 use Rattle.std.specs.List.Sorted.{IsPermutation}
 use Rattle.sqlite_value.specs.declared.value.Value.{Value}
 use Rattle.sqlite_value.specs.declared.value.Value.TheVariants.{Null, Int, Text}
@@ -8,17 +8,11 @@ use Rattle.office_base.specs.declared.records.LineRow.{LineRow}
 use Rattle.office_base.specs.declared.records.LotRow.{LotRow}
 use Rattle.office_base.specs.declared.records.ContractRow.{ContractRow}
 use Rattle.office_base.specs.declared.records.EntryRow.{EntryRow}
-use Rattle.office_base.specs.declared.records.EntryKind.{EntryKind}
-use Rattle.office_base.specs.declared.records.EntryKind.TheVariants.{Raise, Cut, Payment}
+use Rattle.office_rows.specs.Words.{entry_kind_text}
 use Rattle.office_ledger.specs.declared.joined.JoinedRow.{JoinedRow}
 use Rattle.office_ledger.specs.declared.joined.JoinedLot.{JoinedLot}
 use Rattle.office_ledger.specs.declared.joined.JoinedContract.{JoinedContract}
 use Rattle.office_ledger.specs.declared.joined.JoinedEntry.{JoinedEntry}
-
-abbrev pub kind_text : EntryKind → List ℕ
-kind_text Raise = codes "raise"
-kind_text Cut = codes "cut"
-kind_text Payment = codes "payment"
 
 -- the columns that the select reads, counted from 1; the key of a contract is its rowid, at 0
 pub record LineCells (r : Row) (x : LineRow) : Type 0 where
@@ -42,7 +36,7 @@ pub record ContractCells (r : Row) (x : ContractRow) : Type 0 where
 pub record EntryCells (r : Row) (x : EntryRow) : Type 0 where
   pub contract : column r 1 ≡ Int (pos x.contract)
   pub entry : column r 2 ≡ Text x.entry
-  pub kind : column r 3 ≡ Text (kind_text x.kind)
+  pub kind : column r 3 ≡ Text (entry_kind_text x.kind)
   pub amount : column r 4 ≡ Int (pos x.amount)
 
 -- each row shows a record
@@ -85,7 +79,7 @@ abbrev pub row_key : JoinedRow → Row
 row_key r = Text r.line ∷ lot_key r.lot
 
 abbrev pub entry_cells : Option JoinedEntry → Row
-entry_cells e = perhaps (λ (e : JoinedEntry). Text e.entry) e ∷ perhaps (λ (e : JoinedEntry). Text (kind_text e.kind)) e ∷ perhaps (λ (e : JoinedEntry). Int (pos e.amount)) e ∷ []
+entry_cells e = perhaps (λ (e : JoinedEntry). Text e.entry) e ∷ perhaps (λ (e : JoinedEntry). Text (entry_kind_text e.kind)) e ∷ perhaps (λ (e : JoinedEntry). Int (pos e.amount)) e ∷ []
 
 abbrev pub contract_cells : Option JoinedContract → Row
 contract_cells c = perhaps (λ (c : JoinedContract). Int (pos c.contract)) c ∷ perhaps (λ (c : JoinedContract). Int (pos c.signed)) c ∷ perhaps (λ (c : JoinedContract). Int (pos c.released)) c ∷ entry_cells (entry_in c)

@@ -1,6 +1,8 @@
 pub mod Select
 pub mod SelectLots
 pub mod Cells
+pub mod Parts
+pub mod Fits
 pub mod Known
 pub mod Means
 pub mod Shows

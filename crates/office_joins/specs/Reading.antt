@@ -1,28 +1,16 @@
 -- A row of the select as a joined row.
-use Rattle.std.specs.Prelude.{ℕ, ℤ, ◌+◌, pos, negsuc, Bool, true, false, cond, if◌then◌else◌, List, Option, Some, None, codes}
+use Rattle.std.specs.Prelude.{ℕ, ◌+◌, Bool, true, false, cond, Option, Some, None}
 use Rattle.sqlite_value.specs.declared.value.Value.{Value}
 use Rattle.sqlite_value.specs.declared.value.Value.TheVariants.{Null, Int, Real, Text, Blob}
 use Rattle.sqlite_value.specs.Order.{Row, column, bytes}
-use Rattle.office_values.specs.Ids.{same_id}
-use Rattle.office_base.specs.declared.records.EntryKind.{EntryKind}
-use Rattle.office_base.specs.declared.records.EntryKind.TheVariants.{Raise, Cut, Payment}
+use Rattle.office_rows.specs.Values.{number_in}
+use Rattle.office_rows.specs.Words.{entry_kind_in}
 use Rattle.office_ledger.specs.declared.joined.JoinedRow.{JoinedRow}
 use Rattle.office_ledger.specs.declared.joined.JoinedLot.{JoinedLot}
 use Rattle.office_ledger.specs.declared.joined.JoinedContract.{JoinedContract}
 use Rattle.office_ledger.specs.declared.joined.JoinedEntry.{JoinedEntry}
 
--- the number that a value is; 0 where it is none
-abbrev pub nat_of : ℤ → ℕ
-nat_of (pos n) = n
-nat_of (negsuc n) = 0
-
-abbrev pub number_in : Value → ℕ
-number_in Null = 0
-number_in (Int z) = nat_of z
-number_in (Real x) = 0
-number_in (Text t) = 0
-number_in (Blob b) = 0
-
+-- whether a value is any but NULL
 abbrev pub is_there : Value → Bool
 is_there Null = false
 is_there (Int z) = true
@@ -30,12 +18,9 @@ is_there (Real x) = true
 is_there (Text t) = true
 is_there (Blob b) = true
 
-abbrev pub kind_in : List ℕ → EntryKind
-kind_in word = if same_id word (codes "raise") then Raise else if same_id word (codes "cut") then Cut else Payment
-
 -- what stands from a column on, unless that is NULL
 abbrev pub entry_from : Row → ℕ → Option JoinedEntry
-entry_from r at = cond (is_there (column r at)) (Some (record { entry = bytes (column r at); kind = kind_in (bytes (column r (at + 1))); amount = number_in (column r (at + 2)) })) None
+entry_from r at = cond (is_there (column r at)) (Some (record { entry = bytes (column r at); kind = entry_kind_in (bytes (column r (at + 1))); amount = number_in (column r (at + 2)) })) None
 
 abbrev pub contract_from : Row → ℕ → Option JoinedContract
 contract_from r at =

@@ -1,121 +1,100 @@
 //! Rows of the selects as joined rows. What no office writes there is a fault of the store.
-ghost use Rattle.std.specs.Prelude.{◌≡◌, ◌≤◌, IfOk};
-ghost use Rattle.sqlite_value.specs.Order.{column, bytes};
-ghost use Rattle.office_joins.specs.Reading.{number_in, is_there, kind_in, entry_from, contract_from, lot_read, lot_from, joined_read, joined_lot_read};
+ghost use Rattle.std.specs.Prelude.{◌≡◌, ◌≤◌, ◌↔◌, IsTrue, IfOk, IfErr, IfSome, None, Some};
+ghost use Rattle.office_base.specs.Faults.{IsFaultOf};
+ghost use Rattle.office_rows.specs.Unwritten.{IsUnwritten};
+ghost use Rattle.office_joins.specs.Cells.{entry_cells, contract_cells, lot_cells, joined_cells};
+ghost use Rattle.office_joins.specs.Parts.{columns_of_entry, columns_of_contract, columns_of_lot};
+ghost use Rattle.office_joins.specs.Fits.{EntryFits, ContractFits, LotFits, JoinedFits};
+ghost use Rattle.office_joins.specs.Reading.{joined_read, joined_lot_read};
 ghost use Rattle.office_joins.specs.ReadBack.{JoinedRowsComeBack, JoinedLotsComeBack};
+ghost use Rattle.office_joins.specs.Shows.{joined_lot_cells};
 
-use office_base::records::EntryKind;
 use office_base::shelf::ShelfFault;
 use office_ledger::joined::{JoinedContract, JoinedEntry, JoinedLot, JoinedRow};
-use office_values::bounded::Bounded;
-use office_values::id::Id;
-use office_values::money::{Amount, Total};
+use office_rows::columns::{amount_at, are_null, bounded_at, has_columns, id_at, total_at};
+use office_rows::words::entry_kind_at;
 use sqlite::Row;
-use sqlite_value::value::ValueRef;
 
-fn is_there(row: &Row, at: usize) -> bool
-    ensures { result ≡ is_there (column row.now at) }
+// Whether no entry stands from this column on.
+fn has_no_entry(row: &Row, at: usize) -> bool
+    requires { at ≤ 100 }
+    ensures { IsTrue result ↔ (entry_cells None ≡ columns_of_entry row.now at) }
 {
-    match row.get_ref(at) {
-        Ok(ValueRef::Null) | Err(_) => false,
-        Ok(_) => true,
-    }
+    are_null(row, at)
 }
 
-fn text_at(row: &Row, at: usize) -> Result<&[u8], ShelfFault>
-    ensures { IfOk result (λ text. text.now ≡ bytes (column row.now at)) }
+// Whether no contract stands from this column on.
+fn has_no_contract(row: &Row, at: usize) -> bool
+    requires { at ≤ 90 }
+    ensures { IsTrue result ↔ (contract_cells None ≡ columns_of_contract row.now at) }
 {
-    match row.get_ref(at) {
-        Ok(ValueRef::Text(text)) => Ok(text),
-        _ => Err(ShelfFault::Store),
-    }
+    are_null(row, at) && has_no_entry(row, at + 3)
 }
 
-fn number_at(row: &Row, at: usize) -> Result<u64, ShelfFault>
-    ensures { IfOk result (λ number. number ≡ number_in (column row.now at)) }
+// Whether no lot stands from this column on.
+fn has_no_lot(row: &Row, at: usize) -> bool
+    requires { at ≤ 80 }
+    ensures { IsTrue result ↔ (lot_cells None ≡ columns_of_lot row.now at) }
 {
-    match row.get_ref(at) {
-        Ok(ValueRef::Int(number)) if number >= 0 => Ok(number as u64),
-        _ => Err(ShelfFault::Store),
-    }
+    are_null(row, at) && has_no_contract(row, at + 3)
 }
 
-fn id_at(row: &Row, at: usize) -> Result<Id, ShelfFault>
-    ensures { IfOk result (λ id. id ≡ bytes (column row.now at)) }
+// The entry that stands from this column on.
+fn entry_at(row: &Row, at: usize) -> Result<JoinedEntry, ShelfFault>
+    requires { at ≤ 100 }
+    ensures exact { IfOk result (λ entry. entry_cells (Some entry) ≡ columns_of_entry row.now at) }
+    ensures cause { IfErr result (IsFaultOf (IsUnwritten (λ entry. entry_cells (Some entry)) EntryFits (columns_of_entry row.now at))) }
 {
-    Id::read(text_at(row, at)?).ok_or(ShelfFault::Store)
-}
-
-fn total_at(row: &Row, at: usize) -> Result<Total, ShelfFault>
-    ensures { IfOk result (λ total. total ≡ number_in (column row.now at)) }
-{
-    Total::read(number_at(row, at)?).ok_or(ShelfFault::Store)
-}
-
-fn amount_at(row: &Row, at: usize) -> Result<Amount, ShelfFault>
-    ensures { IfOk result (λ amount. amount ≡ number_in (column row.now at)) }
-{
-    Amount::read(number_at(row, at)?).ok_or(ShelfFault::Store)
-}
-
-fn bounded_at<const LOW: u64, const HIGH: u64>(
-    row: &Row,
-    at: usize,
-) -> Result<Bounded<LOW, HIGH>, ShelfFault>
-    ensures { IfOk result (λ number. number ≡ number_in (column row.now at)) }
-{
-    Bounded::read(number_at(row, at)?).ok_or(ShelfFault::Store)
-}
-
-fn kind_at(row: &Row, at: usize) -> Result<EntryKind, ShelfFault>
-    ensures { IfOk result (λ kind. kind ≡ kind_in (bytes (column row.now at))) }
-{
-    let word = text_at(row, at)?;
-    if word == b"raise".as_slice() {
-        Ok(EntryKind::Raise)
-    } else if word == b"cut".as_slice() {
-        Ok(EntryKind::Cut)
-    } else if word == b"payment".as_slice() {
-        Ok(EntryKind::Payment)
-    } else {
-        Err(ShelfFault::Store)
-    }
-}
-
-// The entry that stands from this column on; None where there is none.
-fn entry_from(row: &Row, at: usize) -> Result<Option<JoinedEntry>, ShelfFault>
-    requires { at ≤ 9 }
-    ensures { IfOk result (λ entry. entry ≡ entry_from row.now at) }
-{
-    if !is_there(row, at) {
-        return Ok(None);
-    }
-    Ok(Some(JoinedEntry {
+    Ok(JoinedEntry {
         entry: id_at(row, at)?,
-        kind: kind_at(row, at + 1)?,
+        kind: entry_kind_at(row, at + 1)?,
         amount: bounded_at(row, at + 2)?,
-    }))
+    })
 }
 
-// The contract that stands from this column on, with its entry; None where there is none.
-fn contract_from(row: &Row, at: usize) -> Result<Option<JoinedContract>, ShelfFault>
-    requires { at ≤ 6 }
-    ensures { IfOk result (λ contract. contract ≡ contract_from row.now at) }
+// The same; None where there is none.
+fn entry_from(row: &Row, at: usize) -> Result<Option<JoinedEntry>, ShelfFault>
+    requires { at ≤ 100 }
+    ensures exact { IfOk result (λ entry. entry_cells entry ≡ columns_of_entry row.now at) }
+    ensures cause { IfErr result (IsFaultOf (IsUnwritten entry_cells (λ entry. IfSome entry EntryFits) (columns_of_entry row.now at))) }
 {
-    if !is_there(row, at) {
+    if has_no_entry(row, at) {
         return Ok(None);
     }
-    Ok(Some(JoinedContract {
+    Ok(Some(entry_at(row, at)?))
+}
+
+// The contract that stands from this column on, with its entry.
+fn contract_at(row: &Row, at: usize) -> Result<JoinedContract, ShelfFault>
+    requires { at ≤ 90 }
+    ensures exact { IfOk result (λ contract. contract_cells (Some contract) ≡ columns_of_contract row.now at) }
+    ensures cause { IfErr result (IsFaultOf (IsUnwritten (λ contract. contract_cells (Some contract)) ContractFits (columns_of_contract row.now at))) }
+{
+    Ok(JoinedContract {
         contract: bounded_at(row, at)?,
         signed: total_at(row, at + 1)?,
         released: total_at(row, at + 2)?,
         entry: entry_from(row, at + 3)?,
-    }))
+    })
 }
 
+// The same; None where there is none.
+fn contract_from(row: &Row, at: usize) -> Result<Option<JoinedContract>, ShelfFault>
+    requires { at ≤ 90 }
+    ensures exact { IfOk result (λ contract. contract_cells contract ≡ columns_of_contract row.now at) }
+    ensures cause { IfErr result (IsFaultOf (IsUnwritten contract_cells (λ contract. IfSome contract ContractFits) (columns_of_contract row.now at))) }
+{
+    if has_no_contract(row, at) {
+        return Ok(None);
+    }
+    Ok(Some(contract_at(row, at)?))
+}
+
+// The lot that stands from this column on, with its contract.
 fn lot_at(row: &Row, at: usize) -> Result<JoinedLot, ShelfFault>
-    requires { at ≤ 3 }
-    ensures { IfOk result (λ lot. lot ≡ lot_read row.now at) }
+    requires { at ≤ 80 }
+    ensures exact { IfOk result (λ lot. joined_lot_cells lot ≡ columns_of_lot row.now at) }
+    ensures cause { IfErr result (IsFaultOf (IsUnwritten joined_lot_cells LotFits (columns_of_lot row.now at))) }
 {
     Ok(JoinedLot {
         notice: id_at(row, at)?,
@@ -125,12 +104,13 @@ fn lot_at(row: &Row, at: usize) -> Result<JoinedLot, ShelfFault>
     })
 }
 
-// The lot that stands from this column on, with its contract; None where there is none.
+// The same; None where there is none.
 fn lot_from(row: &Row, at: usize) -> Result<Option<JoinedLot>, ShelfFault>
-    requires { at ≤ 3 }
-    ensures { IfOk result (λ lot. lot ≡ lot_from row.now at) }
+    requires { at ≤ 80 }
+    ensures exact { IfOk result (λ lot. lot_cells lot ≡ columns_of_lot row.now at) }
+    ensures cause { IfErr result (IsFaultOf (IsUnwritten lot_cells (λ lot. IfSome lot LotFits) (columns_of_lot row.now at))) }
 {
-    if !is_there(row, at) {
+    if has_no_lot(row, at) {
         return Ok(None);
     }
     Ok(Some(lot_at(row, at)?))
@@ -138,8 +118,11 @@ fn lot_from(row: &Row, at: usize) -> Result<Option<JoinedLot>, ShelfFault>
 
 /// A row of the ledger's join.
 pub fn joined_row(row: &Row) -> Result<JoinedRow, ShelfFault>
-    ensures { IfOk result (λ joined. joined ≡ joined_read row.now) }
+    ensures read { IfOk result (λ joined. joined ≡ joined_read row.now) }
+    ensures exact { IfOk result (λ joined. joined_cells joined ≡ row.now) }
+    ensures cause { IfErr result (IsFaultOf (IsUnwritten joined_cells JoinedFits row.now)) }
 {
+    has_columns(row, 12)?;
     Ok(JoinedRow {
         line: id_at(row, 0)?,
         appropriation: total_at(row, 1)?,
@@ -150,8 +133,11 @@ pub fn joined_row(row: &Row) -> Result<JoinedRow, ShelfFault>
 
 /// A row of the join of a line's lots.
 pub fn joined_lot(row: &Row) -> Result<JoinedLot, ShelfFault>
-    ensures { IfOk result (λ lot. lot ≡ joined_lot_read row.now) }
+    ensures read { IfOk result (λ lot. lot ≡ joined_lot_read row.now) }
+    ensures exact { IfOk result (λ lot. joined_lot_cells lot ≡ row.now) }
+    ensures cause { IfErr result (IsFaultOf (IsUnwritten joined_lot_cells LotFits row.now)) }
 {
+    has_columns(row, 9)?;
     lot_at(row, 0)
 }
 

@@ -2,6 +2,7 @@
 //! theirs, and its types end the drops that they would prove.
 #![tactic(auto)]
 
+pub mod asking;
 pub mod database;
 pub mod disks;
 pub mod office;

@@ -3,7 +3,7 @@ use crate::disks::Disks;
 use office_base::ledger::LedgerRow;
 use office_base::puts::Put;
 use office_base::shelf::{Lookups, Shelf};
-use office_store::open::OpenRefusal;
+use office_store::found::OpenFault;
 use office_store::shelf::SqlShelf;
 use sqlite::{FileStore, Options};
 use sqlite_disk::{Fuse, Memory};
@@ -11,7 +11,7 @@ use std::alloc::Global;
 
 /// An office in two files, which is open.
 pub struct OfficeOnDisks {
-    shelf: SqlShelf<FileStore<Fuse<Memory>>>,
+    pub(crate) shelf: SqlShelf<FileStore<Fuse<Memory>>>,
 }
 
 impl Drop for OfficeOnDisks {
@@ -38,8 +38,10 @@ impl OfficeOnDisks {
         }
         match SqlShelf::open_files(alloc, files, Options::new(7)) {
             Ok(shelf) => Ok(OfficeOnDisks { shelf }),
-            Err(OpenRefusal::NotAnOffice(files)) => Err(Unopened::NotAnOffice(Disks { files })),
-            Err(_) => Err(Unopened::Unusable),
+            Err((OpenFault::NotAnOffice, left)) => Err(Unopened::NotAnOffice(Disks {
+                files: left.into_files(),
+            })),
+            Err((OpenFault::NoMemory | OpenFault::Store, _left)) => Err(Unopened::Unusable),
         }
     }
 
@@ -51,6 +53,14 @@ impl OfficeOnDisks {
     /// The rows of its ledger; None where they can't be had.
     pub fn ledger(&mut self) -> Option<Vec<LedgerRow>> {
         self.shelf.ledger().ok()
+    }
+
+    /// Whether its store was shut for good; None where there is no memory to ask.
+    pub fn is_shut(&mut self) -> Option<bool> {
+        match self.shelf.is_shut() {
+            Ok(shut) => Some(shut),
+            Err(_) => None,
+        }
     }
 
     fn into_shelf(self) -> SqlShelf<FileStore<Fuse<Memory>>> {

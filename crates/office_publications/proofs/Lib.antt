@@ -3,6 +3,7 @@ pub mod TextsApart
 pub mod WrittenAlike
 pub mod ReleasesTold
 pub mod RecordsTold
+pub mod InSequence
 pub mod MergesKept
 pub mod ReleasesMade
 pub mod ReleasesStay

@@ -14,6 +14,7 @@ use Rattle.ocds_merge.specs.Merge.{merge_or_null}
 use Rattle.ocds_merge.specs.Stored.{IsStorable}
 use Rattle.ocds_merge.proofs.KindLaw.{newest}
 use Rattle.ocds_release.specs.KeptReleases.{AreKept, HasText}
+use Rattle.ocds_release.specs.Opened.{moment_of_last}
 use Rattle.ocds_release.specs.Texts.{ocid_text}
 use Rattle.ocds_release.proofs.Flat.{AreMembersFlat, entries_flat, text_flat, texts_flat}
 use Rattle.ocds_release.proofs.PackageTexts.{kept_last}
@@ -25,7 +26,7 @@ use Rattle.office_machine.specs.Releases.{MomentsNeverFall, ReleasesAreInTime}
 use Rattle.office_publications.specs.Merges.{bodies, body_in, data_in}
 use Rattle.office_publications.specs.Packages.{compiled_told}
 use Rattle.office_publications.specs.Standing.{Stands}
-use Rattle.office_publications.specs.Told.{IsCompiled, IsInRange, moment_of_last}
+use Rattle.office_publications.specs.Told.{IsCompiled, IsInRange}
 use Rattle.office_publications.proofs.ReadAgain.{bodies_storable}
 use Rattle.office_publications.proofs.WrittenAlike.{IsObject}
 

@@ -1,23 +1,18 @@
 -- What is told of a notice's releases, by the rows that keep them.
-use Rattle.std.specs.Prelude.{◌≡◌, ◌≤◌, ◌<◌, ◌-◌, ℕ, List, map, length, get_or, All}
+use Rattle.std.specs.Prelude.{◌≡◌, ◌≤◌, ◌<◌, ◌+◌, ℕ, List, length, slice_get, All}
 use Rattle.ocds_merge.specs.Compile.{with_head}
 use Rattle.ocds_merge.specs.Merge.{merge_or_null}
 use Rattle.ocds_release.specs.KeptReleases.{AreKept, HasText}
+use Rattle.ocds_release.specs.Opened.{moment_of_last}
 use Rattle.ocds_release.specs.Texts.{ocid_text}
 use Rattle.office_values.specs.Moments.{last_moment, moment_text}
 use Rattle.office_values.specs.declared.settings.Settings.{Settings}
-use Rattle.office_base.specs.Tables.{Tables, releases_of_notice}
+use Rattle.office_base.specs.Limits.{release_limit}
+use Rattle.office_base.specs.Tables.{Tables, release_at, releases_of_notice}
 use Rattle.office_base.specs.declared.records.ReleaseRow.{ReleaseRow}
 use Rattle.office_publications.specs.Merges.{bodies}
 use Rattle.office_publications.specs.Packages.{releases_told, compiled_told}
 use Rattle.office_publications.specs.Standing.{Stands}
-
-abbrev pub moment_of : ReleaseRow → ℕ
-moment_of r = r.moment
-
--- the moment of the last release; 0 where there is none
-abbrev pub moment_of_last : List ReleaseRow → ℕ
-moment_of_last rows = get_or (map moment_of rows) (length rows - 1) 0
 
 -- it is a moment that has a text
 abbrev pub IsInRange : ReleaseRow → Type 0
@@ -37,3 +32,12 @@ pub record IsCompiled (settings : Settings) (notice : List ℕ) (s : Tables) : T
 abbrev pub RecordsAreCompiled : Type 0
 RecordsAreCompiled = (settings : Settings) (s : Tables) → Stands settings s → (notice : List ℕ) → 0 < length (releases_of_notice notice s)
     → All IsInRange (releases_of_notice notice s) → IsCompiled settings notice s
+
+-- each release of the notice stands in its sequence where its number says, and there are no more than there are numbers for
+pub record AreInSequence (notice : List ℕ) (s : Tables) : Type 0 where
+  pub place : (k : ℕ) → slice_get (releases_of_notice notice s) k ≡ release_at (notice, k + 1) s
+  pub within : length (releases_of_notice notice s) ≤ release_limit
+
+-- they do
+abbrev pub ReleasesAreInSequence : Type 0
+ReleasesAreInSequence = (settings : Settings) (s : Tables) → Stands settings s → (notice : List ℕ) → AreInSequence notice s

@@ -5,7 +5,7 @@ ghost use Rattle.office_publications.specs.Keeping.{MergesStandBeside, KeptSteps
 ghost use Rattle.office_publications.specs.Merges.{BodiesAreStorable, MergesStay, ReleasesStay};
 ghost use Rattle.office_publications.specs.MergesApart.{KeptStepsReadNoMerges, PackagesTellNoMerges, PublishedLooksReadNoMerges, ReleasesTellNoMerges};
 ghost use Rattle.office_publications.specs.Publishing.{ReleasesAreMade};
-ghost use Rattle.office_publications.specs.Told.{RecordsAreCompiled, ReleasesAreTold};
+ghost use Rattle.office_publications.specs.Told.{RecordsAreCompiled, ReleasesAreInSequence, ReleasesAreTold};
 
 use ocds_merge::{dates_order_releases, merge_stays_storable};
 use ocds_release::laws::releases_can_be_kept;
@@ -62,14 +62,18 @@ pub fn merges_apart()
 }
 
 /// In an office that stands as its commands left it, the text of each release that is kept is that of the release that is told of it, and its
-/// moment that release's date. What a notice's releases compile to is their merge, as it is kept, under a head.
+/// moment that release's date. What a notice's releases compile to is their merge, as it is kept, under a head. The releases of a notice stand
+/// in its sequence by their numbers, from 1 on.
 pub fn told()
     ensures releases { ReleasesAreTold }
     ensures records { RecordsAreCompiled }
+    ensures sequence { ReleasesAreInSequence }
 {
     office_machine::laws::releases();
     releases_can_be_kept();
     texts_keep_order();
     dates_order_releases();
     merge_stays_storable();
+    releases();
+    office_machine::laws::order();
 }

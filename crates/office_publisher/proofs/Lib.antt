@@ -1,2 +1,3 @@
 pub mod NextRelease
 pub mod Packaged
+pub mod Placed

@@ -1,3 +1,4 @@
+pub mod Extent
 pub mod Numbered
 pub mod Next
 pub mod Released

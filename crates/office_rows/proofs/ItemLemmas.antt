@@ -13,11 +13,11 @@ use Rattle.office_values.specs.Texts.{IsTextLine, is_line_byte}
 use Rattle.office_acts.specs.declared.item.Item.{Item}
 use Rattle.office_rows.specs.ItemTexts.{item_then, items_text, before, behind, first_item, item_rest, some_items, items_in, Avoids, ItemFits}
 
-before_is : (stop : ℕ) (bytes rest : List ℕ) → Avoids stop bytes → before stop (bytes ++ (stop ∷ rest)) ≡ bytes
+pub before_is : (stop : ℕ) (bytes rest : List ℕ) → Avoids stop bytes → before stop (bytes ++ (stop ∷ rest)) ≡ bytes
 before_is stop [] rest h = ap (λ b. cond b [] (stop ∷ before stop rest)) (Rattle.std.proofs.lemmas.Bool.eq-eqb stop stop refl)
 before_is stop (b ∷ bytes) rest h = ap (λ c. cond c [] (b ∷ before stop (bytes ++ (stop ∷ rest)))) h.0 ∙ ap (λ l. b ∷ l) (before_is stop bytes rest h.1)
 
-behind_is : (stop : ℕ) (bytes rest : List ℕ) → Avoids stop bytes → behind stop (bytes ++ (stop ∷ rest)) ≡ rest
+pub behind_is : (stop : ℕ) (bytes rest : List ℕ) → Avoids stop bytes → behind stop (bytes ++ (stop ∷ rest)) ≡ rest
 behind_is stop [] rest h = ap (λ b. cond b rest (behind stop rest)) (Rattle.std.proofs.lemmas.Bool.eq-eqb stop stop refl)
 behind_is stop (b ∷ bytes) rest h = ap (λ c. cond c (bytes ++ (stop ∷ rest)) (behind stop (bytes ++ (stop ∷ rest)))) h.0 ∙ behind_is stop bytes rest h.1
 
@@ -44,7 +44,7 @@ all_digits (b ∷ bytes) h = (by (b == 9) refl, all_digits bytes h.1)
     by true e = absurd (let small : digit_value 9 < 10 = subst (λ d. digit_value d < 10) (eqb-true b 9 e) h.0 in omega (arith, small))
     by false e = refl
 
-digits_avoid : (n : ℕ) → n < 2 ^ 64 → Avoids 9 (decimal n)
+pub digits_avoid : (n : ℕ) → n < 2 ^ 64 → Avoids 9 (decimal n)
 digits_avoid n small = all_digits (decimal n) (decimal_is_IsNumeral n small).0.1
 
 some_step : (most : ℕ) (text : List ℕ) → 0 < length text → some_items (suc most) text ≡ first_item text ∷ some_items most (item_rest text)
@@ -52,7 +52,7 @@ unfolding some_items
 some_step most [] h = absurd (omega arith)
 some_step most (b ∷ text) h = refl
 
-item_len : (item : Item) (rest : List ℕ) → length rest + 1 ≤ length (item_then item rest)
+pub item_len : (item : Item) (rest : List ℕ) → length rest + 1 ≤ length (item_then item rest)
 item_len item rest =
     omega (arith, length-append item.id (9 ∷ (decimal item.quantity ++ (9 ∷ (item.title ++ (10 ∷ rest))))), length-append (decimal item.quantity) (9 ∷ (item.title ++ (10 ∷ rest))), length-append item.title (10 ∷ rest))
 
@@ -69,7 +69,7 @@ module _ (item : Item) (rest : List ℕ) (fits : ItemFits item) where
   first_is : first_item (item_then item rest) ≡ item
   first_is = λ i. record { id = before_is 9 item.id (decimal item.quantity ++ (9 ∷ (item.title ++ (10 ∷ rest)))) fits.id i; title = (ap (before 10) second_behind ∙ before_is 10 item.title rest fits.title) i; quantity = number i }
 
-  rest_is : item_rest (item_then item rest) ≡ rest
+  pub rest_is : item_rest (item_then item rest) ≡ rest
   rest_is = ap (behind 10) second_behind ∙ behind_is 10 item.title rest fits.title
 
 back : (most : ℕ) (items : List Item) → AllByRecursion ItemFits items → length (items_text items) ≤ most → some_items most (items_text items) ≡ items
@@ -84,20 +84,21 @@ back (suc most) (item ∷ items) h small =
 pub items_back : (items : List Item) → AllByRecursion ItemFits items → items_in (items_text items) ≡ items
 items_back items h = back (length (items_text items)) items h (omega arith)
 
+-- what stands behind an item's text
+pub behind_item : (x : Item) (text more : List ℕ) → item_then x (text ++ more) ≡ item_then x text ++ more
+behind_item x text more =
+    ap (λ l. x.id ++ (9 ∷ (decimal x.quantity ++ (9 ∷ l)))) (sym (append_assoc x.title (10 ∷ text) more))
+    ∙ ap (λ l. x.id ++ (9 ∷ l)) (sym (append_assoc (decimal x.quantity) (9 ∷ (x.title ++ (10 ∷ text))) more))
+    ∙ sym (append_assoc x.id (9 ∷ (decimal x.quantity ++ (9 ∷ (x.title ++ (10 ∷ text))))) more)
+
 -- one more item behind others
 pub items_text-push : (items : List Item) (item : Item) → items_text (items ++ (item ∷ [])) ≡ items_text items ++ item_then item []
 items_text-push [] item = refl
 items_text-push (x ∷ items) item = ap (item_then x) (items_text-push items item) ∙ behind_item x (items_text items) (item_then item [])
-  where
-    behind_item : (x : Item) (text more : List ℕ) → item_then x (text ++ more) ≡ item_then x text ++ more
-    behind_item x text more =
-        ap (λ l. x.id ++ (9 ∷ (decimal x.quantity ++ (9 ∷ l)))) (sym (append_assoc x.title (10 ∷ text) more))
-        ∙ ap (λ l. x.id ++ (9 ∷ l)) (sym (append_assoc (decimal x.quantity) (9 ∷ (x.title ++ (10 ∷ text))) more))
-        ∙ sym (append_assoc x.id (9 ∷ (decimal x.quantity ++ (9 ∷ (x.title ++ (10 ∷ text))))) more)
 
-pub fits-push : (items : List Item) (item : Item) → AllByRecursion ItemFits items → ItemFits item → AllByRecursion ItemFits (items ++ (item ∷ []))
-fits-push [] item h one = (one, tt)
-fits-push (x ∷ items) item h one = (h.0, fits-push items item h.1 one)
+pub all-push : (P : Item → Type 0) (items : List Item) (item : Item) → AllByRecursion P items → P item → AllByRecursion P (items ++ (item ∷ []))
+all-push P [] item h one = (one, tt)
+all-push P (x ∷ items) item h one = (h.0, all-push P items item h.1 one)
 
 -- the six parts of an item, pushed one behind another
 pub six : (item : Item) (old s1 s2 s3 s4 s5 s6 a b t : List ℕ) → s1 ≡ old ++ a → s2 ≡ s1 ++ (9 ∷ []) → s3 ≡ s2 ++ b → s4 ≡ s3 ++ (9 ∷ []) → s5 ≡ s4 ++ t → s6 ≡ s5 ++ (10 ∷ [])

@@ -1,2 +1,4 @@
+pub mod Exactly
 pub mod ItemLemmas
+pub mod ItemReading
 pub mod RowsBack

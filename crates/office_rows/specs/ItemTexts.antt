@@ -1,9 +1,13 @@
 -- The items of a lot as one text: for each its identifier, its quantity and its title, with tabs between and a line's end behind.
-use Rattle.std.specs.Prelude.{◌≡◌, ℕ, zero, suc, ◌<◌, ◌^◌, cond, false, ◌==◌, List, [], ◌∷◌, ◌++◌, length}
+use Rattle.std.specs.Prelude.{◌≡◌, ℕ, zero, suc, ◌<◌, ◌≤◌, ◌^◌, cond, false, ◌==◌, List, [], ◌∷◌, ◌++◌, length}
 use Rattle.std.specs.Fmt.{decimal}
 use Rattle.std.specs.List.{AllByRecursion}
 use Rattle.std.specs.Str.Parse.{digits_value}
+use Rattle.office_values.specs.Ids.{IsId}
+use Rattle.office_values.specs.Texts.{IsTextLine}
 use Rattle.office_acts.specs.declared.item.Item.{Item}
+use Rattle.office_acts.specs.Identified.{repeats_id}
+use Rattle.office_acts.specs.Items.{item_id}
 
 -- an item's text, and the rest behind it
 abbrev pub item_then : Item → List ℕ → List ℕ
@@ -51,3 +55,15 @@ pub record ItemFits (item : Item) : Type 0 where
   pub id : Avoids 9 item.id
   pub title : Avoids 10 item.title
   pub quantity : item.quantity < 2 ^ 64
+
+-- an item whose fields are in their ranges
+pub record IsItem (item : Item) : Type 0 where
+  pub id : IsId item.id
+  pub title : IsTextLine item.title
+  pub quantity : (1 ≤ item.quantity) × (item.quantity ≤ 10 ^ 6)
+
+-- a lot's items: at least one, each with an identifier of its own
+pub record AreItems (items : List Item) : Type 0 where
+  pub each : AllByRecursion IsItem items
+  pub some : 1 ≤ length items
+  pub differ : repeats_id item_id items ≡ false

@@ -1,4 +1,5 @@
 pub mod Values
+pub mod Unwritten
 pub mod Words
 pub mod Readings
 pub mod ItemTexts

@@ -1,11 +1,12 @@
 -- The range of each field, as the types of the records keep it. The checks of the tables are written with the same numbers.
-use Rattle.std.specs.Prelude.{◌≡◌, ℕ, ◌≤◌, ◌^◌, length, Option, IfSome}
+use Rattle.std.specs.Prelude.{◌≡◌, ℕ, ◌≤◌, ◌^◌, length, Option, IfSome, IsUtf8}
 use Rattle.office_values.specs.Ids.{IsId}
 use Rattle.office_values.specs.Texts.{IsTextLine}
 use Rattle.office_values.specs.Moments.{last_moment}
 use Rattle.office_values.specs.Money.{amount_limit, total_limit}
 use Rattle.office_acts.specs.SealedBytes.{IsSealed}
 use Rattle.office_base.specs.declared.reading.Reading.{Reading}
+use Rattle.office_rows.specs.ItemTexts.{AreItems}
 use Rattle.office_rows.specs.Readings.{stated_of, corrected_of, corrections_of}
 use Rattle.office_base.specs.declared.records.LineRow.{LineRow}
 use Rattle.office_base.specs.declared.records.BatchRow.{BatchRow}
@@ -21,6 +22,10 @@ use Rattle.office_base.specs.declared.records.EntryRow.{EntryRow}
 use Rattle.office_base.specs.declared.records.ReleaseRow.{ReleaseRow}
 use Rattle.office_base.specs.declared.records.CompiledRow.{CompiledRow}
 use Rattle.office_base.specs.declared.records.ClockRow.{ClockRow}
+
+-- no more is asked
+abbrev pub Anything : {X : Type 0} → X → Type 0
+Anything x = Unit {0}
 
 -- a number within bounds
 abbrev pub IsWithin : ℕ → ℕ → ℕ → Type 0
@@ -53,6 +58,10 @@ abbrev pub LotFits : LotRow → Type 0
 LotFits x =
     IsId x.notice × IsId x.lot × IsTextLine x.title × IsId x.line × IsSum x.estimate × (x.security ≤ amount_limit) × (x.reserved ≤ amount_limit)
 
+-- a lot with its items
+abbrev pub IsLot : LotRow → Type 0
+IsLot x = LotFits x × AreItems x.items
+
 -- the prices that were read; a count of corrections is within SQL's numbers, of 64 bits with a sign
 abbrev pub ReadingFits : Option Reading → Type 0
 ReadingFits r =
@@ -82,10 +91,10 @@ abbrev pub EntryFits : EntryRow → Type 0
 EntryFits x = IsGiven x.contract × IsId x.entry × IsSum x.amount × (x.moment ≤ last_moment) × IfSome x.rationale IsTextLine
 
 abbrev pub ReleaseFits : ReleaseRow → Type 0
-ReleaseFits x = IsId x.notice × IsWithin 1 9999 x.seq × (x.moment ≤ last_moment)
+ReleaseFits x = IsId x.notice × IsWithin 1 9999 x.seq × (x.moment ≤ last_moment) × IsUtf8 x.text
 
 abbrev pub CompiledFits : CompiledRow → Type 0
-CompiledFits x = IsId x.notice
+CompiledFits x = IsId x.notice × IsUtf8 x.text
 
 abbrev pub ClockFits : ClockRow → Type 0
 ClockFits x = (x.moment ≤ last_moment) × (x.receipts ≤ 10 ^ 9) × (x.awards ≤ 10 ^ 9)

@@ -1,10 +1,11 @@
 -- What was read in a tender, as four columns: a word, and where it says that there is a price, the price as stated, as corrected, and the
 -- count of corrections.
-use Rattle.std.specs.Prelude.{ℕ, if◌then◌else◌, List, codes, Option, Some, None, option_map}
+use Rattle.std.specs.Prelude.{ℕ, if◌then◌else◌, List, [], ◌∷◌, codes, Option, Some, None, option_map}
 use Rattle.sqlite_value.specs.declared.value.Value.{Value}
+use Rattle.sqlite_value.specs.Order.{Row, column}
 use Rattle.office_base.specs.declared.reading.Reading.{Reading}
 use Rattle.office_base.specs.declared.reading.Reading.TheVariants.{Unreadable, Nonconforming, Priced}
-use Rattle.office_rows.specs.Values.{same_text, number_in, perhaps_text_in}
+use Rattle.office_rows.specs.Values.{same_text, number_in, or_null, text_or_null, perhaps_text_in, three_from}
 
 -- the word of a reading
 abbrev pub reading_word : Reading → List ℕ
@@ -32,6 +33,17 @@ corrections_of None = None
 corrections_of (Some Unreadable) = None
 corrections_of (Some Nonconforming) = None
 corrections_of (Some (Priced stated corrected corrections)) = Some corrections
+
+-- the four columns of a reading
+abbrev pub reading_cells : Option Reading → Row
+reading_cells r = text_or_null (option_map reading_word r) ∷ or_null (stated_of r) ∷ or_null (corrected_of r) ∷ or_null (corrections_of r) ∷ []
+
+-- the three columns of its price in a tender's row, and all four
+abbrev pub price_in : Row → Row
+price_in row = three_from row 10
+
+abbrev pub reading_part : Row → Row
+reading_part row = column row 9 ∷ price_in row
 
 -- the reading that a word and the three columns behind it give
 abbrev pub reading_of : Value → Value → Value → List ℕ → Reading

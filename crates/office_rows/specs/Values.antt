@@ -1,9 +1,9 @@
 -- Values of SQL as those of records.
-use Rattle.std.specs.Prelude.{ℕ, ℤ, pos, negsuc, Bool, cond, ◌==◌, List, [], ◌∷◌, Option, Some, None, option_map, nat_eq}
+use Rattle.std.specs.Prelude.{ℕ, zero, suc, ◌+◌, ℤ, pos, negsuc, Bool, cond, ◌==◌, List, [], ◌∷◌, Option, Some, None, option_map, nat_eq}
 use Rattle.std.specs.Cmp.Lexicographic.{pointwise}
 use Rattle.sqlite_value.specs.declared.value.Value.{Value}
 use Rattle.sqlite_value.specs.declared.value.Value.TheVariants.{Null, Int, Real, Text, Blob}
-use Rattle.sqlite_value.specs.Order.{Row}
+use Rattle.sqlite_value.specs.Order.{Row, column}
 
 -- a whole number that isn't negative; 0 for the others
 abbrev pub nat_of : ℤ → ℕ
@@ -17,6 +17,10 @@ number_in (Int z) = nat_of z
 number_in (Real x) = 0
 number_in (Text t) = 0
 number_in (Blob b) = 0
+
+-- a whole number that isn't negative
+abbrev pub whole : ℕ → Value
+whole n = Int (pos n)
 
 -- a number, or NULL
 abbrev pub or_null : Option ℕ → Value
@@ -64,3 +68,12 @@ same_text = pointwise nat_eq
 abbrev pub tail : Row → Row
 tail [] = []
 tail (v ∷ row) = row
+
+-- so many columns of a row, from one on
+abbrev pub columns_from : Row → ℕ → ℕ → Row
+columns_from r at zero = []
+columns_from r at (suc n) = column r at ∷ columns_from r (suc at) n
+
+-- three columns of a row, from one on
+abbrev pub three_from : Row → ℕ → Row
+three_from r at = column r at ∷ column r (at + 1) ∷ column r (at + 2) ∷ []

@@ -1,7 +1,17 @@
 //! One column of a row. What no office writes there is a fault of the store.
-ghost use Rattle.std.specs.Prelude.{◌≡◌, IfOk, option_map};
-ghost use Rattle.sqlite_value.specs.Order.{column, bytes};
-ghost use Rattle.office_rows.specs.Values.{number_in, perhaps_in, perhaps_text_in, yes_in, perhaps_yes_in};
+ghost use Rattle.std.specs.Prelude.{◌≡◌, ℕ, ◌≤◌, ◌↔◌, List, [], ◌∷◌, length, IsTrue, IsUtf8, IfOk, IfErr, IfSome, option_map};
+ghost use Rattle.sqlite_value.specs.Value.{owned};
+ghost use Rattle.sqlite_value.specs.declared.value.Value.TheVariants.{Null, Text, Blob};
+ghost use Rattle.sqlite_value.specs.Order.{Row as Values, column};
+ghost use Rattle.office_values.specs.Ids.{IsId};
+ghost use Rattle.office_values.specs.Moments.{last_moment};
+ghost use Rattle.office_values.specs.Money.{amount_limit, total_limit};
+ghost use Rattle.office_values.specs.Texts.{IsTextLine};
+ghost use Rattle.office_acts.specs.SealedBytes.{IsSealed};
+ghost use Rattle.office_rows.specs.Values.{whole, or_null, text_or_null, as_number, three_from};
+ghost use Rattle.office_rows.specs.Ranges.{IsWithin, Anything};
+ghost use Rattle.office_base.specs.Faults.{IsFaultOf};
+ghost use Rattle.office_rows.specs.Unwritten.{IsUnwritten};
 
 use office_acts::sealed::SealedBytes;
 use office_base::json_text::JsonText;
@@ -15,66 +25,116 @@ use sqlite::Row;
 use sqlite_value::value::ValueRef;
 use std::alloc::Global;
 
-pub(crate) fn is_null(row: &Row, at: usize) -> bool {
-    matches!(row.get_ref(at), Ok(ValueRef::Null))
+// Whether two texts are the same.
+pub(crate) fn is_same(text: &[u8], other: &[u8]) -> bool
+    ensures { IsTrue result ↔ (text.now ≡ other.now) }
+{
+    text == other
 }
 
-pub(crate) fn text_at(row: &Row, at: usize) -> Result<&[u8], ShelfFault>
-    ensures { IfOk result (λ text. text.now ≡ bytes (column row.now at)) }
+/// Nothing where a row has so many columns.
+pub fn has_columns(row: &Row, count: usize) -> Result<(), ShelfFault>
+    ensures exact { IfOk result (λ _. length row.now ≡ count) }
+    ensures cause { IfErr result (IsFaultOf (IsUnwritten (λ (r : Values). r) (λ r. length r ≡ count) row.now)) }
+{
+    if row.column_count() == count {
+        Ok(())
+    } else {
+        Err(ShelfFault::Store)
+    }
+}
+
+// What stands there; NULL past the last column.
+fn value_at(row: &Row, at: usize) -> ValueRef<'_>
+    ensures { owned result ≡ column row.now at }
 {
     match row.get_ref(at) {
-        Ok(ValueRef::Text(text)) => Ok(text),
+        Ok(value) => value,
+        Err(_) => ValueRef::Null,
+    }
+}
+
+// Whether NULL stands there.
+fn is_null(row: &Row, at: usize) -> bool
+    ensures { IsTrue result ↔ (Null ≡ column row.now at) }
+{
+    matches!(value_at(row, at), ValueRef::Null)
+}
+
+/// Whether NULL stands in these three columns.
+pub fn are_null(row: &Row, at: usize) -> bool
+    requires { at ≤ 1000 }
+    ensures { IsTrue result ↔ (Null ∷ Null ∷ Null ∷ [] ≡ three_from row.now at) }
+{
+    is_null(row, at) && is_null(row, at + 1) && is_null(row, at + 2)
+}
+
+// The bytes of a text.
+pub(crate) fn text_at(row: &Row, at: usize) -> Result<&[u8], ShelfFault>
+    ensures exact { IfOk result (λ text. Text text.now ≡ column row.now at) }
+    ensures cause { IfErr result (IsFaultOf (IsUnwritten Text Anything (column row.now at))) }
+{
+    match value_at(row, at) {
+        ValueRef::Text(text) => Ok(text),
         _ => Err(ShelfFault::Store),
     }
 }
 
+// The bytes of a text, or NULL.
 pub(crate) fn perhaps_text_at(row: &Row, at: usize) -> Result<Option<&[u8]>, ShelfFault>
-    ensures { IfOk result (λ text. option_map (λ t. t.now) text ≡ perhaps_text_in (column row.now at)) }
+    ensures exact { IfOk result (λ text. text_or_null (option_map (λ t. t.now) text) ≡ column row.now at) }
+    ensures cause { IfErr result (IsFaultOf (IsUnwritten text_or_null Anything (column row.now at))) }
 {
-    match row.get_ref(at) {
-        Ok(ValueRef::Null) => Ok(None),
-        Ok(ValueRef::Text(text)) => Ok(Some(text)),
+    match value_at(row, at) {
+        ValueRef::Null => Ok(None),
+        ValueRef::Text(text) => Ok(Some(text)),
         _ => Err(ShelfFault::Store),
     }
 }
 
 fn blob_at(row: &Row, at: usize) -> Result<&[u8], ShelfFault>
-    ensures { IfOk result (λ blob. blob.now ≡ bytes (column row.now at)) }
+    ensures exact { IfOk result (λ blob. Blob blob.now ≡ column row.now at) }
+    ensures cause { IfErr result (IsFaultOf (IsUnwritten Blob Anything (column row.now at))) }
 {
-    match row.get_ref(at) {
-        Ok(ValueRef::Blob(blob)) => Ok(blob),
+    match value_at(row, at) {
+        ValueRef::Blob(blob) => Ok(blob),
         _ => Err(ShelfFault::Store),
     }
 }
 
-pub(crate) fn number_at(row: &Row, at: usize) -> Result<u64, ShelfFault>
-    ensures { IfOk result (λ number. number ≡ number_in (column row.now at)) }
+fn number_at(row: &Row, at: usize) -> Result<u64, ShelfFault>
+    ensures exact { IfOk result (λ number. whole number ≡ column row.now at) }
+    ensures cause { IfErr result (IsFaultOf (IsUnwritten whole Anything (column row.now at))) }
 {
-    match row.get_ref(at) {
-        Ok(ValueRef::Int(number)) if number >= 0 => Ok(number as u64),
+    match value_at(row, at) {
+        ValueRef::Int(number) if number >= 0 => Ok(number as u64),
         _ => Err(ShelfFault::Store),
     }
 }
 
 fn perhaps_number_at(row: &Row, at: usize) -> Result<Option<u64>, ShelfFault>
-    ensures { IfOk result (λ number. number ≡ perhaps_in (column row.now at)) }
+    ensures exact { IfOk result (λ number. or_null number ≡ column row.now at) }
+    ensures cause { IfErr result (IsFaultOf (IsUnwritten or_null Anything (column row.now at))) }
 {
-    match row.get_ref(at) {
-        Ok(ValueRef::Null) => Ok(None),
-        Ok(ValueRef::Int(number)) if number >= 0 => Ok(Some(number as u64)),
+    match value_at(row, at) {
+        ValueRef::Null => Ok(None),
+        ValueRef::Int(number) if number >= 0 => Ok(Some(number as u64)),
         _ => Err(ShelfFault::Store),
     }
 }
 
-pub(crate) fn id_at(row: &Row, at: usize) -> Result<Id, ShelfFault>
-    ensures { IfOk result (λ id. id ≡ bytes (column row.now at)) }
+/// An identifier.
+pub fn id_at(row: &Row, at: usize) -> Result<Id, ShelfFault>
+    ensures exact { IfOk result (λ id. Text id ≡ column row.now at) }
+    ensures cause { IfErr result (IsFaultOf (IsUnwritten Text IsId (column row.now at))) }
 {
     Id::read(text_at(row, at)?).ok_or(ShelfFault::Store)
 }
 
 // The line of text that these bytes are.
-fn line_of(alloc: Global, text: &[u8]) -> Result<TextLine, ShelfFault>
-    ensures { IfOk result (λ line. line ≡ text.now) }
+pub(crate) fn line_of(alloc: Global, text: &[u8]) -> Result<TextLine, ShelfFault>
+    ensures exact { IfOk result (λ line. line ≡ text.now) }
+    ensures cause { IfErr result (IsFaultOf (IsUnwritten (λ (t : List ℕ). t) IsTextLine text.now)) }
 {
     match TextLine::read(alloc, text) {
         Ok(Some(line)) => Ok(line),
@@ -83,18 +143,22 @@ fn line_of(alloc: Global, text: &[u8]) -> Result<TextLine, ShelfFault>
     }
 }
 
+// A line of text.
 pub(crate) fn line_at(alloc: Global, row: &Row, at: usize) -> Result<TextLine, ShelfFault>
-    ensures { IfOk result (λ line. line ≡ bytes (column row.now at)) }
+    ensures exact { IfOk result (λ line. Text line ≡ column row.now at) }
+    ensures cause { IfErr result (IsFaultOf (IsUnwritten Text IsTextLine (column row.now at))) }
 {
     line_of(alloc, text_at(row, at)?)
 }
 
+// A line of text, or NULL.
 pub(crate) fn perhaps_line_at(
     alloc: Global,
     row: &Row,
     at: usize,
 ) -> Result<Option<TextLine>, ShelfFault>
-    ensures { IfOk result (λ line. line ≡ perhaps_text_in (column row.now at)) }
+    ensures exact { IfOk result (λ line. text_or_null line ≡ column row.now at) }
+    ensures cause { IfErr result (IsFaultOf (IsUnwritten text_or_null (λ line. IfSome line IsTextLine) (column row.now at))) }
 {
     match perhaps_text_at(row, at)? {
         Some(text) => Ok(Some(line_of(alloc, text)?)),
@@ -102,8 +166,10 @@ pub(crate) fn perhaps_line_at(
     }
 }
 
+// A text of JSON.
 pub(crate) fn json_at(alloc: Global, row: &Row, at: usize) -> Result<JsonText, ShelfFault>
-    ensures { IfOk result (λ text. text ≡ bytes (column row.now at)) }
+    ensures exact { IfOk result (λ text. Text text ≡ column row.now at) }
+    ensures cause { IfErr result (IsFaultOf (IsUnwritten Text IsUtf8 (column row.now at))) }
 {
     let Ok(text) = str::from_utf8(text_at(row, at)?) else {
         return Err(ShelfFault::Store);
@@ -114,15 +180,18 @@ pub(crate) fn json_at(alloc: Global, row: &Row, at: usize) -> Result<JsonText, S
     }
 }
 
-// The digest or the key that a column has.
+// A digest or a key.
 pub(crate) fn digest_at(row: &Row, at: usize) -> Result<[u8; 32], ShelfFault>
-    ensures { IfOk result (λ digest. digest ≡ bytes (column row.now at)) }
+    ensures exact { IfOk result (λ digest. Blob digest ≡ column row.now at) }
+    ensures cause { IfErr result (IsFaultOf (IsUnwritten Blob (λ digest. length digest ≡ 32) (column row.now at))) }
 {
     <[u8; 32]>::try_from(blob_at(row, at)?).map_err(|_| ShelfFault::Store)
 }
 
+// Sealed bytes.
 pub(crate) fn sealed_at(alloc: Global, row: &Row, at: usize) -> Result<SealedBytes, ShelfFault>
-    ensures { IfOk result (λ sealed. sealed ≡ bytes (column row.now at)) }
+    ensures exact { IfOk result (λ sealed. Blob sealed ≡ column row.now at) }
+    ensures cause { IfErr result (IsFaultOf (IsUnwritten Blob IsSealed (column row.now at))) }
 {
     match Vec::from_slice(alloc, blob_at(row, at)?) {
         Ok(bytes) => SealedBytes::from_vec(bytes).ok_or(ShelfFault::Store),
@@ -130,26 +199,34 @@ pub(crate) fn sealed_at(alloc: Global, row: &Row, at: usize) -> Result<SealedByt
     }
 }
 
-pub(crate) fn total_at(row: &Row, at: usize) -> Result<Total, ShelfFault>
-    ensures { IfOk result (λ total. total ≡ number_in (column row.now at)) }
+/// A sum of money, up to the most that a line may have.
+pub fn total_at(row: &Row, at: usize) -> Result<Total, ShelfFault>
+    ensures exact { IfOk result (λ total. whole total ≡ column row.now at) }
+    ensures cause { IfErr result (IsFaultOf (IsUnwritten whole (λ total. total ≤ total_limit) (column row.now at))) }
 {
     Total::read(number_at(row, at)?).ok_or(ShelfFault::Store)
 }
 
-pub(crate) fn amount_at(row: &Row, at: usize) -> Result<Amount, ShelfFault>
-    ensures { IfOk result (λ amount. amount ≡ number_in (column row.now at)) }
+/// An amount of money.
+pub fn amount_at(row: &Row, at: usize) -> Result<Amount, ShelfFault>
+    ensures exact { IfOk result (λ amount. whole amount ≡ column row.now at) }
+    ensures cause { IfErr result (IsFaultOf (IsUnwritten whole (λ amount. amount ≤ amount_limit) (column row.now at))) }
 {
     Amount::read(number_at(row, at)?).ok_or(ShelfFault::Store)
 }
 
+// A moment.
 pub(crate) fn moment_at(row: &Row, at: usize) -> Result<Moment, ShelfFault>
-    ensures { IfOk result (λ moment. moment ≡ number_in (column row.now at)) }
+    ensures exact { IfOk result (λ moment. whole moment ≡ column row.now at) }
+    ensures cause { IfErr result (IsFaultOf (IsUnwritten whole (λ moment. moment ≤ last_moment) (column row.now at))) }
 {
     Moment::from_second(number_at(row, at)?).ok_or(ShelfFault::Store)
 }
 
+// A moment, or NULL.
 pub(crate) fn perhaps_moment_at(row: &Row, at: usize) -> Result<Option<Moment>, ShelfFault>
-    ensures { IfOk result (λ moment. moment ≡ perhaps_in (column row.now at)) }
+    ensures exact { IfOk result (λ moment. or_null moment ≡ column row.now at) }
+    ensures cause { IfErr result (IsFaultOf (IsUnwritten or_null (λ moment. IfSome moment (λ second. second ≤ last_moment)) (column row.now at))) }
 {
     match perhaps_number_at(row, at)? {
         Some(second) => match Moment::from_second(second) {
@@ -160,20 +237,24 @@ pub(crate) fn perhaps_moment_at(row: &Row, at: usize) -> Result<Option<Moment>, 
     }
 }
 
-pub(crate) fn bounded_at<const LOW: u64, const HIGH: u64>(
+/// A number within bounds.
+pub fn bounded_at<const LOW: u64, const HIGH: u64>(
     row: &Row,
     at: usize,
 ) -> Result<Bounded<LOW, HIGH>, ShelfFault>
-    ensures { IfOk result (λ number. number ≡ number_in (column row.now at)) }
+    ensures exact { IfOk result (λ number. whole number ≡ column row.now at) }
+    ensures cause { IfErr result (IsFaultOf (IsUnwritten whole (IsWithin LOW HIGH) (column row.now at))) }
 {
     Bounded::read(number_at(row, at)?).ok_or(ShelfFault::Store)
 }
 
+// A number within bounds, or NULL.
 pub(crate) fn perhaps_bounded_at<const LOW: u64, const HIGH: u64>(
     row: &Row,
     at: usize,
 ) -> Result<Option<Bounded<LOW, HIGH>>, ShelfFault>
-    ensures { IfOk result (λ number. number ≡ perhaps_in (column row.now at)) }
+    ensures exact { IfOk result (λ number. or_null number ≡ column row.now at) }
+    ensures cause { IfErr result (IsFaultOf (IsUnwritten or_null (λ number. IfSome number (IsWithin LOW HIGH)) (column row.now at))) }
 {
     match perhaps_number_at(row, at)? {
         Some(number) => match Bounded::read(number) {
@@ -184,8 +265,21 @@ pub(crate) fn perhaps_bounded_at<const LOW: u64, const HIGH: u64>(
     }
 }
 
+// Nothing where the version of the office's tables stands there, which is 1.
+pub(crate) fn version_at(row: &Row, at: usize) -> Result<(), ShelfFault>
+    ensures exact { IfOk result (λ _. whole 1 ≡ column row.now at) }
+    ensures cause { IfErr result (IsFaultOf (IsUnwritten whole (λ version. version ≡ 1) (column row.now at))) }
+{
+    match number_at(row, at)? {
+        1 => Ok(()),
+        _ => Err(ShelfFault::Store),
+    }
+}
+
+// Yes or no.
 pub(crate) fn yes_at(row: &Row, at: usize) -> Result<bool, ShelfFault>
-    ensures { IfOk result (λ yes. yes ≡ yes_in (column row.now at)) }
+    ensures exact { IfOk result (λ yes. whole (as_number yes) ≡ column row.now at) }
+    ensures cause { IfErr result (IsFaultOf (IsUnwritten (λ yes. whole (as_number yes)) Anything (column row.now at))) }
 {
     match number_at(row, at)? {
         0 => Ok(false),
@@ -194,8 +288,10 @@ pub(crate) fn yes_at(row: &Row, at: usize) -> Result<bool, ShelfFault>
     }
 }
 
+// Yes, no or NULL.
 pub(crate) fn perhaps_yes_at(row: &Row, at: usize) -> Result<Option<bool>, ShelfFault>
-    ensures { IfOk result (λ yes. yes ≡ perhaps_yes_in (column row.now at)) }
+    ensures exact { IfOk result (λ yes. or_null (option_map as_number yes) ≡ column row.now at) }
+    ensures cause { IfErr result (IsFaultOf (IsUnwritten (λ yes. or_null (option_map as_number yes)) Anything (column row.now at))) }
 {
     match perhaps_number_at(row, at)? {
         Some(0) => Ok(Some(false)),

@@ -1,22 +1,26 @@
 //! The items of a lot as one text, a line for each: its identifier, its quantity and its title, with tabs between.
-ghost use Rattle.std.specs.Prelude.{◌≡◌, ◌++◌, [], ◌∷◌, IfOk, OnOk, take, true};
-ghost use Rattle.std.specs.List.{AllByRecursion};
-ghost use Rattle.sqlite_value.specs.Order.{column, bytes};
-ghost use Rattle.office_rows.specs.ItemTexts.{item_then, items_text, items_in, ItemFits};
+ghost use Rattle.std.specs.Prelude.{◌≡◌, ◌==◌, ◌<◌, ◌^◌, ℕ, ◌++◌, [], ◌∷◌, List, IfOk, IfErr, IfSome, IfNone, OnOk, length, position};
+ghost use Rattle.std.specs.Fmt.{decimal};
+ghost use Rattle.sqlite_value.specs.declared.value.Value.TheVariants.{Text};
+ghost use Rattle.sqlite_value.specs.Order.{column};
+ghost use Rattle.office_acts.specs.declared.item.Item.{Item as SomeItem};
+ghost use Rattle.office_rows.specs.Ranges.{IsWithin};
+ghost use Rattle.office_base.specs.Faults.{IsFaultOf};
+ghost use Rattle.office_rows.specs.Unwritten.{IsUnwritten};
+ghost use Rattle.office_rows.specs.ItemTexts.{item_then, items_text, items_in, before, behind, Avoids, IsItem, AreItems};
 
-use crate::columns::text_at;
+use crate::columns::{is_same, line_of, text_at};
 use itoa::Buffer;
 use office_acts::item::{Item, Items, Quantity};
 use office_base::shelf::ShelfFault;
 use office_values::id::Id;
-use office_values::text::TextLine;
 use sqlite::Row;
 use std::alloc::{AllocError, Global};
 
 // An item's text, behind what is there.
 fn push_item(out: &mut Vec<u8>, item: &Item) -> Result<(), AllocError>
     ensures text { OnOk result (out.new.items ≡ out.old.items ++ item_then item.now []) }
-    ensures fits { OnOk result (ItemFits item.now) }
+    ensures right { OnOk result (IsItem item.now) }
 {
     out.extend_from_slice(item.id.as_bytes())?;
     out.push(b'\t')?;
@@ -31,6 +35,7 @@ fn push_item(out: &mut Vec<u8>, item: &Item) -> Result<(), AllocError>
 pub fn items_text(alloc: Global, items: &Items) -> Result<Vec<u8>, AllocError>
     ensures text { IfOk result (λ out. out.items ≡ items_text items.now) }
     ensures back { IfOk result (λ out. items_in out.items ≡ items.now) }
+    ensures right { OnOk result (AreItems items.now) }
 {
     let mut out = Vec::new(alloc);
     'items: for item in items.as_slice() {
@@ -39,70 +44,98 @@ pub fn items_text(alloc: Global, items: &Items) -> Result<Vec<u8>, AllocError>
     Ok(out)
 }
 
-// The item that a line writes, if it writes one.
-fn likely_item(alloc: Global, line: &str) -> Result<Option<Item>, AllocError> {
-    let mut parts = line.splitn(3, '\t');
-    let (Some(id), Some(quantity), Some(title)) = (parts.next(), parts.next(), parts.next()) else {
-        return Ok(None);
-    };
-    let (Some(id), Ok(quantity)) = (Id::read(id.as_bytes()), quantity.parse::<u64>()) else {
-        return Ok(None);
-    };
-    let (Some(quantity), Some(title)) = (
-        Quantity::read(quantity),
-        TextLine::read(alloc, title.as_bytes())?,
-    ) else {
-        return Ok(None);
-    };
-    Ok(Some(Item {
-        id,
-        title,
-        quantity,
-    }))
-}
-
-// The items that a text writes, if it writes items; other texts may be taken for items too.
-fn likely_items(alloc: Global, text: &str) -> Result<Option<Items>, AllocError> {
-    let mut found = Vec::new(alloc);
-    for line in text.lines() {
-        let Some(item) = likely_item(alloc, line)? else {
-            return Ok(None);
-        };
-        found.push(item)?;
-    }
-    Ok(Items::read(found))
-}
-
-// Whether a text is that of the items.
-fn writes(alloc: Global, items: &Items, text: &[u8]) -> Result<bool, AllocError>
-    ensures { IfOk result (λ same. same ≡ true → items_in text.now ≡ items.now) }
+// The place of the first such byte.
+fn place_of(text: &[u8], stop: u8) -> Option<usize>
+    ensures place { result ≡ position (λ b. b == stop) text.now }
+    ensures within { IfSome result (λ at. at < length text.now) }
 {
-    let again = items_text(alloc, items)?;
-    Ok(again.as_slice() == text)
+    text.iter().position(|b| *b == stop)
+}
+
+// What stands before the first such byte, and what stands behind it; None where there is none.
+fn cut(text: &[u8], stop: u8) -> Option<(&[u8], &[u8])>
+    ensures before { IfSome result (λ parts. parts.0.now ≡ before stop text.now) }
+    ensures behind { IfSome result (λ parts. parts.1.now ≡ behind stop text.now) }
+    ensures exact { IfSome result (λ parts. parts.0.now ++ (stop ∷ parts.1.now) ≡ text.now) }
+    ensures none { IfNone result (Avoids stop text.now) }
+{
+    let at = place_of(text, stop)?;
+    Some((&text[..at], &text[at + 1..]))
+}
+
+// The quantity that these digits write.
+fn quantity_of(digits: &[u8]) -> Result<Quantity, ShelfFault>
+    ensures exact { IfOk result (λ quantity. decimal quantity ≡ digits.now) }
+    ensures cause { IfErr result (IsFaultOf (IsUnwritten decimal (IsWithin 1 (10 ^ 6)) digits.now)) }
+{
+    let Ok(text) = str::from_utf8(digits) else {
+        return Err(ShelfFault::Store);
+    };
+    let Ok(number) = text.parse::<u64>() else {
+        return Err(ShelfFault::Store);
+    };
+    let Some(quantity) = Quantity::read(number) else {
+        return Err(ShelfFault::Store);
+    };
+    if is_same(Buffer::new().format(number).as_bytes(), digits) {
+        Ok(quantity)
+    } else {
+        Err(ShelfFault::Store)
+    }
+}
+
+// The item at the front of a text, and the text behind it.
+fn front_item(alloc: Global, text: &[u8]) -> Result<(Item, &[u8]), ShelfFault>
+    ensures exact { IfOk result (λ parts. item_then parts.0 parts.1.now ≡ text.now) }
+    ensures right { IfOk result (λ parts. IsItem parts.0) }
+    ensures cause { IfErr result (IsFaultOf (IsUnwritten (λ (parts : SomeItem × List ℕ). item_then parts.0 parts.1) (λ parts. IsItem parts.0) text.now)) }
+{
+    let Some((id, behind_id)) = cut(text, b'\t') else {
+        return Err(ShelfFault::Store);
+    };
+    let Some((quantity, behind_quantity)) = cut(behind_id, b'\t') else {
+        return Err(ShelfFault::Store);
+    };
+    let Some((title, rest)) = cut(behind_quantity, b'\n') else {
+        return Err(ShelfFault::Store);
+    };
+    let Some(id) = Id::read(id) else {
+        return Err(ShelfFault::Store);
+    };
+    let quantity = quantity_of(quantity)?;
+    let title = line_of(alloc, title)?;
+    Ok((
+        Item {
+            id,
+            title,
+            quantity,
+        },
+        rest,
+    ))
 }
 
 /// The items that a text writes; a fault of the store where it isn't the text of items.
 pub fn read_items(alloc: Global, text: &[u8]) -> Result<Items, ShelfFault>
-    ensures { IfOk result (λ items. items ≡ items_in text.now) }
+    ensures exact { IfOk result (λ items. items_text items ≡ text.now) }
+    ensures read { IfOk result (λ items. items ≡ items_in text.now) }
+    ensures cause { IfErr result (IsFaultOf (IsUnwritten items_text AreItems text.now)) }
 {
-    let Ok(words) = str::from_utf8(text) else {
-        return Err(ShelfFault::Store);
-    };
-    let Ok(found) = likely_items(alloc, words) else {
-        return Err(ShelfFault::NoMemory);
-    };
-    let Some(items) = found else {
-        return Err(ShelfFault::Store);
-    };
-    match writes(alloc, &items, text) {
-        Ok(true) => Ok(items),
-        Ok(false) => Err(ShelfFault::Store),
-        Err(_) => Err(ShelfFault::NoMemory),
+    let mut found = Vec::new(alloc);
+    let mut rest = text;
+    'items: while !rest.is_empty() {
+        let (item, behind) = front_item(alloc, rest)?;
+        if found.push(item).is_err() {
+            return Err(ShelfFault::NoMemory);
+        }
+        rest = behind;
     }
+    Items::read(found).ok_or(ShelfFault::Store)
 }
 
 pub(crate) fn items_at(alloc: Global, row: &Row, at: usize) -> Result<Items, ShelfFault>
-    ensures { IfOk result (λ items. items ≡ items_in (bytes (column row.now at))) }
+    ensures exact { IfOk result (λ items. Text (items_text items) ≡ column row.now at) }
+    ensures read { IfOk result (λ items. items_in (items_text items) ≡ items) }
+    ensures cause { IfErr result (IsFaultOf (IsUnwritten (λ items. Text (items_text items)) AreItems (column row.now at))) }
 {
     read_items(alloc, text_at(row, at)?)
 }

@@ -1,10 +1,10 @@
 //! The records of an office as rows of SQL, and back.
 #![tactic(auto)]
 
-mod columns;
+pub mod columns;
 pub mod items;
 pub mod laws;
 mod readings;
 pub mod stored;
 pub mod values;
-mod words;
+pub mod words;

@@ -1,13 +1,16 @@
 //! What was read in a tender, as four columns: a word, and behind it the price as stated, as corrected, and the count of corrections.
-ghost use Rattle.std.specs.Prelude.{◌≡◌, ◌≤◌, IfOk, IfSome, option_map};
+ghost use Rattle.std.specs.Prelude.{◌≡◌, ◌≤◌, ◌∷◌, IfOk, IfErr, IfSome, Some, codes, option_map};
 ghost use Rattle.sqlite.specs.Values.{bound_value};
 ghost use Rattle.sqlite_value.specs.Value.{owned};
-ghost use Rattle.sqlite_value.specs.Order.{column};
+ghost use Rattle.sqlite_value.specs.declared.value.Value.TheVariants.{Text};
 ghost use Rattle.office_values.specs.Money.{amount_limit, total_limit};
-ghost use Rattle.office_rows.specs.Values.{number_in, or_null, text_or_null};
-ghost use Rattle.office_rows.specs.Readings.{reading_word, stated_of, corrected_of, corrections_of, reading_of, reading_in};
+ghost use Rattle.office_rows.specs.Values.{or_null, text_or_null};
+ghost use Rattle.office_rows.specs.Readings.{reading_word, stated_of, corrected_of, corrections_of, reading_cells, price_in, reading_part};
+ghost use Rattle.office_rows.specs.Ranges.{ReadingFits};
+ghost use Rattle.office_base.specs.Faults.{IsFaultOf};
+ghost use Rattle.office_rows.specs.Unwritten.{IsUnwritten};
 
-use crate::columns::{amount_at, bounded_at, is_null, perhaps_text_at, total_at};
+use crate::columns::{amount_at, are_null, bounded_at, is_same, perhaps_text_at, total_at};
 use crate::values::signed;
 use office_base::reading::Reading;
 use office_base::shelf::ShelfFault;
@@ -60,7 +63,8 @@ pub(crate) fn corrections_value(reading: &Option<Reading>) -> ValueRef<'static>
 
 // The price in the three columns.
 fn price_in(row: &Row) -> Result<Reading, ShelfFault>
-    ensures { IfOk result (λ reading. reading ≡ Reading.Priced (number_in (column row.now 10)) (number_in (column row.now 11)) (number_in (column row.now 12))) }
+    ensures exact { IfOk result (λ reading. reading_cells (Some reading) ≡ Text (codes "priced") ∷ price_in row.now) }
+    ensures cause { IfErr result (IsFaultOf (IsUnwritten (λ reading. reading_cells (Some reading)) (λ reading. ReadingFits (Some reading)) (Text (codes "priced") ∷ price_in row.now))) }
 {
     Ok(Reading::Priced {
         stated: total_at(row, WORD + 1)?,
@@ -69,21 +73,19 @@ fn price_in(row: &Row) -> Result<Reading, ShelfFault>
     })
 }
 
-// Whether the three columns are NULL.
-fn has_no_price(row: &Row) -> bool {
-    is_null(row, WORD + 1) && is_null(row, WORD + 2) && is_null(row, WORD + 3)
-}
-
 // The reading that this word begins.
 fn reading_of(word: &[u8], row: &Row) -> Result<Reading, ShelfFault>
-    ensures { IfOk result (λ reading. reading ≡ reading_of (column row.now 10) (column row.now 11) (column row.now 12) word.now) }
+    ensures exact { IfOk result (λ reading. reading_cells (Some reading) ≡ Text word.now ∷ price_in row.now) }
+    ensures cause { IfErr result (IsFaultOf (IsUnwritten (λ reading. reading_cells (Some reading)) (λ reading. ReadingFits (Some reading)) (Text word.now ∷ price_in row.now))) }
 {
-    if word == b"unreadable".as_slice() {
-        Ok(Reading::Unreadable)
-    } else if word == b"nonconforming".as_slice() {
-        Ok(Reading::Nonconforming)
-    } else if word == b"priced".as_slice() {
+    if is_same(word, b"priced") {
         price_in(row)
+    } else if !are_null(row, WORD + 1) {
+        Err(ShelfFault::Store)
+    } else if is_same(word, b"unreadable") {
+        Ok(Reading::Unreadable)
+    } else if is_same(word, b"nonconforming") {
+        Ok(Reading::Nonconforming)
     } else {
         Err(ShelfFault::Store)
     }
@@ -91,15 +93,12 @@ fn reading_of(word: &[u8], row: &Row) -> Result<Reading, ShelfFault>
 
 /// The reading in a tender's row; a fault of the store where a price stands behind another word, or none behind `priced`.
 pub(crate) fn reading_at(row: &Row) -> Result<Option<Reading>, ShelfFault>
-    ensures { IfOk result (λ reading. reading ≡ reading_in (column row.now 9) (column row.now 10) (column row.now 11) (column row.now 12)) }
+    ensures exact { IfOk result (λ reading. reading_cells reading ≡ reading_part row.now) }
+    ensures cause { IfErr result (IsFaultOf (IsUnwritten reading_cells ReadingFits (reading_part row.now))) }
 {
-    let reading = match perhaps_text_at(row, WORD)? {
-        Some(word) => Some(reading_of(word, row)?),
-        None => None,
-    };
-    if matches!(reading, Some(Reading::Priced { .. })) || has_no_price(row) {
-        Ok(reading)
-    } else {
-        Err(ShelfFault::Store)
+    match perhaps_text_at(row, WORD)? {
+        Some(word) => Ok(Some(reading_of(word, row)?)),
+        None if are_null(row, WORD + 1) => Ok(None),
+        None => Err(ShelfFault::Store),
     }
 }

@@ -1,16 +1,22 @@
 //! Rows of an answer as records.
-ghost use Rattle.std.specs.Prelude.{◌≡◌, IfOk, map, take, slice_get, option_map};
-ghost use Rattle.sqlite_value.specs.Order.{Row as Values, column, bytes};
-ghost use Rattle.office_rows.specs.Values.{number_in};
-ghost use Rattle.office_rows.specs.Budget.{line_read, batch_read};
-ghost use Rattle.office_rows.specs.Notices.{tenderer_read, notice_read, lot_read};
-ghost use Rattle.office_rows.specs.Tenders.{envelope_read, seal_read, security_read};
-ghost use Rattle.office_rows.specs.Awards.{award_read, contract_read, entry_read};
-ghost use Rattle.office_rows.specs.Releases.{release_read, compiled_read, clock_read};
+ghost use Rattle.std.specs.Prelude.{◌≡◌, ◌≤◌, [], ◌∷◌, IfOk, IfErr, IfSome, map, slice_get, option_map};
+ghost use Rattle.std.specs.List.{AllByRecursion};
+ghost use Rattle.sqlite_value.specs.Order.{Row as Values, column};
+ghost use Rattle.office_values.specs.Money.{amount_limit};
+ghost use Rattle.office_rows.specs.Values.{whole, number_in};
+ghost use Rattle.office_base.specs.Faults.{IsFaultOf};
+ghost use Rattle.office_rows.specs.Unwritten.{IsUnwritten};
+ghost use Rattle.office_rows.specs.Budget.{line_row, line_read, batch_row, batch_read};
+ghost use Rattle.office_rows.specs.Notices.{tenderer_row, tenderer_read, notice_row, notice_read, lot_row, lot_read};
+ghost use Rattle.office_rows.specs.Tenders.{envelope_row, envelope_read, seal_row, seal_read, security_row, security_read};
+ghost use Rattle.office_rows.specs.Awards.{award_row, award_read, contract_row, contract_read, entry_row, entry_read};
+ghost use Rattle.office_rows.specs.Releases.{release_row, release_read, compiled_row, compiled_read, clock_row, clock_read};
+ghost use Rattle.office_rows.specs.Ranges.{LineFits, BatchFits, TendererFits, NoticeFits, IsLot, EnvelopeFits, SealFits, SecurityFits, AwardFits, ContractFits, EntryFits, ReleaseFits, CompiledFits, ClockFits};
 
 use crate::columns::{
-    amount_at, bounded_at, digest_at, id_at, json_at, line_at, moment_at, perhaps_bounded_at,
-    perhaps_line_at, perhaps_moment_at, perhaps_yes_at, sealed_at, total_at, yes_at,
+    amount_at, bounded_at, digest_at, has_columns, id_at, json_at, line_at, moment_at,
+    perhaps_bounded_at, perhaps_line_at, perhaps_moment_at, perhaps_yes_at, sealed_at, total_at,
+    version_at, yes_at,
 };
 use crate::items::items_at;
 use crate::readings::reading_at;
@@ -31,15 +37,26 @@ use std::alloc::Global;
 pub trait Stored: Sized {
     ghost read: { Values → Self };
 
+    ghost row_of: { Self → Values };
+
+    ghost fits: { Self → Type 0 };
+
     /// The record of a row; a fault of the store where the row is none.
     fn from_row(alloc: Global, row: &Row) -> Result<Self, ShelfFault>
-        ensures { IfOk result (λ x. x ≡ read row.now) };
+        ensures read { IfOk result (λ x. x ≡ read row.now) }
+        ensures exact { IfOk result (λ x. row_of x ≡ row.now) }
+        ensures cause { IfErr result (IsFaultOf (IsUnwritten row_of fits row.now)) };
 }
 
 impl Stored for LineRow {
     ghost read = { line_read };
 
+    ghost row_of = { line_row };
+
+    ghost fits = { LineFits };
+
     fn from_row(alloc: Global, row: &Row) -> Result<LineRow, ShelfFault> {
+        has_columns(row, 4)?;
         Ok(LineRow {
             line: id_at(row, 0)?,
             title: line_at(alloc, row, 1)?,
@@ -52,7 +69,12 @@ impl Stored for LineRow {
 impl Stored for BatchRow {
     ghost read = { batch_read };
 
+    ghost row_of = { batch_row };
+
+    ghost fits = { BatchFits };
+
     fn from_row(_alloc: Global, row: &Row) -> Result<BatchRow, ShelfFault> {
+        has_columns(row, 3)?;
         Ok(BatchRow {
             batch: id_at(row, 0)?,
             moment: moment_at(row, 1)?,
@@ -64,7 +86,12 @@ impl Stored for BatchRow {
 impl Stored for TendererRow {
     ghost read = { tenderer_read };
 
+    ghost row_of = { tenderer_row };
+
+    ghost fits = { TendererFits };
+
     fn from_row(alloc: Global, row: &Row) -> Result<TendererRow, ShelfFault> {
+        has_columns(row, 4)?;
         Ok(TendererRow {
             tenderer: id_at(row, 0)?,
             name: line_at(alloc, row, 1)?,
@@ -77,7 +104,12 @@ impl Stored for TendererRow {
 impl Stored for NoticeRow {
     ghost read = { notice_read };
 
+    ghost row_of = { notice_row };
+
+    ghost fits = { NoticeFits };
+
     fn from_row(alloc: Global, row: &Row) -> Result<NoticeRow, ShelfFault> {
+        has_columns(row, 11)?;
         Ok(NoticeRow {
             notice: id_at(row, 0)?,
             title: line_at(alloc, row, 1)?,
@@ -97,7 +129,12 @@ impl Stored for NoticeRow {
 impl Stored for LotRow {
     ghost read = { lot_read };
 
+    ghost row_of = { lot_row };
+
+    ghost fits = { IsLot };
+
     fn from_row(alloc: Global, row: &Row) -> Result<LotRow, ShelfFault> {
+        has_columns(row, 9)?;
         Ok(LotRow {
             notice: id_at(row, 0)?,
             lot: id_at(row, 1)?,
@@ -115,7 +152,12 @@ impl Stored for LotRow {
 impl Stored for EnvelopeRow {
     ghost read = { envelope_read };
 
+    ghost row_of = { envelope_row };
+
+    ghost fits = { EnvelopeFits };
+
     fn from_row(_alloc: Global, row: &Row) -> Result<EnvelopeRow, ShelfFault> {
+        has_columns(row, 16)?;
         Ok(EnvelopeRow {
             receipt: bounded_at(row, 0)?,
             notice: id_at(row, 1)?,
@@ -137,7 +179,12 @@ impl Stored for EnvelopeRow {
 impl Stored for SealRow {
     ghost read = { seal_read };
 
+    ghost row_of = { seal_row };
+
+    ghost fits = { SealFits };
+
     fn from_row(alloc: Global, row: &Row) -> Result<SealRow, ShelfFault> {
+        has_columns(row, 2)?;
         Ok(SealRow {
             receipt: bounded_at(row, 0)?,
             bytes: sealed_at(alloc, row, 1)?,
@@ -148,7 +195,12 @@ impl Stored for SealRow {
 impl Stored for SecurityRow {
     ghost read = { security_read };
 
+    ghost row_of = { security_row };
+
+    ghost fits = { SecurityFits };
+
     fn from_row(_alloc: Global, row: &Row) -> Result<SecurityRow, ShelfFault> {
+        has_columns(row, 7)?;
         Ok(SecurityRow {
             security: bounded_at(row, 0)?,
             tenderer: id_at(row, 1)?,
@@ -164,7 +216,12 @@ impl Stored for SecurityRow {
 impl Stored for AwardRow {
     ghost read = { award_read };
 
+    ghost row_of = { award_row };
+
+    ghost fits = { AwardFits };
+
     fn from_row(_alloc: Global, row: &Row) -> Result<AwardRow, ShelfFault> {
+        has_columns(row, 7)?;
         Ok(AwardRow {
             award: bounded_at(row, 0)?,
             notice: id_at(row, 1)?,
@@ -180,7 +237,12 @@ impl Stored for AwardRow {
 impl Stored for ContractRow {
     ghost read = { contract_read };
 
+    ghost row_of = { contract_row };
+
+    ghost fits = { ContractFits };
+
     fn from_row(_alloc: Global, row: &Row) -> Result<ContractRow, ShelfFault> {
+        has_columns(row, 9)?;
         Ok(ContractRow {
             contract: bounded_at(row, 0)?,
             notice: id_at(row, 1)?,
@@ -198,7 +260,12 @@ impl Stored for ContractRow {
 impl Stored for EntryRow {
     ghost read = { entry_read };
 
+    ghost row_of = { entry_row };
+
+    ghost fits = { EntryFits };
+
     fn from_row(alloc: Global, row: &Row) -> Result<EntryRow, ShelfFault> {
+        has_columns(row, 6)?;
         Ok(EntryRow {
             contract: bounded_at(row, 0)?,
             entry: id_at(row, 1)?,
@@ -213,7 +280,12 @@ impl Stored for EntryRow {
 impl Stored for ReleaseRow {
     ghost read = { release_read };
 
+    ghost row_of = { release_row };
+
+    ghost fits = { ReleaseFits };
+
     fn from_row(alloc: Global, row: &Row) -> Result<ReleaseRow, ShelfFault> {
+        has_columns(row, 4)?;
         Ok(ReleaseRow {
             notice: id_at(row, 0)?,
             seq: bounded_at(row, 1)?,
@@ -226,7 +298,12 @@ impl Stored for ReleaseRow {
 impl Stored for CompiledRow {
     ghost read = { compiled_read };
 
+    ghost row_of = { compiled_row };
+
+    ghost fits = { CompiledFits };
+
     fn from_row(alloc: Global, row: &Row) -> Result<CompiledRow, ShelfFault> {
+        has_columns(row, 2)?;
         Ok(CompiledRow {
             notice: id_at(row, 0)?,
             text: json_at(alloc, row, 1)?,
@@ -237,7 +314,13 @@ impl Stored for CompiledRow {
 impl Stored for ClockRow {
     ghost read = { clock_read };
 
+    ghost row_of = { clock_row };
+
+    ghost fits = { ClockFits };
+
     fn from_row(_alloc: Global, row: &Row) -> Result<ClockRow, ShelfFault> {
+        has_columns(row, 4)?;
+        version_at(row, 0)?;
         Ok(ClockRow {
             moment: moment_at(row, 1)?,
             receipts: bounded_at(row, 2)?,
@@ -249,14 +332,21 @@ impl Stored for ClockRow {
 impl Stored for Amount {
     ghost read = { λ row. number_in (column row 0) };
 
+    ghost row_of = { λ amount. whole amount ∷ [] };
+
+    ghost fits = { λ amount. amount ≤ amount_limit };
+
     fn from_row(_alloc: Global, row: &Row) -> Result<Amount, ShelfFault> {
+        has_columns(row, 1)?;
         amount_at(row, 0)
     }
 }
 
 /// The record of the first row; None where there are no rows.
 pub fn first<R: Stored>(alloc: Global, rows: &[Row]) -> Result<Option<R>, ShelfFault>
-    ensures { IfOk result (λ found. found ≡ option_map R.read (slice_get rows.now 0)) }
+    ensures read { IfOk result (λ found. found ≡ option_map R.read (slice_get rows.now 0)) }
+    ensures exact { IfOk result (λ found. option_map R.row_of found ≡ slice_get rows.now 0) }
+    ensures cause { IfErr result (IsFaultOf (IsUnwritten (option_map R.row_of) (λ found. IfSome found R.fits) (slice_get rows.now 0))) }
 {
     match rows.first() {
         Some(row) => Ok(Some(R::from_row(alloc, row)?)),
@@ -266,7 +356,9 @@ pub fn first<R: Stored>(alloc: Global, rows: &[Row]) -> Result<Option<R>, ShelfF
 
 /// The records of all rows, in their order.
 pub fn all<R: Stored + Drop>(alloc: Global, rows: &[Row]) -> Result<Vec<R>, ShelfFault>
-    ensures { IfOk result (λ found. found.items ≡ map R.read rows.now) }
+    ensures read { IfOk result (λ found. found.items ≡ map R.read rows.now) }
+    ensures exact { IfOk result (λ found. map R.row_of found.items ≡ rows.now) }
+    ensures cause { IfErr result (IsFaultOf (IsUnwritten (map R.row_of) (AllByRecursion R.fits) rows.now)) }
 {
     let mut found = Vec::new(alloc);
     'rows: for row in rows {

@@ -1,10 +1,14 @@
 //! States and kinds, as the words that stand for them in a row.
-ghost use Rattle.std.specs.Prelude.{◌≡◌, IfOk, option_map};
-ghost use Rattle.sqlite_value.specs.Order.{column, bytes};
-ghost use Rattle.office_rows.specs.Values.{perhaps_text_in};
-ghost use Rattle.office_rows.specs.Words.{notice_state_text, notice_state_in, lot_state_text, lot_state_in, envelope_state_text, envelope_state_in, security_state_text, security_state_in, award_state_text, award_state_in, how_text, how_in, entry_kind_text, entry_kind_in};
+ghost use Rattle.std.specs.Prelude.{◌≡◌, IfOk, IfErr, option_map};
+ghost use Rattle.sqlite_value.specs.declared.value.Value.TheVariants.{Text};
+ghost use Rattle.sqlite_value.specs.Order.{column};
+ghost use Rattle.office_rows.specs.Values.{text_or_null};
+ghost use Rattle.office_rows.specs.Ranges.{Anything};
+ghost use Rattle.office_base.specs.Faults.{IsFaultOf};
+ghost use Rattle.office_rows.specs.Unwritten.{IsUnwritten};
+ghost use Rattle.office_rows.specs.Words.{notice_state_text, lot_state_text, envelope_state_text, security_state_text, award_state_text, how_text, entry_kind_text};
 
-use crate::columns::{perhaps_text_at, text_at};
+use crate::columns::{is_same, perhaps_text_at, text_at};
 use office_acts::contract::How;
 use office_base::records::{
     AwardState, EntryKind, EnvelopeState, LotState, NoticeState, SecurityState,
@@ -23,14 +27,15 @@ pub(crate) fn notice_state_text(state: NoticeState) -> &'static [u8]
 }
 
 pub(crate) fn notice_state_at(row: &Row, at: usize) -> Result<NoticeState, ShelfFault>
-    ensures { IfOk result (λ state. state ≡ notice_state_in (bytes (column row.now at))) }
+    ensures exact { IfOk result (λ state. Text (notice_state_text state) ≡ column row.now at) }
+    ensures cause { IfErr result (IsFaultOf (IsUnwritten (λ state. Text (notice_state_text state)) Anything (column row.now at))) }
 {
     let word = text_at(row, at)?;
-    if word == b"receiving".as_slice() {
+    if is_same(word, b"receiving") {
         Ok(NoticeState::Receiving)
-    } else if word == b"opened".as_slice() {
+    } else if is_same(word, b"opened") {
         Ok(NoticeState::Opened)
-    } else if word == b"cancelled".as_slice() {
+    } else if is_same(word, b"cancelled") {
         Ok(NoticeState::Cancelled)
     } else {
         Err(ShelfFault::Store)
@@ -50,18 +55,19 @@ pub(crate) fn lot_state_text(state: LotState) -> &'static [u8]
 }
 
 pub(crate) fn lot_state_at(row: &Row, at: usize) -> Result<LotState, ShelfFault>
-    ensures { IfOk result (λ state. state ≡ lot_state_in (bytes (column row.now at))) }
+    ensures exact { IfOk result (λ state. Text (lot_state_text state) ≡ column row.now at) }
+    ensures cause { IfErr result (IsFaultOf (IsUnwritten (λ state. Text (lot_state_text state)) Anything (column row.now at))) }
 {
     let word = text_at(row, at)?;
-    if word == b"undecided".as_slice() {
+    if is_same(word, b"undecided") {
         Ok(LotState::Undecided)
-    } else if word == b"awarded".as_slice() {
+    } else if is_same(word, b"awarded") {
         Ok(LotState::Awarded)
-    } else if word == b"contracted".as_slice() {
+    } else if is_same(word, b"contracted") {
         Ok(LotState::Contracted)
-    } else if word == b"unsuccessful".as_slice() {
+    } else if is_same(word, b"unsuccessful") {
         Ok(LotState::Unsuccessful)
-    } else if word == b"cancelled".as_slice() {
+    } else if is_same(word, b"cancelled") {
         Ok(LotState::Cancelled)
     } else {
         Err(ShelfFault::Store)
@@ -80,16 +86,17 @@ pub(crate) fn envelope_state_text(state: EnvelopeState) -> &'static [u8]
 }
 
 pub(crate) fn envelope_state_at(row: &Row, at: usize) -> Result<EnvelopeState, ShelfFault>
-    ensures { IfOk result (λ state. state ≡ envelope_state_in (bytes (column row.now at))) }
+    ensures exact { IfOk result (λ state. Text (envelope_state_text state) ≡ column row.now at) }
+    ensures cause { IfErr result (IsFaultOf (IsUnwritten (λ state. Text (envelope_state_text state)) Anything (column row.now at))) }
 {
     let word = text_at(row, at)?;
-    if word == b"sealed".as_slice() {
+    if is_same(word, b"sealed") {
         Ok(EnvelopeState::Sealed)
-    } else if word == b"withdrawn".as_slice() {
+    } else if is_same(word, b"withdrawn") {
         Ok(EnvelopeState::Withdrawn)
-    } else if word == b"returned".as_slice() {
+    } else if is_same(word, b"returned") {
         Ok(EnvelopeState::Returned)
-    } else if word == b"opened".as_slice() {
+    } else if is_same(word, b"opened") {
         Ok(EnvelopeState::Opened)
     } else {
         Err(ShelfFault::Store)
@@ -107,14 +114,15 @@ pub(crate) fn security_state_text(state: SecurityState) -> &'static [u8]
 }
 
 pub(crate) fn security_state_at(row: &Row, at: usize) -> Result<SecurityState, ShelfFault>
-    ensures { IfOk result (λ state. state ≡ security_state_in (bytes (column row.now at))) }
+    ensures exact { IfOk result (λ state. Text (security_state_text state) ≡ column row.now at) }
+    ensures cause { IfErr result (IsFaultOf (IsUnwritten (λ state. Text (security_state_text state)) Anything (column row.now at))) }
 {
     let word = text_at(row, at)?;
-    if word == b"held".as_slice() {
+    if is_same(word, b"held") {
         Ok(SecurityState::Held)
-    } else if word == b"returned".as_slice() {
+    } else if is_same(word, b"returned") {
         Ok(SecurityState::Returned)
-    } else if word == b"forfeited".as_slice() {
+    } else if is_same(word, b"forfeited") {
         Ok(SecurityState::Forfeited)
     } else {
         Err(ShelfFault::Store)
@@ -133,16 +141,17 @@ pub(crate) fn award_state_text(state: AwardState) -> &'static [u8]
 }
 
 pub(crate) fn award_state_at(row: &Row, at: usize) -> Result<AwardState, ShelfFault>
-    ensures { IfOk result (λ state. state ≡ award_state_in (bytes (column row.now at))) }
+    ensures exact { IfOk result (λ state. Text (award_state_text state) ≡ column row.now at) }
+    ensures cause { IfErr result (IsFaultOf (IsUnwritten (λ state. Text (award_state_text state)) Anything (column row.now at))) }
 {
     let word = text_at(row, at)?;
-    if word == b"active".as_slice() {
+    if is_same(word, b"active") {
         Ok(AwardState::Active)
-    } else if word == b"failed".as_slice() {
+    } else if is_same(word, b"failed") {
         Ok(AwardState::Failed)
-    } else if word == b"cancelled".as_slice() {
+    } else if is_same(word, b"cancelled") {
         Ok(AwardState::Cancelled)
-    } else if word == b"signed".as_slice() {
+    } else if is_same(word, b"signed") {
         Ok(AwardState::Signed)
     } else {
         Err(ShelfFault::Store)
@@ -159,15 +168,17 @@ pub(crate) fn entry_kind_text(kind: EntryKind) -> &'static [u8]
     }
 }
 
-pub(crate) fn entry_kind_at(row: &Row, at: usize) -> Result<EntryKind, ShelfFault>
-    ensures { IfOk result (λ kind. kind ≡ entry_kind_in (bytes (column row.now at))) }
+/// What an entry does to its contract.
+pub fn entry_kind_at(row: &Row, at: usize) -> Result<EntryKind, ShelfFault>
+    ensures exact { IfOk result (λ kind. Text (entry_kind_text kind) ≡ column row.now at) }
+    ensures cause { IfErr result (IsFaultOf (IsUnwritten (λ kind. Text (entry_kind_text kind)) Anything (column row.now at))) }
 {
     let word = text_at(row, at)?;
-    if word == b"raise".as_slice() {
+    if is_same(word, b"raise") {
         Ok(EntryKind::Raise)
-    } else if word == b"cut".as_slice() {
+    } else if is_same(word, b"cut") {
         Ok(EntryKind::Cut)
-    } else if word == b"payment".as_slice() {
+    } else if is_same(word, b"payment") {
         Ok(EntryKind::Payment)
     } else {
         Err(ShelfFault::Store)
@@ -184,12 +195,17 @@ pub(crate) fn how_text(how: How) -> &'static [u8]
 }
 
 pub(crate) fn perhaps_how_at(row: &Row, at: usize) -> Result<Option<How>, ShelfFault>
-    ensures { IfOk result (λ how. how ≡ option_map how_in (perhaps_text_in (column row.now at))) }
+    ensures exact { IfOk result (λ how. text_or_null (option_map how_text how) ≡ column row.now at) }
+    ensures cause { IfErr result (IsFaultOf (IsUnwritten (λ how. text_or_null (option_map how_text how)) Anything (column row.now at))) }
 {
-    match perhaps_text_at(row, at)? {
-        None => Ok(None),
-        Some(b"regular") => Ok(Some(How::Regular)),
-        Some(b"default") => Ok(Some(How::ForDefault)),
-        Some(_) => Err(ShelfFault::Store),
+    let Some(word) = perhaps_text_at(row, at)? else {
+        return Ok(None);
+    };
+    if is_same(word, b"regular") {
+        Ok(Some(How::Regular))
+    } else if is_same(word, b"default") {
+        Ok(Some(How::ForDefault))
+    } else {
+        Err(ShelfFault::Store)
     }
 }

@@ -1,12 +1,15 @@
 -- An answer over the last commit is one over the tables that it holds.
-use Rattle.std.proofs.Common.{◌≡◌, ◌⊎◌, inl, ℕ, List, [], ◌∷◌, map, slice_get, Option, Some, ap, Result, Ok, Err, true, IsTrue, sym, subst, ◌∙◌}
+use Rattle.std.proofs.Common.{◌≡◌, ◌⊎◌, inl, inr, ℕ, List, [], ◌∷◌, map, slice_get, Option, Some, ap, Result, Ok, Err, true, IsTrue, sym, subst, ◌∙◌}
 use Rattle.std.specs.Prelude.{IfOk, IfErr, OnOk, option_map}
 use Rattle.sqlite_value.specs.Order.{Row}
 use Rattle.sqlite_trees.specs.declared.store.Store.{Ghosts}
 use Rattle.sqlite.specs.Held.{Held, state}
 use Rattle.sqlite.specs.declared.error.Error.{Error}
 use Rattle.sqlite.specs.State.{State, Shown, FailsToQuery, IsTooLate}
+use Rattle.office_base.specs.Faults.{IsFaultOf}
+use Rattle.office_base.specs.declared.shelf.ShelfFault.{ShelfFault}
 use Rattle.office_base.specs.Tables.{Tables}
+use Rattle.office_sql.specs.Failing.{IsUnread}
 use Rattle.office_sql.specs.Standing.{Holds}
 use Rattle.office_sql.specs.Steps.{IsAsked, IsRefusal, ShowsTables}
 
@@ -50,3 +53,9 @@ pub from_rows : {S A E : Type 0} (g : Ghosts S) (sql : List ℕ) (params : Row) 
     → IsAsked g sql params old rows → IfOk r (λ a. From a rows) → IfOk r (λ a. (rows : List Row) × IsAsked g sql params old rows × From a rows)
 from_rows g sql params old rows (Ok a) From h found = (rows, h, found)
 from_rows g sql params old rows (Err e) From h found = tt
+
+-- why the rows that were asked for aren't read
+pub rows_unread : {S A : Type 0} (g : Ghosts S) (sql : List ℕ) (params : Row) (old : Held S) (rows : List Row) (r : Result A ShelfFault) (unwritten : List Row → Type 0)
+    → IsAsked g sql params old rows → IfErr r (IsFaultOf (unwritten rows)) → IfErr r (IsUnread g sql params old unwritten)
+rows_unread g sql params old rows (Ok a) unwritten h why = tt
+rows_unread g sql params old rows (Err e) unwritten h why = inr (rows, h, why)

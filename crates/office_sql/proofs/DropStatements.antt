@@ -19,8 +19,9 @@ use Rattle.office_sql.specs.Schema.OfficeTable.{Seals}
 use Rattle.office_sql.specs.Known.{IsIn, at_tree}
 use Rattle.office_sql.specs.Kept.{by_rowid, read_by_rowid}
 use Rattle.office_sql.specs.Standing.{StandFor, Stands}
+use Rattle.office_sql.specs.Statements.{drop_seal}
 use Rattle.office_sql.specs.Steps.{Puts}
-use Rattle.office_sql.proofs.Meanings.{Means, parsed_in}
+use Rattle.office_sql.proofs.Meanings.{Means, IsOne, parsed_in}
 use Rattle.office_sql.proofs.Simple.{equals_e, one_test}
 use Rattle.office_sql.proofs.Selecting.{select, found_by_tree}
 use Rattle.office_sql.proofs.Cells.{and_true, number_tested, same_number_is}
@@ -30,14 +31,15 @@ use Rattle.office_sql.proofs.Writes.{with_rows}
 use Rattle.office_sql.proofs.Held.{holds_put, goes_with}
 use Rattle.office_sql.proofs.Stored.{bare, seal_terms, seal_cells, seal_stored}
 
-abbrev pub drop_seal : List ℕ
-drop_seal = codes "DELETE FROM seals WHERE receipt = ?1"
-
 drop_seal_read : IsDelete drop_seal (codes "seals") (Some (equals_e (codes "receipt") 1)) (parsed_in (first drop_seal))
 unfolding everything parsed_in
 drop_seal_read = record { is = refl; statement = refl; formats = refl }
 
-drop_seal_means : (schema : Schema) (n : ℕ) (it : IsIn schema seals n) → Means schema drop_seal (Delete it.place (record { lets = []; body = select n (0 ∷ []) (0 ∷ []) [] }))
+pub drop_seal_one : IsOne drop_seal 1
+unfolding everything parsed_in
+drop_seal_one = record { whole = refl; given = refl }
+
+pub drop_seal_means : (schema : Schema) (n : ℕ) (it : IsIn schema seals n) → Means schema drop_seal (Delete it.place (record { lets = []; body = select n (0 ∷ []) (0 ∷ []) [] }))
 unfolding same_name alone chosen first_found
 drop_seal_means schema n it =
     delete_means schema seals n it refl drop_seal (Some (equals_e (codes "receipt") 1)) _ drop_seal_read (0 ∷ []) _ _

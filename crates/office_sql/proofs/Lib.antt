@@ -37,3 +37,4 @@ mod Founds
 mod MakingSteps
 mod Told
 mod Versions
+mod Failing

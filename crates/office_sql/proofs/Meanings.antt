@@ -1,12 +1,15 @@
 -- What a caller asks of a statement's text, and what the grammar makes of it.
-use Rattle.std.proofs.Common.{◌≡◌, [], List, Ok, Err, Result, ℕ, ap, subst, sym, false}
+use Rattle.std.proofs.Common.{◌≡◌, [], List, Ok, Err, Option, Result, ℕ, ap, subst, sym, length, true, false}
+use Rattle.std.specs.Prelude.{nat_le}
 use Rattle.sqlite_schema.specs.declared.schema.Schema.{Schema}
 use Rattle.sqlite_schema.specs.declared.command.Command.{Command}
 use Rattle.sqlite_ast.specs.declared.Statement.TheVariants as written
 use Rattle.sqlite_syntax.specs.declared.statement.Parsed.{Parsed}
 use Rattle.sqlite_resolve.specs.declared.error.CompileError.{CompileError}
 use Rattle.sqlite_resolve.specs.declared.compiled.Compiled.{Compiled}
-use Rattle.sqlite_resolve.specs.Compile.{compiled}
+use Rattle.sqlite_schema.specs.declared.command.Returning.{Returning}
+use Rattle.sqlite_resolve.specs.Compile.{compiled, first, planned, with_command}
+use Rattle.sqlite_resolve.specs.Lowering.{Checked, and_then}
 use Rattle.sqlite.specs.Listing.{understood, reads_listing}
 use Rattle.sqlite.proofs.Callers.{IsPlain, command_of}
 
@@ -31,3 +34,23 @@ understands schema text c h = rw h
 pub means_by : (schema : Schema) (text : List ℕ) (c : Compiled) → IsPlain (Ok c) → compiled schema text ≡ Ok c → Means schema text c.command
 means_by schema text c plain h =
     let u = understands schema text c h in record { is = ap command_of u; plain = subst IsPlain (sym u) plain; unlisted = unlisted_by schema text c h }
+
+-- the text is one statement with so many parameters
+pub record IsOne (text : List ℕ) (n : ℕ) : Type 0 where
+  pub whole : nat_le (length text) (parsed_in (first text)).tail ≡ true
+  pub given : length (parsed_in (first text)).names ≡ n
+
+from_plan : (p : Parsed) (plan : Checked (List (List ℕ) × (Command × Option Returning))) (c : Compiled) → and_then plan (λ x. Ok (with_command p x)) ≡ Ok c → (c.tail ≡ p.tail) × (c.names ≡ p.names)
+from_plan p (Ok x) c h = let same : with_command p x ≡ c = cc in (ap (λ (d : Compiled). d.tail) (sym same), ap (λ (d : Compiled). d.names) (sym same))
+from_plan p (Err e) c h = absurd cc
+
+from_parsed : (schema : Schema) (r : Result Parsed CompileError) (c : Compiled) → and_then r (λ p. and_then (planned schema p) (λ plan. Ok (with_command p plan))) ≡ Ok c
+    → (c.tail ≡ (parsed_in r).tail) × (c.names ≡ (parsed_in r).names)
+unfolding parsed_in
+from_parsed schema (Ok p) c h = from_plan p (planned schema p) c h
+from_parsed schema (Err e) c h = absurd cc
+
+-- a statement ends, and has the parameters, as its text was parsed
+pub from_text : (schema : Schema) (text : List ℕ) (c : Compiled) → reads_listing schema text ≡ false → understood schema text ≡ Ok c → (c.tail ≡ (parsed_in (first text)).tail) × (c.names ≡ (parsed_in (first text)).names)
+unfolding understood compiled
+from_text schema text c unlisted h = from_parsed schema (first text) c (rw unlisted at h)

@@ -1,22 +1,20 @@
 -- What the text of each put means, whatever the schema has beside its table.
-use Rattle.std.proofs.Common.{List, ℕ, ◌∷◌, [], refl, codes}
+use Rattle.std.proofs.Common.{ℕ, ◌∷◌, [], refl, codes}
 use Rattle.sqlite_schema.specs.declared.schema.Schema.{Schema}
 use Rattle.sqlite_schema.specs.declared.command.Command.TheVariants.{InsertOr}
 use Rattle.sqlite_schema.specs.declared.command.Conflict.TheVariants.{Abort}
 use Rattle.sqlite_schema.specs.declared.command.Source.TheVariants.{Values}
 use Rattle.sqlite_tied.specs.Compute.{everything}
 pub use Rattle.office_sql.specs.Schema.{put_office}
+pub use Rattle.office_sql.specs.Statements.{put_lines, put_batches, put_tenderers, put_notices, put_lots, put_envelopes, put_seals, put_securities, put_awards, put_contracts, put_entries, put_releases, put_compiled}
 use Rattle.office_sql.specs.Schema.{lines, batches, tenderers, notices, lots, envelopes, seals, securities, awards, contracts, entries, releases, compiled, office}
 use Rattle.office_sql.specs.Known.{IsIn, at_tree}
-use Rattle.office_sql.proofs.Meanings.{Means, parsed_in}
+use Rattle.office_sql.proofs.Meanings.{Means, IsOne, parsed_in}
 use Rattle.office_sql.proofs.Keyed.{keyed}
 use Rattle.office_sql.specs.Schema.OfficeTable.{Lines, Batches, Tenderers, Notices, Lots, Envelopes, Seals, Securities, Awards, Contracts, Entries, Releases, Compiled, Office}
 use Rattle.office_sql.proofs.Selecting.{found_by_tree}
 use Rattle.office_sql.proofs.Upserts.{IsUpsert, InsertsRows, NamesKey, Updates, on_conflict, columns_in, rows_in, clause_in, upserts_mean}
 use Rattle.office_sql.proofs.Stored.{line_terms, line_cells, batch_terms, batch_cells, tenderer_terms, tenderer_cells, notice_terms, notice_cells, lot_terms, lot_cells, envelope_terms, envelope_cells, seal_terms, seal_cells, security_terms, security_cells, award_terms, award_cells, contract_terms, contract_cells, entry_terms, entry_cells, release_terms, release_cells, compiled_terms, compiled_cells, clock_terms, clock_cells}
-
-abbrev pub put_lines : List ℕ
-put_lines = codes "INSERT INTO lines (line, title, appropriation, free) VALUES (?1, ?2, ?3, ?4) ON CONFLICT (line) DO UPDATE SET title = ?2, appropriation = ?3, free = ?4"
 
 lines_read : IsUpsert put_lines (codes "lines")
 unfolding everything parsed_in columns_in rows_in clause_in
@@ -34,12 +32,13 @@ lines_update : (schema : Schema) (at n : ℕ) → Updates schema at (at_tree lin
 unfolding everything parsed_in clause_in
 lines_update schema at n = refl
 
+pub put_lines_one : IsOne put_lines 4
+unfolding everything parsed_in
+put_lines_one = record { whole = refl; given = refl }
+
 pub put_lines_means : (schema : Schema) (n : ℕ) (it : IsIn schema lines n) → Means schema put_lines (InsertOr it.place Abort (Values line_terms 5) (on_conflict (at_tree lines n) 4 line_cells ∷ []))
 put_lines_means schema n it =
     upserts_mean schema put_lines lines n it lines_read refl (keyed Lines) _ (lines_rows schema n) (lines_key n) 4 line_cells (lines_update schema it.place n) (rw (it.stored, found_by_tree schema lines n it))
-
-abbrev pub put_batches : List ℕ
-put_batches = codes "INSERT INTO batches (batch, moment, rows) VALUES (?1, ?2, ?3) ON CONFLICT (batch) DO UPDATE SET moment = ?2, rows = ?3"
 
 batches_read : IsUpsert put_batches (codes "batches")
 unfolding everything parsed_in columns_in rows_in clause_in
@@ -57,12 +56,13 @@ batches_update : (schema : Schema) (at n : ℕ) → Updates schema at (at_tree b
 unfolding everything parsed_in clause_in
 batches_update schema at n = refl
 
+pub put_batches_one : IsOne put_batches 3
+unfolding everything parsed_in
+put_batches_one = record { whole = refl; given = refl }
+
 pub put_batches_means : (schema : Schema) (n : ℕ) (it : IsIn schema batches n) → Means schema put_batches (InsertOr it.place Abort (Values batch_terms 4) (on_conflict (at_tree batches n) 3 batch_cells ∷ []))
 put_batches_means schema n it =
     upserts_mean schema put_batches batches n it batches_read refl (keyed Batches) _ (batches_rows schema n) (batches_key n) 3 batch_cells (batches_update schema it.place n) (rw (it.stored, found_by_tree schema batches n it))
-
-abbrev pub put_tenderers : List ℕ
-put_tenderers = codes "INSERT INTO tenderers (tenderer, name, address, key) VALUES (?1, ?2, ?3, ?4) ON CONFLICT (tenderer) DO UPDATE SET name = ?2, address = ?3, key = ?4"
 
 tenderers_read : IsUpsert put_tenderers (codes "tenderers")
 unfolding everything parsed_in columns_in rows_in clause_in
@@ -80,12 +80,13 @@ tenderers_update : (schema : Schema) (at n : ℕ) → Updates schema at (at_tree
 unfolding everything parsed_in clause_in
 tenderers_update schema at n = refl
 
+pub put_tenderers_one : IsOne put_tenderers 4
+unfolding everything parsed_in
+put_tenderers_one = record { whole = refl; given = refl }
+
 pub put_tenderers_means : (schema : Schema) (n : ℕ) (it : IsIn schema tenderers n) → Means schema put_tenderers (InsertOr it.place Abort (Values tenderer_terms 5) (on_conflict (at_tree tenderers n) 4 tenderer_cells ∷ []))
 put_tenderers_means schema n it =
     upserts_mean schema put_tenderers tenderers n it tenderers_read refl (keyed Tenderers) _ (tenderers_rows schema n) (tenderers_key n) 4 tenderer_cells (tenderers_update schema it.place n) (rw (it.stored, found_by_tree schema tenderers n it))
-
-abbrev pub put_notices : List ℕ
-put_notices = codes "INSERT INTO notices (notice, title, published, deadline, validity, standstill, weight, state, opened, amendments, releases) VALUES (?1, ?2, ?3, ?4, ?5, ?6, ?7, ?8, ?9, ?10, ?11) ON CONFLICT (notice) DO UPDATE SET title = ?2, published = ?3, deadline = ?4, validity = ?5, standstill = ?6, weight = ?7, state = ?8, opened = ?9, amendments = ?10, releases = ?11"
 
 notices_read : IsUpsert put_notices (codes "notices")
 unfolding everything parsed_in columns_in rows_in clause_in
@@ -103,12 +104,13 @@ notices_update : (schema : Schema) (at n : ℕ) → Updates schema at (at_tree n
 unfolding everything parsed_in clause_in
 notices_update schema at n = refl
 
+pub put_notices_one : IsOne put_notices 11
+unfolding everything parsed_in
+put_notices_one = record { whole = refl; given = refl }
+
 pub put_notices_means : (schema : Schema) (n : ℕ) (it : IsIn schema notices n) → Means schema put_notices (InsertOr it.place Abort (Values notice_terms 12) (on_conflict (at_tree notices n) 11 notice_cells ∷ []))
 put_notices_means schema n it =
     upserts_mean schema put_notices notices n it notices_read refl (keyed Notices) _ (notices_rows schema n) (notices_key n) 11 notice_cells (notices_update schema it.place n) (rw (it.stored, found_by_tree schema notices n it))
-
-abbrev pub put_lots : List ℕ
-put_lots = codes "INSERT INTO lots (notice, lot, title, line, estimate, security, items, state, reserved) VALUES (?1, ?2, ?3, ?4, ?5, ?6, ?7, ?8, ?9) ON CONFLICT (notice, lot) DO UPDATE SET title = ?3, line = ?4, estimate = ?5, security = ?6, items = ?7, state = ?8, reserved = ?9"
 
 lots_read : IsUpsert put_lots (codes "lots")
 unfolding everything parsed_in columns_in rows_in clause_in
@@ -126,12 +128,13 @@ lots_update : (schema : Schema) (at n : ℕ) → Updates schema at (at_tree lots
 unfolding everything parsed_in clause_in
 lots_update schema at n = refl
 
+pub put_lots_one : IsOne put_lots 9
+unfolding everything parsed_in
+put_lots_one = record { whole = refl; given = refl }
+
 pub put_lots_means : (schema : Schema) (n : ℕ) (it : IsIn schema lots n) → Means schema put_lots (InsertOr it.place Abort (Values lot_terms 10) (on_conflict (at_tree lots n) 9 lot_cells ∷ []))
 put_lots_means schema n it =
     upserts_mean schema put_lots lots n it lots_read refl (keyed Lots) _ (lots_rows schema n) (lots_key n) 9 lot_cells (lots_update schema it.place n) (rw (it.stored, found_by_tree schema lots n it))
-
-abbrev pub put_envelopes : List ℕ
-put_envelopes = codes "INSERT INTO envelopes (receipt, notice, lot, tenderer, moment, length, digest, security, state, reading, stated, corrected, corrections, responsive, quality, failed) VALUES (?1, ?2, ?3, ?4, ?5, ?6, ?7, ?8, ?9, ?10, ?11, ?12, ?13, ?14, ?15, ?16) ON CONFLICT (receipt) DO UPDATE SET notice = ?2, lot = ?3, tenderer = ?4, moment = ?5, length = ?6, digest = ?7, security = ?8, state = ?9, reading = ?10, stated = ?11, corrected = ?12, corrections = ?13, responsive = ?14, quality = ?15, failed = ?16"
 
 envelopes_read : IsUpsert put_envelopes (codes "envelopes")
 unfolding everything parsed_in columns_in rows_in clause_in
@@ -149,12 +152,13 @@ envelopes_update : (schema : Schema) (at n : ℕ) → Updates schema at (at_tree
 unfolding everything parsed_in clause_in
 envelopes_update schema at n = refl
 
+pub put_envelopes_one : IsOne put_envelopes 16
+unfolding everything parsed_in
+put_envelopes_one = record { whole = refl; given = refl }
+
 pub put_envelopes_means : (schema : Schema) (n : ℕ) (it : IsIn schema envelopes n) → Means schema put_envelopes (InsertOr it.place Abort (Values envelope_terms 17) (on_conflict (at_tree envelopes n) 16 envelope_cells ∷ []))
 put_envelopes_means schema n it =
     upserts_mean schema put_envelopes envelopes n it envelopes_read refl (keyed Envelopes) _ (envelopes_rows schema n) (envelopes_key n) 16 envelope_cells (envelopes_update schema it.place n) (rw (it.stored, found_by_tree schema envelopes n it))
-
-abbrev pub put_seals : List ℕ
-put_seals = codes "INSERT INTO seals (receipt, bytes) VALUES (?1, ?2) ON CONFLICT (receipt) DO UPDATE SET bytes = ?2"
 
 seals_read : IsUpsert put_seals (codes "seals")
 unfolding everything parsed_in columns_in rows_in clause_in
@@ -172,12 +176,13 @@ seals_update : (schema : Schema) (at n : ℕ) → Updates schema at (at_tree sea
 unfolding everything parsed_in clause_in
 seals_update schema at n = refl
 
+pub put_seals_one : IsOne put_seals 2
+unfolding everything parsed_in
+put_seals_one = record { whole = refl; given = refl }
+
 pub put_seals_means : (schema : Schema) (n : ℕ) (it : IsIn schema seals n) → Means schema put_seals (InsertOr it.place Abort (Values seal_terms 3) (on_conflict (at_tree seals n) 2 seal_cells ∷ []))
 put_seals_means schema n it =
     upserts_mean schema put_seals seals n it seals_read refl (keyed Seals) _ (seals_rows schema n) (seals_key n) 2 seal_cells (seals_update schema it.place n) (rw (it.stored, found_by_tree schema seals n it))
-
-abbrev pub put_securities : List ℕ
-put_securities = codes "INSERT INTO securities (security, tenderer, notice, lot, reference, amount, state) VALUES (?1, ?2, ?3, ?4, ?5, ?6, ?7) ON CONFLICT (security) DO UPDATE SET tenderer = ?2, notice = ?3, lot = ?4, reference = ?5, amount = ?6, state = ?7"
 
 securities_read : IsUpsert put_securities (codes "securities")
 unfolding everything parsed_in columns_in rows_in clause_in
@@ -195,12 +200,13 @@ securities_update : (schema : Schema) (at n : ℕ) → Updates schema at (at_tre
 unfolding everything parsed_in clause_in
 securities_update schema at n = refl
 
+pub put_securities_one : IsOne put_securities 7
+unfolding everything parsed_in
+put_securities_one = record { whole = refl; given = refl }
+
 pub put_securities_means : (schema : Schema) (n : ℕ) (it : IsIn schema securities n) → Means schema put_securities (InsertOr it.place Abort (Values security_terms 8) (on_conflict (at_tree securities n) 7 security_cells ∷ []))
 put_securities_means schema n it =
     upserts_mean schema put_securities securities n it securities_read refl (keyed Securities) _ (securities_rows schema n) (securities_key n) 7 security_cells (securities_update schema it.place n) (rw (it.stored, found_by_tree schema securities n it))
-
-abbrev pub put_awards : List ℕ
-put_awards = codes "INSERT INTO awards (award, notice, lot, receipt, price, moment, state) VALUES (?1, ?2, ?3, ?4, ?5, ?6, ?7) ON CONFLICT (award) DO UPDATE SET notice = ?2, lot = ?3, receipt = ?4, price = ?5, moment = ?6, state = ?7"
 
 awards_read : IsUpsert put_awards (codes "awards")
 unfolding everything parsed_in columns_in rows_in clause_in
@@ -218,12 +224,13 @@ awards_update : (schema : Schema) (at n : ℕ) → Updates schema at (at_tree aw
 unfolding everything parsed_in clause_in
 awards_update schema at n = refl
 
+pub put_awards_one : IsOne put_awards 7
+unfolding everything parsed_in
+put_awards_one = record { whole = refl; given = refl }
+
 pub put_awards_means : (schema : Schema) (n : ℕ) (it : IsIn schema awards n) → Means schema put_awards (InsertOr it.place Abort (Values award_terms 8) (on_conflict (at_tree awards n) 7 award_cells ∷ []))
 put_awards_means schema n it =
     upserts_mean schema put_awards awards n it awards_read refl (keyed Awards) _ (awards_rows schema n) (awards_key n) 7 award_cells (awards_update schema it.place n) (rw (it.stored, found_by_tree schema awards n it))
-
-abbrev pub put_contracts : List ℕ
-put_contracts = codes "INSERT INTO contracts (contract, notice, lot, tenderer, signed, moment, ended, how, released) VALUES (?1, ?2, ?3, ?4, ?5, ?6, ?7, ?8, ?9) ON CONFLICT (contract) DO UPDATE SET notice = ?2, lot = ?3, tenderer = ?4, signed = ?5, moment = ?6, ended = ?7, how = ?8, released = ?9"
 
 contracts_read : IsUpsert put_contracts (codes "contracts")
 unfolding everything parsed_in columns_in rows_in clause_in
@@ -241,12 +248,13 @@ contracts_update : (schema : Schema) (at n : ℕ) → Updates schema at (at_tree
 unfolding everything parsed_in clause_in
 contracts_update schema at n = refl
 
+pub put_contracts_one : IsOne put_contracts 9
+unfolding everything parsed_in
+put_contracts_one = record { whole = refl; given = refl }
+
 pub put_contracts_means : (schema : Schema) (n : ℕ) (it : IsIn schema contracts n) → Means schema put_contracts (InsertOr it.place Abort (Values contract_terms 10) (on_conflict (at_tree contracts n) 9 contract_cells ∷ []))
 put_contracts_means schema n it =
     upserts_mean schema put_contracts contracts n it contracts_read refl (keyed Contracts) _ (contracts_rows schema n) (contracts_key n) 9 contract_cells (contracts_update schema it.place n) (rw (it.stored, found_by_tree schema contracts n it))
-
-abbrev pub put_entries : List ℕ
-put_entries = codes "INSERT INTO entries (contract, entry, kind, amount, moment, rationale) VALUES (?1, ?2, ?3, ?4, ?5, ?6) ON CONFLICT (contract, entry) DO UPDATE SET kind = ?3, amount = ?4, moment = ?5, rationale = ?6"
 
 entries_read : IsUpsert put_entries (codes "entries")
 unfolding everything parsed_in columns_in rows_in clause_in
@@ -264,12 +272,13 @@ entries_update : (schema : Schema) (at n : ℕ) → Updates schema at (at_tree e
 unfolding everything parsed_in clause_in
 entries_update schema at n = refl
 
+pub put_entries_one : IsOne put_entries 6
+unfolding everything parsed_in
+put_entries_one = record { whole = refl; given = refl }
+
 pub put_entries_means : (schema : Schema) (n : ℕ) (it : IsIn schema entries n) → Means schema put_entries (InsertOr it.place Abort (Values entry_terms 7) (on_conflict (at_tree entries n) 6 entry_cells ∷ []))
 put_entries_means schema n it =
     upserts_mean schema put_entries entries n it entries_read refl (keyed Entries) _ (entries_rows schema n) (entries_key n) 6 entry_cells (entries_update schema it.place n) (rw (it.stored, found_by_tree schema entries n it))
-
-abbrev pub put_releases : List ℕ
-put_releases = codes "INSERT INTO releases (notice, seq, moment, text) VALUES (?1, ?2, ?3, ?4) ON CONFLICT (notice, seq) DO UPDATE SET moment = ?3, text = ?4"
 
 releases_read : IsUpsert put_releases (codes "releases")
 unfolding everything parsed_in columns_in rows_in clause_in
@@ -287,12 +296,13 @@ releases_update : (schema : Schema) (at n : ℕ) → Updates schema at (at_tree 
 unfolding everything parsed_in clause_in
 releases_update schema at n = refl
 
+pub put_releases_one : IsOne put_releases 4
+unfolding everything parsed_in
+put_releases_one = record { whole = refl; given = refl }
+
 pub put_releases_means : (schema : Schema) (n : ℕ) (it : IsIn schema releases n) → Means schema put_releases (InsertOr it.place Abort (Values release_terms 5) (on_conflict (at_tree releases n) 4 release_cells ∷ []))
 put_releases_means schema n it =
     upserts_mean schema put_releases releases n it releases_read refl (keyed Releases) _ (releases_rows schema n) (releases_key n) 4 release_cells (releases_update schema it.place n) (rw (it.stored, found_by_tree schema releases n it))
-
-abbrev pub put_compiled : List ℕ
-put_compiled = codes "INSERT INTO compiled (notice, text) VALUES (?1, ?2) ON CONFLICT (notice) DO UPDATE SET text = ?2"
 
 compiled_read : IsUpsert put_compiled (codes "compiled")
 unfolding everything parsed_in columns_in rows_in clause_in
@@ -309,6 +319,10 @@ compiled_key n = refl
 compiled_update : (schema : Schema) (at n : ℕ) → Updates schema at (at_tree compiled n) put_compiled 2 compiled_cells
 unfolding everything parsed_in clause_in
 compiled_update schema at n = refl
+
+pub put_compiled_one : IsOne put_compiled 2
+unfolding everything parsed_in
+put_compiled_one = record { whole = refl; given = refl }
 
 pub put_compiled_means : (schema : Schema) (n : ℕ) (it : IsIn schema compiled n) → Means schema put_compiled (InsertOr it.place Abort (Values compiled_terms 3) (on_conflict (at_tree compiled n) 2 compiled_cells ∷ []))
 put_compiled_means schema n it =
@@ -329,6 +343,10 @@ office_key n = refl
 office_update : (schema : Schema) (at n : ℕ) → Updates schema at (at_tree office n) put_office 4 clock_cells
 unfolding everything parsed_in clause_in
 office_update schema at n = refl
+
+pub put_office_one : IsOne put_office 4
+unfolding everything parsed_in
+put_office_one = record { whole = refl; given = refl }
 
 pub put_office_means : (schema : Schema) (n : ℕ) (it : IsIn schema office n) → Means schema put_office (InsertOr it.place Abort (Values clock_terms 5) (on_conflict (at_tree office n) 4 clock_cells ∷ []))
 put_office_means schema n it =

@@ -9,7 +9,7 @@ use Rattle.sqlite_resolve.specs.Lowering.{alone, chosen, first_found, max_budget
 use Rattle.sqlite_tied.specs.Compute.{everything}
 use Rattle.office_sql.specs.Schema.{column_of, lines, batches, tenderers, notices, lots, envelopes, seals, securities, awards, contracts, entries, releases, compiled, office}
 use Rattle.office_sql.specs.Known.{IsIn, at_tree}
-use Rattle.office_sql.proofs.Meanings.{Means, parsed_in}
+use Rattle.office_sql.proofs.Meanings.{Means, IsOne, parsed_in}
 use Rattle.office_sql.proofs.Simple.{equals_e, both_e, names_of, outputs_of, Has, no_test, one_test, two_tests, three_tests}
 use Rattle.office_sql.proofs.Selecting.{select, columns_of, left, IsSelect, selects_mean, found_by_tree}
 
@@ -271,6 +271,10 @@ get_version = codes "SELECT version FROM office"
 get_version_read : IsSelect get_version (codes "office") (names_of ((0, column_of (codes "version") Integer true) ∷ [])) None ([])
 unfolding everything parsed_in
 get_version_read = record { is = refl; statement = refl; formats = refl }
+
+pub get_version_one : IsOne get_version 0
+unfolding everything parsed_in
+get_version_one = record { whole = refl; given = refl }
 
 pub get_version_means : (schema : Schema) (n : ℕ) → IsIn schema office n → Means schema get_version (Select (record { lets = []; body = select n ([]) (0 ∷ []) ([]) }) (names_of ((0, column_of (codes "version") Integer true) ∷ [])))
 unfolding same_name alone chosen first_found

@@ -1,9 +1,11 @@
 pub mod Kept
 pub mod Clock
 pub mod Schema
+pub mod Statements
 pub mod Known
 pub mod Standing
 pub mod Steps
+pub mod Failing
 pub mod Making
 pub mod Laws
 pub mod Version

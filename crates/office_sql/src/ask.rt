@@ -1,9 +1,12 @@
 //! Queries over the last commit.
-ghost use Rattle.std.specs.Prelude.{◌≡◌, ◌⊎◌, List, IsTrue, IfOk, IfErr, OnOk, map, slice_get, option_map};
+ghost use Rattle.std.specs.Prelude.{◌≡◌, ◌⊎◌, List, IsTrue, IfOk, IfErr, IfSome, OnOk, map, slice_get, option_map};
+ghost use Rattle.std.specs.List.{AllByRecursion};
 ghost use Rattle.sqlite_value.specs.Order.{Row as Values};
 ghost use Rattle.sqlite.specs.Held.{state};
 ghost use Rattle.sqlite.specs.State.{HasCleanDisk, Survives, Shown, FailsToQuery, IsTooLate};
 ghost use Rattle.sqlite.specs.Values.{bound};
+ghost use Rattle.office_rows.specs.Unwritten.{IsUnwritten};
+ghost use Rattle.office_sql.specs.Failing.{IsUnread};
 ghost use Rattle.office_sql.specs.Steps.{IsAsked, IsRefusal, Refused};
 
 use crate::faults::fault;
@@ -59,6 +62,8 @@ pub fn ask_first<S: Alter, R: Stored>(
     values: &[ValueRef<'_>],
 ) -> Result<Option<R>, ShelfFault>
     ensures asked { HasCleanDisk (state S.Store conn.new) → IfOk result (λ found. (rows : List Values) × IsAsked S.Store sql.now (bound values.now) conn.old rows × (found ≡ option_map R.read (slice_get rows 0))) }
+    ensures exact { HasCleanDisk (state S.Store conn.new) → IfOk result (λ found. (rows : List Values) × IsAsked S.Store sql.now (bound values.now) conn.old rows × (option_map R.row_of found ≡ slice_get rows 0)) }
+    ensures cause { HasCleanDisk (state S.Store conn.new) → IfErr result (IsUnread S.Store sql.now (bound values.now) conn.old (λ rows. IsUnwritten (option_map R.row_of) (λ found. IfSome found R.fits) (slice_get rows 0))) }
     ensures kept { HasCleanDisk (state S.Store conn.new) → Refused (state S.Store conn.old) (state S.Store conn.new) }
     ensures survives { Survives (state S.Store conn.old) (state S.Store conn.new) (λ _. ⊥) }
 {
@@ -76,6 +81,8 @@ pub fn ask_all<S: Alter, R: Stored + Drop>(
     values: &[ValueRef<'_>],
 ) -> Result<Vec<R>, ShelfFault>
     ensures asked { HasCleanDisk (state S.Store conn.new) → IfOk result (λ found. (rows : List Values) × IsAsked S.Store sql.now (bound values.now) conn.old rows × (found.items ≡ map R.read rows)) }
+    ensures exact { HasCleanDisk (state S.Store conn.new) → IfOk result (λ found. (rows : List Values) × IsAsked S.Store sql.now (bound values.now) conn.old rows × (map R.row_of found.items ≡ rows)) }
+    ensures cause { HasCleanDisk (state S.Store conn.new) → IfErr result (IsUnread S.Store sql.now (bound values.now) conn.old (IsUnwritten (map R.row_of) (AllByRecursion R.fits))) }
     ensures kept { HasCleanDisk (state S.Store conn.new) → Refused (state S.Store conn.old) (state S.Store conn.new) }
     ensures survives { Survives (state S.Store conn.old) (state S.Store conn.new) (λ _. ⊥) }
 {

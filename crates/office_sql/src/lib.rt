@@ -3,7 +3,7 @@
 #![tactic(auto)]
 
 pub mod ask;
-mod faults;
+pub mod faults;
 pub mod laws;
 pub mod lists;
 pub mod lookups;

@@ -16,8 +16,8 @@ use Rattle.office_base.specs.Tables.{no_tables}
 use Rattle.office_sql.specs.Making.{Founds, KeepsOthers}
 use Rattle.office_sql.specs.Standing.{Holds}
 use Rattle.office_sql.specs.Steps.{Refused, ShowsTables}
-use Rattle.office_sql.specs.Version.{get_version}
-use Rattle.office_store.specs.Founding.{Founded, LeavesNew, LeavesOffice, IsSoundOpen, Answered, Enters}
+use Rattle.office_sql.specs.Version.{get_version, HasNoVersion}
+use Rattle.office_store.specs.Founding.{Founded, LeavesNew, LeavesOffice, IsSoundOpen, Answered, Enters, takes_a_name}
 use Rattle.office_store.specs.SqlMeaning.{LeavesShown}
 
 sound_now : (old : State) → (IsTrue old.is_open → old.now ≡ old.committed) → IsSoundOpen old → IsTrue old.is_open → IsDatabase old.now
@@ -50,8 +50,9 @@ founded_after old mid new kept it = record {
   only = it.only;
 }
 
-pub leaves_before : (old mid : State) (db : Trees) → Refused old mid → IsSoundOpen mid → LeavesNew mid db → LeavesOffice old db
-leaves_before old mid db kept sound it = (kept.was_open it.0, it.1 (sound it.0))
+pub leaves_before : {S : Type 0} (g : Ghosts S) (old mid : Held S) (db : Trees) → HasNoVersion g old → takes_a_name old.schema ≡ false → Refused (state g old) (state g mid)
+    → IsSoundOpen (state g mid) → LeavesNew (state g mid) db → LeavesOffice g old db
+leaves_before g old mid db none free kept sound it = (kept.was_open it.0, none, free, it.1 (sound it.0))
 
 -- two calls that commit nothing, one after the other
 pub refused_on : (a b c : State) → Refused a b → Refused b c → Refused a c

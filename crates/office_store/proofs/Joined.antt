@@ -28,17 +28,14 @@ use Rattle.office_sql.specs.Known.{IsIn, at_tree}
 use Rattle.office_sql.specs.Schema.{table_of}
 use Rattle.office_sql.specs.Schema.OfficeTable.{Lines, Lots, Contracts, Entries}
 use Rattle.office_sql.specs.Standing.{Stand, Holds}
-use Rattle.office_rows.specs.Words.{entry_kind_text}
 use Rattle.office_sql.specs.Steps.{IsAsked, ShowsTables}
 use Rattle.office_ledger.specs.Joins.{joined, joined_lots}
-use Rattle.office_joins.specs.Cells.{joined_cells, kind_text}
+use Rattle.office_joins.specs.Cells.{joined_cells}
 use Rattle.office_joins.specs.Known.{Holds as HasTable}
 use Rattle.office_joins.specs.Select.{list_joined}
 use Rattle.office_joins.specs.SelectLots.{list_joined_of_line}
 use Rattle.office_joins.specs.Shows.{HoldsJoined, JoinIsShown, LotsAreShown, joined_lot_cells}
 use Rattle.office_joins.specs.Standing.{records_of, StandFor, StoredRowsShow}
-use Rattle.office_base.specs.declared.records.EntryKind.{EntryKind}
-use Rattle.office_base.specs.declared.records.EntryKind.TheVariants.{Raise, Cut, Payment}
 
 find_only : (n : ℕ) (x : Table) (xs : List Table) → Has xs x → x.tree ≡ n → ((y : Table) → Has xs y → y.tree ≡ n → y ≡ x) → find (λ t. t.tree == n) xs ≡ Some x
 find_only n x [] there is alone = absurd there
@@ -75,11 +72,6 @@ module _ {K X : Type 0} (R : K → K → Ordering) (key : X → K) (form : Value
     is = same_records rows ∙ it.is;
   }
 
-same_kind : (kind : EntryKind) → Text (entry_kind_text kind) ≡ Text (kind_text kind)
-same_kind Raise = refl
-same_kind Cut = refl
-same_kind Payment = refl
-
 pub holds_joined : StoredRowsShow → (db : Database) (t : Tables) → IsSorted t → Holds db t → HoldsJoined db t
 holds_joined show db t sorted it = record {
   at = record { lines = it.places Lines; lots = it.places Lots; contracts = it.places Contracts; entries = it.places Entries };
@@ -94,7 +86,7 @@ holds_joined show db t sorted it = record {
   lots = show.lots (behind lot_row) lot_in (λ v x. record { notice = refl; lot = refl; line = refl; reserved = refl }) (db.trees (it.places Lots)) t.lots (stands lot_cmp lot_key (behind lot_row) lot_in (db.trees (it.places Lots)) t.lots (it.stands Lots));
   contracts = show.contracts (by_rowid contract_row) (read_by_rowid contract_read) (λ v x. record { contract = refl; notice = refl; lot = refl; signed = refl; released = refl }) (db.trees (it.places Contracts)) t.contracts
       (stands nat_cmp contract_key (by_rowid contract_row) (read_by_rowid contract_read) (db.trees (it.places Contracts)) t.contracts (it.stands Contracts));
-  entries = show.entries (behind entry_row) entry_in (λ v x. record { contract = refl; entry = refl; kind = same_kind x.kind; amount = refl }) (db.trees (it.places Entries)) t.entries
+  entries = show.entries (behind entry_row) entry_in (λ v x. record { contract = refl; entry = refl; kind = refl; amount = refl }) (db.trees (it.places Entries)) t.entries
       (stands entry_cmp entry_key (behind entry_row) entry_in (db.trees (it.places Entries)) t.entries (it.stands Entries));
 }
 

@@ -1,8 +1,11 @@
+mod Kept
 mod Once
 mod Shelves
 mod Founding
 mod Reopening
+mod Paths
 mod Joined
 mod Taking
 mod Readying
+mod Shutting
 pub mod Adding

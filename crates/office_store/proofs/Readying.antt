@@ -21,7 +21,7 @@ use Rattle.office_joins.specs.Standing.{StoredRowsShow}
 use Rattle.office_store.specs.LedgerRows.{HasTaken, KeepsOffice}
 use Rattle.office_store.proofs.Joined.{holds_joined}
 use Rattle.office_store.proofs.Shelves.{still_shows}
-use Rattle.office_changes.proofs.Steps.{unchanged, not_run_kept}
+use Rattle.office_store.proofs.Kept.{unchanged, not_run_kept}
 
 -- a query without RETURNING that fails commits nothing
 plain_refused : (sql : List ℕ) (params : Row) (old new : State) (e : Error) → IsPlain (understood old.now.schema sql) → FailsToQuery sql params old new e → Refused old new

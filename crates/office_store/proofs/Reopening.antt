@@ -1,36 +1,57 @@
--- The last commit, found again, and files with no database.
+-- The last commit, found again, files with no database, and what a refused opening leaves.
 use Rattle.std.proofs.Common.{arith, ◌≡◌, inl, inr, [], refl, sym, ap, subst, ◌∙◌}
+use Rattle.std.proofs.Math.Logic.{∥∥₁_elim}
 use Rattle.std.specs.Prelude.{length}
 use Rattle.sqlite_disk.specs.declared.Disk.{Ghosts}
 use Rattle.sqlite_disk.specs.declared.Files.{Files}
-use Rattle.sqlite_wal.specs.Reads.{AreClean}
+use Rattle.sqlite_wal.specs.Recovery.{Image}
+use Rattle.sqlite_wal.proofs.LogLemmas.{SeenMayStay}
 use Rattle.sqlite_store.specs.declared.store.FileStore.{FileStore}
+use Rattle.sqlite_store.specs.Laws.{settled_at}
 use Rattle.sqlite_trees.specs.Objects.{catalog_tree}
+use Rattle.sqlite_trees.specs.Props.{Trees-set}
+use Rattle.sqlite_trees.specs.Tree.{Trees}
+use Rattle.sqlite_trees.proofs.Doubt.{no_doubt}
 use Rattle.sqlite.specs.Effect.{Database}
 use Rattle.sqlite.specs.Held.{Held}
-use Rattle.sqlite.specs.Files.{file_state, image_of, Finds, IsOpened}
-use Rattle.sqlite.specs.Closing.{IsCopied}
-use Rattle.sqlite.proofs.Callers.{finds_again}
+use Rattle.sqlite.specs.State.{HasCleanDisk, Survives}
+use Rattle.sqlite.specs.Files.{file_state, over_files, image_of, IsOpened, Finds, IsCleanLeft}
+use Rattle.sqlite.specs.Start.{FindsIn}
+use Rattle.sqlite.specs.Closing.{HoldsAlone, IsCopied}
+use Rattle.sqlite.specs.declared.file.Leftover.{Leftover}
+use Rattle.sqlite.specs.declared.file.Leftover.TheVariants as left
 use Rattle.sqlite.proofs.ListingLemmas.{empty_is_sound}
 use Rattle.office_base.specs.Tables.{Tables}
 use Rattle.office_sql.specs.Standing.{Holds}
-use Rattle.office_sql.specs.Steps.{ShowsTables}
+use Rattle.office_sql.specs.Steps.{Refused, ShowsTables}
+use Rattle.office_store.specs.Founding.{LeavesOffice, IsNoOffice}
+use Rattle.office_store.specs.Reopening.{Found, HoldsOffice, HoldStill, IsLeftOf, IsReason, IsUsableLeft, LeavesFound, MayCommit}
+use Rattle.office_store.specs.declared.found.OpenFault.{OpenFault}
+use Rattle.office_store.specs.declared.found.OpenFault.TheVariants as fault
 use Rattle.office_store.proofs.Founding.{no_schema}
 use Rattle.office_store.proofs.Once.{schema_once}
 
-pub shows_again : {D : Type 0} {g : Ghosts D} (old new : Held (FileStore D g)) (files : Files D) → (AreClean g files.log files.db → IsCopied old files) → IsOpened new → Finds files new
-    → (t : Tables) → ShowsTables (file_state old) t → ShowsTables (file_state new) t
-shows_again old new files closed opened found t shows is_open =
-    let copied = closed found.honest in
-    let was = shows copied.was_open in
-    let trees : (file_state new).committed.trees ≡ (file_state old).committed.trees = finds_again old new files closed found in
-    let schema : (file_state new).committed.schema ≡ (file_state old).committed.schema = schema_once (file_state new).committed (file_state old).committed (opened.1 is_open).1 was.sound trees in
-    let same : (file_state old).committed ≡ (file_state new).committed = λ i. record { schema = (sym schema) i; trees = (sym trees) i } in
-    subst (λ d. Holds d t) same was
+pub finds_in : {D : Type 0} {g : Ghosts D} (files : Files D) (now : Held (FileStore D g)) → Finds files now → FindsIn (image_of g files) (file_state now)
+finds_in files now found = record { holds = found.holds; reads = found.reads }
+
+-- the office that files hold is shown by what was opened there
+pub held_shown : {D : Type 0} {g : Ghosts D} (image : Image) (now : Held (FileStore D g)) → IsOpened now → FindsIn image (file_state now)
+    → (t : Tables) → HoldsOffice image t → ShowsTables (file_state now) t
+held_shown image now opened found t (db, held, (d, is, holds)) is_open =
+    let trees : (file_state now).committed.trees ≡ d.trees = ∥∥₁_elim held (Trees-set _ _) (found.holds db) ∙ is in
+    let schema : (file_state now).committed.schema ≡ d.schema = schema_once (file_state now).committed d (opened.1 is_open).1 holds.sound trees in
+    let same : d ≡ (file_state now).committed = λ i. record { schema = (sym schema) i; trees = (sym trees) i } in
+    subst (λ (x : Database). Holds x t) same holds
+
+-- what was shown as files were closed is held by them
+pub closed_holds : {D : Type 0} {g : Ghosts D} (old : Held (FileStore D g)) (files : Files D) → IsCopied old files
+    → (t : Tables) → ShowsTables (file_state old) t → HoldsOffice (image_of g files) t
+closed_holds old files copied t shows =
+    ((file_state old).committed.trees, copied.seen.both, ((file_state old).committed, refl, shows copied.was_open))
 
 -- no database is found in a file with no bytes, so that what was opened lists nothing
-pub bare_schema : {D : Type 0} {g : Ghosts D} (files : Files D) (new : Held (FileStore D g)) → length (image_of g files).db ≡ 0 → IsOpened new → Finds files new → new.schema ≡ no_schema
-bare_schema files new none opened found =
+pub bare_schema : {D : Type 0} {g : Ghosts D} (image : Image) (new : Held (FileStore D g)) → length image.db ≡ 0 → IsOpened new → FindsIn image (file_state new) → new.schema ≡ no_schema
+bare_schema image new none opened found =
     let now = file_state new in
     let bare : now.committed.trees catalog_tree ≡ [] = elim found.reads [
       | inl held ↦ absurd (omega (arith, none, held.3.found.present))
@@ -38,3 +59,69 @@ bare_schema files new none opened found =
     ] in
     ap (λ (d : Database). d.schema) opened.0.clean
     ∙ schema_once now.committed (record { schema = no_schema; trees = now.committed.trees }) (opened.1 opened.0.is_open).1 (empty_is_sound now.committed.trees bare) refl
+
+-- what an opening finds has only its last commit to lose
+pub found_now : {D : Type 0} {g : Ghosts D} (image : Image) (now : Held (FileStore D g)) → SeenMayStay g → IsOpened now → FindsIn image (file_state now) → Found image now
+found_now image now stays opened found =
+    record { opened = opened; finds = found; only = λ db may. settled_at now.store stays db opened.0.is_open may }
+
+-- ---- a refused opening
+
+still : {D : Type 0} {g : Ghosts D} (before now : Held (FileStore D g)) (files : Files D) → Refused (file_state before) (file_state now) → IsCopied now files
+    → HoldStill g files (file_state before).committed.trees
+still before now files kept copied =
+    let same : (file_state now).committed.trees ≡ (file_state before).committed.trees = ap (λ (d : Database). d.trees) (kept.committed copied.was_open) in
+    record {
+      seen = subst (HoldsAlone _) same copied.seen;
+      left = λ image may. subst (HoldsAlone image) same (copied.left image may);
+    }
+
+-- a store that couldn't be closed has been left by a connection whose disk is clean
+closed_clean : {D : Type 0} {g : Ghosts D} (now : Held (FileStore D g)) (rest : Leftover D g) → IsLeftOf now rest → IsCleanLeft rest → HasCleanDisk (file_state now)
+closed_clean now (left.Files files) it clean = (it.1 clean).was_clean
+closed_clean now (left.Unopened files) it clean = absurd it
+closed_clean now (left.Store store) it clean = omega (arith, no_doubt _ clean, it.quiet.clean)
+
+pub usable_left : {D : Type 0} {g : Ghosts D} (now : Held (FileStore D g)) (rest : Leftover D g) → IsLeftOf now rest → IsUsableLeft rest
+usable_left now (left.Files files) it = it.0
+usable_left now (left.Unopened files) it = tt
+usable_left now (left.Store store) it = tt
+
+leaves_found : {D : Type 0} {g : Ghosts D} (Commits : Trees → Type 0) (before now : Held (FileStore D g)) (rest : Leftover D g)
+    → ((db : Trees) → (file_state before).may_leave db → db ≡ (file_state before).committed.trees)
+    → Refused (file_state before) (file_state now) → Survives (file_state before) (file_state now) Commits → IsLeftOf now rest → IsCleanLeft rest
+    → LeavesFound Commits before rest
+leaves_found Commits before now (left.Files files) only kept stops it clean = still before now files kept (it.1 clean)
+leaves_found Commits before now (left.Unopened files) only kept stops it clean = it
+leaves_found Commits before now (left.Store store) only kept stops it clean = λ db may.
+    elim (stops.crash (closed_clean now (left.Store store) it clean) db (it.quiet.outcomes db may)) [ inl was ↦ inl (only db was) | inr made ↦ inr made ]
+
+-- what an opening says that was refused once something was found
+pub record Turned {D : Type 0} {g : Ghosts D} (why : OpenFault) (before now : Held (FileStore D g)) : Type 0 where
+  pub kept : HasCleanDisk (file_state now) → Refused (file_state before) (file_state now)
+  pub stops : Survives (file_state before) (file_state now) (LeavesOffice over_files before)
+  pub spared : why ≡ fault.NotAnOffice → Survives (file_state before) (file_state now) (λ _. ⊥)
+  pub none : HasCleanDisk (file_state now) → why ≡ fault.NotAnOffice → IsNoOffice over_files before
+  pub known : HasCleanDisk (file_state now) → (t : Tables) → ShowsTables (file_state before) t → why ≡ fault.NotAnOffice → ⊥
+
+stops_by : {D : Type 0} {g : Ghosts D} (why : OpenFault) (before now : Held (FileStore D g)) → Turned why before now
+    → Survives (file_state before) (file_state now) (MayCommit over_files why before)
+stops_by fault.NotAnOffice before now it = it.spared refl
+stops_by fault.NoMemory before now it = it.stops
+stops_by fault.Store before now it = it.stops
+
+reason_of : {D : Type 0} {g : Ghosts D} (why : OpenFault) (image : Image) (before now : Held (FileStore D g)) → Turned why before now → HasCleanDisk (file_state now) → Found image before
+    → IsReason over_files image why before
+reason_of fault.NotAnOffice image before now it clean found =
+    (it.none clean refl, λ t holds. it.known clean t (held_shown image before found.opened found.finds t holds) refl)
+reason_of fault.NoMemory image before now it clean found = tt
+reason_of fault.Store image before now it clean found = tt
+
+pub turned_away : {D : Type 0} {g : Ghosts D} (why : OpenFault) (files : Files D) (before now : Held (FileStore D g)) (rest : Leftover D g) → SeenMayStay g → Turned why before now
+    → (HasCleanDisk (file_state before) → IsOpened before) → (HasCleanDisk (file_state before) → Finds files before) → IsLeftOf now rest → IsCleanLeft rest
+    → (was : Held (FileStore D g)) × Found (image_of g files) was × IsReason over_files (image_of g files) why was × LeavesFound (MayCommit over_files why was) was rest
+turned_away why files before now rest stays it opened finds is_left clean =
+    let late = closed_clean now rest is_left clean in
+    let early : HasCleanDisk (file_state before) = omega (arith, late, it.stops.clean) in
+    let found = found_now _ before stays (opened early) (finds_in files before (finds early)) in
+    (before, found, reason_of why _ before now it late found, leaves_found _ before now rest found.only (it.kept late) (stops_by why before now it) is_left clean)

@@ -5,12 +5,14 @@ use Rattle.sqlite_trees.specs.declared.store.Store.{Ghosts}
 use Rattle.sqlite.specs.Effect.{Database}
 use Rattle.sqlite.specs.Held.{Held, state}
 use Rattle.sqlite.specs.State.{State, HasCleanDisk, IsLive, Survives}
+use Rattle.sqlite.specs.declared.error.Error.{Error}
 use Rattle.office_base.specs.Faults.{one_fault_more, IsFaultOf}
-use Rattle.office_base.specs.Shelves.{Keeps, LooksUp, SumsAnswer, AddsUp, Alters, Changes}
+use Rattle.office_base.specs.Shelves.{Keeps, LooksUp, SumsAnswer, AddsUp, Alters, PutsFail, Changes}
 use Rattle.office_base.specs.Tables.{Tables, IsSorted, after_puts, ChangesKeepOrder}
 use Rattle.office_base.specs.declared.puts.Put.{Put}
 use Rattle.office_base.specs.declared.shelf.ShelfFault.{ShelfFault}
 use Rattle.office_base.specs.declared.shelf.ShelfFault.TheVariants.{NoMemory, Store}
+use Rattle.office_sql.specs.Failing.{fault_of, IsExcused, ChangeFails}
 use Rattle.office_sql.specs.Laws.{TreesTellOneOffice}
 use Rattle.office_sql.specs.Standing.{Holds}
 use Rattle.office_sql.specs.Steps.{Refused, Applied, Leaves, LeavesPuts, ShowsTables, MayLeave}
@@ -56,6 +58,15 @@ puts_leave old new puts live stays clean survives was db left = elim (survives.c
   | inl before ↦ was db before
   | inr commits ↦ (let last = last_office old live stays was commits.0 in (after_puts puts last.0, commits.1 last.0 last.1))
 ]
+
+-- an error that has a cause is told as a fault that has it
+caused : {Cause : Type 0} (fault : ShelfFault) → Cause → IsFaultOf Cause fault
+caused NoMemory cause = tt
+caused Store cause = cause
+
+has_cause : {Cause : Type 0} (e : Error) → IsExcused Cause e → IsFaultOf Cause (fault_of e)
+has_cause {Cause} e (inl memory) = subst (λ e. IsFaultOf Cause (fault_of e)) (sym memory) tt
+has_cause e (inr cause) = caused (fault_of e) cause
 
 -- a store may fail for causes of its own
 no_sums : {T : Type 0} (fault : ShelfFault) (right : Tables → T → Type 0) (Fits : Tables → Type 0) (t : Tables) → SumsAnswer {T = T} ⊤ right Fits (Err fault) t
@@ -136,14 +147,17 @@ module _ {S : Type 0} (g : Ghosts S) (old new : Held S) where
     }
 
     pub applied_ok : (entry : Held S × ℕ) (n : ℕ) → (old, n) ≡ entry → (HasCleanDisk (state g new) → Applied (state g old) (state g new) puts)
-        → Changes {T = Unit {0}} (sql_meaning g) entry (new, n) (Ok tt) (after_puts puts)
+        → Changes {T = Unit {0}} (sql_meaning g) entry (new, n) (Ok tt) puts
     applied_ok entry n is applied =
-        subst (λ e. Changes {T = Unit {0}} (sql_meaning g) e (new, n) (Ok tt) (after_puts puts)) is (alters_all n n tt applied, record { counted = refl; cause = tt })
+        subst (λ e. Changes {T = Unit {0}} (sql_meaning g) e (new, n) (Ok tt) puts) is (alters_all n n tt applied, refl, λ clean t h. tt)
 
-    pub applied_err : (entry after : Held S × ℕ) (n : ℕ) (fault : ShelfFault) → (old, n) ≡ entry → after.0 ≡ new → after.1 ≡ one_fault_more n → IsFaultOf ⊤ fault
-        → (HasCleanDisk (state g new) → Refused (state g old) (state g new)) → Changes {T = Unit {0}} (sql_meaning g) entry after (Err fault) (after_puts puts)
-    applied_err entry after n fault is same counted cause refused =
-        subst (λ e. Changes {T = Unit {0}} (sql_meaning g) e after (Err fault) (after_puts puts)) is (
+    pub applied_err : (entry after : Held S × ℕ) (n : ℕ) (e : Error) (fault : ShelfFault) → (old, n) ≡ entry → after.0 ≡ new → after.1 ≡ one_fault_more n → fault ≡ fault_of e
+        → (HasCleanDisk (state g new) → Refused (state g old) (state g new)) → (HasCleanDisk (state g new) → (t : Tables) → ShowsTables (state g old) t → IsExcused (ChangeFails (state g old) (state g new) puts) e)
+        → Changes {T = Unit {0}} (sql_meaning g) entry after (Err fault) puts
+    applied_err entry after n e fault is same counted told refused failed =
+        subst (λ e. Changes {T = Unit {0}} (sql_meaning g) e after (Err fault) puts) is (
           subst (λ h. Alters {T = Unit {0}} {E = ShelfFault} (sql_meaning g) (old, n) (h, after.1) (Err fault) (after_puts puts)) (sym same) (alters_none n after.1 fault refused),
-          record { counted = counted; cause = cause },
+          counted,
+          subst (λ h. PutsFail {T = Unit {0}} (sql_meaning g) (old, n) (h, after.1) (Err fault) puts) (sym same)
+              (λ clean t h. subst (IsFaultOf (ChangeFails (state g old) (state g new) puts)) (sym told) (has_cause e (failed clean t h.1))),
         )

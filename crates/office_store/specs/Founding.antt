@@ -17,19 +17,16 @@ use Rattle.office_sql.specs.Standing.{Holds}
 use Rattle.office_sql.specs.Steps.{Leaves, IsAsked}
 use Rattle.office_sql.specs.Version.{get_version, HasNoVersion}
 
--- the names of the office's tables, of the indexes that it makes on them, and of the indexes that come with their keys
-abbrev pub office_names : List (List ℕ)
-office_names =
+-- the names of the office's tables; those of indexes are none
+abbrev pub table_names : List (List ℕ)
+table_names =
     codes "lines" ∷ codes "batches" ∷ codes "tenderers" ∷ codes "notices" ∷ codes "lots" ∷ codes "envelopes" ∷ codes "seals"
     ∷ codes "securities" ∷ codes "awards" ∷ codes "contracts" ∷ codes "entries" ∷ codes "releases" ∷ codes "compiled" ∷ codes "office"
-    ∷ codes "lots_of_line" ∷ codes "envelopes_of_notice" ∷ codes "securities_of_notice" ∷ codes "awards_of_notice" ∷ codes "contracts_of_notice"
-    ∷ codes "sqlite_autoindex_lines_1" ∷ codes "sqlite_autoindex_batches_1" ∷ codes "sqlite_autoindex_tenderers_1" ∷ codes "sqlite_autoindex_notices_1"
-    ∷ codes "sqlite_autoindex_lots_1" ∷ codes "sqlite_autoindex_entries_1" ∷ codes "sqlite_autoindex_releases_1" ∷ codes "sqlite_autoindex_compiled_1"
     ∷ []
 
--- a table, an index or a view of the schema has one of them, so that a CREATE of the office would be refused
+-- a table, an index or a view of the schema has one of them
 abbrev pub takes_a_name : Schema → Bool
-takes_a_name schema = list_any (is_used schema) office_names
+takes_a_name schema = list_any (is_used schema) table_names
 
 -- a table `office` has its first column for a rowid
 abbrev pub has_rowids : Schema → Bool
@@ -61,14 +58,14 @@ IsSoundOpen s = IsTrue s.is_open → IsDatabase s.committed
 abbrev pub LeavesNew : State → Trees → Type 0
 LeavesNew old trees = IsTrue old.is_open × (IsDatabase old.committed → Leaves no_tables trees)
 
--- what an opening may commit: the whole of an empty office
-abbrev pub LeavesOffice : State → Trees → Type 0
-LeavesOffice old trees = IsTrue old.is_open × Leaves no_tables trees
+-- what an opening may commit: the whole of an empty office, where nothing answered and no name of a table was taken
+abbrev pub LeavesOffice : {S : Type 0} → Ghosts S → Held S → Trees → Type 0
+LeavesOffice g old trees = IsTrue (state g old).is_open × HasNoVersion g old × (takes_a_name old.schema ≡ false) × Leaves no_tables trees
 
--- an office of version 1 was there; or nothing answered, no name was taken, and an office was made
+-- an office of version 1 was there; or nothing answered, no name of a table was taken, and an office was made
 abbrev pub Enters : {S : Type 0} → Ghosts S → Held S → Held S → Type 0
 Enters g old new = Answered g old true ⊎ (HasNoVersion g old × (takes_a_name old.schema ≡ false) × Founded (state g old) (state g new))
 
--- what answered is another version or no single row; or nothing answered, and a name is taken
+-- what answered is another version or no single row; or nothing answered, and the name of a table is taken
 abbrev pub IsNoOffice : {S : Type 0} → Ghosts S → Held S → Type 0
 IsNoOffice g old = Answered g old false ⊎ (HasNoVersion g old × (takes_a_name old.schema ≡ true))

@@ -1,65 +1,118 @@
--- What an opening of files does, and what a closing leaves for the next.
-use Rattle.std.specs.Prelude.{◌≡◌, ◌⊎◌, IsTrue, length}
+-- What an opening of two files finds in them, what it does and what it leaves, and what a closing leaves for the next.
+use Rattle.std.specs.Prelude.{◌≡◌, ◌⊎◌, ⊤, IsTrue, length}
 use Rattle.sqlite_disk.specs.declared.Disk.{Ghosts}
 use Rattle.sqlite_disk.specs.declared.Files.{Files}
+use Rattle.sqlite_wal.specs.Files.{outcomes}
 use Rattle.sqlite_wal.specs.Reads.{AreClean}
+use Rattle.sqlite_wal.specs.Recovery.{Image}
 use Rattle.sqlite_store.specs.declared.store.FileStore.{FileStore}
+use Rattle.sqlite_store.specs.FileStore.{recovers}
+use Rattle.sqlite_trees.specs.Tree.{Trees}
 use Rattle.sqlite_trees.specs.declared.store.Store.{Ghosts as StoreGhosts}
 use Rattle.sqlite.specs.Held.{Held, state}
 use Rattle.sqlite.specs.State.{HasCleanDisk, Survives}
-use Rattle.sqlite.specs.Files.{file_state, over_files, image_of, Finds, IsOpened, IsCleanLeft, LeavesFiles}
-use Rattle.sqlite.specs.Closing.{IsCopied}
+use Rattle.sqlite.specs.Files.{file_state, over_files, image_of, HoldsDatabase, IsOpened, IsClosed, IsCleanLeft, LeavesFiles}
+use Rattle.sqlite.specs.Start.{FindsIn}
+use Rattle.sqlite.specs.Closing.{HoldsAlone, IsCopied}
 use Rattle.sqlite.specs.declared.file.Leftover.{Leftover}
+use Rattle.sqlite.specs.declared.file.Leftover.TheVariants as left
 use Rattle.office_base.specs.Tables.{Tables, no_tables}
-use Rattle.office_sql.specs.Steps.{ShowsTables, Refused}
+use Rattle.office_sql.specs.Steps.{Leaves, ShowsTables}
 use Rattle.office_store.specs.Founding.{Enters, IsNoOffice, LeavesOffice}
-use Rattle.office_store.specs.declared.open.OpenRefusal.{OpenRefusal}
-use Rattle.office_store.specs.declared.open.OpenRefusal.TheVariants as refusal
+use Rattle.office_store.specs.declared.found.OpenFault.{OpenFault}
+use Rattle.office_store.specs.declared.found.OpenFault.TheVariants as fault
+
+-- two files with these bytes hold a database, and its trees are those of an office with this content
+abbrev pub HoldsOffice : Image → Tables → Type 0
+HoldsOffice image t = (db : Trees) × ∥ HoldsDatabase image db ∥₁ × Leaves t db
+
+-- they hold none
+abbrev pub HoldsNoOffice : Image → Type 0
+HoldsNoOffice image = (t : Tables) → HoldsOffice image t → ⊥
 
 -- what stood there was entered: its content is kept, and a stop leaves what was or the whole empty office
 pub record Entered {S : Type 0} (g : StoreGhosts S) (before now : Held S) : Type 0 where
   pub enters : Enters g before now
   pub kept : (t : Tables) → ShowsTables (state g before) t → ShowsTables (state g now) t
-  pub stops : Survives (state g before) (state g now) (LeavesOffice (state g before))
+  pub stops : Survives (state g before) (state g now) (LeavesOffice g before)
 
--- what stood there was refused: its last commit is as it was, and a stop leaves what was or the whole empty office
-pub record Left {S : Type 0} (g : StoreGhosts S) (before now : Held S) : Type 0 where
-  pub kept : Refused (state g before) (state g now)
-  pub stops : Survives (state g before) (state g now) (LeavesOffice (state g before))
+-- what an opening may have committed that was then refused: nothing where it met no office, else at most the whole of an empty one where none was
+abbrev pub MayCommit : {S : Type 0} → StoreGhosts S → OpenFault → Held S → Trees → Type 0
+MayCommit g fault.NotAnOffice before db = ⊥
+MayCommit g fault.NoMemory before db = LeavesOffice g before db
+MayCommit g fault.Store before db = LeavesOffice g before db
+
+-- why what was found was refused as no office
+abbrev pub IsReason : {S : Type 0} → StoreGhosts S → Image → OpenFault → Held S → Type 0
+IsReason g image fault.NotAnOffice before = IsNoOffice g before × HoldsNoOffice image
+IsReason g image fault.NoMemory before = ⊤
+IsReason g image fault.Store before = ⊤
+
+-- both files may be used again
+abbrev pub AreUsable : {D : Type 0} → Ghosts D → Files D → Type 0
+AreUsable g files = IsTrue (g.is_usable files.log) × IsTrue (g.is_usable files.db)
+
+-- two files hold this database, as they read now and after a stop, with their log and without it
+pub record HoldStill {D : Type 0} (g : Ghosts D) (files : Files D) (db : Trees) : Type 0 where
+  pub seen : HoldsAlone (image_of g files) db
+  pub left : (image : Image) → outcomes g files.log files.db image → HoldsAlone image db
+
+-- two files as they were opened: they read as these bytes, and a stop leaves these
+pub record AreAsOpened {D : Type 0} (g : Ghosts D) (image : Image) (files : Files D) : Type 0 where
+  pub seen : image_of g files ≡ image
+  pub left : (after : Image) → outcomes g files.log files.db after → after ≡ image
 
 module _ {D : Type 0} {g : Ghosts D} where
+  -- what an opening found in two files with these bytes: what they hold, and a stop right then leaves that and nothing else
+  pub record Found (image : Image) (before : Held (FileStore D g)) : Type 0 where
+    pub opened : IsOpened before
+    pub finds : FindsIn image (file_state before)
+    pub only : (db : Trees) → (file_state before).may_leave db → db ≡ (file_state before).committed.trees
+
+  -- the office that they hold is shown
+  abbrev pub OpensHeld : Image → Held (FileStore D g) → Type 0
+  OpensHeld image now = HasCleanDisk (file_state now) → (t : Tables) → HoldsOffice image t → ShowsTables (file_state now) t
+
   -- it shows what was shown when the files were closed
   abbrev pub OpensAgain : Files D → Held (FileStore D g) → Type 0
   OpensAgain files now = HasCleanDisk (file_state now) → (last : Held (FileStore D g)) → (AreClean g files.log files.db → IsCopied last files)
       → (t : Tables) → ShowsTables (file_state last) t → ShowsTables (file_state now) t
 
-  -- what was found in the files was entered
-  abbrev pub EntersFiles : Files D → Held (FileStore D g) → Type 0
-  EntersFiles files now = (before : Held (FileStore D g)) × Finds files before × Entered over_files before now
-
   -- where the database file has no bytes, whatever its log holds, there is an office with no content
-  abbrev pub OpensBlank : Files D → Held (FileStore D g) → Type 0
-  OpensBlank files now = HasCleanDisk (file_state now) → length (image_of g files).db ≡ 0 → ShowsTables (file_state now) no_tables
+  abbrev pub OpensBlank : Image → Held (FileStore D g) → Type 0
+  OpensBlank image now = HasCleanDisk (file_state now) → length image.db ≡ 0 → ShowsTables (file_state now) no_tables
 
-  -- what was opened was entered
-  abbrev pub EntersOpened : Held (FileStore D g) → Type 0
-  EntersOpened now = (before : Held (FileStore D g)) × IsOpened before × Entered over_files before now
+  -- what was found in the files was entered
+  abbrev pub EntersFound : Image → Held (FileStore D g) → Type 0
+  EntersFound image now = (before : Held (FileStore D g)) × Found image before × Entered over_files before now
 
--- what a stop leaves of an opening that failed: the files were not opened, or what was found in them was left
-abbrev pub LeavesOpening : {D : Type 0} → (g : Ghosts D) → Files D → Type 0
-LeavesOpening {D = D} g files =
-    ((rest : Leftover D g) × (IsCleanLeft rest → LeavesFiles files rest))
-    ⊎ ((before : Held (FileStore D g)) × (now : Held (FileStore D g)) × (HasCleanDisk (file_state now) → Finds files before × Left over_files before now))
+  -- what a closing leaves of a connection: its files, or, where it failed, its store
+  abbrev pub IsLeftOf : Held (FileStore D g) → Leftover D g → Type 0
+  IsLeftOf now (left.Files files) = AreUsable g files × (AreClean g files.log files.db → IsCopied now files)
+  IsLeftOf now (left.Unopened files) = ⊥
+  IsLeftOf now (left.Store store) = IsClosed now store
 
--- no office was closed in the files
-abbrev pub HaveNoOffice : {D : Type 0} → (g : Ghosts D) → Files D → Type 0
-HaveNoOffice {D = D} g files = (last : Held (FileStore D g)) → (AreClean g files.log files.db → IsCopied last files) → (t : Tables) → ShowsTables (file_state last) t → ⊥
+  -- What was found stays: the files hold it, or, where they couldn't be closed, a stop leaves it or what the opening committed.
+  abbrev pub LeavesFound : (Trees → Type 0) → Held (FileStore D g) → Leftover D g → Type 0
+  LeavesFound Commits before (left.Files files) = HoldStill g files (file_state before).committed.trees
+  LeavesFound Commits before (left.Unopened files) = ⊥
+  LeavesFound Commits before (left.Store store) = (db : Trees) → recovers store db → (db ≡ (file_state before).committed.trees) ⊎ Commits db
 
--- files that are no office come back usable, with the last commit that they had
-abbrev pub RefusesFiles : {D : Type 0} → Ghosts D → Files D → OpenRefusal D → Type 0
-RefusesFiles g files refusal.NoMemory = LeavesOpening g files
-RefusesFiles g files refusal.Store = LeavesOpening g files
-RefusesFiles {D = D} g files (refusal.NotAnOffice back) =
-    IsTrue (g.is_usable back.log) × IsTrue (g.is_usable back.db)
-    × ((before : Held (FileStore D g)) × (now : Held (FileStore D g)) × (AreClean g back.log back.db → IsCopied now back)
-    × (HasCleanDisk (file_state now) → Finds files before × IsNoOffice over_files before × HaveNoOffice g files × Left over_files before now))
+  -- files that come back may be used
+  abbrev pub IsUsableLeft : Leftover D g → Type 0
+  IsUsableLeft (left.Files files) = AreUsable g files
+  IsUsableLeft (left.Unopened files) = ⊤
+  IsUsableLeft (left.Store store) = ⊤
+
+  -- An opening was refused. Where its disk is clean, either the files weren't opened, and hold what they held or an empty database; or
+  -- they were, what was found in them is no office if that is what was answered, and it stays.
+  abbrev pub RefusesFiles : Files D → OpenFault → Leftover D g → Type 0
+  RefusesFiles files why rest =
+      IsCleanLeft rest
+      → ((why ≡ fault.NotAnOffice → ⊥) × LeavesFiles files rest)
+      ⊎ ((before : Held (FileStore D g)) × Found (image_of g files) before × IsReason over_files (image_of g files) why before
+      × LeavesFound (MayCommit over_files why before) before rest)
+
+  -- the same of the files at a path, which are known by their bytes alone
+  abbrev pub RefusesImage : Image → OpenFault → Leftover D g → Type 0
+  RefusesImage image why rest = (files : Files D) × AreAsOpened g image files × RefusesFiles files why rest

@@ -6,6 +6,7 @@ use Rattle.sqlite.specs.Held.{Held, state}
 use Rattle.sqlite.specs.State.{State, HasCleanDisk}
 use Rattle.office_base.specs.Tables.{Tables, IsSorted}
 use Rattle.office_base.specs.Shelves.{Meaning}
+use Rattle.office_sql.specs.Failing.{ChangeFails}
 use Rattle.office_sql.specs.Steps.{ShowsTables, Leaves, MayLeave}
 
 -- whatever trees a stop may leave stand for the tables of some office
@@ -16,7 +17,8 @@ LeavesOffices s = (db : Trees) → s.may_leave db → (u : Tables) × Leaves u d
 abbrev pub LeavesShown : State → Type 0
 LeavesShown s = (t : Tables) → ShowsTables s t → LeavesOffices s
 
--- A store that was shut shows no tables; what it held is in the order of its keys in any case.
+-- A store that was shut shows no tables; what it held is in the order of its keys in any case. A question may break at any time; a change fails for
+-- causes of its own.
 abbrev pub sql_meaning : {S : Type 0} → Ghosts S → Meaning (Held S × ℕ)
 sql_meaning g = record {
   holds = λ s t. IsSorted t × ShowsTables (state g s.0) t;
@@ -25,6 +27,7 @@ sql_meaning g = record {
   leaves_sound = λ s. LeavesOffices (state g s.0);
   fault_count = λ s. s.1;
   may_break = ⊤;
+  has_failed = λ old new puts. ChangeFails (state g old.0) (state g new.0) puts;
 }
 
 -- how to read what has a shelf inside
@@ -36,4 +39,5 @@ inside part M = record {
   leaves_sound = λ s. M.leaves_sound (part s);
   fault_count = λ s. M.fault_count (part s);
   may_break = M.may_break;
+  has_failed = λ old new puts. M.has_failed (part old) (part new) puts;
 }

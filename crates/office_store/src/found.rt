@@ -9,8 +9,8 @@ ghost use Rattle.office_sql.specs.Steps.{Refused, ShowsTables};
 ghost use Rattle.office_store.specs.Founding.{Founded, LeavesNew, LeavesOffice, Enters, IsNoOffice, IsSoundOpen, takes_a_name, has_rowids, is_version_one};
 ghost use Rattle.office_store.specs.SqlMeaning.{LeavesShown};
 
-use crate::faults::fault;
 use office_base::shelf::ShelfFault;
+use office_sql::faults::fault;
 use office_sql::make::make;
 use office_sql::version::ask_version;
 use sqlite::{Alter, Connection, Error, ErrorCode, Row};
@@ -24,10 +24,10 @@ use sqlite_value::value::ValueRef;
 pub enum OpenFault {
     /// Memory was refused.
     NoMemory,
-    /// The store failed, or keeps its tables in another form than this program makes.
+    /// The store failed, or keeps its tables in another form than this program makes, or the name of an index of the office's is taken.
     Store,
-    /// What stands there is no office of version 1: it has another version or no single row of one, or it has none, and a name of
-    /// the office's is taken.
+    /// What stands there is no office of version 1: it has another version or no single row of one, or its schema takes no question for
+    /// the version, and has the name of a table of the office's for a table, an index or a view.
     NotAnOffice,
 }
 
@@ -67,10 +67,11 @@ fn any_is_used(schema: &Schema, names: &[&[u8]]) -> bool
     false
 }
 
+// Names of indexes are left out: where one of them is taken, and no table's, the office can't be made, and that is the store's fault.
 fn takes_a_name(schema: &Schema) -> bool
     ensures { result ≡ takes_a_name schema.now }
 {
-    let names: [&[u8]; 27] = [
+    let names: [&[u8]; 14] = [
         b"lines",
         b"batches",
         b"tenderers",
@@ -85,19 +86,6 @@ fn takes_a_name(schema: &Schema) -> bool
         b"releases",
         b"compiled",
         b"office",
-        b"lots_of_line",
-        b"envelopes_of_notice",
-        b"securities_of_notice",
-        b"awards_of_notice",
-        b"contracts_of_notice",
-        b"sqlite_autoindex_lines_1",
-        b"sqlite_autoindex_batches_1",
-        b"sqlite_autoindex_tenderers_1",
-        b"sqlite_autoindex_notices_1",
-        b"sqlite_autoindex_lots_1",
-        b"sqlite_autoindex_entries_1",
-        b"sqlite_autoindex_releases_1",
-        b"sqlite_autoindex_compiled_1",
     ];
     any_is_used(schema, names.as_slice())
 }
@@ -132,7 +120,7 @@ fn still_open<S: Alter>(conn: &mut Connection<S>) -> Result<(), OpenFault>
     Ok(())
 }
 
-/// Enters the office that is there, or makes one where no name of the office's is taken. The store is open then.
+/// Enters the office that is there, or makes one where no name of its tables is taken. The store is open then.
 pub(crate) fn enter<S: Alter>(conn: &mut Connection<S>) -> Result<(), OpenFault>
     ensures enters { HasCleanDisk (state S.Store conn.new) → OnOk result (Enters S.Store conn.old conn.new) }
     ensures none { HasCleanDisk (state S.Store conn.new) → IfErr result (λ e. e ≡ OpenFault.NotAnOffice → IsNoOffice S.Store conn.old) }
@@ -141,7 +129,8 @@ pub(crate) fn enter<S: Alter>(conn: &mut Connection<S>) -> Result<(), OpenFault>
     ensures is_open { HasCleanDisk (state S.Store conn.new) → OnOk result (IsTrue (state S.Store conn.new).is_open) }
     ensures sound { HasCleanDisk (state S.Store conn.new) → OnOk result (LeavesShown (state S.Store conn.new)) }
     ensures kept { HasCleanDisk (state S.Store conn.new) → OnErr result (Refused (state S.Store conn.old) (state S.Store conn.new)) }
-    ensures survives { Survives (state S.Store conn.old) (state S.Store conn.new) (LeavesOffice (state S.Store conn.old)) }
+    ensures survives { Survives (state S.Store conn.old) (state S.Store conn.new) (LeavesOffice S.Store conn.old) }
+    ensures spared { IfErr result (λ e. e ≡ OpenFault.NotAnOffice → Survives (state S.Store conn.old) (state S.Store conn.new) (λ _. ⊥)) }
 {
     if !conn.is_autocommit() {
         return Err(OpenFault::Store);

@@ -7,11 +7,11 @@ ghost use Rattle.office_base.specs.Tables.{Tables};
 ghost use Rattle.office_ledger.specs.declared.joined.JoinedRow.{JoinedRow as Joined};
 ghost use Rattle.office_store.specs.LedgerRows.{HasTaken, TakesOn, KeepsOffice};
 
-use crate::faults::fault;
 use office_base::shelf::ShelfFault;
 use office_joins::reading::{joined_row, joined_rows_come_back};
 use office_joins::select::{join_is_begun, join_is_shown};
 use office_ledger::joined::JoinedRow;
+use office_sql::faults::fault;
 use sqlite::{Alter, Rows};
 
 /// The next of the joined rows; None past the last.

@@ -1,10 +1,12 @@
 //! An office in SQL, in memory or in files: the shelf over its tables, and how it is made, opened and closed.
 #![tactic(auto)]
 
-mod faults;
 pub mod found;
 mod joined_rows;
 pub mod ledger_rows;
 pub mod open;
+pub mod path;
 pub mod shelf;
+pub mod shut;
+pub mod stored;
 mod sums;

@@ -2,43 +2,30 @@
 ghost use Rattle.std.specs.Prelude.{◌≡◌, IsTrue, IfOk, IfErr};
 ghost use Rattle.sqlite_wal.specs.Reads.{AreClean};
 ghost use Rattle.sqlite.specs.Closing.{IsCopied};
-ghost use Rattle.sqlite.specs.Files.{file_state};
+ghost use Rattle.sqlite.specs.Files.{file_state, image_of};
 ghost use Rattle.sqlite.specs.Held.{state};
 ghost use Rattle.sqlite.specs.State.{HasCleanDisk};
 ghost use Rattle.sqlite.specs.Steps.{over_memory};
 ghost use Rattle.office_base.specs.Tables.{no_tables};
 ghost use Rattle.office_sql.specs.Steps.{ShowsTables};
-ghost use Rattle.office_store.specs.Reopening.{OpensAgain, OpensBlank, EntersFiles, EntersOpened, RefusesFiles};
+ghost use Rattle.office_store.specs.Reopening.{AreUsable, EntersFound, IsLeftOf, IsUsableLeft, OpensAgain, OpensBlank, OpensHeld, RefusesFiles};
 ghost use Rattle.office_store.specs.SqlMeaning.{LeavesOffices, LeavesShown};
 
-use crate::faults::fault;
 use crate::found::{OpenFault, enter, open_fault};
 use crate::shelf::SqlShelf;
 use office_base::shelf::ShelfFault;
-use sqlite::{Connection, Error, File, FileStore, Files, MemStore, Options};
+use office_sql::faults::fault;
+use sqlite::{Connection, FileStore, Files, Leftover, MemStore, Options};
 use sqlite_disk::Disk;
 use std::alloc::Global;
-use std::rt::HostRuntime;
 
-/// Why no office was opened in two files. Files that hold no office come back; with another refusal nothing does.
-#[derive(Drop)]
-pub enum OpenRefusal<D: Disk> {
-    NoMemory,
-    Store,
-    NotAnOffice(Files<D>),
-}
-
-// Closes the connection, and gives its files back.
-pub(crate) fn give_back<D: Disk + Drop>(conn: Connection<FileStore<D>>) -> Result<Files<D>, Error>
-    ensures copied { IfOk result (λ files. AreClean D.Disk files.log files.db → IsCopied conn files) }
-    ensures usable { IfOk result (λ files. IsTrue (D.Disk.is_usable files.log) × IsTrue (D.Disk.is_usable files.db)) }
+// Closes a connection, and gives back what is left of its files.
+fn let_go<D: Disk + Drop>(conn: Connection<FileStore<D>>) -> Leftover<D>
+    ensures left { IsLeftOf conn result }
 {
     match conn.close_files() {
-        Ok(files) => Ok(files),
-        Err((error, store)) => {
-            drop(store.close());
-            Err(error)
-        }
+        Ok(files) => Leftover::Files(files),
+        Err((_, store)) => Leftover::Store(store),
     }
 }
 
@@ -65,29 +52,29 @@ impl SqlShelf<MemStore> {
 }
 
 impl<D: Disk + Drop> SqlShelf<FileStore<D>> {
-    /// The office in two files, or a new one where no name of the office's is taken there. Other tables stay. Where it shows the tables of an
-    /// office, a stop leaves one.
+    /// The office in two files, or a new one where no name of the office's tables is taken there. Other tables stay. Where it shows the
+    /// tables of an office, a stop leaves one. A refusal comes with what is left of the files: they are closed, or, where they can't be, it
+    /// is their store.
     pub fn open_files(
         alloc: Global,
         files: Files<D>,
         options: Options,
-    ) -> Result<SqlShelf<FileStore<D>>, OpenRefusal<D>>
+    ) -> Result<SqlShelf<FileStore<D>>, (OpenFault, Leftover<D>)>
         requires log { IsTrue (D.Disk.is_usable files.log) }
         requires db { IsTrue (D.Disk.is_usable files.db) }
         ensures is_open { IfOk result (λ shelf. HasCleanDisk (file_state shelf.0) → IsTrue (file_state shelf.0).is_open) }
         ensures sound { IfOk result (λ shelf. HasCleanDisk (file_state shelf.0) → LeavesShown (file_state shelf.0)) }
+        ensures held { IfOk result (λ shelf. OpensHeld (image_of D.Disk files) shelf.0) }
         ensures again { IfOk result (λ shelf. OpensAgain files shelf.0) }
-        ensures blank { IfOk result (λ shelf. OpensBlank files shelf.0) }
-        ensures enters { IfOk result (λ shelf. HasCleanDisk (file_state shelf.0) → EntersFiles files shelf.0) }
+        ensures blank { IfOk result (λ shelf. OpensBlank (image_of D.Disk files) shelf.0) }
+        ensures enters { IfOk result (λ shelf. HasCleanDisk (file_state shelf.0) → EntersFound (image_of D.Disk files) shelf.0) }
         ensures count { IfOk result (λ shelf. shelf.1 ≡ 0) }
-        ensures refused { IfErr result (RefusesFiles D.Disk files) }
+        ensures refused { IfErr result (λ refusal. RefusesFiles files refusal.0 refusal.1) }
+        ensures usable { IfErr result (λ refusal. refusal.0 ≡ OpenFault.NotAnOffice → IsUsableLeft refusal.1) }
     {
         let mut conn = match Connection::open_files(alloc, files, options) {
             Ok(conn) => conn,
-            Err((error, _left)) => match fault(error) {
-                ShelfFault::NoMemory => return Err(OpenRefusal::NoMemory),
-                ShelfFault::Store => return Err(OpenRefusal::Store),
-            },
+            Err((error, left)) => return Err((open_fault(error), left)),
         };
         match enter(&mut conn) {
             Ok(()) => Ok(SqlShelf {
@@ -95,48 +82,20 @@ impl<D: Disk + Drop> SqlShelf<FileStore<D>> {
                 conn,
                 faults: 0,
             }),
-            Err(OpenFault::NoMemory) => Err(OpenRefusal::NoMemory),
-            Err(OpenFault::Store) => Err(OpenRefusal::Store),
-            Err(OpenFault::NotAnOffice) => match give_back(conn) {
-                Ok(files) => Err(OpenRefusal::NotAnOffice(files)),
-                Err(_) => Err(OpenRefusal::Store),
-            },
+            Err(fault) => Err((fault, let_go(conn))),
         }
     }
 
     /// Closes the office, and gives its files back. A refusal gives nothing back.
     pub fn close_files(self) -> Result<Files<D>, ShelfFault>
         ensures copied { IfOk result (λ files. AreClean D.Disk files.log files.db → IsCopied self.0 files) }
-        ensures usable { IfOk result (λ files. IsTrue (D.Disk.is_usable files.log) × IsTrue (D.Disk.is_usable files.db)) }
+        ensures usable { IfOk result (λ files. AreUsable D.Disk files) }
     {
-        match give_back(self.into_connection()) {
+        match self.into_connection().close_files() {
             Ok(files) => Ok(files),
-            Err(error) => Err(fault(error)),
-        }
-    }
-}
-
-impl SqlShelf<FileStore<File>> {
-    /// The office in a file of the host, or a new one where no name of the office's is taken there. No clause can tie it to the path.
-    pub fn open(rt: &HostRuntime, path: &str) -> Result<SqlShelf<FileStore<File>>, OpenFault>
-        ensures is_open { IfOk result (λ shelf. HasCleanDisk (file_state shelf.0) → IsTrue (file_state shelf.0).is_open) }
-        ensures sound { IfOk result (λ shelf. HasCleanDisk (file_state shelf.0) → LeavesShown (file_state shelf.0)) }
-        ensures enters { IfOk result (λ shelf. HasCleanDisk (file_state shelf.0) → EntersOpened shelf.0) }
-        ensures count { IfOk result (λ shelf. shelf.1 ≡ 0) }
-    {
-        let mut conn = match Connection::open(rt, path) {
-            Ok(conn) => conn,
-            Err(error) => return Err(open_fault(error)),
-        };
-        match enter(&mut conn) {
-            Ok(()) => Ok(SqlShelf {
-                alloc: rt.alloc(),
-                conn,
-                faults: 0,
-            }),
-            Err(fault) => {
-                let _closed = conn.close();
-                Err(fault)
+            Err((error, store)) => {
+                drop(store.close());
+                Err(fault(error))
             }
         }
     }

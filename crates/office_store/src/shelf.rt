@@ -5,7 +5,6 @@ ghost use Rattle.sqlite.specs.State.{IsLive};
 ghost use Rattle.office_base.specs.Faults.{one_fault_more, IsFaultOf};
 ghost use Rattle.office_store.specs.SqlMeaning.{sql_meaning};
 
-use crate::faults::fault;
 use crate::sums;
 use office_base::counts::Sequence;
 use office_base::laws::changes_keep_order;
@@ -17,6 +16,7 @@ use office_base::records::{
 };
 use office_base::shelf::{Lookups, Shelf, ShelfFault};
 use office_changes::apply::apply_all;
+use office_sql::faults::fault;
 use office_sql::laws::trees_tell_one_office;
 use office_sql::{lists, lookups};
 use office_values::given::AskedNumber;
@@ -69,7 +69,7 @@ impl<S: Alter> SqlShelf<S> {
     }
 
     // Counts a fault.
-    fn count(&mut self, fault: ShelfFault) -> ShelfFault
+    pub(crate) fn count(&mut self, fault: ShelfFault) -> ShelfFault
         ensures fault { result ≡ fault }
         ensures kept { self.new.0 ≡ self.old.0 }
         ensures counted { self.new.1 ≡ one_fault_more self.old.1 }

@@ -7,7 +7,6 @@ ghost use Rattle.office_base.specs.Tables.{Tables, IsSorted};
 ghost use Rattle.office_sql.specs.Steps.{Refused, ShowsTables};
 ghost use Rattle.office_store.specs.LedgerRows.{HasTaken, KeepsOffice};
 
-use crate::faults::fault;
 use crate::joined_rows::take_row;
 use crate::ledger_rows::ready;
 use office_base::ledger::{ContractSums, LedgerRow};
@@ -19,6 +18,7 @@ use office_joins::select::{
 };
 use office_ledger::ledger_sums::LedgerSums;
 use office_sql::ask::ask;
+use office_sql::faults::fault;
 use office_values::id::Id;
 use sqlite::{Alter, Connection, Rows};
 use sqlite_value::value::ValueRef;

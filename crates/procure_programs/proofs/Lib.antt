@@ -1,1 +1,3 @@
 pub mod ServingSteps
+mod OpenedFiles
+mod Turns

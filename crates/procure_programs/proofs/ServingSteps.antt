@@ -1,14 +1,17 @@
 -- One connection more.
-use Rattle.std.proofs.Common.{◌≡◌, ℕ, ◌+◌, ◌≤◌, List, [], ◌∷◌, ◌++◌, length, refl, sym, subst, arith, length-append}
-use Rattle.office_base.specs.Shelves.{Meaning}
+use Rattle.std.proofs.Common.{◌≡◌, inl, inr, ℕ, ◌+◌, ◌≤◌, Bool, true, false, List, [], ◌∷◌, ◌++◌, length, refl, sym, subst, ◌∙◌, arith, length-append}
+use Rattle.office_values.specs.declared.settings.Settings.{Settings}
+use Rattle.office_base.specs.Shelves.{Keeps, Meaning}
+use Rattle.office_base.specs.Tables.{Tables}
 use Rattle.office_desk.specs.Desks.{DeskOf}
 use Rattle.office_wire.specs.Runs.{Answers, IsOneAtMost, Step, office_left}
-use Rattle.office_http.specs.Answering.{Held, StandsAs, office_answers}
-use Rattle.office_http.specs.Joined.{IsServedOnce, StepsAreKept}
-use Rattle.procure_programs.specs.Serving.{KeepsServing, Serves}
+use Rattle.office_http.specs.Answering.{Held, LeftAfter, StandsAs, is_accepted, meant_in, office_answers, tables_after}
+use Rattle.office_http.specs.Joined.{StepsAreKept}
+use Rattle.office_http.specs.Stops.{LeftBySteps, StopsBy, StopsOnce}
+use Rattle.procure_programs.specs.Serving.{KeepsServing, Serves, WasServed}
 
 -- the office after two lists of steps
-office_on : {S : Type 0} (A : Answers S) (xs ys : List Step) (s : S) → office_left A s (xs ++ ys) ≡ office_left A (office_left A s xs) ys
+pub office_on : {S : Type 0} (A : Answers S) (xs ys : List Step) (s : S) → office_left A s (xs ++ ys) ≡ office_left A (office_left A s xs) ys
 office_on A [] ys s = refl
 office_on A (x ∷ xs) ys s = office_on A xs ys (A.after x.busy s x.block)
 
@@ -17,30 +20,88 @@ at_most_one moment [] one = omega arith
 at_most_one moment (x ∷ []) one = omega arith
 at_most_one moment (x ∷ y ∷ more) one = absurd one
 
+-- ---- what a stop may leave
+
+-- where more could be left before
+left_weaker : (accepted busy : Bool) (First Before IsAfter : Type 0) → (Before → First) → LeftAfter accepted busy Before IsAfter → LeftAfter accepted busy First IsAfter
+left_weaker false busy First Before IsAfter more left = more left
+left_weaker true false First Before IsAfter more left = left
+left_weaker true true First Before IsAfter more (inl left) = inl (more left)
+left_weaker true true First Before IsAfter more (inr whole) = inr whole
+
+-- of one step, by what it could leave before
+abbrev left_by : (Tables → Type 0) → Held → Step → Tables → Type 0
+left_by Before h x v = LeftAfter (is_accepted h.tables x.block.moment (meant_in h x.block)) x.busy (Before v) (v ≡ tables_after h.settings h.tables x.block.moment (meant_in h x.block))
+
+left_more : (steps : List Step) (h : Held) (First Before : Tables → Type 0) → ((v : Tables) → Before v → First v)
+    → (u : Tables) → LeftBySteps Before h steps u → LeftBySteps First h steps u
+left_more [] h First Before more u it = more u it
+left_more (x ∷ steps) h First Before more u it =
+    left_more steps (office_answers.after x.busy h x.block) (left_by First h x) (left_by Before h x)
+    (λ v. left_weaker (is_accepted h.tables x.block.moment (meant_in h x.block)) x.busy (First v) (Before v) (v ≡ tables_after h.settings h.tables x.block.moment (meant_in h x.block)) (more v))
+    u it
+
+left_on : (xs ys : List Step) (h : Held) (Before : Tables → Type 0) (u : Tables)
+    → LeftBySteps (LeftBySteps Before h xs) (office_left office_answers h xs) ys u → LeftBySteps Before h (xs ++ ys) u
+left_on [] ys h Before u it = it
+left_on (x ∷ xs) ys h Before u it = left_on xs ys (office_answers.after x.busy h x.block) (left_by Before h x) u it
+
+stops_on : {S : Type 0} (M : Meaning S) (old mid new : S) (h : Held) (xs ys : List Step) → StopsBy M old mid h xs → StopsBy M mid new (office_left office_answers h xs) ys
+    → StopsBy M old new h (xs ++ ys)
+stops_on M old mid new h xs ys first last = record {
+  left = λ u may. left_on xs ys h (M.may_leave old) u (left_more ys (office_left office_answers h xs) (LeftBySteps (M.may_leave old) h xs) (M.may_leave mid) first.left u (last.left u may));
+  sound = λ before. last.sound (first.sound before);
+}
+
+-- what changes nothing adds nothing
+pub stops_still : {S : Type 0} (M : Meaning S) (old mid new : S) (h : Held) (steps : List Step) → StopsBy M old mid h steps → Keeps M mid new → M.honest new → StopsBy M old new h steps
+stops_still M old mid new h steps first keeps honest = record {
+  left = λ u may. first.left u (keeps.stop honest u may);
+  sound = λ before. keeps.sound honest (first.sound before);
+}
+
+stops_none : {S : Type 0} (M : Meaning S) (shelf : S) (h : Held) → StopsBy M shelf shelf h []
+stops_none M shelf h = record { left = λ u may. may; sound = λ before. before }
+
+-- ---- the office
+
 -- where no request was read
-pub once_none : {S : Type 0} (M : Meaning S) (moment : ℕ) (office : DeskOf S) → IsServedOnce M moment office office
-once_none M moment office honest h held = ([], tt, held)
+pub once_none : {S : Type 0} (M : Meaning S) (moment : ℕ) (office : DeskOf S) → StopsOnce M moment office office
+once_none M moment office honest h held = ([], tt, held, stops_none M office.shelf h)
 
 pub served_none : {S : Type 0} (M : Meaning S) (n : ℕ) (office : DeskOf S) → Serves M n office office
-served_none M n office honest h held = ([], omega arith, held)
+served_none M n office honest h held = ([], omega arith, held, stops_none M office.shelf h)
+
+-- a question changes nothing
+pub served_still : {S : Type 0} (M : Meaning S) (n : ℕ) (first old new : DeskOf S) → Serves M n first old → Keeps M old.shelf new.shelf → new.settings ≡ old.settings → Serves M n first new
+served_still M n first old new so_far keeps same honest h held =
+    let (xs, few, ((are, now), stands), stops) = so_far (keeps.before honest) h held in
+    (xs, few, ((same ∙ are, keeps.same honest _ now), stands), stops_still M first.shelf old.shelf new.shelf h xs stops keeps honest)
 
 pub served_on : {S : Type 0} (M : Meaning S) (n moment : ℕ) (first old new : DeskOf S) → (M.honest new.shelf → M.honest old.shelf) → Serves M n first old
-    → IsServedOnce M moment old new → Serves M (n + 1) first new
+    → StopsOnce M moment old new → Serves M (n + 1) first new
 served_on M n moment first old new before so_far once honest h held =
-    let (xs, few, now) = so_far (before honest) h held in
-    let (ys, one, after) = once honest (office_left office_answers h xs) now in
+    let (xs, few, now, stops) = so_far (before honest) h held in
+    let (ys, one, after, more) = once honest (office_left office_answers h xs) now in
     let short : length ys ≤ 1 = at_most_one moment ys one in
     let bound : length (xs ++ ys) ≤ n + 1 = rw (length-append xs ys) (omega (arith, few, short)) in
-    (xs ++ ys, bound, subst (λ (k : Held). StandsAs M new k) (sym (office_on office_answers xs ys h)) after)
+    (xs ++ ys, bound, subst (λ (k : Held). StandsAs M new k) (sym (office_on office_answers xs ys h)) after, stops_on M first.shelf old.shelf new.shelf h xs ys stops more)
 
 -- fewer than were allowed
 pub served_within : {S : Type 0} (M : Meaning S) (n most : ℕ) (old new : DeskOf S) → n ≤ most → Serves M n old new → Serves M most old new
 served_within M n most old new within so_far honest h held =
-    let (xs, few, now) = so_far honest h held in
-    (xs, omega (arith, within, few), now)
+    let (xs, few, now, stops) = so_far honest h held in
+    (xs, omega (arith, within, few), now, stops)
 
 -- and what was accepted is kept
 pub serving_kept : {S : Type 0} (M : Meaning S) (most : ℕ) (old new : DeskOf S) → StepsAreKept → Serves M most old new → KeepsServing M most old new
 serving_kept M most old new law serves honest h held xs reached =
-    let (steps, few, left) = serves honest h held in
+    let (steps, few, left, _) = serves honest h held in
     (steps, few, left, law xs h reached steps)
+
+-- an office was made of a shelf and served, and its shelf given back
+pub was_served : {S : Type 0} (M : Meaning S) (most : ℕ) (settings : Settings) (shelf left : S) (begun ended : DeskOf S) → begun ≡ record { shelf = shelf; settings = settings }
+    → left ≡ ended.shelf → (M.honest ended.shelf → M.honest begun.shelf) → Serves M most begun ended → WasServed M most settings shelf left
+was_served M most settings shelf left begun ended is out before serves =
+    subst (λ (s : _). WasServed M most settings shelf s) (sym out)
+    (subst (λ (d : DeskOf _). M.honest ended.shelf → M.honest d.shelf) is before, (ended.settings, subst (λ (d : DeskOf _). Serves M most d ended) is serves))

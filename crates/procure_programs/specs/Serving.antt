@@ -1,19 +1,36 @@
 -- What is left of an office after it was served over connections.
-use Rattle.std.specs.Prelude.{ℕ, ◌≤◌, List, length}
+use Rattle.std.specs.Prelude.{◌≡◌, ◌⊎◌, ℕ, ◌+◌, ◌≤◌, List, [], length}
+use Rattle.sqlite_disk.specs.declared.Disk.{Ghosts}
+use Rattle.sqlite_disk.specs.declared.Files.{Files}
+use Rattle.sqlite_wal.specs.Files.{outcomes}
+use Rattle.sqlite_wal.specs.Reads.{AreClean}
+use Rattle.sqlite_wal.specs.Recovery.{Image}
+use Rattle.sqlite.specs.Files.{image_of}
+use Rattle.office_values.specs.declared.settings.Settings.{Settings}
 use Rattle.office_base.specs.Shelves.{Meaning}
+use Rattle.office_base.specs.Tables.{Tables, IsSorted, no_tables}
 use Rattle.office_machine.specs.Machine.{Given, Reaches}
 use Rattle.office_publications.specs.Publishing.{publishing}
+use Rattle.office_publications.specs.Standing.{Stands}
 use Rattle.office_desk.specs.Desks.{DeskOf}
 use Rattle.office_desk.specs.Steps.{IsKept}
+use Rattle.office_store.specs.Reopening.{HoldsOffice}
 use Rattle.office_wire.specs.Runs.{Step, office_left}
 use Rattle.office_http.specs.Answering.{Held, StandsAs, office_answers}
 use Rattle.office_http.specs.Joined.{joined_steps}
+use Rattle.office_http.specs.Stops.{StopsBy}
 
--- the office after so many steps at most
+-- the office after so many steps at most, and what a stop may leave of it by then
 abbrev pub Serves : {S : Type 0} → Meaning S → ℕ → DeskOf S → DeskOf S → Type 0
 Serves M most old new =
     M.honest new.shelf → (h : Held) → StandsAs M old h
-    → (steps : List Step) × (length steps ≤ most) × StandsAs M new (office_left office_answers h steps)
+    → (steps : List Step) × (length steps ≤ most) × StandsAs M new (office_left office_answers h steps) × StopsBy M old.shelf new.shelf h steps
+
+-- so the office on a shelf was served under these settings, and this shelf is left
+abbrev pub WasServed : {S : Type 0} → Meaning S → ℕ → Settings → S → S → Type 0
+WasServed M most settings old new =
+    (M.honest new → M.honest old)
+    × ((now : Settings) × Serves M most (record { shelf = old; settings = settings }) (record { shelf = new; settings = now }))
 
 -- so it is, and all accepted commands, these joined, are kept
 abbrev pub KeepsServing : {S : Type 0} → Meaning S → ℕ → DeskOf S → DeskOf S → Type 0
@@ -21,3 +38,34 @@ KeepsServing M most old new =
     M.honest new.shelf → (h : Held) → StandsAs M old h → (xs : List Given) → Reaches (publishing h.settings) xs h.tables
     → (steps : List Step) × (length steps ≤ most) × StandsAs M new (office_left office_answers h steps)
     × IsKept h.settings (joined_steps h steps xs) (office_left office_answers h steps).tables
+
+-- two files with these bytes have an office with this content: they hold it, or there is no byte in the file, and it is the empty one
+abbrev pub HaveOffice : Image → Tables → Type 0
+HaveOffice image t = HoldsOffice image t ⊎ ((length image.db ≡ 0) × (t ≡ no_tables))
+
+-- an office stands in two files with these bytes, as its commands left it
+abbrev pub StandsIn : Image → Held → Type 0
+StandsIn image h = IsSorted h.tables × HaveOffice image h.tables × Stands h.settings h.tables
+
+-- under these settings an office goes on from one pair of files to the other, by so many steps at most
+abbrev pub GoesOnIn : Image → Settings → ℕ → Image → Type 0
+GoesOnIn first settings most last =
+    (h : Held) → h.settings ≡ settings → StandsIn first h
+    → (steps : List Step) × (length steps ≤ most) × StandsIn last (office_left office_answers h steps)
+
+-- what is found of two files: what they read as, or what a stop leaves of them, with the log or without it
+abbrev pub MayBeFound : {D : Type 0} → Ghosts D → Files D → Image → Type 0
+MayBeFound g files image =
+    (now : Image) × ((now ≡ image_of g files) ⊎ outcomes g files.log files.db now) × ((image ≡ now) ⊎ (image ≡ record now { log = [] }))
+
+-- The office in two files was served by so many steps at most, and these files were closed. Where the disk gave back what was written, the
+-- office goes on in whatever is found of them, be it the database file alone.
+abbrev pub ServesFiles : {D : Type 0} → Ghosts D → Image → Settings → ℕ → Files D → Type 0
+ServesFiles g image settings most files =
+    AreClean g files.log files.db → (now : Image) → MayBeFound g files now → GoesOnIn image settings most now
+
+-- Where a run finds the files as another left them, both are one run.
+abbrev pub DaysFollow : Type 0
+DaysFollow =
+    (settings : Settings) (first mid last : Image) (n m : ℕ) → GoesOnIn first settings n mid → GoesOnIn mid settings m last
+    → GoesOnIn first settings (n + m) last

@@ -5,6 +5,7 @@ pub mod clock;
 pub mod config;
 pub mod desk;
 mod kept;
+pub mod laws;
 pub mod serving;
 pub mod showing;
 pub mod store;

@@ -1,7 +1,8 @@
 //! An office that is served over connections of TCP, one after another.
-ghost use Rattle.std.specs.Prelude.{◌≡◌, IfErr};
-ghost use Rattle.office_http.specs.Joined.{IsServedOnce};
+ghost use Rattle.std.specs.Prelude.{◌≡◌, ◌⊎◌, IfErr};
+ghost use Rattle.office_http.specs.Stops.{StopsOnce};
 ghost use Rattle.procure_programs.specs.Serving.{KeepsServing, Serves};
+ghost use Rattle.procure_programs.specs.Turns.{ServesInTurn};
 
 use crate::clock::moment_now;
 use office_base::shelf::{Lookups, Shelf};
@@ -19,6 +20,7 @@ use std::io;
 use std::io::BufReader;
 use std::net::{TcpListener, TcpStream};
 use std::time::{Clock, Duration};
+use stored_shelf::stored::StoredShelf;
 
 /// How many seconds a read or a write of a socket may wait.
 pub const PATIENCE: u64 = 10;
@@ -40,7 +42,7 @@ pub fn serve_stream<H: Shelf + Drop>(
     stream: &TcpStream,
 )
     ensures before { H.meaning.honest office.new.shelf → H.meaning.honest office.old.shelf }
-    ensures stepped { IsServedOnce H.meaning moment office.old office.new }
+    ensures stepped { StopsOnce H.meaning moment office.old office.new }
 {
     if set_patience(stream).is_err() {
         return;
@@ -57,9 +59,34 @@ pub fn serve_stream<H: Shelf + Drop>(
     }
 }
 
+// Serves so many connections, and after each asks whether the store is shut. Where there is no memory to ask, that is asked behind the next.
+fn take_turns<C: Clock, H: StoredShelf + Drop>(
+    clock: &C,
+    alloc: Global,
+    listener: &TcpListener,
+    office: &mut Office<H>,
+    count: u32,
+) -> Result<(), ProgramFault>
+    ensures { ServesInTurn H.meaning H.store count office.old office.new result }
+{
+    'connections: for taken in 0..count {
+        if let Ok((stream, _)) = listener.accept() {
+            let Ok(moment) = moment_now(clock) else {
+                return Err(ProgramFault::Input);
+            };
+            serve_stream(alloc, office, moment, &stream);
+            if office.is_shut().unwrap_or(false) {
+                return Err(ProgramFault::Store);
+            }
+        }
+    }
+    Ok(())
+}
+
 /// Serves so many connections, each at the moment by the clock when it was taken. A connection that can't be taken counts as one that
-/// has ended. `Input` where the clock can't be read.
-pub fn serve<C: Clock, H: Shelf + Drop>(
+/// has ended. `Store` behind the first connection after which the store is known to be shut for good: no other is taken. `Input` where the
+/// clock can't be read.
+pub fn serve<C: Clock, H: StoredShelf + Drop>(
     clock: &C,
     alloc: Global,
     listener: &TcpListener,
@@ -69,14 +96,9 @@ pub fn serve<C: Clock, H: Shelf + Drop>(
     ensures before { H.meaning.honest office.new.shelf → H.meaning.honest office.old.shelf }
     ensures serves { Serves H.meaning count office.old office.new }
     ensures kept { KeepsServing H.meaning count office.old office.new }
-    ensures fault { IfErr result (λ fault. fault ≡ ProgramFault.Input) }
+    ensures turns { ServesInTurn H.meaning H.store count office.old office.new result }
+    ensures fault { IfErr result (λ fault. (fault ≡ ProgramFault.Store) ⊎ (fault ≡ ProgramFault.Input)) }
 {
     laws::kept();
-    'connections: for taken in 0..count {
-        if let Ok((stream, _)) = listener.accept() {
-            let moment = moment_now(clock)?;
-            serve_stream(alloc, office, moment, &stream);
-        }
-    }
-    Ok(())
+    take_turns(clock, alloc, listener, office, count)
 }

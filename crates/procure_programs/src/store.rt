@@ -1,22 +1,125 @@
-//! Where an office is kept: a file.
+//! The programs over an office in a file. Each closes it in the end, so that the file alone is the office.
+ghost use Rattle.std.specs.Prelude.{IfOk};
+ghost use Rattle.sqlite_wal.specs.Files.{image_at};
+ghost use Rattle.sqlite_wal.specs.Reads.{AreClean};
+ghost use Rattle.sqlite.specs.Closing.{IsCopied};
+ghost use Rattle.office_base.specs.Shelves.{Keeps};
+ghost use Rattle.office_store.specs.Reopening.{OpensBlank, OpensHeld};
+ghost use Rattle.office_store.specs.SqlMeaning.{sql_meaning};
+ghost use Rattle.procure_programs.specs.Serving.{ServesFiles, WasServed};
+
 use crate::config::no_memory;
-use crate::kept::{print_seen, serve_office};
+use crate::kept::{print_office, serve_office};
 use office_acts::queries::Query;
-use office_file::file_shelf::FileShelf;
+use office_base::shelf::ShelfFault;
 use office_store::found::OpenFault;
+use office_store::path::Room;
+use office_store::shelf::SqlShelf;
 use office_values::settings::Settings;
 use procure_config::fault::ProgramFault;
+use sqlite::{Alter, FileFrom, FileStore, Files, Start, Unknown};
+use sqlite_disk::Disk;
 
-/// The office in a file, or a new one where nothing of an office stands there.
-fn open_office(rt: &HostRuntime, path: &str) -> Result<FileShelf, ProgramFault> {
-    match FileShelf::open(rt, path) {
+/// How much of the office's file is kept in memory: 32 MiB of its pages; and how long its log grows: by 16 MiB.
+pub const ROOM: Room = Room {
+    pages: 8_192,
+    frames: 4_096,
+};
+
+// The office in a file, or a new one where nothing of an office stands there.
+fn open_office<S: Start>(
+    rt: &HostRuntime,
+    path: &str,
+    start: S,
+) -> Result<SqlShelf<FileStore<FileFrom<S>>>, ProgramFault>
+    ensures held { IfOk result (λ shelf. OpensHeld (image_at S.Start) shelf.0) }
+    ensures blank { IfOk result (λ shelf. OpensBlank (image_at S.Start) shelf.0) }
+{
+    match SqlShelf::open_from(rt, path, start, ROOM) {
         Ok(shelf) => Ok(shelf),
-        Err(OpenFault::NoMemory) => Err(no_memory()),
-        Err(OpenFault::Store | OpenFault::NotAnOffice) => Err(ProgramFault::Store),
+        Err((OpenFault::NoMemory, _)) => Err(no_memory()),
+        Err((OpenFault::Store | OpenFault::NotAnOffice, _)) => Err(ProgramFault::Store),
     }
 }
 
-/// Serves so many connections from the office in a file.
+// Closes the store, and gives its files back with what the work came to. Where it can't be closed, a fault of the work is told before that.
+fn close_office<D: Disk + Drop>(
+    shelf: SqlShelf<FileStore<D>>,
+    worked: Result<(), ProgramFault>,
+) -> Result<(Files<D>, Result<(), ProgramFault>), ProgramFault>
+    ensures { IfOk result (λ left. AreClean D.Disk left.0.log left.0.db → IsCopied shelf.0 left.0) }
+{
+    match shelf.close_files() {
+        Ok(files) => Ok((files, worked)),
+        Err(fault) => {
+            worked?;
+            match fault {
+                ShelfFault::NoMemory => Err(no_memory()),
+                ShelfFault::Store => Err(ProgramFault::Store),
+            }
+        }
+    }
+}
+
+// Generic in the store, and not in the disk below it: so what stands over any shelf is not compared again at a store over files.
+fn serve_shelf<A: Alter + Drop>(
+    rt: &HostRuntime,
+    settings: Settings,
+    shelf: SqlShelf<A>,
+    port: u16,
+    count: u32,
+) -> Result<(SqlShelf<A>, Result<(), ProgramFault>), ProgramFault>
+    ensures { IfOk result (λ left. WasServed (sql_meaning A.Store) count settings shelf left.0) }
+{
+    serve_office(rt, settings, shelf, port, count)
+}
+
+// For the same reason.
+fn print_shelf<A: Alter + Drop>(
+    rt: &HostRuntime,
+    settings: Settings,
+    shelf: SqlShelf<A>,
+    query: Query,
+) -> (SqlShelf<A>, Result<(), ProgramFault>)
+    ensures { Keeps (sql_meaning A.Store) shelf result.0 }
+{
+    print_office(rt, settings, shelf, query)
+}
+
+/// Serves so many connections from the office in a file, whatever its two files held: `S` stands for that. Gives the files back, which are
+/// closed, and what serving came to; or tells why there are none.
+pub fn serve_from<S: Start>(
+    rt: &HostRuntime,
+    settings: Settings,
+    path: &str,
+    start: S,
+    port: u16,
+    count: u32,
+) -> Result<(Files<FileFrom<S>>, Result<(), ProgramFault>), ProgramFault>
+    ensures serves { IfOk result (λ left. ServesFiles ⟦<FileFrom<S> as Disk>⟧ (image_at S.Start) settings count left.0) }
+{
+    let shelf = open_office(rt, path, start)?;
+    let (shelf, served) = serve_shelf(rt, settings, shelf, port, count)?;
+    close_office(shelf, served)
+}
+
+/// Prints what the public sees of the office in a file, whatever its two files held. Nothing changes. Gives back as `serve_from` does.
+pub fn print_from<S: Start>(
+    rt: &HostRuntime,
+    settings: Settings,
+    path: &str,
+    start: S,
+    query: Query,
+) -> Result<(Files<FileFrom<S>>, Result<(), ProgramFault>), ProgramFault>
+    ensures keeps { IfOk result (λ left. ServesFiles ⟦<FileFrom<S> as Disk>⟧ (image_at S.Start) settings 0 left.0) }
+{
+    let shelf = open_office(rt, path, start)?;
+    let (shelf, printed) = print_shelf(rt, settings, shelf, query);
+    close_office(shelf, printed)
+}
+
+/// `serve_from`, for `main`: at `Unknown`, for which nothing is said of a file that isn't empty. What is proved of it is `serve_from`, whose
+/// code is the same for all that the files may hold.
 pub fn serve_file(
     rt: &HostRuntime,
     settings: Settings,
@@ -24,17 +127,17 @@ pub fn serve_file(
     port: u16,
     count: u32,
 ) -> Result<(), ProgramFault> {
-    let shelf = open_office(rt, path)?;
-    serve_office(rt, settings, shelf, port, count)
+    let (_files, served) = serve_from(rt, settings, path, Unknown, port, count)?;
+    served
 }
 
-/// Prints what the public sees of the office in a file.
+/// `print_from`, for `main`.
 pub fn print_file(
     rt: &HostRuntime,
     settings: Settings,
     path: &str,
     query: Query,
 ) -> Result<(), ProgramFault> {
-    let shelf = open_office(rt, path)?;
-    print_seen(rt, settings, shelf, query)
+    let (_files, printed) = print_from(rt, settings, path, Unknown, query)?;
+    printed
 }

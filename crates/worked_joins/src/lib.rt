@@ -4,6 +4,8 @@
 #[cfg(test)]
 mod joined_ledgers;
 #[cfg(test)]
+mod joined_rows;
+#[cfg(test)]
 mod joins;
 #[cfg(test)]
 mod rows;

@@ -42,7 +42,7 @@ static SELECTS: [&str; 17] = [
 ];
 
 // A row of an answer, of these values; None where it was not answered.
-fn row_of(alloc: Global, values: &[ValueRef<'_>]) -> Option<Row> {
+pub(crate) fn row_of(alloc: Global, values: &[ValueRef<'_>]) -> Option<Row> {
     let sql = SELECTS.get(values.len())?;
     let mut conn = Connection::open_in_memory(alloc).ok()?;
     conn.query_row(sql, values).ok()
@@ -431,12 +431,13 @@ fn releases_come_back(rt: HostRuntime) {
     assert!(rt; is_compiled_back(alloc, &[Text(b"N1"), Text(b"{}")]));
 }
 
-// No name, less than nothing, no number, and too few values.
-static LINES_REFUSED: [&[ValueRef<'static>]; 4] = [
+// No name, less than nothing, no number, too few values, and too many.
+static LINES_REFUSED: [&[ValueRef<'static>]; 5] = [
     &[Text(b"10 00"), Text(b"Roads"), Int(1000), Int(395)],
     &[Text(b"1000"), Text(b"Roads"), Int(1000), Int(-1)],
     &[Text(b"1000"), Text(b"Roads"), Int(1000), Null],
     &[Text(b"1000"), Text(b"Roads"), Int(1000)],
+    &[Text(b"1000"), Text(b"Roads"), Int(1000), Int(395), Null],
 ];
 
 fn all_lines_are_refused(alloc: Global) -> bool {
@@ -454,6 +455,7 @@ fn refuses_words_and_numbers(rt: HostRuntime) {
     assert!(rt; all_lines_are_refused(alloc));
     let batch = [Text(b"B1"), Int(4_102_444_800), Int(500)];
     assert!(rt; is_refused::<BatchRow>(alloc, &batch));
+    assert!(rt; is_refused::<ClockRow>(alloc, &[Int(2), Int(8), Int(3), Int(0)]));
     let short = DIGEST.split_at(31).0;
     let tenderer = [Text(b"T1"), Text(b"Acme"), Text(b"1 Road"), Blob(short)];
     assert!(rt; is_refused::<TendererRow>(alloc, &tenderer));

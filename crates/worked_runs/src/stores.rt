@@ -1,9 +1,11 @@
 //! The stores that transcripts are played over: an office in memory, one in SQL in memory, and one in a file.
 use crate::times::{play_piece, play_pieces};
 use office_base::shelf::Shelf;
-use office_file::file_shelf::FileShelf;
 use office_in_sql::office::in_sql;
 use office_memory::memory::MemoryShelf;
+use office_store::path::Room;
+use office_store::shelf::SqlShelf;
+use sqlite::{Alter, Unknown};
 use std::alloc::Global;
 use std::fs;
 use transcripts::session::{Session, Wrong};
@@ -72,16 +74,32 @@ fn continued<H: Shelf + Drop>(
     })
 }
 
+// The same to one in SQL. It is generic in the store, and not in what is below it: so the shelf's calls are not compared again at a file.
+fn continued_in_sql<S: Alter + Drop>(
+    alloc: Global,
+    shelf: SqlShelf<S>,
+    told: Told,
+    piece: &str,
+) -> Result<Told, Wrong> {
+    continued(alloc, shelf, told, piece)
+}
+
 // Plays pieces more to the office in the file, which is opened again for each.
 fn reopened(rt: &HostRuntime, path: &str, mut told: Told, pieces: &[&str]) -> Result<Told, Wrong> {
     for piece in pieces {
-        match FileShelf::open(rt, path) {
-            Ok(shelf) => told = continued(rt.alloc(), shelf, told, piece)?,
+        match SqlShelf::open_from(rt, path, Unknown, ROOM) {
+            Ok(shelf) => told = continued_in_sql(rt.alloc(), shelf, told, piece)?,
             Err(_) => return Err(Wrong::Unopened),
         }
     }
     Ok(told)
 }
+
+// Little enough for a file to be read and copied again and again.
+const ROOM: Room = Room {
+    pages: 64,
+    frames: 100,
+};
 
 // The file of an office, and the one beside it that keeps what was written last.
 const PATH: &str = "worked_runs.office";

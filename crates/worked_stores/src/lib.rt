@@ -8,6 +8,10 @@ mod life;
 #[cfg(test)]
 mod no_offices;
 #[cfg(test)]
+mod shut;
+#[cfg(test)]
 mod stops;
 #[cfg(test)]
 mod stores;
+#[cfg(test)]
+mod wrong_words;

@@ -1,5 +1,5 @@
 -- An amendment of a notice.
-use Rattle.std.specs.Prelude.{ℕ, List, [], ◌∷◌, codes}
+use Rattle.std.specs.Prelude.{ℕ, [], ◌∷◌, codes}
 use Rattle.serde_json.specs.Data.{Data}
 use Rattle.office_values.specs.Moments.{moment_text}
 use Rattle.office_values.specs.declared.settings.Settings.{Settings}

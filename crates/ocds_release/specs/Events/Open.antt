@@ -1,5 +1,5 @@
 -- The opening of tenders.
-use Rattle.std.specs.Prelude.{ℕ, List, [], ◌∷◌, codes, map, length}
+use Rattle.std.specs.Prelude.{ℕ, [], ◌∷◌, codes, map, length}
 use Rattle.serde_json.specs.Data.{Data, number, unsigned}
 use Rattle.office_values.specs.declared.settings.Settings.{Settings}
 use Rattle.ocds_release.specs.Objects.{text, texts, array_of, object_of, tenderer_reference}

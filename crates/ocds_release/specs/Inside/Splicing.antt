@@ -1,20 +1,11 @@
 -- The texts of packages, member by member, and the packages with their members in the order of their names.
-use Rattle.std.specs.Prelude.{ℕ, Bool, true, false, List, [], ◌∷◌, ◌++◌, codes, map}
+use Rattle.std.specs.Prelude.{ℕ, Bool, List, [], ◌∷◌, ◌++◌, codes}
 use Rattle.json.specs.Print.{quoted}
 use Rattle.serde_json.specs.Data.{Data, object, Members, member, no_members}
 use Rattle.serde_json.specs.Written.{comma_if}
 use Rattle.office_values.specs.declared.settings.Settings.{Settings}
-use Rattle.office_base.specs.declared.records.ReleaseRow.{ReleaseRow}
 use Rattle.ocds_release.specs.Objects.{text, texts, object_of}
 use Rattle.ocds_release.specs.Texts.{ocid_text, address}
-
-abbrev pub moment_of : ReleaseRow → ℕ
-moment_of r = r.moment
-
--- the texts of releases with commas between them
-abbrev pub spliced : Bool → List ReleaseRow → List ℕ
-spliced later [] = []
-spliced later (r ∷ rs) = comma_if later ++ (r.text ++ spliced true rs)
 
 -- a member, whose value has this text
 abbrev pub member_text : Bool → List ℕ → List ℕ → List ℕ

@@ -1,5 +1,5 @@
 use Rattle.std.proofs.Common.{◌≡◌, ◌∙◌, ◌++◌, ℕ, List, [], ◌∷◌, ap, codes, true, false}
-use Rattle.serde_json.specs.Data.{Data, Members, member}
+use Rattle.serde_json.specs.Data.{Data, member}
 use Rattle.serde_json.specs.View.{view}
 use Rattle.serde_json.specs.Written.{members_text, has_float}
 use Rattle.ocds_release.specs.Objects.{text, object_of}

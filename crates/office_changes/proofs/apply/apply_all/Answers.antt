@@ -1,10 +1,12 @@
-use Rattle.std.proofs.Common.{rules, arith, ◌≡◌, OnOk, subst, IsTrue}
+use Rattle.std.proofs.Common.{rules, arith, ◌≡◌, OnOk, IfErr, refl, subst, IsTrue}
 use Rattle.sqlite.specs.Held.{state}
 use Rattle.sqlite.specs.State.{HasCleanDisk, Survives}
 use Rattle.sqlite.proofs.StateLemmas.{survives_then}
 use Rattle.sqlite.proofs.Callers.{survives_begin}
 use Rattle.office_sql.specs.Steps.{Applied, Refused, LeavesPuts}
 use Rattle.office_changes.proofs.Steps.{rolled, put_leaves, applies, on_err, on_ok_with, begun_refused}
+use Rattle.office_sql.specs.Failing.{IsExcused, ChangeFails}
+use Rattle.office_changes.proofs.Failing.{if_err_with, same_err, undone_fails, commit_fails}
 use Rattle.office_changes.proofs.apply.apply_all.Goals as goal
 
 pub returns-in_err-put_all-clause-refused : goal.returns-in_err-put_all-clause-refused
@@ -47,3 +49,31 @@ returns-clause-survives g c =
     (survives_begin g.S.Store old (state g.S.Store mid) _ (rw begun at c.put_all.ensures.survives)) c.commit.ensures.survives in
     let same : end ≡ c.conn-2-1.given.0 = search rules in
     subst (λ h. Survives (state g.S.Store old) (state g.S.Store h) P) same whole
+
+pub returns-in_err-put_all-clause-failed : goal.returns-in_err-put_all-clause-failed
+returns-in_err-put_all-clause-failed g c clean t shows =
+    let old = c.args.conn.now in
+    let mid = c.put_all.new.tx.conn.now in
+    let end = c.drop-tx.new.self.0 in
+    let begun = c.transaction-tx.ensures.begun in
+    let settled : IsTrue (state g.S.Store old).is_open → (state g.S.Store old).now ≡ (state g.S.Store old).committed = search rules in
+    let same : end ≡ c.conn-1.given.0 = search rules in
+    let late : HasCleanDisk (state g.S.Store end) = search rules in
+    let early : HasCleanDisk (state g.S.Store mid) = omega (arith, c.drop-tx.ensures.survives.clean) in
+    same_err c.from_residual.result _ _ c.from_residual.ensures.1
+    (subst (λ h. IsExcused (ChangeFails (state g.S.Store old) (state g.S.Store h) c.args.puts.now) c.in_err-put_all.field-0.0) same
+    (undone_fails (state g.S.Store old) (state g.S.Store mid) (state g.S.Store end) c.args.puts.now _ settled c.drop-tx.ensures.survives.counts t shows (λ held. (rw begun at c.in_err-put_all.ensures.failed) early refl t held)))
+
+pub returns-clause-failed : goal.returns-clause-failed
+returns-clause-failed g c clean t shows =
+    let old = c.args.conn.now in
+    let mid = c.put_all.new.tx.conn.now in
+    let end = c.commit.new.self.0 in
+    let begun = c.transaction-tx.ensures.begun in
+    let same : end ≡ c.conn-2-1.given.0 = search rules in
+    let late : HasCleanDisk (state g.S.Store end) = search rules in
+    let early : HasCleanDisk (state g.S.Store mid) = omega (arith, c.commit.ensures.survives.clean) in
+    let up = survives_begin g.S.Store old (state g.S.Store mid) _ (rw begun at c.put_all.ensures.survives) in
+    subst (λ h. IfErr c.commit.result (IsExcused (ChangeFails (state g.S.Store old) (state g.S.Store h) c.args.puts.now))) same
+    (if_err_with c.commit.result _ _ (c.commit.ensures.err late) (λ e failed.
+    commit_fails (state g.S.Store old) (state g.S.Store mid) (state g.S.Store end) c.args.puts.now e (rw begun at (c.in_ok-put_all.ensures.puts early)) up.counts failed))

@@ -1,5 +1,6 @@
 use Rattle.office_publications.proofs.ReleasesTold.{rows_kept, rows_objects}
 use Rattle.office_publications.proofs.RecordsTold.{compiled}
+use Rattle.office_publications.proofs.InSequence.{in_sequence}
 use Rattle.office_publications.proofs.laws.told.Goals as goal
 
 pub returns-clause-releases : goal.returns-clause-releases
@@ -13,3 +14,9 @@ returns-clause-records c settings s stands notice some range =
     (rows_kept c.releases_can_be_kept.ensures.storable c.releases_can_be_kept.ensures.dated settings c.releases.ensures.published s stands notice)
     (rows_objects c.releases_can_be_kept.ensures.storable c.releases_can_be_kept.ensures.dated settings c.releases.ensures.published s stands notice)
     some range
+
+pub returns-clause-sequence : goal.returns-clause-sequence
+returns-clause-sequence c settings s stands notice =
+    in_sequence notice s (c.order.ensures _ stands.commands s stands.reaches)
+    (c.releases.ensures.numbered _ (c.releases-2.ensures settings) stands.commands s stands.reaches)
+    (c.releases.ensures.counted _ stands.commands s stands.reaches notice).within

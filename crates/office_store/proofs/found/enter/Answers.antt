@@ -31,7 +31,7 @@ returns-in-Ok-still_open-clause-sound g c clean =
 pub returns-in-Ok-still_open-clause-survives : goal.returns-in-Ok-still_open-clause-survives
 returns-in-Ok-still_open-clause-survives g c =
     let old = state g.S.Store c.args.conn.now in
-    survives_then old (state g.S.Store c.ask_version.new.conn) (state g.S.Store c.still_open.new.conn) _ _ (LeavesOffice old) (λ _ db none. absurd none) (λ _ db none. absurd none)
+    survives_then old (state g.S.Store c.ask_version.new.conn) (state g.S.Store c.still_open.new.conn) _ _ (LeavesOffice g.S.Store c.args.conn.now) (λ _ db none. absurd none) (λ _ db none. absurd none)
     c.ask_version.ensures.survives c.still_open.ensures.survives
 
 pub returns-in-Ok-clause-kept : goal.returns-in-Ok-clause-kept
@@ -43,7 +43,7 @@ returns-in-Ok-clause-kept g c clean =
 pub returns-in-Ok-clause-survives : goal.returns-in-Ok-clause-survives
 returns-in-Ok-clause-survives g c =
     let old = state g.S.Store c.args.conn.now in
-    survives_then old (state g.S.Store c.ask_version.new.conn) (state g.S.Store c.still_open.new.conn) _ _ (LeavesOffice old) (λ _ db none. absurd none) (λ _ db none. absurd none)
+    survives_then old (state g.S.Store c.ask_version.new.conn) (state g.S.Store c.still_open.new.conn) _ _ (LeavesOffice g.S.Store c.args.conn.now) (λ _ db none. absurd none) (λ _ db none. absurd none)
     c.ask_version.ensures.survives c.still_open.ensures.survives
 
 pub returns-then-not-is_version_one-clause-none : goal.returns-then-not-is_version_one-clause-none
@@ -110,9 +110,28 @@ returns-in-Ok-found-clause-survives g c =
     let mid = state g.S.Store c.ask_version.new.conn in
     let end = state g.S.Store c.found.new.conn in
     let live : IsLive old = search rules in
-    survives_then old mid end _ _ (LeavesOffice old) (λ _ db none. absurd none)
+    let none : takes_a_name c.args.conn.now.schema ≡ false = search rules in
+    let input : c.in-Err-SqlInputError.field-0 ≡ SqlInputError c.in-Err-SqlInputError.field-0-0 = search rules in
+    survives_then old mid end _ _ (LeavesOffice g.S.Store c.args.conn.now) (λ _ db none. absurd none)
     (λ clean db leaves.
     let early : HasCleanDisk mid = omega (arith, clean, c.found.ensures.survives.clean) in
     let kept = c.ask_version.ensures.kept early in
-    leaves_before old mid db kept (sound_after old mid kept live) leaves)
+    leaves_before g.S.Store c.args.conn.now c.ask_version.new.conn db
+    (c.in-Err-SqlInputError.field-0-0, subst (IsRefusal g.S.Store get_version [] c.args.conn.now) input (c.in-Err-SqlInputError.ensures.refused early)) none kept (sound_after old mid kept live) leaves)
+    c.ask_version.ensures.survives c.found.ensures.survives
+
+pub returns-in-Err-SqlInputError-clause-survives : goal.returns-in-Err-SqlInputError-clause-survives
+returns-in-Err-SqlInputError-clause-survives g c =
+    let old = state g.S.Store c.args.conn.now in
+    let mid = state g.S.Store c.ask_version.new.conn in
+    let end = state g.S.Store c.found.new.conn in
+    let live : IsLive old = search rules in
+    let none : takes_a_name c.args.conn.now.schema ≡ false = search rules in
+    let input : c.in-Err-SqlInputError.field-0 ≡ SqlInputError c.in-Err-SqlInputError.field-0-0 = search rules in
+    survives_then old mid end _ _ (LeavesOffice g.S.Store c.args.conn.now) (λ _ db none. absurd none)
+    (λ clean db leaves.
+    let early : HasCleanDisk mid = omega (arith, clean, c.found.ensures.survives.clean) in
+    let kept = c.ask_version.ensures.kept early in
+    leaves_before g.S.Store c.args.conn.now c.ask_version.new.conn db
+    (c.in-Err-SqlInputError.field-0-0, subst (IsRefusal g.S.Store get_version [] c.args.conn.now) input (c.in-Err-SqlInputError.ensures.refused early)) none kept (sound_after old mid kept live) leaves)
     c.ask_version.ensures.survives c.found.ensures.survives

@@ -1,6 +1,6 @@
 use Rattle.std.proofs.Common.{[]}
 use Rattle.sqlite.specs.Held.{state}
-use Rattle.office_changes.proofs.Steps.{unchanged, not_run_kept}
+use Rattle.office_store.proofs.Kept.{unchanged, not_run_kept}
 use Rattle.office_store.proofs.ledger_rows.ready.Goals as goal
 
 pub returns-in-Err-clause-kept : goal.returns-in-Err-clause-kept

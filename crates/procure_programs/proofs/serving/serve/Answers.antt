@@ -1,21 +1,17 @@
-use Rattle.std.proofs.Common.{◌+◌, arith}
-use Rattle.procure_programs.proofs.ServingSteps.{served_on, served_within}
+use Rattle.procure_programs.proofs.ServingSteps.{serving_kept}
+use Rattle.procure_programs.proofs.Turns.{turns_before, turns_serve, turns_fault}
 use Rattle.procure_programs.proofs.serving.serve.Goals as goal
-use Rattle.procure_programs.proofs.serving.serve.Goals.{in-Ok+in_ok-moment, in_default}
 
-pub connections-preserved : goal.connections-preserved
-connections-preserved g c =
-    let M = g.H.Lookups.meaning in
-    let first = c.args.office.now in
-    let taken = c.connections.taken in
-    let so_far = c.connections.invariant in
-    elim c.match-accept.branch [
-      | in-Ok+in_ok-moment w ↦ rw w.office-is (record {
-        before = λ honest. so_far.before (w.serve_stream.ensures.before honest);
-        serves = served_on M taken _ first c.connections.office _ w.serve_stream.ensures.before so_far.serves w.serve_stream.ensures.stepped;
-      })
-      | in_default w ↦ rw w.office-is (record {
-        before = so_far.before;
-        serves = served_within M taken (taken + 1) first c.connections.office (omega arith) so_far.serves;
-      })
-    ]
+pub returns-clause-before : goal.returns-clause-before
+returns-clause-before g c = turns_before g.H.Lookups.meaning g.H.StoredShelf.store c.args.count c.args.office.now c.take_turns.new.office c.take_turns.result c.take_turns.ensures
+
+pub returns-clause-serves : goal.returns-clause-serves
+returns-clause-serves g c = turns_serve g.H.Lookups.meaning g.H.StoredShelf.store c.args.count c.args.office.now c.take_turns.new.office c.take_turns.result c.take_turns.ensures
+
+pub returns-clause-kept : goal.returns-clause-kept
+returns-clause-kept g c =
+    serving_kept g.H.Lookups.meaning c.args.count c.args.office.now c.take_turns.new.office c.kept.ensures.steps
+    (turns_serve g.H.Lookups.meaning g.H.StoredShelf.store c.args.count c.args.office.now c.take_turns.new.office c.take_turns.result c.take_turns.ensures)
+
+pub returns-clause-fault : goal.returns-clause-fault
+returns-clause-fault g c = turns_fault g.H.Lookups.meaning g.H.StoredShelf.store c.args.count c.args.office.now c.take_turns.new.office c.take_turns.result c.take_turns.ensures

@@ -1,0 +1,108 @@
+//! What an office on disks says of one row of each of its tables.
+use crate::office::OfficeOnDisks;
+use office_base::counts::Sequence;
+use office_base::shelf::{Lookups, ShelfFault};
+use office_values::given::AskedNumber;
+use office_values::id::Id;
+
+/// A question of an office.
+#[derive(Clone, Copy)]
+pub enum Question {
+    /// For the line `1000`.
+    Line,
+    /// For the budget file `B1`.
+    Batch,
+    /// For the tenderer `T1`.
+    Tenderer,
+    /// For the notice `N1`.
+    Notice,
+    /// For its lot `L1`.
+    Lot,
+    /// For the tender of receipt 1.
+    Envelope,
+    /// For the bytes of receipt 1.
+    Seal,
+    /// For security 1.
+    Security,
+    /// For award 1.
+    Award,
+    /// For contract 1.
+    Contract,
+    /// For its entry `P1`.
+    Entry,
+    /// For what is reserved on the line `1000`.
+    Reservations,
+    /// For the first release of the notice `N1`.
+    Release,
+    /// For the merge of its releases.
+    Compiled,
+    /// For the clock.
+    Clock,
+    /// For the ledger.
+    Ledger,
+}
+
+// Whether a row is there.
+fn is_there<R: Drop>(answer: Result<Option<R>, ShelfFault>) -> Result<bool, ShelfFault> {
+    Ok(answer?.is_some())
+}
+
+// Whether there are rows.
+fn are_there<R: Drop>(answer: Result<Vec<R>, ShelfFault>) -> Result<bool, ShelfFault> {
+    Ok(!answer?.is_empty())
+}
+
+fn ask_for_money<H: Lookups>(
+    shelf: &mut H,
+    question: Question,
+) -> Option<Result<bool, ShelfFault>> {
+    let line = Id::read(b"1000")?;
+    let one = AskedNumber::read(1)?;
+    match question {
+        Question::Line => Some(is_there(shelf.get_line(&line))),
+        Question::Batch => Some(is_there(shelf.get_batch(&Id::read(b"B1")?))),
+        Question::Award => Some(is_there(shelf.get_award(one))),
+        Question::Contract => Some(is_there(shelf.get_contract(one))),
+        Question::Entry => Some(is_there(shelf.get_entry(one, &Id::read(b"P1")?))),
+        Question::Reservations => Some(are_there(shelf.list_reservations_of_line(&line))),
+        Question::Ledger => Some(are_there(shelf.ledger())),
+        _ => None,
+    }
+}
+
+fn ask_for_tenders<H: Lookups>(
+    shelf: &mut H,
+    question: Question,
+) -> Option<Result<bool, ShelfFault>> {
+    let one = AskedNumber::read(1)?;
+    match question {
+        Question::Tenderer => Some(is_there(shelf.get_tenderer(&Id::read(b"T1")?))),
+        Question::Envelope => Some(is_there(shelf.get_envelope(one))),
+        Question::Seal => Some(is_there(shelf.get_seal(one))),
+        Question::Security => Some(is_there(shelf.get_security(one))),
+        _ => ask_for_money(shelf, question),
+    }
+}
+
+// Over any shelf, so that it is proved once, and not of a store over a file over a disk.
+fn ask<H: Lookups>(shelf: &mut H, question: Question) -> Option<Result<bool, ShelfFault>> {
+    let notice = Id::read(b"N1")?;
+    match question {
+        Question::Notice => Some(is_there(shelf.get_notice(&notice))),
+        Question::Lot => Some(is_there(shelf.get_lot(&notice, &Id::read(b"L1")?))),
+        Question::Release => Some(is_there(shelf.get_release(&notice, Sequence::read(1)?))),
+        Question::Compiled => Some(is_there(shelf.get_compiled(&notice))),
+        Question::Clock => match shelf.get_clock() {
+            Ok(_) => Some(Ok(true)),
+            Err(fault) => Some(Err(fault)),
+        },
+        _ => ask_for_tenders(shelf, question),
+    }
+}
+
+impl OfficeOnDisks {
+    /// Whether there is what is asked for.
+    pub fn asks(&mut self, question: Question) -> Option<Result<bool, ShelfFault>> {
+        ask(&mut self.shelf, question)
+    }
+}

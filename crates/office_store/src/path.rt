@@ -1,0 +1,95 @@
+//! Opening the office in a file of the host.
+ghost use Rattle.std.specs.Prelude.{◌≡◌, true, false, None, IfErr, IfOk, IfSome, IsTrue};
+ghost use Rattle.sqlite_wal.specs.Files.{image_at};
+ghost use Rattle.sqlite_std_file.specs.File.{file_is_usable, IsFresh};
+ghost use Rattle.sqlite.specs.Files.{file_state};
+ghost use Rattle.sqlite.specs.State.{HasCleanDisk};
+ghost use Rattle.office_store.specs.Reopening.{EntersFound, OpensBlank, OpensHeld, RefusesImage};
+ghost use Rattle.office_store.specs.SqlMeaning.{LeavesShown};
+
+use crate::found::OpenFault;
+use crate::shelf::SqlShelf;
+use sqlite::{FileFrom, FileStore, Files, Leftover, Options, Start};
+use sqlite_std_file::OpenError;
+use std::hash::{BuildHasher, RandomState};
+use std::io::ErrorKind;
+use std::rt::HostRuntime;
+
+/// How much of an office's file is kept at hand.
+#[derive(Clone, Copy, Debug)]
+pub struct Room {
+    /// How many of its pages stay in memory, of 4,096 bytes each. The memory is taken as the file is opened.
+    pub pages: usize,
+    /// How many pages the log grows by before they are copied into the file.
+    pub frames: usize,
+}
+
+// The two files at a path, which are made where they are missing. A name that the ported `sqlite` keeps for another purpose is refused.
+fn files_at<S: Start>(
+    rt: &HostRuntime,
+    path: &str,
+    start: S,
+) -> Result<Files<FileFrom<S>>, OpenFault>
+    ensures usable { IfOk result (λ files. IsTrue (file_is_usable S.Start files.log) × IsTrue (file_is_usable S.Start files.db)) }
+    ensures fresh { IfOk result (λ files. IsFresh true files.log × IsFresh false files.db) }
+    ensures cause { IfErr result (λ fault. fault ≡ OpenFault.NotAnOffice → ⊥) }
+{
+    if path == ":memory:" || path.starts_with("file:") {
+        return Err(OpenFault::Store);
+    }
+    match sqlite_std_file::open(rt, path, start) {
+        Ok(files) => Ok(files),
+        Err(OpenError::OutOfMemory) => Err(OpenFault::NoMemory),
+        Err(OpenError::Io(error)) if error.kind() == ErrorKind::OutOfMemory => {
+            Err(OpenFault::NoMemory)
+        }
+        Err(_) => Err(OpenFault::Store),
+    }
+}
+
+// Options of the store, with a random seed for its log's salts.
+fn options_for(rt: &HostRuntime, room: Room) -> Result<Options, OpenFault>
+    ensures { IfErr result (λ fault. fault ≡ OpenFault.NotAnOffice → ⊥) }
+{
+    let Ok(state) = RandomState::new(rt) else {
+        return Err(OpenFault::Store);
+    };
+    let mut options = Options::new(state.hash_one(&0u8));
+    options.cache_pages = room.pages;
+    options.checkpoint_frames = room.frames;
+    Ok(options)
+}
+
+impl<S: Start> SqlShelf<FileStore<FileFrom<S>>> {
+    /// The office in a file of the host, or a new one where no name of the office's tables is taken there. No clause can tie the path to a
+    /// file: `S` stands for what the two files there hold, and the clauses are proved for all that they may hold. `main` passes `Unknown`. A
+    /// refusal comes with what is left of the files, once they were opened.
+    pub fn open_from(
+        rt: &HostRuntime,
+        path: &str,
+        start: S,
+        room: Room,
+    ) -> Result<SqlShelf<FileStore<FileFrom<S>>>, (OpenFault, Option<Leftover<FileFrom<S>>>)>
+        ensures is_open { IfOk result (λ shelf. HasCleanDisk (file_state shelf.0) → IsTrue (file_state shelf.0).is_open) }
+        ensures sound { IfOk result (λ shelf. HasCleanDisk (file_state shelf.0) → LeavesShown (file_state shelf.0)) }
+        ensures count { IfOk result (λ shelf. shelf.1 ≡ 0) }
+        ensures held { IfOk result (λ shelf. OpensHeld (image_at S.Start) shelf.0) }
+        ensures blank { IfOk result (λ shelf. OpensBlank (image_at S.Start) shelf.0) }
+        ensures enters { IfOk result (λ shelf. HasCleanDisk (file_state shelf.0) → EntersFound (image_at S.Start) shelf.0) }
+        ensures refused { IfErr result (λ refusal. IfSome refusal.1 (λ left. RefusesImage (image_at S.Start) refusal.0 left)) }
+        ensures unopened { IfErr result (λ refusal. refusal.1 ≡ None → refusal.0 ≡ OpenFault.NotAnOffice → ⊥) }
+    {
+        let files = match files_at(rt, path, start) {
+            Ok(files) => files,
+            Err(fault) => return Err((fault, None)),
+        };
+        let options = match options_for(rt, room) {
+            Ok(options) => options,
+            Err(fault) => return Err((fault, None)),
+        };
+        match SqlShelf::open_files(rt.alloc(), files, options) {
+            Ok(shelf) => Ok(shelf),
+            Err((fault, left)) => Err((fault, Some(left))),
+        }
+    }
+}

@@ -1,0 +1,57 @@
+//! Whether the store of an office was shut for good.
+ghost use Rattle.std.specs.Prelude.{◌≡◌, ◌⊎◌, not, IfOk, IfErr, OnOk};
+ghost use Rattle.sqlite_disk.specs.Disk.{MoreFaults};
+ghost use Rattle.sqlite.specs.Held.{state};
+ghost use Rattle.sqlite.specs.State.{HasCleanDisk, Survives};
+ghost use Rattle.office_base.specs.Shelves.{Keeps, CountsFaults};
+ghost use Rattle.office_sql.specs.Steps.{Refused};
+ghost use Rattle.office_store.specs.Shutting.{IsTold, told_by};
+ghost use Rattle.office_store.specs.SqlMeaning.{sql_meaning};
+
+use crate::shelf::SqlShelf;
+use office_base::shelf::{Lookups, ShelfFault};
+use sqlite::{Alter, Connection, Error, ErrorCode};
+
+// What the refusal of a statement tells of its store.
+fn tell(error: Error) -> Result<bool, ShelfFault>
+    ensures { result ≡ told_by error }
+{
+    match error {
+        Error::SqliteFailure(ErrorCode::Closed) => Ok(true),
+        Error::SqliteFailure(ErrorCode::OutOfMemory) => Err(ShelfFault::NoMemory),
+        Error::SqliteFailure(
+            ErrorCode::SystemIoFailure | ErrorCode::DatabaseCorrupt | ErrorCode::DiskFull,
+        ) => Err(ShelfFault::Store),
+        _ => Ok(false),
+    }
+}
+
+// A store that is open reads a statement, and one that was shut says that it is.
+fn ask<S: Alter>(conn: &mut Connection<S>) -> Result<bool, ShelfFault>
+    ensures told { HasCleanDisk (state S.Store conn.new) → IsTold (state S.Store conn.old) (state S.Store conn.new) result }
+    ensures kept { HasCleanDisk (state S.Store conn.new) → Refused (state S.Store conn.old) (state S.Store conn.new) }
+    ensures survives { Survives (state S.Store conn.old) (state S.Store conn.new) (λ _. ⊥) }
+{
+    if let Err(error) = conn.prepare("SELECT version FROM office") {
+        return tell(error);
+    }
+    Ok(false)
+}
+
+impl<S: Alter> SqlShelf<S> {
+    /// Whether a fault of the disk shut its store for good: from then on it answers nothing but faults, until the office is opened anew.
+    /// Nothing changes. `NoMemory` where there is none to ask, and `Store` where the disk failed meanwhile.
+    pub fn is_shut(&mut self) -> Result<bool, ShelfFault>
+        ensures told { HasCleanDisk (state S.Store self.new.0) → IfOk result (λ shut. shut ≡ not (state S.Store self.old.0).is_open) }
+        ensures lasts { HasCleanDisk (state S.Store self.new.0) → OnOk result ((state S.Store self.new.0).is_open ≡ (state S.Store self.old.0).is_open) }
+        ensures cause { HasCleanDisk (state S.Store self.new.0)
+            → IfErr result (λ fault. (fault ≡ ShelfFault.NoMemory) ⊎ MoreFaults (state S.Store self.old.0).faults (state S.Store self.new.0).faults) }
+        ensures keeps { Keeps (sql_meaning S.Store) self.old self.new }
+        ensures counts { CountsFaults (sql_meaning S.Store) self.old self.new result }
+    {
+        match ask(&mut self.conn) {
+            Ok(shut) => Ok(shut),
+            Err(fault) => Err(self.count(fault)),
+        }
+    }
+}

@@ -1,0 +1,15 @@
+//! An office in SQL, as a shelf over a store that outlives the program.
+ghost use Rattle.sqlite.specs.Held.{state};
+
+use crate::shelf::SqlShelf;
+use office_base::shelf::ShelfFault;
+use sqlite::Alter;
+use stored_shelf::stored::StoredShelf;
+
+impl<S: Alter> StoredShelf for SqlShelf<S> {
+    ghost store = { record { is_open = λ shelf. (state S.Store shelf.0).is_open; disk_faults = λ shelf. (state S.Store shelf.0).faults } };
+
+    fn is_shut(&mut self) -> Result<bool, ShelfFault> {
+        SqlShelf::is_shut(self)
+    }
+}

@@ -1,0 +1,76 @@
+-- An office that was opened in files goes on from what they had, in what is found of them once they are closed.
+use Rattle.std.proofs.Common.{◌≡◌, inl, inr, Result, Ok, Err, IfOk, ℕ, ◌+◌, ◌≤◌, List, [], ◌∷◌, ◌++◌, length, refl, sym, subst, ◌∙◌, arith, length-append}
+use Rattle.sqlite_disk.specs.declared.Disk.{Ghosts}
+use Rattle.sqlite_disk.specs.declared.Files.{Files}
+use Rattle.sqlite_wal.specs.Recovery.{Image}
+use Rattle.sqlite_wal.specs.Reads.{AreClean}
+use Rattle.sqlite_store.specs.declared.store.FileStore.{FileStore}
+use Rattle.sqlite.specs.Held.{Held as Connected}
+use Rattle.sqlite.specs.Files.{file_state, over_files}
+use Rattle.sqlite.specs.Closing.{HoldsAlone, IsCopied}
+use Rattle.sqlite.specs.State.{HasCleanDisk}
+use Rattle.office_values.specs.declared.settings.Settings.{Settings}
+use Rattle.office_base.specs.Shelves.{Keeps, Meaning}
+use Rattle.office_base.specs.Tables.{Tables}
+use Rattle.office_sql.specs.Steps.{ShowsTables}
+use Rattle.office_desk.specs.Desks.{DeskOf}
+use Rattle.office_store.specs.Reopening.{HoldsOffice, OpensBlank, OpensHeld}
+use Rattle.office_store.specs.SqlMeaning.{sql_meaning}
+use Rattle.office_wire.specs.Runs.{Step, office_left}
+use Rattle.office_http.specs.Answering.{Held, office_answers}
+use Rattle.procure_programs.specs.Serving.{DaysFollow, HaveOffice, MayBeFound, ServesFiles, StandsIn, WasServed}
+use Rattle.procure_programs.proofs.ServingSteps.{office_on, served_none, served_still}
+
+module _ {D : Type 0} {g : Ghosts D} where
+  -- what files have is shown by what was opened there
+  shows_files : (image : Image) (now : Connected (FileStore D g)) → OpensHeld image now → OpensBlank image now → HasCleanDisk (file_state now)
+      → (t : Tables) → HaveOffice image t → ShowsTables (file_state now) t
+  shows_files image now held blank clean t (inl it) = held clean t it
+  shows_files image now held blank clean t (inr (none, is)) = subst (ShowsTables (file_state now)) (sym is) (blank clean none)
+
+  -- what is found of closed files holds what was shown as they were closed
+  holds_found : (last : Connected (FileStore D g)) (files : Files D) → IsCopied last files → (now : Image) → MayBeFound g files now
+      → (t : Tables) → ShowsTables (file_state last) t → HoldsOffice now t
+  holds_found last files copied now (mid, which, log) t shows =
+      let trees = (file_state last).committed.trees in
+      let there : HoldsAlone mid trees = elim which [
+        | inl same ↦ subst (λ (image : Image). HoldsAlone image trees) (sym same) copied.seen
+        | inr after ↦ copied.left mid after
+      ] in
+      elim log [
+        | inl same ↦ subst (λ (image : Image). HoldsOffice image t) (sym same) (trees, there.both, ((file_state last).committed, refl, shows copied.was_open))
+        | inr same ↦ subst (λ (image : Image). HoldsOffice image t) (sym same) (trees, there.alone, ((file_state last).committed, refl, shows copied.was_open))
+      ]
+
+  pub closes : (image : Image) (settings : Settings) (most : ℕ) (old new : Connected (FileStore D g) × ℕ) (files : Files D)
+      → OpensHeld image old.0 → OpensBlank image old.0 → WasServed (sql_meaning over_files) most settings old new
+      → (AreClean g files.log files.db → IsCopied new.0 files) → ServesFiles g image settings most files
+  closes image settings most old new files held blank (before, (_, serves)) copied clean now found h are (sorted, has, stands) =
+      let it = copied clean in
+      let shown = shows_files image old.0 held blank (before it.was_clean) h.tables has in
+      let (steps, few, ((_, (in_order, shows)), left), _) = serves it.was_clean h ((sym are, (sorted, shown)), stands) in
+      (steps, few, (in_order, inl (holds_found new.0 files it now found _ shows), left))
+
+  -- so of what comes back, where the files do
+  pub closes_ok : {R E : Type 0} (image : Image) (settings : Settings) (most : ℕ) (old new : Connected (FileStore D g) × ℕ) (result : Result (Files D × R) E)
+      → OpensHeld image old.0 → OpensBlank image old.0 → WasServed (sql_meaning over_files) most settings old new
+      → IfOk result (λ left. AreClean g left.0.log left.0.db → IsCopied new.0 left.0) → IfOk result (λ left. ServesFiles g image settings most left.0)
+  closes_ok image settings most old new (Ok left) held blank served copied = closes image settings most old new left.0 held blank served copied
+  closes_ok image settings most old new (Err fault) held blank served copied = tt
+
+-- what changes nothing was served by no step
+pub kept_served : {S : Type 0} (M : Meaning S) (settings : Settings) (old new : S) → Keeps M old new → WasServed M 0 settings old new
+kept_served {S = S} M settings old new keeps =
+    let first : DeskOf S = record { shelf = old; settings = settings } in
+    (keeps.before, (settings, served_still M 0 first first (record { shelf = new; settings = settings }) (served_none M 0 first) keeps refl))
+
+settings_stay : (steps : List Step) (h : Held) → (office_left office_answers h steps).settings ≡ h.settings
+settings_stay [] h = refl
+settings_stay (x ∷ steps) h = settings_stay steps (office_answers.after x.busy h x.block)
+
+pub days_follow : DaysFollow
+days_follow settings first mid last n m before behind h are stands =
+    let (xs, few, there) = before h are stands in
+    let (ys, more, left) = behind (office_left office_answers h xs) (settings_stay xs h ∙ are) there in
+    let bound : length (xs ++ ys) ≤ n + m = rw (length-append xs ys) (omega (arith, few, more)) in
+    (xs ++ ys, bound, subst (StandsIn last) (sym (office_on office_answers xs ys h)) left)

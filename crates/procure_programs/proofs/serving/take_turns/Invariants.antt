@@ -1,0 +1,5 @@
+use Rattle.procure_programs.specs.Turns.{GoesOnFor}
+use Rattle.procure_programs.proofs.serving.take_turns.Given as goal
+
+abbrev pub invariant-connections : goal.invariant-connections
+invariant-connections g l = record { turns : GoesOnFor g.H.Lookups.meaning g.H.StoredShelf.store l.taken l.fn.office l.office }
