@@ -3,7 +3,7 @@ ghost use Rattle.std.specs.Prelude.{◌≡◌, IfOk, map, take, slice_get, optio
 ghost use Rattle.sqlite_value.specs.Order.{Row as Values, column, bytes};
 ghost use Rattle.office_rows.specs.Values.{number_in};
 ghost use Rattle.office_rows.specs.Budget.{line_read, batch_read};
-ghost use Rattle.office_rows.specs.Notices.{tenderer_read, notice_read, lot_read};
+ghost use Rattle.office_rows.specs.Notices.{tenderer_read, notice_read, late_read, lot_read};
 ghost use Rattle.office_rows.specs.Tenders.{envelope_read, seal_read, security_read};
 ghost use Rattle.office_rows.specs.Awards.{award_read, contract_read, entry_read};
 ghost use Rattle.office_rows.specs.Releases.{release_read, compiled_read, clock_read};
@@ -19,8 +19,8 @@ use crate::words::{
     perhaps_how_at, security_state_at,
 };
 use office_base::records::{
-    AwardRow, BatchRow, ClockRow, CompiledRow, ContractRow, EntryRow, EnvelopeRow, LineRow, LotRow,
-    NoticeRow, ReleaseRow, SealRow, SecurityRow, TendererRow,
+    AwardRow, BatchRow, ClockRow, CompiledRow, ContractRow, EntryRow, EnvelopeRow, LateRow,
+    LineRow, LotRow, NoticeRow, ReleaseRow, SealRow, SecurityRow, TendererRow,
 };
 use office_base::shelf::ShelfFault;
 use office_values::money::Amount;
@@ -230,6 +230,16 @@ impl Stored for CompiledRow {
         Ok(CompiledRow {
             notice: id_at(row, 0)?,
             text: json_at(alloc, row, 1)?,
+        })
+    }
+}
+
+impl Stored for LateRow {
+    ghost read = { late_read };
+
+    fn from_row(_alloc: Global, row: &Row) -> Result<LateRow, ShelfFault> {
+        Ok(LateRow {
+            notice: id_at(row, 0)?,
         })
     }
 }

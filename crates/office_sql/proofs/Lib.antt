@@ -35,5 +35,6 @@ mod CreateFacts
 mod Makes
 mod Founds
 mod MakingSteps
+mod Earlier
 mod Told
 mod Versions

@@ -5,5 +5,6 @@ pub mod Known
 pub mod Standing
 pub mod Steps
 pub mod Making
+pub mod Earlier
 pub mod Laws
 pub mod Version

@@ -1,6 +1,7 @@
 mod Once
 mod Shelves
 mod Founding
+mod Completing
 mod Reopening
 mod Joined
 mod Taking

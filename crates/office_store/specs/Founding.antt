@@ -11,21 +11,22 @@ use Rattle.sqlite_catalog.specs.Change.{is_used}
 use Rattle.sqlite.specs.Effect.{IsDatabase}
 use Rattle.sqlite.specs.Held.{Held, state}
 use Rattle.sqlite.specs.State.{State}
-use Rattle.office_base.specs.Tables.{no_tables}
+use Rattle.office_base.specs.Tables.{Tables, no_tables}
+use Rattle.office_sql.specs.Earlier.{has_later, HoldsEarlier}
 use Rattle.office_sql.specs.Making.{KeepsOthers}
 use Rattle.office_sql.specs.Standing.{Holds}
-use Rattle.office_sql.specs.Steps.{Leaves, IsAsked}
+use Rattle.office_sql.specs.Steps.{Leaves, Refused, IsAsked}
 use Rattle.office_sql.specs.Version.{get_version, HasNoVersion}
 
 -- the names of the office's tables, of the indexes that it makes on them, and of the indexes that come with their keys
 abbrev pub office_names : List (List ℕ)
 office_names =
     codes "lines" ∷ codes "batches" ∷ codes "tenderers" ∷ codes "notices" ∷ codes "lots" ∷ codes "envelopes" ∷ codes "seals"
-    ∷ codes "securities" ∷ codes "awards" ∷ codes "contracts" ∷ codes "entries" ∷ codes "releases" ∷ codes "compiled" ∷ codes "office"
+    ∷ codes "securities" ∷ codes "awards" ∷ codes "contracts" ∷ codes "entries" ∷ codes "releases" ∷ codes "compiled" ∷ codes "office" ∷ codes "late_rules"
     ∷ codes "lots_of_line" ∷ codes "envelopes_of_notice" ∷ codes "securities_of_notice" ∷ codes "awards_of_notice" ∷ codes "contracts_of_notice"
     ∷ codes "sqlite_autoindex_lines_1" ∷ codes "sqlite_autoindex_batches_1" ∷ codes "sqlite_autoindex_tenderers_1" ∷ codes "sqlite_autoindex_notices_1"
     ∷ codes "sqlite_autoindex_lots_1" ∷ codes "sqlite_autoindex_entries_1" ∷ codes "sqlite_autoindex_releases_1" ∷ codes "sqlite_autoindex_compiled_1"
-    ∷ []
+    ∷ codes "sqlite_autoindex_late_rules_1" ∷ []
 
 -- a table, an index or a view of the schema has one of them, so that a CREATE of the office would be refused
 abbrev pub takes_a_name : Schema → Bool
@@ -61,13 +62,30 @@ IsSoundOpen s = IsTrue s.is_open → IsDatabase s.committed
 abbrev pub LeavesNew : State → Trees → Type 0
 LeavesNew old trees = IsTrue old.is_open × (IsDatabase old.committed → Leaves no_tables trees)
 
--- what an opening may commit: the whole of an empty office
-abbrev pub LeavesOffice : State → Trees → Type 0
-LeavesOffice old trees = IsTrue old.is_open × Leaves no_tables trees
+-- an office of an earlier program has all tables now, with its content, beside what was there
+pub record Completed (old new : State) : Type 0 where
+  pub was_open : IsTrue old.is_open
+  pub is_open : IsTrue new.is_open
+  pub tables : (t : Tables) → HoldsEarlier old.committed t → Holds new.committed t
+  pub others : KeepsOthers old.committed new.committed
+  -- a stop leaves it and nothing else
+  pub only : (db : Trees) → new.may_leave db → db ≡ new.committed.trees
 
--- an office of version 1 was there; or nothing answered, no name was taken, and an office was made
+-- what the commit of the tables that an office of an earlier program lacks leaves
+abbrev pub LeavesCompleted : State → Trees → Type 0
+LeavesCompleted old trees = IsTrue old.is_open × ((t : Tables) → HoldsEarlier old.committed t → Leaves t trees)
+
+-- what an opening may commit: the whole of an empty office, or the whole of an office of an earlier program with the tables that it lacked
+abbrev pub LeavesOffice : State → Trees → Type 0
+LeavesOffice old trees = (IsTrue old.is_open × Leaves no_tables trees) ⊎ LeavesCompleted old trees
+
+-- the last commit is as it was; or the tables that came later weren't there, and were made
+abbrev pub Readied : State → State → Type 0
+Readied old new = Refused old new ⊎ ((has_later old.committed.schema ≡ false) × Completed old new)
+
+-- an office of version 1 was there, and has all tables now; or nothing answered, no name was taken, and an office was made
 abbrev pub Enters : {S : Type 0} → Ghosts S → Held S → Held S → Type 0
-Enters g old new = Answered g old true ⊎ (HasNoVersion g old × (takes_a_name old.schema ≡ false) × Founded (state g old) (state g new))
+Enters g old new = (Answered g old true × Readied (state g old) (state g new)) ⊎ (HasNoVersion g old × (takes_a_name old.schema ≡ false) × Founded (state g old) (state g new))
 
 -- what answered is another version or no single row; or nothing answered, and a name is taken
 abbrev pub IsNoOffice : {S : Type 0} → Ghosts S → Held S → Type 0

@@ -11,27 +11,28 @@ use Rattle.sqlite.specs.Files.{file_state, over_files, image_of, Finds, IsOpened
 use Rattle.sqlite.specs.Closing.{IsCopied}
 use Rattle.sqlite.specs.declared.file.Leftover.{Leftover}
 use Rattle.office_base.specs.Tables.{Tables, no_tables}
+use Rattle.office_sql.specs.Earlier.{ShowsOffice}
 use Rattle.office_sql.specs.Steps.{ShowsTables, Refused}
 use Rattle.office_store.specs.Founding.{Enters, IsNoOffice, LeavesOffice}
 use Rattle.office_store.specs.declared.open.OpenRefusal.{OpenRefusal}
 use Rattle.office_store.specs.declared.open.OpenRefusal.TheVariants as refusal
 
--- what stood there was entered: its content is kept, and a stop leaves what was or the whole empty office
+-- what stood there was entered: its content is kept, be it of this program or of an earlier one, and a stop leaves what was or the whole office
 pub record Entered {S : Type 0} (g : StoreGhosts S) (before now : Held S) : Type 0 where
   pub enters : Enters g before now
-  pub kept : (t : Tables) → ShowsTables (state g before) t → ShowsTables (state g now) t
+  pub kept : (t : Tables) → ShowsOffice (state g before) t → ShowsTables (state g now) t
   pub stops : Survives (state g before) (state g now) (LeavesOffice (state g before))
 
--- what stood there was refused: its last commit is as it was, and a stop leaves what was or the whole empty office
+-- what stood there was refused: its last commit is as it was, and a stop leaves what was or the whole office
 pub record Left {S : Type 0} (g : StoreGhosts S) (before now : Held S) : Type 0 where
   pub kept : Refused (state g before) (state g now)
   pub stops : Survives (state g before) (state g now) (LeavesOffice (state g before))
 
 module _ {D : Type 0} {g : Ghosts D} where
-  -- it shows what was shown when the files were closed
+  -- it shows what was shown when the files were closed, by this program or by an earlier one
   abbrev pub OpensAgain : Files D → Held (FileStore D g) → Type 0
   OpensAgain files now = HasCleanDisk (file_state now) → (last : Held (FileStore D g)) → (AreClean g files.log files.db → IsCopied last files)
-      → (t : Tables) → ShowsTables (file_state last) t → ShowsTables (file_state now) t
+      → (t : Tables) → ShowsOffice (file_state last) t → ShowsTables (file_state now) t
 
   -- what was found in the files was entered
   abbrev pub EntersFiles : Files D → Held (FileStore D g) → Type 0
@@ -53,7 +54,7 @@ LeavesOpening {D = D} g files =
 
 -- no office was closed in the files
 abbrev pub HaveNoOffice : {D : Type 0} → (g : Ghosts D) → Files D → Type 0
-HaveNoOffice {D = D} g files = (last : Held (FileStore D g)) → (AreClean g files.log files.db → IsCopied last files) → (t : Tables) → ShowsTables (file_state last) t → ⊥
+HaveNoOffice {D = D} g files = (last : Held (FileStore D g)) → (AreClean g files.log files.db → IsCopied last files) → (t : Tables) → ShowsOffice (file_state last) t → ⊥
 
 -- files that are no office come back usable, with the last commit that they had
 abbrev pub RefusesFiles : {D : Type 0} → Ghosts D → Files D → OpenRefusal D → Type 0

@@ -5,10 +5,12 @@ ghost use Rattle.sqlite_catalog.specs.Change.{is_used};
 ghost use Rattle.sqlite.specs.Held.{state};
 ghost use Rattle.sqlite.specs.State.{HasCleanDisk, Survives};
 ghost use Rattle.office_base.specs.Tables.{Tables};
+ghost use Rattle.office_sql.specs.Earlier.{ShowsOffice};
 ghost use Rattle.office_sql.specs.Steps.{Refused, ShowsTables};
 ghost use Rattle.office_store.specs.Founding.{Founded, LeavesNew, LeavesOffice, Enters, IsNoOffice, IsSoundOpen, takes_a_name, has_rowids, is_version_one};
 ghost use Rattle.office_store.specs.SqlMeaning.{LeavesShown};
 
+use crate::complete::ready;
 use crate::faults::fault;
 use office_base::shelf::ShelfFault;
 use office_sql::make::make;
@@ -70,7 +72,7 @@ fn any_is_used(schema: &Schema, names: &[&[u8]]) -> bool
 fn takes_a_name(schema: &Schema) -> bool
     ensures { result ≡ takes_a_name schema.now }
 {
-    let names: [&[u8]; 27] = [
+    let names: [&[u8]; 29] = [
         b"lines",
         b"batches",
         b"tenderers",
@@ -85,6 +87,7 @@ fn takes_a_name(schema: &Schema) -> bool
         b"releases",
         b"compiled",
         b"office",
+        b"late_rules",
         b"lots_of_line",
         b"envelopes_of_notice",
         b"securities_of_notice",
@@ -98,6 +101,7 @@ fn takes_a_name(schema: &Schema) -> bool
         b"sqlite_autoindex_entries_1",
         b"sqlite_autoindex_releases_1",
         b"sqlite_autoindex_compiled_1",
+        b"sqlite_autoindex_late_rules_1",
     ];
     any_is_used(schema, names.as_slice())
 }
@@ -120,7 +124,7 @@ fn has_rowids(schema: &Schema) -> bool
 }
 
 // A store that answered may have been shut by the end of the transaction in which it was asked: this one is open.
-fn still_open<S: Alter>(conn: &mut Connection<S>) -> Result<(), OpenFault>
+pub(crate) fn still_open<S: Alter>(conn: &mut Connection<S>) -> Result<(), OpenFault>
     ensures is_open { HasCleanDisk (state S.Store conn.new) → OnOk result (IsTrue (state S.Store conn.new).is_open) }
     ensures cause { IfErr result (λ e. e ≡ OpenFault.NotAnOffice → ⊥) }
     ensures kept { HasCleanDisk (state S.Store conn.new) → Refused (state S.Store conn.old) (state S.Store conn.new) }
@@ -132,12 +136,13 @@ fn still_open<S: Alter>(conn: &mut Connection<S>) -> Result<(), OpenFault>
     Ok(())
 }
 
-/// Enters the office that is there, or makes one where no name of the office's is taken. The store is open then.
+/// Enters the office that is there, with the tables that an earlier program didn't make, or makes one where no name of the office's is taken. The
+/// store is open then.
 pub(crate) fn enter<S: Alter>(conn: &mut Connection<S>) -> Result<(), OpenFault>
     ensures enters { HasCleanDisk (state S.Store conn.new) → OnOk result (Enters S.Store conn.old conn.new) }
     ensures none { HasCleanDisk (state S.Store conn.new) → IfErr result (λ e. e ≡ OpenFault.NotAnOffice → IsNoOffice S.Store conn.old) }
-    ensures found { HasCleanDisk (state S.Store conn.new) → (t : Tables) → ShowsTables (state S.Store conn.old) t → OnOk result (ShowsTables (state S.Store conn.new) t) }
-    ensures known { HasCleanDisk (state S.Store conn.new) → (t : Tables) → ShowsTables (state S.Store conn.old) t → IfErr result (λ e. e ≡ OpenFault.NotAnOffice → ⊥) }
+    ensures found { HasCleanDisk (state S.Store conn.new) → (t : Tables) → ShowsOffice (state S.Store conn.old) t → OnOk result (ShowsTables (state S.Store conn.new) t) }
+    ensures known { HasCleanDisk (state S.Store conn.new) → (t : Tables) → ShowsOffice (state S.Store conn.old) t → IfErr result (λ e. e ≡ OpenFault.NotAnOffice → ⊥) }
     ensures is_open { HasCleanDisk (state S.Store conn.new) → OnOk result (IsTrue (state S.Store conn.new).is_open) }
     ensures sound { HasCleanDisk (state S.Store conn.new) → OnOk result (LeavesShown (state S.Store conn.new)) }
     ensures kept { HasCleanDisk (state S.Store conn.new) → OnErr result (Refused (state S.Store conn.old) (state S.Store conn.new)) }
@@ -156,7 +161,7 @@ pub(crate) fn enter<S: Alter>(conn: &mut Connection<S>) -> Result<(), OpenFault>
             if !has_key {
                 return Err(OpenFault::Store);
             }
-            match still_open(conn) {
+            match ready(conn) {
                 Ok(()) => Ok(()),
                 Err(fault) => Err(fault),
             }

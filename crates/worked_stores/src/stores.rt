@@ -37,8 +37,8 @@ pub(crate) fn all_changed(
     Ok(disks)
 }
 
-// Each of an office's tables, in the order of its keys.
-const TABLES: [&str; 14] = [
+/// Each of an office's tables, in the order of its keys, the one that came later at the end.
+pub(crate) const TABLES: [&str; 15] = [
     "SELECT * FROM office ORDER BY version",
     "SELECT * FROM lines ORDER BY line",
     "SELECT * FROM batches ORDER BY batch",
@@ -53,20 +53,28 @@ const TABLES: [&str; 14] = [
     "SELECT * FROM entries ORDER BY contract, entry",
     "SELECT * FROM releases ORDER BY notice, seq",
     "SELECT * FROM compiled ORDER BY notice",
+    "SELECT * FROM late_rules ORDER BY notice",
 ];
 
-/// All rows of the office in these files.
-pub(crate) fn tables_in(alloc: Global, disks: Disks) -> Result<Vec<u8>, Wrong> {
-    let mut database = Database::open(
-        alloc,
-        opened(alloc, disks)?.close().ok_or(Wrong::Unopened)?,
-    ).ok_or(Wrong::Unopened)?;
+/// All rows that these questions have for their answers in these files, whether or not they are an office's.
+pub(crate) fn rows_in(alloc: Global, disks: Disks, questions: &[&str]) -> Result<Vec<u8>, Wrong> {
+    let mut database = Database::open(alloc, disks).ok_or(Wrong::Unopened)?;
     let mut bytes = Vec::new(alloc);
-    for table in TABLES {
-        bytes.extend_from_slice(table.as_bytes())?;
+    for question in questions {
+        bytes.extend_from_slice(question.as_bytes())?;
         database
-            .append_all(&mut bytes, table)
+            .append_all(&mut bytes, question)
             .ok_or(Wrong::Unopened)?;
     }
     Ok(bytes)
+}
+
+/// The files of the office in these, once it was opened and closed.
+pub(crate) fn reopened(alloc: Global, disks: Disks) -> Result<Disks, Wrong> {
+    opened(alloc, disks)?.close().ok_or(Wrong::Unopened)
+}
+
+/// All rows of the office in these files.
+pub(crate) fn tables_in(alloc: Global, disks: Disks) -> Result<Vec<u8>, Wrong> {
+    rows_in(alloc, reopened(alloc, disks)?, TABLES.as_slice())
 }
