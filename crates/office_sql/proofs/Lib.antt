@@ -35,6 +35,7 @@ mod CreateFacts
 mod Makes
 mod Founds
 mod MakingSteps
+mod Earlier
 mod Told
 mod Versions
 mod Failing

@@ -8,6 +8,7 @@ ghost use Rattle.office_rows.specs.Releases.{clock_row};
 ghost use Rattle.office_sql.specs.Schema.{OfficeTable, table_of, put_office};
 ghost use Rattle.office_sql.specs.Schema.OfficeTable.{Lines, Batches, Tenderers, Notices, Lots, Envelopes, Seals, Securities, Awards, Contracts, Entries, Releases, Compiled, Office};
 ghost use Rattle.office_sql.specs.Making.{IsCreate, IsIndexing, Makes, Indexes, Founds, all_tables};
+ghost use Rattle.office_sql.specs.Earlier.{later_tables, has_later, Completes};
 ghost use Rattle.office_sql.specs.Steps.{Refused};
 
 use crate::statement::execute_one;
@@ -17,6 +18,7 @@ use office_rows::values::clock_values;
 use office_values::given::LastNumber;
 use office_values::moment::Moment;
 use sqlite::{Alter, Error, Transaction};
+use sqlite_schema::schema::Schema;
 
 // One CREATE TABLE.
 fn make_table<S: Alter>(tx: &mut Transaction<'_, S>, sql: &str) -> Result<(), Error>
@@ -130,6 +132,37 @@ fn make_kept<S: Alter>(tx: &mut Transaction<'_, S>) -> Result<(), Error>
     )
 }
 
+// The tables that came later: the notices whose tenders may be withdrawn late.
+fn make_later<S: Alter>(tx: &mut Transaction<'_, S>) -> Result<(), Error>
+    ensures same_reference { tx.new.conn.ghost_name ≡ tx.old.conn.ghost_name }
+    ensures made { HasCleanDisk (state S.Store tx.new.conn.now) → IsTrue (state S.Store tx.old.conn.now).in_transaction → OnOk result (Makes (state S.Store tx.old.conn.now) (state S.Store tx.new.conn.now) later_tables) }
+    ensures refused { HasCleanDisk (state S.Store tx.new.conn.now) → IsTrue (state S.Store tx.old.conn.now).in_transaction → OnErr result (Refused (state S.Store tx.old.conn.now) (state S.Store tx.new.conn.now)) }
+    ensures survives { Survives (state S.Store tx.old.conn.now) (state S.Store tx.new.conn.now) (λ _. ⊥) }
+{
+    make_table(
+        tx,
+        "CREATE TABLE late_rules (notice TEXT NOT NULL PRIMARY KEY CHECK (length(notice) BETWEEN 1 AND 32)) STRICT",
+    )
+}
+
+/// Makes the tables that an office of an earlier program lacks, with no rows, beside what is there. Where it is refused, as where an index or a
+/// view has a name of theirs, nothing is committed.
+pub fn complete<S: Alter>(tx: &mut Transaction<'_, S>) -> Result<(), Error>
+    ensures same_reference { tx.new.conn.ghost_name ≡ tx.old.conn.ghost_name }
+    ensures completes { HasCleanDisk (state S.Store tx.new.conn.now) → IsTrue (state S.Store tx.old.conn.now).in_transaction → OnOk result (Completes (state S.Store tx.old.conn.now) (state S.Store tx.new.conn.now)) }
+    ensures refused { HasCleanDisk (state S.Store tx.new.conn.now) → IsTrue (state S.Store tx.old.conn.now).in_transaction → OnErr result (Refused (state S.Store tx.old.conn.now) (state S.Store tx.new.conn.now)) }
+    ensures survives { Survives (state S.Store tx.old.conn.now) (state S.Store tx.new.conn.now) (λ _. ⊥) }
+{
+    make_later(tx)
+}
+
+/// Whether the tables that came later are there.
+pub fn has_later(schema: &Schema) -> bool
+    ensures { result ≡ has_later schema.now }
+{
+    schema.table_named(b"late_rules").is_some()
+}
+
 // All tables.
 fn make_tables<S: Alter>(tx: &mut Transaction<'_, S>) -> Result<(), Error>
     ensures same_reference { tx.new.conn.ghost_name ≡ tx.old.conn.ghost_name }
@@ -140,7 +173,8 @@ fn make_tables<S: Alter>(tx: &mut Transaction<'_, S>) -> Result<(), Error>
     make_budget(tx)?;
     make_tenders(tx)?;
     make_contracts(tx)?;
-    make_kept(tx)
+    make_kept(tx)?;
+    make_later(tx)
 }
 
 // The first indexes.

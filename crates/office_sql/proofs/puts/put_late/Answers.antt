@@ -1,0 +1,9 @@
+use Rattle.sqlite.specs.Held.{state}
+use Rattle.office_sql.proofs.PutStatements.{puts_late}
+use Rattle.office_sql.proofs.Stepping.{on_ok_with}
+use Rattle.office_sql.proofs.puts.put_late.Goals as goal
+
+pub returns-clause-puts : goal.returns-clause-puts
+returns-clause-puts g c clean inside =
+    on_ok_with c.execute_one.result _ _ (rw c.late_values.ensures.row at (c.execute_one.ensures.ran clean inside)) (λ h.
+    puts_late (state g.S.Store c.args.tx.now.conn.now) (state g.S.Store c.execute_one.new.tx.conn.now) c.args.row.now h.0 c.late_rules_come_back.ensures h.1)
