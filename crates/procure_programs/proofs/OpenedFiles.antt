@@ -38,8 +38,8 @@ module _ {D : Type 0} {g : Ghosts D} where
         | inr after ↦ copied.left mid after
       ] in
       elim log [
-        | inl same ↦ subst (λ (image : Image). HoldsOffice image t) (sym same) (trees, there.both, ((file_state last).committed, refl, shows copied.was_open))
-        | inr same ↦ subst (λ (image : Image). HoldsOffice image t) (sym same) (trees, there.alone, ((file_state last).committed, refl, shows copied.was_open))
+        | inl same ↦ subst (λ (image : Image). HoldsOffice image t) (sym same) (trees, there.both, ((file_state last).committed, refl, inl (shows copied.was_open)))
+        | inr same ↦ subst (λ (image : Image). HoldsOffice image t) (sym same) (trees, there.alone, ((file_state last).committed, refl, inl (shows copied.was_open)))
       ]
 
   pub closes : (image : Image) (settings : Settings) (most : ℕ) (old new : Connected (FileStore D g) × ℕ) (files : Files D)

@@ -1,6 +1,6 @@
 use Rattle.std.proofs.Common.{rules, arith, ◌≡◌, OnOk, subst, IsTrue}
 use Rattle.sqlite.specs.Held.{state}
-use Rattle.sqlite.specs.State.{HasCleanDisk, Survives}
+use Rattle.sqlite.specs.State.{HasCleanDisk, IsLive, Survives}
 use Rattle.sqlite.proofs.StateLemmas.{survives_then}
 use Rattle.sqlite.proofs.Callers.{survives_begin}
 use Rattle.office_sql.specs.Steps.{Refused}
@@ -34,9 +34,10 @@ returns-clause-completed g c clean =
     let late : HasCleanDisk (state g.S.Store end) = search rules in
     let early : HasCleanDisk (state g.S.Store mid) = omega (arith, c.commit.ensures.survives.clean) in
     let made = rw begun at (c.in_ok-complete.ensures.completes early inside) in
+    let live : IsLive (state g.S.Store old) = search rules in
     subst (λ h. OnOk c.commit.result (Completed (state g.S.Store old) (state g.S.Store h))) same
     (on_ok_with c.commit.result _ _ (c.commit.ensures.ok late) (λ ok.
-    completed (state g.S.Store old) (state g.S.Store mid) settled made (state g.S.Store end) ok.1 (λ open_now db leaves. g.met.S.Store.settled end.store db open_now leaves)))
+    completed (state g.S.Store old) (state g.S.Store mid) live settled made (state g.S.Store end) ok.1 (λ open_now db leaves. g.met.S.Store.settled end.store db open_now leaves)))
 
 pub returns-clause-survives : goal.returns-clause-survives
 returns-clause-survives g c =
@@ -46,10 +47,11 @@ returns-clause-survives g c =
     let begun = c.transaction-tx.ensures.begun in
     let inside : IsTrue (state g.S.Store c.transaction-tx.result.conn.now).in_transaction = search rules in
     let settled : IsTrue (state g.S.Store old).is_open → (state g.S.Store old).now ≡ (state g.S.Store old).committed = search rules in
+    let live : IsLive (state g.S.Store old) = search rules in
     let P = LeavesCompleted (state g.S.Store old) in
     let early : HasCleanDisk (state g.S.Store end) → HasCleanDisk (state g.S.Store mid) = λ clean. omega (arith, clean, c.commit.ensures.survives.clean) in
     let whole = survives_then (state g.S.Store old) (state g.S.Store mid) (state g.S.Store end) _ _ P (λ _ db none. absurd none)
-    (λ clean db is. completed_leaves (state g.S.Store old) (state g.S.Store mid) settled (rw begun at (c.in_ok-complete.ensures.completes (early clean) inside)) db is)
+    (λ clean db is. completed_leaves (state g.S.Store old) (state g.S.Store mid) live settled (rw begun at (c.in_ok-complete.ensures.completes (early clean) inside)) db is)
     (survives_begin g.S.Store old (state g.S.Store mid) _ (rw begun at c.complete.ensures.survives)) c.commit.ensures.survives in
     let same : end ≡ c.conn-2-1.given.0 = search rules in
     subst (λ h. Survives (state g.S.Store old) (state g.S.Store h) P) same whole
