@@ -58,3 +58,7 @@ INSERT INTO office VALUES(1,1795653517,3,1);"##;
 /// Its lots, whose items are lines of fields with tabs between.
 pub const EARLIER_LOTS: &str =
     "INSERT INTO lots VALUES('N1','L1','North','1000',600,50,'I1\t1\tPaving\n','contracted',0);\nINSERT INTO lots VALUES('N2','L1','South','2000',100,10,'I1\t2\tSteel\n','undecided',100);\n";
+
+/// Its ledger.
+pub const EARLIER_LEDGER: &str =
+    "LEDGER\nline\tappropriation\tfree\treserved\tcontracted\tpaid\n1000\t1000\t250\t0\t450\t300\n2000\t500\t400\t100\t0\t0\n";

@@ -59,9 +59,27 @@ fn names_are_taken(rt: HostRuntime) {
     assert!(rt; shows_number(alloc, lots, "SELECT x FROM lots", 5));
     let view = "CREATE VIEW seals AS SELECT 6";
     assert!(rt; shows_number(alloc, view, "SELECT * FROM seals", 6));
+    let late = "CREATE TABLE late_rules (x INTEGER); INSERT INTO late_rules VALUES (9)";
+    assert!(rt; shows_number(alloc, late, "SELECT x FROM late_rules", 9));
+}
+
+// What a question shows of the files behind these statements, once no office could be made in them.
+fn unmade(alloc: Global, statements: &str, question: &str) -> Option<i64> {
+    let disks = changed(alloc, Disks::blank(alloc), statements)?;
+    match OfficeOnDisks::open(alloc, disks) {
+        Err(Unopened::Unusable(disks)) => number(alloc, disks, question),
+        _ => None,
+    }
+}
+
+// The name of an index of the office's is none of a table's: where it alone is taken, no office can be made, and all stays.
+#[test]
+fn a_name_of_an_index_is_taken(rt: HostRuntime) {
+    let alloc = rt.alloc();
     let index =
         "CREATE TABLE others (a INTEGER); CREATE INDEX lots_of_line ON others (a); INSERT INTO others VALUES (7)";
-    assert!(rt; shows_number(alloc, index, "SELECT a FROM others", 7));
+    let question = "SELECT a FROM others";
+    assert!(rt; unmade(alloc, index, question) == Some(7) || unmade(alloc, index, question) == Some(7));
 }
 
 #[test]
@@ -88,7 +106,7 @@ fn versions_are_others(rt: HostRuntime) {
 // Whether an office's files are refused behind these statements, and not for want of an office.
 fn is_wrong(alloc: Global, statements: &str) -> Option<bool> {
     let disks = changed(alloc, made(alloc).ok()?, statements)?;
-    Some(matches!(OfficeOnDisks::open(alloc, disks), Err(Unopened::Unusable)))
+    Some(matches!(OfficeOnDisks::open(alloc, disks), Err(Unopened::Unusable(_))))
 }
 
 #[test]
