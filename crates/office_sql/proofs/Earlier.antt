@@ -43,13 +43,13 @@ and_both false b h = absurd (true≢false (sym h))
 there_with_all : (schema : Schema) (missing : List OfficeTable) (k : OfficeTable) → Has missing k → list_all (λ j. has_table schema (table_of j).name) missing ≡ true → has_table schema (table_of k).name ≡ true
 there_with_all schema [] k none all = absurd none
 there_with_all schema (j ∷ more) k (inl same) all =
-    subst (λ i. has_table schema (table_of i).name ≡ true) (sym same) (and_both _ (list_all (λ j. has_table schema (table_of j).name) more) all).0
-there_with_all schema (j ∷ more) k (inr later) all = there_with_all schema more k later (and_both (has_table schema (table_of j).name) _ all).1
+    subst (λ i. has_table schema (table_of i).name ≡ true) (sym same) (and_both (has_table schema (table_of j).name) (list_all (λ j. has_table schema (table_of j).name) more) all).0
+there_with_all schema (j ∷ more) k (inr later) all = there_with_all schema more k later (and_both (has_table schema (table_of j).name) (list_all (λ j. has_table schema (table_of j).name) more) all).1
 
 stands_with_all : (missing : List OfficeTable) (db : Database) (t : Tables) (k : OfficeTable) (n : ℕ) → list_all (λ j. has_table db.schema (table_of j).name) missing ≡ true → StandsBut missing db t k n
     → IsIn db.schema (table_of k) n × StandFor k (db.trees n) t
 stands_with_all missing db t k n all (inl it) = it
-stands_with_all missing db t k n all (inr it) = absurd (true≢false (sym (there_with_all db.schema missing k it.0 all) ∙ it.1.0))
+stands_with_all missing db t k n all (inr it) = absurd (true≢false (sym (there_with_all db.schema missing k it.0 all) ∙ it.1))
 
 pub office_whole : (db : Database) (t : Tables) → has_later db.schema ≡ true → HoldsOffice db t → Holds db t
 office_whole db t all was =
@@ -63,7 +63,7 @@ stands_then : (missing : List OfficeTable) (old new : Database) (t : Tables) →
 stands_then missing old new t made stays k n (inl it) = let kept = stays k n it.0 in (n, kept.0, subst (λ rows. StandFor k rows t) (sym kept.1) it.1)
 stands_then missing old new t made stays k n (inr it) =
     let there = all_has (λ k. (m : ℕ) × IsIn new.schema (table_of k) m × (new.trees m ≡ [])) missing k made.each it.0 in
-    (there.0, there.1, subst (λ rows. StandFor k rows t) (sym there.2) it.1.1)
+    (there.0, there.1, subst (λ rows. StandFor k rows t) (sym there.2) it.2)
 
 whole_then : (missing : List OfficeTable) (old new : Database) (t : Tables) → AreMade missing new → KeepsOffice old new → HoldsBut missing old t → Holds new t
 whole_then missing old new t made stays was =

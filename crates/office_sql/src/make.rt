@@ -157,12 +157,19 @@ pub fn complete<S: Alter>(tx: &mut Transaction<'_, S>) -> Result<(), Error>
     make_later(tx)
 }
 
-// Whether the schema has a table of each of these names.
+// Whether the schema has a table of this name.
+fn has_table(schema: &Schema, name: &[u8]) -> bool
+    ensures { result ≡ has_table schema.now name.now }
+{
+    schema.table_named(name).is_some()
+}
+
+// Whether it has one of each of these names.
 fn has_all(schema: &Schema, names: &[&[u8]]) -> bool
     ensures { result ≡ list_all (λ name. has_table schema.now name.now) names.now }
 {
     'names: for name in names {
-        if schema.table_named(name).is_none() {
+        if !has_table(schema, name) {
             return false;
         }
     }
