@@ -368,6 +368,10 @@ late_rules_update : (schema : Schema) (at n : ℕ) → Updates schema at (at_tre
 unfolding everything parsed_in clause_in
 late_rules_update schema at n = refl
 
+pub put_late_rules_one : IsOne put_late_rules 1
+unfolding everything parsed_in
+put_late_rules_one = record { whole = refl; given = refl }
+
 pub put_late_rules_means : (schema : Schema) (n : ℕ) (it : IsIn schema late_rules n) → Means schema put_late_rules (InsertOr it.place Abort (Values late_terms 2) (on_conflict (at_tree late_rules n) 1 late_cells ∷ []))
 put_late_rules_means schema n it =
     upserts_mean schema put_late_rules late_rules n it late_rules_read refl (keyed LateRules) _ (late_rules_rows schema n) (late_rules_key n) 1 late_cells (late_rules_update schema it.place n) (rw (it.stored, found_by_tree schema late_rules n it))

@@ -1,5 +1,6 @@
 //! Making an office in a database, whatever other tables stand there.
 ghost use Rattle.std.specs.Prelude.{◌≡◌, ℕ, false, [], ◌∷◌, Ok, IsTrue, OnOk, OnErr};
+ghost use Rattle.std.specs.List.{list_all};
 ghost use Rattle.sqlite_schema.specs.declared.schema.Index.{Index};
 ghost use Rattle.sqlite.specs.Held.{state};
 ghost use Rattle.sqlite.specs.State.{HasCleanDisk, Survives, ExecutesInside};
@@ -8,7 +9,7 @@ ghost use Rattle.office_rows.specs.Releases.{clock_row};
 ghost use Rattle.office_sql.specs.Schema.{OfficeTable, table_of, put_office};
 ghost use Rattle.office_sql.specs.Schema.OfficeTable.{Lines, Batches, Tenderers, Notices, Lots, Envelopes, Seals, Securities, Awards, Contracts, Entries, Releases, Compiled, Office};
 ghost use Rattle.office_sql.specs.Making.{IsCreate, IsIndexing, Makes, Indexes, Founds, all_tables};
-ghost use Rattle.office_sql.specs.Earlier.{later_tables, has_later, Completes};
+ghost use Rattle.office_sql.specs.Earlier.{later_tables, has_table, has_later, Completes};
 ghost use Rattle.office_sql.specs.Steps.{Refused};
 
 use crate::statement::execute_one;
@@ -156,11 +157,31 @@ pub fn complete<S: Alter>(tx: &mut Transaction<'_, S>) -> Result<(), Error>
     make_later(tx)
 }
 
+// Whether the schema has a table of this name.
+fn has_table(schema: &Schema, name: &[u8]) -> bool
+    ensures { result ≡ has_table schema.now name.now }
+{
+    schema.table_named(name).is_some()
+}
+
+// Whether it has one of each of these names.
+fn has_all(schema: &Schema, names: &[&[u8]]) -> bool
+    ensures { result ≡ list_all (λ name. has_table schema.now name.now) names.now }
+{
+    'names: for name in names {
+        if !has_table(schema, name) {
+            return false;
+        }
+    }
+    true
+}
+
 /// Whether the tables that came later are there.
 pub fn has_later(schema: &Schema) -> bool
     ensures { result ≡ has_later schema.now }
 {
-    schema.table_named(b"late_rules").is_some()
+    let names: [&[u8]; 1] = [b"late_rules"];
+    has_all(schema, names.as_slice())
 }
 
 // All tables.
