@@ -35,7 +35,7 @@ mod CreateFacts
 mod Makes
 mod Founds
 mod MakingSteps
-mod Earlier
+pub mod Earlier
 mod Told
 mod Versions
 mod Failing
