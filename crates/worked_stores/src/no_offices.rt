@@ -63,25 +63,6 @@ fn names_are_taken(rt: HostRuntime) {
     assert!(rt; shows_number(alloc, late, "SELECT x FROM late_rules", 9));
 }
 
-// What a question shows of the files behind these statements, once no office could be made in them.
-fn unmade(alloc: Global, statements: &str, question: &str) -> Option<i64> {
-    let disks = changed(alloc, Disks::blank(alloc), statements)?;
-    match OfficeOnDisks::open(alloc, disks) {
-        Err(Unopened::Unusable(disks)) => number(alloc, disks, question),
-        _ => None,
-    }
-}
-
-// The name of an index of the office's is none of a table's: where it alone is taken, no office can be made, and all stays.
-#[test]
-fn a_name_of_an_index_is_taken(rt: HostRuntime) {
-    let alloc = rt.alloc();
-    let index =
-        "CREATE TABLE others (a INTEGER); CREATE INDEX lots_of_line ON others (a); INSERT INTO others VALUES (7)";
-    let question = "SELECT a FROM others";
-    assert!(rt; unmade(alloc, index, question) == Some(7) || unmade(alloc, index, question) == Some(7));
-}
-
 #[test]
 fn versions_are_others(rt: HostRuntime) {
     let alloc = rt.alloc();
@@ -107,6 +88,24 @@ fn versions_are_others(rt: HostRuntime) {
 fn is_wrong(alloc: Global, statements: &str) -> Option<bool> {
     let disks = changed(alloc, made(alloc).ok()?, statements)?;
     Some(matches!(OfficeOnDisks::open(alloc, disks), Err(Unopened::Unusable(_))))
+}
+
+// What a question shows of files behind these statements in which no office could then be made.
+fn unmade(alloc: Global, statements: &str, question: &str) -> Option<i64> {
+    let disks = changed(alloc, Disks::blank(alloc), statements)?;
+    match OfficeOnDisks::open(alloc, disks) {
+        Err(Unopened::Unusable(disks)) => number(alloc, disks, question),
+        _ => None,
+    }
+}
+
+#[test]
+fn names_of_indexes_are_taken(rt: HostRuntime) {
+    let alloc = rt.alloc();
+    let ours =
+        "CREATE TABLE others (a INTEGER); CREATE INDEX lots_of_line ON others (a); INSERT INTO others VALUES (7)";
+    let question = "SELECT a FROM others";
+    assert!(rt; unmade(alloc, ours, question) == Some(7) || unmade(alloc, ours, question) == Some(7));
 }
 
 #[test]
