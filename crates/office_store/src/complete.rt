@@ -37,14 +37,15 @@ pub(crate) fn ready<S: Alter>(conn: &mut Connection<S>) -> Result<(), OpenFault>
     if !conn.is_autocommit() {
         return Err(OpenFault::Store);
     }
-    if !has_later(conn.schema()) {
-        return match completed(conn) {
+    if has_later(conn.schema()) {
+        match still_open(conn) {
+            Ok(()) => Ok(()),
+            Err(fault) => Err(fault),
+        }
+    } else {
+        match completed(conn) {
             Ok(()) => Ok(()),
             Err(error) => Err(open_fault(error)),
-        };
-    }
-    match still_open(conn) {
-        Ok(()) => Ok(()),
-        Err(fault) => Err(fault),
+        }
     }
 }
