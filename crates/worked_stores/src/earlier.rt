@@ -40,7 +40,7 @@ fn late_rules(alloc: Global, disks: &Disks) -> Result<Option<i64>, Wrong> {
 
 // Whether it is the office with these rows and that table, which has none.
 fn is_complete(alloc: Global, disks: &Disks, rows: &[u8]) -> Result<bool, Wrong> {
-    Ok(rows_of_earlier(alloc, disks)? == rows && late_rules(alloc, disks)? == Some(0))
+    Ok(rows_of_earlier(alloc, disks)?.as_slice() == rows && late_rules(alloc, disks)? == Some(0))
 }
 
 // Whether the office is the same once it was opened, and again, and has that table then.
@@ -109,7 +109,7 @@ impl Found {
             Some(_) => self.with = self.with.saturating_add(1),
             None => self.without = self.without.saturating_add(1),
         }
-        let is_same = rows_of_earlier(alloc, &disks)? == rows;
+        let is_same = rows_of_earlier(alloc, &disks)?.as_slice() == rows;
         let again = reopened(alloc, disks)?;
         Ok(is_same && is_complete(alloc, &again, rows)?)
     }
