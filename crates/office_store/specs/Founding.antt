@@ -65,34 +65,29 @@ pub record HasAdded (old new : Database) : Type 0 where
   pub others : KeepsOthers old new
   pub tables : (t : Tables) → HoldsOffice old t → Holds new t
 
--- these tables were added
+-- these tables weren't there, and were added
 pub record Completed (old new : State) : Type 0 where
   pub was_open : IsTrue old.is_open
+  pub lacked : has_later old.committed.schema ≡ false
   pub is_open : IsTrue new.is_open
   pub added : HasAdded old.committed new.committed
   -- a stop leaves this and nothing else
   pub only : (db : Trees) → new.may_leave db → db ≡ new.committed.trees
 
--- what the commit of the tables that are added leaves
+-- what the commit of these tables leaves, where they weren't there
 abbrev pub LeavesCompleted : State → Trees → Type 0
-LeavesCompleted old trees = IsTrue old.is_open × ((db : Database) × (trees ≡ db.trees) × HasAdded old.committed db)
-
--- the same, where they weren't there
-abbrev pub LeavesReadied : State → Trees → Type 0
-LeavesReadied old trees = (has_later old.committed.schema ≡ false) × LeavesCompleted old trees
+LeavesCompleted old trees = IsTrue old.is_open × (has_later old.committed.schema ≡ false) × ((db : Database) × (trees ≡ db.trees) × HasAdded old.committed db)
 
 -- the tables that came later are there: they were, and the last commit is as it was; or they weren't, and were added
 abbrev pub Readied : State → State → Type 0
-Readied old new =
-    ((has_later old.committed.schema ≡ true) × Refused old new)
-    ⊎ ((has_later old.committed.schema ≡ false) × Completed old new)
+Readied old new = ((has_later old.committed.schema ≡ true) × Refused old new) ⊎ Completed old new
 
 -- what an opening may commit: the whole of an empty office, where nothing answered and no name of a table was taken; or the tables that came later, where version 1
 -- answered and they weren't there
 abbrev pub LeavesOffice : {S : Type 0} → Ghosts S → Held S → Trees → Type 0
 LeavesOffice g old trees =
     (IsTrue (state g old).is_open × HasNoVersion g old × (takes_a_name old.schema ≡ false) × Leaves no_tables trees)
-    ⊎ (Answered g old true × LeavesReadied (state g old) trees)
+    ⊎ (Answered g old true × LeavesCompleted (state g old) trees)
 
 -- an office of version 1 was there, and the tables that came later are there now; or nothing answered, no name of a table was taken, and an office was made
 abbrev pub Enters : {S : Type 0} → Ghosts S → Held S → Held S → Type 0

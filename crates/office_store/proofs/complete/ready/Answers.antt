@@ -1,18 +1,27 @@
-use Rattle.std.proofs.Common.{rules, ◌≡◌, inl, inr, true, false, IsTrue}
+use Rattle.std.proofs.Common.{rules, ◌≡◌, inl, inr, true, IsTrue}
 use Rattle.sqlite.specs.Held.{state}
-use Rattle.sqlite.proofs.StateLemmas.{survives_weaker}
 use Rattle.office_sql.specs.Earlier.{has_later}
 use Rattle.office_store.proofs.Shelves.{still_shows}
 use Rattle.office_store.proofs.Completing.{later_there, whole_shows}
 use Rattle.office_store.proofs.complete.ready.Goals as goal
 
-pub returns-in-Ok-completed-clause-readied : goal.returns-in-Ok-completed-clause-readied
-returns-in-Ok-completed-clause-readied g c clean =
+pub returns-in-Ok-clause-readied : goal.returns-in-Ok-clause-readied
+returns-in-Ok-clause-readied g c clean =
     let old = c.args.conn.now in
     let settled : IsTrue (state g.S.Store old).is_open → (state g.S.Store old).now ≡ (state g.S.Store old).committed = search rules in
-    let lacks : has_later old.schema ≡ false = search rules in
-    let made = c.in-Ok-completed.ensures.completed clean in
-    inr (later_there g.S.Store old settled false lacks made.was_open, made)
+    let has : has_later old.schema ≡ true = search rules in
+    let kept = c.still_open.ensures.kept clean in
+    inl (later_there g.S.Store old settled true has (kept.was_open (c.in-Ok.ensures.is_open clean)), kept)
+
+pub returns-in-Ok-clause-shows : goal.returns-in-Ok-clause-shows
+returns-in-Ok-clause-shows g c clean t shows =
+    let old = c.args.conn.now in
+    let settled : IsTrue (state g.S.Store old).is_open → (state g.S.Store old).now ≡ (state g.S.Store old).committed = search rules in
+    let has : has_later old.schema ≡ true = search rules in
+    still_shows (state g.S.Store old) (state g.S.Store c.still_open.new.conn) t (c.still_open.ensures.kept clean) (whole_shows g.S.Store old settled t has shows)
+
+pub returns-in-Ok-completed-clause-readied : goal.returns-in-Ok-completed-clause-readied
+returns-in-Ok-completed-clause-readied g c clean = inr (c.in-Ok-completed.ensures.completed clean)
 
 pub returns-in-Ok-completed-clause-shows : goal.returns-in-Ok-completed-clause-shows
 returns-in-Ok-completed-clause-shows g c clean t shows =
@@ -21,32 +30,3 @@ returns-in-Ok-completed-clause-shows g c clean t shows =
 
 pub returns-in-Ok-completed-clause-is_open : goal.returns-in-Ok-completed-clause-is_open
 returns-in-Ok-completed-clause-is_open g c clean = (c.in-Ok-completed.ensures.completed clean).is_open
-
-pub returns-in-Ok-completed-clause-survives : goal.returns-in-Ok-completed-clause-survives
-returns-in-Ok-completed-clause-survives g c =
-    let old = c.args.conn.now in
-    let settled : IsTrue (state g.S.Store old).is_open → (state g.S.Store old).now ≡ (state g.S.Store old).committed = search rules in
-    let lacks : has_later old.schema ≡ false = search rules in
-    survives_weaker (state g.S.Store old) (state g.S.Store c.completed.new.conn) _ _ (λ _ db leaves. (later_there g.S.Store old settled false lacks leaves.0, leaves)) c.completed.ensures.survives
-
-pub returns-in-Err-completed-clause-survives : goal.returns-in-Err-completed-clause-survives
-returns-in-Err-completed-clause-survives g c =
-    let old = c.args.conn.now in
-    let settled : IsTrue (state g.S.Store old).is_open → (state g.S.Store old).now ≡ (state g.S.Store old).committed = search rules in
-    let lacks : has_later old.schema ≡ false = search rules in
-    survives_weaker (state g.S.Store old) (state g.S.Store c.completed.new.conn) _ _ (λ _ db leaves. (later_there g.S.Store old settled false lacks leaves.0, leaves)) c.completed.ensures.survives
-
-pub returns-in-Ok-still_open-clause-readied : goal.returns-in-Ok-still_open-clause-readied
-returns-in-Ok-still_open-clause-readied g c clean =
-    let old = c.args.conn.now in
-    let settled : IsTrue (state g.S.Store old).is_open → (state g.S.Store old).now ≡ (state g.S.Store old).committed = search rules in
-    let has : has_later old.schema ≡ true = search rules in
-    let kept = c.still_open.ensures.kept clean in
-    inl (later_there g.S.Store old settled true has (kept.was_open (c.in-Ok-still_open.ensures.is_open clean)), kept)
-
-pub returns-in-Ok-still_open-clause-shows : goal.returns-in-Ok-still_open-clause-shows
-returns-in-Ok-still_open-clause-shows g c clean t shows =
-    let old = c.args.conn.now in
-    let settled : IsTrue (state g.S.Store old).is_open → (state g.S.Store old).now ≡ (state g.S.Store old).committed = search rules in
-    let has : has_later old.schema ≡ true = search rules in
-    still_shows (state g.S.Store old) (state g.S.Store c.still_open.new.conn) t (c.still_open.ensures.kept clean) (whole_shows g.S.Store old settled t has shows)

@@ -8,7 +8,7 @@ use Rattle.office_sql.specs.Version.{get_version}
 use Rattle.office_sql.proofs.Earlier.{shown_version}
 use Rattle.office_store.specs.Founding.{is_version_one, takes_a_name, LeavesOffice}
 use Rattle.office_store.proofs.Founding.{sound_after, founded_after, leaves_before, refused_on, shown_is_left}
-use Rattle.office_store.proofs.Completing.{leaves_readied_before, readied_after, office_on}
+use Rattle.office_store.proofs.Completing.{leaves_completed_before, readied_after, office_on}
 use Rattle.office_store.proofs.found.enter.Goals as goal
 
 pub returns-in-Ok-ready-clause-enters : goal.returns-in-Ok-ready-clause-enters
@@ -42,7 +42,7 @@ returns-in-Ok-ready-clause-survives g c =
     survives_then old mid (state g.S.Store c.ready.new.conn) _ _ (LeavesOffice g.S.Store c.args.conn.now) (λ _ db none. absurd none)
     (λ clean db leaves.
     let early : HasCleanDisk mid = omega (arith, clean, c.ready.ensures.survives.clean) in
-    inr ((c.in-Ok.rows.items, c.in-Ok.ensures.asked early, one), leaves_readied_before old mid db (c.ask_version.ensures.kept early) leaves))
+    inr ((c.in-Ok.rows.items, c.in-Ok.ensures.asked early, one), leaves_completed_before old mid db (c.ask_version.ensures.kept early) leaves))
     c.ask_version.ensures.survives c.ready.ensures.survives
 
 pub returns-in-Ok-clause-kept : goal.returns-in-Ok-clause-kept
@@ -59,7 +59,7 @@ returns-in-Ok-clause-survives g c =
     survives_then old mid (state g.S.Store c.ready.new.conn) _ _ (LeavesOffice g.S.Store c.args.conn.now) (λ _ db none. absurd none)
     (λ clean db leaves.
     let early : HasCleanDisk mid = omega (arith, clean, c.ready.ensures.survives.clean) in
-    inr ((c.in-Ok.rows.items, c.in-Ok.ensures.asked early, one), leaves_readied_before old mid db (c.ask_version.ensures.kept early) leaves))
+    inr ((c.in-Ok.rows.items, c.in-Ok.ensures.asked early, one), leaves_completed_before old mid db (c.ask_version.ensures.kept early) leaves))
     c.ask_version.ensures.survives c.ready.ensures.survives
 
 pub returns-then-not-is_version_one-clause-none : goal.returns-then-not-is_version_one-clause-none
