@@ -8,7 +8,7 @@ use Rattle.sqlite.specs.Effect.{Database, IsDatabase}
 use Rattle.sqlite.specs.State.{State}
 use Rattle.office_base.specs.Tables.{Tables}
 use Rattle.office_sql.specs.Schema.{OfficeTable, table_of}
-use Rattle.office_sql.specs.Schema.OfficeTable.{LateRules, Office}
+use Rattle.office_sql.specs.Schema.OfficeTable.{Office}
 use Rattle.office_sql.specs.Known.{IsIn}
 use Rattle.office_sql.specs.Standing.{StandFor, Holds}
 use Rattle.office_sql.specs.Making.{AreMade, KeepsOffice, Makes}

@@ -1,5 +1,5 @@
 -- Offices of earlier programs, which made fewer tables.
-use Rattle.std.specs.Prelude.{◌≡◌, ◌⊎◌, Bool, true, false, IsTrue, is_some, ℕ, List, [], ◌∷◌}
+use Rattle.std.specs.Prelude.{◌≡◌, ◌⊎◌, Bool, false, IsTrue, is_some, ℕ, List, [], ◌∷◌}
 use Rattle.std.specs.List.{list_all}
 use Rattle.sqlite_schema.specs.declared.schema.Schema.{Schema}
 use Rattle.sqlite_schema.specs.Names.{table_named}
