@@ -23,7 +23,6 @@ use Rattle.tender_core.specs.Rules.Withdraw.{withdraw_effect, taken_back_puts}
 use Rattle.award_core.specs.Rules.Examine.{examine_effect, examined}
 use Rattle.tender_core.specs.Rules.Cancel.{is_open_lot, lot_put as cancel_lot, line_put as cancel_line, is_ended_award, award_put, is_ended_envelope, envelope_put, drop_put, returned_envelope, is_ended_security, cancelled_notice, cancel_effect}
 use Rattle.award_core.specs.Rules.Award.{is_admissible, price_of, lesser, lowest_price, is_better, better, best_with, winner, decision_puts, award_effect}
-use Rattle.office_base.specs.declared.records.SecurityState.TheVariants.{Forfeited, Returned}
 use Rattle.award_core.specs.Rules.Fail.{fail_effect}
 use Rattle.office_machine.specs.Worlds.{Theirs, is_theirs, Pairs}
 use Rattle.office_machine.proofs.WorldsPut.{Alike, IsPlain, PutPair, Plain, Envelopes, Seals, AlikeOptions, receipt_is, pairs-filter, blind, blind-option, plain_pairs, pairs-append, pairs-map, alike-set}

@@ -3,10 +3,12 @@ ghost use Rattle.std.specs.Prelude.{◌≡◌, true};
 ghost use Rattle.office_acts.specs.Rights.{may};
 ghost use Rattle.office_acts.specs.declared.command.CommandKind.TheVariants as kinds;
 ghost use Rattle.office_acts.specs.declared.commands.Command.TheVariants.{Withdraw};
+ghost use Rattle.office_base.specs.RuleParts.{is_late};
 ghost use Rattle.office_base.specs.Shelves.{Looks, LooksUp};
-ghost use Rattle.office_machine.specs.Replies.{state_after};
+ghost use Rattle.office_machine.specs.Replies.{Withdrew, state_after};
 ghost use Rattle.office_plans.specs.Asking.{given_by};
 ghost use Rattle.office_plans.specs.Effects.{HasEffect};
+ghost use Rattle.office_plans.specs.Replies.{said};
 ghost use Rattle.tender_core.specs.Rules.Withdraw.{withdraw_rows};
 
 use crate::decided::planned;
@@ -16,6 +18,7 @@ use crate::reply::Reply;
 use office_base::records::{EnvelopeRow, EnvelopeState};
 use office_base::shelf::{Lookups, ShelfFault};
 use office_values::given::AskedNumber;
+use office_values::moment::Moment;
 use office_values::refusal::Refusal;
 use std::alloc::Global;
 use tender_core::asking::Asking;
@@ -56,6 +59,18 @@ fn state_after(late: bool, envelope: &Option<EnvelopeRow>) -> EnvelopeState
     }
 }
 
+// The reply: where the tender is then.
+fn reply_of(t: Moment, rows: &WithdrawRows, receipt: AskedNumber) -> Reply
+    ensures { said result ≡ Withdrew receipt (state_after (is_late rows.now.late t rows.now.notice) rows.now.envelope) t }
+{
+    let late = is_late(&rows.late, t, &rows.notice);
+    Reply::Withdrew {
+        receipt,
+        state: state_after(late, &rows.envelope),
+        moment: t,
+    }
+}
+
 /// Plans the withdrawal of a tender: before the deadline its security goes back; from then on, where its notice lets it, it is out of the running
 /// and its security is forfeited.
 pub fn plan<H: Lookups>(
@@ -69,12 +84,7 @@ pub fn plan<H: Lookups>(
 {
     let rows = load(shelf, receipt)?;
     let t = asking.time(&rows.clock);
-    let late = is_late(&rows.late, t, &rows.notice);
-    let reply = Reply::Withdrew {
-        receipt,
-        state: state_after(late, &rows.envelope),
-        moment: t,
-    };
+    let reply = reply_of(t, &rows, receipt);
     let decided = decide_withdraw(alloc, t, asking.caller, rows);
     planned(alloc, decided, &reply)
 }
