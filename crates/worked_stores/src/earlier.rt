@@ -33,8 +33,9 @@ fn rows_of_earlier(alloc: Global, disks: &Disks) -> Result<Vec<u8>, Wrong> {
 
 // How many rows of late withdrawals there are; None where there is no such table.
 fn late_rules(alloc: Global, disks: &Disks) -> Result<Option<i64>, Wrong> {
-    let mut database =
-        Database::open(alloc, disks.left_by_the_process(alloc)?).ok_or(Wrong::Unopened)?;
+    let mut database = Database::open(alloc, disks.left_by_the_process(alloc)?).ok_or(
+        Wrong::Unopened,
+    )?;
     Ok(database.number("SELECT count(*) FROM late_rules"))
 }
 
@@ -69,7 +70,9 @@ fn has_its_ledger(alloc: Global) -> Result<bool, Wrong> {
 #[test]
 fn its_ledger_stays(rt: HostRuntime) {
     let alloc = rt.alloc();
-    assert!(rt; matches!(has_its_ledger(alloc), Ok(true)) || matches!(has_its_ledger(alloc), Ok(true)));
+    assert!(rt;
+        matches!(has_its_ledger(alloc), Ok(true)) || matches!(has_its_ledger(alloc), Ok(true))
+    );
 }
 
 // Whether files of that program to which this was added can't be used, and stay as they were.
@@ -85,9 +88,10 @@ fn is_unusable(alloc: Global, statements: &str) -> Result<bool, Wrong> {
 #[test]
 fn its_name_is_taken(rt: HostRuntime) {
     let alloc = rt.alloc();
-    for statements in
-        ["CREATE VIEW late_rules AS SELECT 1", "CREATE INDEX late_rules ON lots (title)"]
-    {
+    for statements in [
+        "CREATE VIEW late_rules AS SELECT 1",
+        "CREATE INDEX late_rules ON lots (title)",
+    ] {
         assert!(rt;
             matches!(is_unusable(alloc, statements), Ok(true))
                 || matches!(is_unusable(alloc, statements), Ok(true))

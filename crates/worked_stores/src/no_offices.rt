@@ -87,7 +87,10 @@ fn versions_are_others(rt: HostRuntime) {
 // Whether an office's files are refused behind these statements, and not for want of an office.
 fn is_wrong(alloc: Global, statements: &str) -> Option<bool> {
     let disks = changed(alloc, made(alloc).ok()?, statements)?;
-    Some(matches!(OfficeOnDisks::open(alloc, disks), Err(Unopened::Unusable(_))))
+    Some(matches!(
+        OfficeOnDisks::open(alloc, disks),
+        Err(Unopened::Unusable(_))
+    ))
 }
 
 // What a question shows of files behind these statements in which no office could then be made.
@@ -105,7 +108,9 @@ fn names_of_indexes_are_taken(rt: HostRuntime) {
     let ours =
         "CREATE TABLE others (a INTEGER); CREATE INDEX lots_of_line ON others (a); INSERT INTO others VALUES (7)";
     let question = "SELECT a FROM others";
-    assert!(rt; unmade(alloc, ours, question) == Some(7) || unmade(alloc, ours, question) == Some(7));
+    assert!(rt;
+        unmade(alloc, ours, question) == Some(7) || unmade(alloc, ours, question) == Some(7)
+    );
 }
 
 #[test]

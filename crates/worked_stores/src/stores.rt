@@ -83,9 +83,7 @@ fn append_answers(
     let mut database = Database::open(alloc, disks).ok_or(Wrong::Unopened)?;
     for question in questions {
         bytes.extend_from_slice(question.as_bytes())?;
-        database
-            .append_all(bytes, question)
-            .ok_or(Wrong::Unopened)?;
+        database.append_all(bytes, question).ok_or(Wrong::Unopened)?;
     }
     Ok(())
 }
