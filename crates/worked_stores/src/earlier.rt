@@ -39,15 +39,25 @@ fn late_rules(alloc: Global, disks: &Disks) -> Result<Option<i64>, Wrong> {
     Ok(database.number("SELECT count(*) FROM late_rules"))
 }
 
-// Whether it is the office with these rows and that table, which has none.
+// All rows of the office that they are once they were opened: those of these tables, and none of the one that came later.
+fn rows_wanted(alloc: Global, disks: &Disks) -> Result<Vec<u8>, Wrong> {
+    let mut rows = rows_of_earlier(alloc, disks)?;
+    for late in &TABLES[14..] {
+        rows.extend_from_slice(late.as_bytes())?;
+    }
+    Ok(rows)
+}
+
+// Whether the tables of an office stand there, all of them, with these rows.
 fn is_complete(alloc: Global, disks: &Disks, rows: &[u8]) -> Result<bool, Wrong> {
-    Ok(rows_of_earlier(alloc, disks)?.as_slice() == rows && late_rules(alloc, disks)? == Some(0))
+    let answers = answers_in(alloc, disks.left_by_the_process(alloc)?, TABLES.as_slice())?;
+    Ok(answers.as_slice() == rows)
 }
 
 // Whether the office is the same once it was opened, and again, and has that table then.
 fn is_completed(alloc: Global) -> Result<bool, Wrong> {
     let disks = earlier(alloc, "")?;
-    let rows = rows_of_earlier(alloc, &disks)?;
+    let rows = rows_wanted(alloc, &disks)?;
     let once = reopened(alloc, disks)?;
     let is_once = is_complete(alloc, &once, &rows)?;
     let twice = reopened(alloc, once)?;
@@ -107,15 +117,14 @@ struct Found {
 }
 
 impl Found {
-    // Whether such files hold the office with these rows, and go on holding it once they are opened again.
+    // Whether such files are the office with these rows once they are opened again.
     fn count(&mut self, alloc: Global, disks: Disks, rows: &[u8]) -> Result<bool, Wrong> {
         match late_rules(alloc, &disks)? {
             Some(_) => self.with = self.with.saturating_add(1),
             None => self.without = self.without.saturating_add(1),
         }
-        let is_same = rows_of_earlier(alloc, &disks)?.as_slice() == rows;
         let again = reopened(alloc, disks)?;
-        Ok(is_same && is_complete(alloc, &again, rows)?)
+        is_complete(alloc, &again, rows)
     }
 }
 
@@ -148,7 +157,7 @@ fn is_whole(
 
 // Opens the files on disks of which one takes ever more calls, until none is stopped.
 fn stops(alloc: Global, disks: &Disks, of_log: bool) -> Result<Found, Wrong> {
-    let rows = rows_of_earlier(alloc, disks)?;
+    let rows = rows_wanted(alloc, disks)?;
     let mut found = Found {
         without: 0,
         with: 0,
