@@ -59,9 +59,6 @@ fn names_are_taken(rt: HostRuntime) {
     assert!(rt; shows_number(alloc, lots, "SELECT x FROM lots", 5));
     let view = "CREATE VIEW seals AS SELECT 6";
     assert!(rt; shows_number(alloc, view, "SELECT * FROM seals", 6));
-    let index =
-        "CREATE TABLE others (a INTEGER); CREATE INDEX lots_of_line ON others (a); INSERT INTO others VALUES (7)";
-    assert!(rt; shows_number(alloc, index, "SELECT a FROM others", 7));
 }
 
 #[test]
@@ -85,10 +82,29 @@ fn versions_are_others(rt: HostRuntime) {
     assert!(rt; office_shows_number(alloc, "DROP TABLE office", "SELECT count(*) FROM lots", 0));
 }
 
-// Whether an office's files are refused behind these statements, and not for want of an office.
-fn is_wrong(alloc: Global, statements: &str) -> Option<bool> {
-    let disks = changed(alloc, made(alloc).ok()?, statements)?;
+// Whether these files are refused behind these statements, and not for want of an office.
+fn is_wrong(alloc: Global, disks: Disks, statements: &str) -> Option<bool> {
+    let disks = changed(alloc, disks, statements)?;
     Some(matches!(OfficeOnDisks::open(alloc, disks), Err(Unopened::Unusable)))
+}
+
+fn blank_is_wrong(alloc: Global, statements: &str) -> bool {
+    is_wrong(alloc, Disks::blank(alloc), statements) == Some(true)
+        || is_wrong(alloc, Disks::blank(alloc), statements) == Some(true)
+}
+
+fn office_is_wrong(alloc: Global, statements: &str) -> bool {
+    match made(alloc) {
+        Ok(disks) => is_wrong(alloc, disks, statements) == Some(true),
+        Err(_) => false,
+    }
+}
+
+#[test]
+fn names_of_indexes_are_taken(rt: HostRuntime) {
+    let alloc = rt.alloc();
+    let ours = "CREATE TABLE others (a INTEGER); CREATE INDEX lots_of_line ON others (a)";
+    assert!(rt; blank_is_wrong(alloc, ours));
 }
 
 #[test]
@@ -96,7 +112,7 @@ fn the_key_is_no_rowid(rt: HostRuntime) {
     let alloc = rt.alloc();
     let other =
         "DROP TABLE office; CREATE TABLE office (version INT NOT NULL PRIMARY KEY CHECK (version = 1), moment INTEGER NOT NULL, receipts INTEGER NOT NULL, awards INTEGER NOT NULL) STRICT; INSERT INTO office VALUES (1, 0, 0, 0)";
-    assert!(rt; is_wrong(alloc, other) == Some(true) || is_wrong(alloc, other) == Some(true));
+    assert!(rt; office_is_wrong(alloc, other) || office_is_wrong(alloc, other));
 }
 
 // What is shown by a question of files in which another table stood, and an office was made then, and changed.
