@@ -13,7 +13,8 @@ use Rattle.office_base.specs.Tables.{Tables, after_put, after_puts}
 use Rattle.office_base.specs.declared.puts.Put.{Put}
 use Rattle.office_sql.specs.Failing.{IsExcused, OneIsDeclined, StoreFails, ChangeFails}
 use Rattle.office_sql.specs.Standing.{Holds}
-use Rattle.office_sql.specs.Steps.{Puts, ShowsTables}
+use Rattle.office_sql.specs.Steps.{MakeAll, Puts, ShowsTables}
+use Rattle.office_changes.proofs.Steps.{made_then}
 
 pub excused_with : (P Q : Type 0) (e : Error) → IsExcused P e → (P → Q) → IsExcused Q e
 excused_with P Q e (inl memory) f = inl memory
@@ -35,14 +36,16 @@ after_both [] ys t = refl
 after_both (x ∷ xs) ys t = after_both xs ys (after_put x t)
 
 -- a put that is declined among the later ones, or the earlier ones, is so among all
-declined_later : (limit : Option ℕ) (start mid : Database) (xs ys : List Put) → ((t : Tables) → Holds start t → Holds mid (after_puts xs t)) → OneIsDeclined limit mid ys → OneIsDeclined limit start (xs ++ ys)
-declined_later limit start mid xs ys made d = record {
+declined_later : (limit : Option ℕ) (start mid : Database) (xs ys : List Put) → MakeAll limit xs start mid → ((t : Tables) → Holds start t → Holds mid (after_puts xs t)) → OneIsDeclined limit mid ys
+    → OneIsDeclined limit start (xs ++ ys)
+declined_later limit start mid xs ys made holds d = record {
   done = xs ++ d.done;
   put = d.put;
   more = d.more;
   is = ap (λ l. xs ++ l) d.is ∙ sym (append_assoc xs d.done (d.put ∷ d.more));
   db = d.db;
-  holds = λ t held. subst (Holds d.db) (sym (after_both xs d.done t)) (d.holds (after_puts xs t) (made t held));
+  made = made_then limit xs d.done start mid d.db made d.made;
+  holds = λ t held. subst (Holds d.db) (sym (after_both xs d.done t)) (d.holds (after_puts xs t) (holds t held));
   declined = d.declined;
 }
 
@@ -53,6 +56,7 @@ declined_early limit start xs ys d = record {
   more = d.more ++ ys;
   is = ap (λ l. l ++ ys) d.is ∙ append_assoc d.done (d.put ∷ d.more) ys;
   db = d.db;
+  made = d.made;
   holds = d.holds;
   declined = d.declined;
 }
@@ -67,10 +71,11 @@ fails_early old new start xs ys (inr (inr d)) = inr (inr (declined_early old.ste
 open_not_shut : (s : State) → IsTrue s.is_open → s.is_open ≡ false → ⊥
 open_not_shut s open_now shut = true≢false (sym open_now ∙ shut)
 
-pub fails_later : (old mid new : State) (xs ys : List Put) → Puts old mid xs → old.faults ≤ mid.faults → mid.step_limit ≡ old.step_limit → StoreFails mid new mid.now ys → StoreFails old new old.now (xs ++ ys)
-fails_later old mid new xs ys done up limit (inl disk) = inl (omega arith)
-fails_later old mid new xs ys done up limit (inr (inl shut)) = absurd (open_not_shut mid done.goes.is_open shut)
-fails_later old mid new xs ys done up limit (inr (inr d)) = inr (inr (subst (λ l. OneIsDeclined l old.now (xs ++ ys)) limit (declined_later mid.step_limit old.now mid.now xs ys done.tables d)))
+pub fails_later : (old mid new : State) (xs ys : List Put) (t : Tables) → Holds old.now t → Puts old mid xs → old.faults ≤ mid.faults → mid.step_limit ≡ old.step_limit → StoreFails mid new mid.now ys → StoreFails old new old.now (xs ++ ys)
+fails_later old mid new xs ys t was done up limit (inl disk) = inl (omega arith)
+fails_later old mid new xs ys t was done up limit (inr (inl shut)) = absurd (open_not_shut mid done.goes.is_open shut)
+fails_later old mid new xs ys t was done up limit (inr (inr d)) =
+    inr (inr (declined_later old.step_limit old.now mid.now xs ys (done.made t was) done.tables (subst (λ l. OneIsDeclined l mid.now ys) limit d)))
 
 -- ---- the whole transaction
 

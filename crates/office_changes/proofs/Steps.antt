@@ -1,12 +1,13 @@
 -- Changes one after another.
-use Rattle.std.proofs.Common.{◌≡◌, Err, Ok, true, false, Result, List, [], ◌∷◌, ◌++◌, refl, sym, subst, ◌∙◌, IsTrue}
+use Rattle.std.proofs.Common.{◌≡◌, Err, Ok, true, false, ℕ, Option, Result, List, [], ◌∷◌, ◌++◌, refl, sym, subst, ◌∙◌, IsTrue}
 use Rattle.std.specs.Prelude.{OnErr, OnOk}
 use Rattle.sqlite_trees.specs.Tree.{Trees}
+use Rattle.sqlite.specs.Effect.{Database}
 use Rattle.sqlite.specs.State.{State, IsRolledBack, Shows}
 use Rattle.office_base.specs.Tables.{Tables, after_put, after_puts}
 use Rattle.office_base.specs.declared.puts.Put.{Put}
 use Rattle.office_sql.specs.Standing.{Holds}
-use Rattle.office_sql.specs.Steps.{Goes, Puts, Refused, Applied, LeavesPuts}
+use Rattle.office_sql.specs.Steps.{Goes, MakeAll, Puts, Refused, Applied, LeavesPuts}
 
 pub after_puts-push : (t : Tables) (done : List Put) (p : Put) → after_puts (done ++ p ∷ []) t ≡ after_put p (after_puts done t)
 after_puts-push t [] p = refl
@@ -25,9 +26,15 @@ on_ok_with (Err e) P Q h f = tt
 pub goes_then : (a b c : State) → Goes a b → Goes b c → Goes a c
 goes_then a b c first second = record { mode = second.mode; was_open = first.was_open; is_open = second.is_open; committed = second.committed ∙ first.committed }
 
-pub puts_push : (a b c : State) (done : List Put) (p : Put) → Puts a b done → Puts b c (p ∷ []) → Puts a c (done ++ p ∷ [])
-puts_push a b c done p first second = record {
+-- what some puts make, and then others
+pub made_then : (limit : Option ℕ) (xs ys : List Put) (a b c : Database) → MakeAll limit xs a b → MakeAll limit ys b c → MakeAll limit (xs ++ ys) a c
+made_then limit [] ys a b c same more = subst (λ d. MakeAll limit ys d c) same more
+made_then limit (x ∷ xs) ys a b c (mid, one, rest) more = (mid, one, made_then limit xs ys mid b c rest more)
+
+pub puts_push : (a b c : State) (done : List Put) (p : Put) → b.step_limit ≡ a.step_limit → Puts a b done → Puts b c (p ∷ []) → Puts a c (done ++ p ∷ [])
+puts_push a b c done p limit first second = record {
   goes = goes_then a b c first.goes second.goes;
+  made = λ t h. made_then a.step_limit done (p ∷ []) a.now b.now c.now (first.made t h) (subst (λ l. MakeAll l (p ∷ []) b.now c.now) limit (second.made (after_puts done t) (first.tables t h)));
   tables = λ t h. subst (Holds c.now) (sym (after_puts-push t done p)) (second.tables (after_puts done t) (first.tables t h));
 }
 

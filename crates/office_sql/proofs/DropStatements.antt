@@ -29,6 +29,7 @@ use Rattle.office_sql.proofs.Deletes.{IsDelete, delete_means}
 use Rattle.office_sql.proofs.Drops.{drops_row}
 use Rattle.office_sql.proofs.Writes.{with_rows}
 use Rattle.office_sql.proofs.Held.{holds_put, goes_with}
+use Rattle.office_sql.proofs.Made.{made_of}
 use Rattle.office_sql.proofs.Stored.{bare, seal_terms, seal_cells, seal_stored}
 
 drop_seal_read : IsDelete drop_seal (codes "seals") (Some (equals_e (codes "receipt") 1)) (parsed_in (first drop_seal))
@@ -51,7 +52,7 @@ after_drop rows changed t n was stand Seals = stand
 after_drop rows changed t n was stand k = was k
 
 pub drops_seal : (old new : State) (n count : ℕ) → ExecutesInside 0 drop_seal (Int (pos n) ∷ []) old new (Ok count) → Puts old new (DropSeal n ∷ [])
-drops_seal old new n count h = goes_with old new (DropSeal n) h.1 (λ t was.
+drops_seal old new n count h = goes_with old new (DropSeal n) h.1 (λ t was. made_of drop_seal (Int (pos n) ∷ []) old new _ (drop_seal_means old.now.schema (was.places Seals) (was.tables Seals)) refl refl count h.0) (λ t was.
     let done = drops_row Seals bare nat_cmp seal_key seal_row (by_rowid seal_row) (read_by_rowid seal_read) 2 seal_terms seal_cells seal_stored old new was.places was.tables (0 ∷ []) drop_seal (Int (pos n) ∷ []) count t.seals n
     (drop_seal_means old.now.schema (was.places Seals) (was.tables Seals)) (λ v x. and_true _ ∙ number_tested x.receipt n ∙ same_number_is x.receipt n) (was.stands Seals) h.0 in
     holds_put Seals nat_cmp seal_key (by_rowid seal_row) (read_by_rowid seal_read) old.now new.now t (after_put (DropSeal n) t) was _ done (after_drop (λ j. old.now.trees (was.places j)) (new.now.trees (was.places Seals)) t n was.stands))

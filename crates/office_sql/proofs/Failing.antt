@@ -1,18 +1,16 @@
 -- Why a change of an office was not made, as its statement was understood.
-use Rattle.std.proofs.Common.{◌≡◌, ◌⊎◌, inl, inr, ℕ, List, [], ◌∷◌, None, Some, Ok, Err, Result, true, false, ◌||◌, Bool, refl, sym, ap, subst, subst₂, ◌∙◌, length, append-nil, true≢false}
-use Rattle.std.specs.Prelude.{IsErrAnd, IfErr, is_some, ◌≤◌}
+use Rattle.std.proofs.Common.{◌≡◌, ◌⊎◌, inl, inr, ℕ, List, [], ◌∷◌, None, Some, Ok, Err, Result, true, false, refl, sym, ap, subst, ◌∙◌, length, append-nil, true≢false}
+use Rattle.std.specs.Prelude.{IsErrAnd, IfErr, ◌≤◌}
 use Rattle.std.proofs.lemmas.Bool.{leb-true}
 use Rattle.sqlite_value.specs.Order.{Row}
 use Rattle.sqlite_trees.specs.declared.error.StoreError.{StoreError}
 use Rattle.sqlite_trees.specs.declared.error.StoreError.TheVariants as stores
 use Rattle.sqlite_schema.specs.declared.command.Command.{Command}
-use Rattle.sqlite_schema.specs.declared.command.Command.TheVariants.{InsertOr, Delete}
 use Rattle.sqlite_resolve.specs.declared.compiled.Compiled.{Compiled}
 use Rattle.sqlite.specs.declared.error.Error.{Error}
 use Rattle.sqlite.specs.Clock.{timed}
-use Rattle.sqlite.specs.Effect.{is_query}
 use Rattle.sqlite.specs.Listing.{understood}
-use Rattle.sqlite.specs.State.{State, Fails, IsNotRun, IsNoStatement, IsStatement, IsMisplaced, Escapes, EndsScope, ExecutesIn, ExecutesInside, RunsAlone, RunsCommand, HasCause, is_pragma, shows_rows, store_error}
+use Rattle.sqlite.specs.State.{State, Fails, IsNotRun, IsNoStatement, IsStatement, IsMisplaced, Escapes, EndsScope, ExecutesIn, ExecutesInside, RunsAlone, RunsCommand, HasCause, store_error}
 use Rattle.sqlite.proofs.Callers.{IsPlain, command_of}
 use Rattle.office_base.specs.Tables.{Tables}
 use Rattle.office_base.specs.declared.puts.Put.{Put}
@@ -23,6 +21,7 @@ use Rattle.office_sql.specs.Schema.OfficeTable.{Lines, Batches, Tenderers, Notic
 use Rattle.office_sql.specs.Standing.{Holds}
 use Rattle.office_sql.specs.Statements.{statement_of, values_of}
 use Rattle.office_sql.specs.Version.{get_version}
+use Rattle.office_sql.proofs.Made.{is_change, shows, quiet}
 use Rattle.office_sql.proofs.Meanings.{Means, IsOne, from_text}
 use Rattle.office_sql.proofs.DropStatements.{drop_seal_means, drop_seal_one}
 use Rattle.office_sql.proofs.SelectTexts.{get_version_means, get_version_one}
@@ -37,15 +36,7 @@ pub same_err : {T E : Type 0} (r : Result T E) (e : E) (P : E → Type 0) → Is
 same_err (Ok a) e P same h = tt
 same_err (Err y) e P same h = subst P (sym same) h
 
--- ---- commands that change rows: they show none, and end no transaction
-
-abbrev pub is_change : Command → Bool
-is_change (InsertOr at way from clauses) = true
-is_change (Delete at q) = true
-is_change _ = false
-
-abbrev pub shows : Command → Bool
-shows k = is_query k || (is_pragma k || false)
+-- ---- commands that change rows
 
 other : {k l : Command} → is_change k ≡ true → is_change l ≡ false → k ≡ l → ⊥
 other change none same = true≢false (sym change ∙ ap is_change same ∙ none)
@@ -93,9 +84,6 @@ module _ (text : List ℕ) (params : Row) (old new : State) (command : Command) 
     abbrev Cause : Type 0
     Cause = DiskFails old new ⊎ ((old.is_open ≡ false) ⊎ Declines old.step_limit old.now text params)
 
-    quiet : (c : Compiled) → c.command ≡ command → c.returning ≡ None → shows_rows false c ≡ false
-    quiet c k none = subst₂ (λ k r. (is_query k || (is_pragma k || is_some r)) ≡ false) (sym k) (sym none) silent
-
     runs : (c : Compiled) (e : Error) → understood old.now.schema text ≡ Ok c → c.command ≡ command → RunsCommand old new text c params (Err e) → IsExcused Cause e
     runs c e known k (inl (inl misplaced, same)) = absurd (never_misplaced old command e change (subst (λ k. IsMisplaced old k e) k misplaced))
     runs c e known k (inl (inr declined, same)) = inr (inr (inr (c, known, Some e, declined.1)))
@@ -105,7 +93,7 @@ module _ (text : List ℕ) (params : Row) (old new : State) (command : Command) 
     ran c it e h =
         let bare : (c.returning ≡ None) × (c.formats ≡ []) = subst IsPlain it.is means.plain in
         let k : c.command ≡ command = sym (ap command_of it.is) ∙ means.is in
-        runs c e it.is k (rw (bare.1, append-nil params) at (rw (quiet c k bare.0) at h))
+        runs c e it.is k (rw (bare.1, append-nil params) at (rw (quiet command silent c k bare.0) at h))
 
     pub statement_fails : (e : Error) → ExecutesInside 0 text params old new (Err e) → IsExcused Cause e
     unfolding ExecutesIn EndsScope
@@ -148,7 +136,7 @@ excused_with P Q e (inr cause) f = inr (f cause)
 alone : (old new : State) (put : Put) → DiskFails old new ⊎ ((old.is_open ≡ false) ⊎ Declines old.step_limit old.now (statement_of put) (values_of put)) → StoreFails old new old.now (put ∷ [])
 alone old new put (inl disk) = inl disk
 alone old new put (inr (inl shut)) = inr (inl shut)
-alone old new put (inr (inr declined)) = inr (inr (record { done = []; put = put; more = []; is = refl; db = old.now; holds = λ t held. held; declined = declined }))
+alone old new put (inr (inr declined)) = inr (inr (record { done = []; put = put; more = []; is = refl; db = old.now; made = refl; holds = λ t held. held; declined = declined }))
 
 pub put_fails : (old new : State) (put : Put) (t : Tables) → Holds old.now t → (e : Error) → ExecutesInside 0 (statement_of put) (values_of put) old new (Err e) → IsExcused (StoreFails old new old.now (put ∷ [])) e
 put_fails old new put t was e h =

@@ -10,7 +10,7 @@ use Rattle.office_base.specs.declared.puts.Put.{Put}
 use Rattle.office_sql.specs.Schema.{OfficeTable}
 use Rattle.office_sql.specs.Known.{HasTables}
 use Rattle.office_sql.specs.Standing.{Stand, Stands, Holds}
-use Rattle.office_sql.specs.Steps.{Goes, Puts}
+use Rattle.office_sql.specs.Steps.{Goes, MakesOne, Puts}
 use Rattle.office_sql.proofs.Writes.{IsPut, with_rows}
 
 pub holds_put : (k : OfficeTable) {K X : Type 0} (R : K → K → Ordering) (key : X → K) (form : Value → X → Row) (decode : Row → X) (old new : Database) (t after : Tables) (was : Holds old t) (xs : List X)
@@ -26,12 +26,14 @@ holds_put k R key form decode old new t after was xs it all = record {
 pub goes_on : (old new : State) → Shows old new new.now old.committed true → Goes old new
 goes_on old new h = record { mode = subst IsTrue (sym h.mode) refl; was_open = h.was_open; is_open = h.is_open; committed = h.committed_is }
 
-pub goes_with : (old new : State) (put : Put) → Shows old new new.now old.committed true → ((t : Tables) → Holds old.now t → Holds new.now (after_put put t)) → Puts old new (put ∷ [])
-goes_with old new put shows tables = record { goes = goes_on old new shows; tables = tables }
+pub goes_with : (old new : State) (put : Put) → Shows old new new.now old.committed true → ((t : Tables) → Holds old.now t → MakesOne old.step_limit put old.now new.now)
+    → ((t : Tables) → Holds old.now t → Holds new.now (after_put put t)) → Puts old new (put ∷ [])
+goes_with old new put shows made tables = record { goes = goes_on old new shows; made = λ t was. (new.now, made t was, refl); tables = tables }
 
 -- nothing is put
 pub puts_none : (a b : State) → IsTrue a.in_transaction → IsUnchanged a b → Puts a b []
 puts_none a b inside h = record {
   goes = record { mode = subst IsTrue (sym h.0.mode) inside; was_open = h.0.was_open; is_open = h.0.is_open; committed = h.0.committed_is };
+  made = λ t holds. h.0.now_is;
   tables = λ t holds. subst (λ d. Holds d t) (sym h.0.now_is) holds;
 }

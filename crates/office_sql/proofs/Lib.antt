@@ -6,6 +6,7 @@ mod RowsPut
 mod Selected
 mod RowsDropped
 mod Meanings
+mod Made
 mod Columns
 mod Whole
 mod Simple

@@ -1,5 +1,5 @@
 -- What each put does to an office.
-use Rattle.std.proofs.Common.{◌≡◌, List, ℕ, [], ◌∷◌, Ok}
+use Rattle.std.proofs.Common.{◌≡◌, List, ℕ, [], ◌∷◌, Ok, refl}
 use Rattle.std.specs.Ordering.{nat_cmp}
 use Rattle.sqlite.specs.State.{State, ExecutesInside}
 use Rattle.office_values.specs.Ids.{id_cmp}
@@ -37,6 +37,7 @@ use Rattle.office_sql.specs.Steps.{Puts}
 use Rattle.sqlite_value.specs.Order.{Row}
 use Rattle.office_sql.proofs.Writes.{puts_row, with_rows}
 use Rattle.office_sql.proofs.Held.{holds_put, goes_with}
+use Rattle.office_sql.proofs.Made.{made_of}
 use Rattle.office_sql.proofs.Stored.{bare, line_terms, line_cells, line_stored, batch_terms, batch_cells, batch_stored, tenderer_terms, tenderer_cells, tenderer_stored, notice_terms, notice_cells, notice_stored, lot_terms, lot_cells, lot_stored, envelope_terms, envelope_cells, envelope_stored, seal_terms, seal_cells, seal_stored, security_terms, security_cells, security_stored, award_terms, award_cells, award_stored, contract_terms, contract_cells, contract_stored, entry_terms, entry_cells, entry_stored, release_terms, release_cells, release_stored, compiled_terms, compiled_cells, compiled_stored, clock_terms, clock_cells, clock_stored, late_terms, late_cells, late_stored}
 use Rattle.office_sql.proofs.PutTexts.{put_lines, put_lines_means, put_batches, put_batches_means, put_tenderers, put_tenderers_means, put_notices, put_notices_means, put_lots, put_lots_means, put_envelopes, put_envelopes_means, put_seals, put_seals_means, put_securities, put_securities_means, put_awards, put_awards_means, put_contracts, put_contracts_means, put_entries, put_entries_means, put_releases, put_releases_means, put_compiled, put_compiled_means, put_office, put_office_means, put_late_rules, put_late_rules_means}
 
@@ -46,7 +47,7 @@ after_line rows changed t x was stand Lines = stand
 after_line rows changed t x was stand k = was k
 
 pub puts_line : (old new : State) (x : LineRow) (count : ℕ) → ComesBack line_row line_read line_in → ExecutesInside 0 put_lines (line_row x) old new (Ok count) → Puts old new (Line x ∷ [])
-puts_line old new x count back h = goes_with old new (Line x) h.1 (λ t was.
+puts_line old new x count back h = goes_with old new (Line x) h.1 (λ t was. made_of put_lines (line_row x) old new _ (put_lines_means old.now.schema (was.places Lines) (was.tables Lines)) refl refl count h.0) (λ t was.
     let done = puts_row Lines bare id_cmp line_key line_row (behind line_row) line_in 4 line_terms line_cells line_stored old new was.places was.tables put_lines x count t.lines (put_lines_means old.now.schema (was.places Lines) (was.tables Lines)) (λ v. back.entry v x) (was.stands Lines) h.0 in
     holds_put Lines id_cmp line_key (behind line_row) line_in old.now new.now t (after_put (Line x) t) was _ done (after_line (λ j. old.now.trees (was.places j)) (new.now.trees (was.places Lines)) t x was.stands))
 
@@ -56,7 +57,7 @@ after_batch rows changed t x was stand Batches = stand
 after_batch rows changed t x was stand k = was k
 
 pub puts_batch : (old new : State) (x : BatchRow) (count : ℕ) → ComesBack batch_row batch_read batch_in → ExecutesInside 0 put_batches (batch_row x) old new (Ok count) → Puts old new (Batch x ∷ [])
-puts_batch old new x count back h = goes_with old new (Batch x) h.1 (λ t was.
+puts_batch old new x count back h = goes_with old new (Batch x) h.1 (λ t was. made_of put_batches (batch_row x) old new _ (put_batches_means old.now.schema (was.places Batches) (was.tables Batches)) refl refl count h.0) (λ t was.
     let done = puts_row Batches bare id_cmp batch_key batch_row (behind batch_row) batch_in 3 batch_terms batch_cells batch_stored old new was.places was.tables put_batches x count t.batches (put_batches_means old.now.schema (was.places Batches) (was.tables Batches)) (λ v. back.entry v x) (was.stands Batches) h.0 in
     holds_put Batches id_cmp batch_key (behind batch_row) batch_in old.now new.now t (after_put (Batch x) t) was _ done (after_batch (λ j. old.now.trees (was.places j)) (new.now.trees (was.places Batches)) t x was.stands))
 
@@ -66,7 +67,7 @@ after_tenderer rows changed t x was stand Tenderers = stand
 after_tenderer rows changed t x was stand k = was k
 
 pub puts_tenderer : (old new : State) (x : TendererRow) (count : ℕ) → ComesBack tenderer_row tenderer_read tenderer_in → ExecutesInside 0 put_tenderers (tenderer_row x) old new (Ok count) → Puts old new (Tenderer x ∷ [])
-puts_tenderer old new x count back h = goes_with old new (Tenderer x) h.1 (λ t was.
+puts_tenderer old new x count back h = goes_with old new (Tenderer x) h.1 (λ t was. made_of put_tenderers (tenderer_row x) old new _ (put_tenderers_means old.now.schema (was.places Tenderers) (was.tables Tenderers)) refl refl count h.0) (λ t was.
     let done = puts_row Tenderers bare id_cmp tenderer_key tenderer_row (behind tenderer_row) tenderer_in 4 tenderer_terms tenderer_cells tenderer_stored old new was.places was.tables put_tenderers x count t.tenderers (put_tenderers_means old.now.schema (was.places Tenderers) (was.tables Tenderers)) (λ v. back.entry v x) (was.stands Tenderers) h.0 in
     holds_put Tenderers id_cmp tenderer_key (behind tenderer_row) tenderer_in old.now new.now t (after_put (Tenderer x) t) was _ done (after_tenderer (λ j. old.now.trees (was.places j)) (new.now.trees (was.places Tenderers)) t x was.stands))
 
@@ -76,7 +77,7 @@ after_notice rows changed t x was stand Notices = stand
 after_notice rows changed t x was stand k = was k
 
 pub puts_notice : (old new : State) (x : NoticeRow) (count : ℕ) → ComesBack notice_row notice_read notice_in → ExecutesInside 0 put_notices (notice_row x) old new (Ok count) → Puts old new (Notice x ∷ [])
-puts_notice old new x count back h = goes_with old new (Notice x) h.1 (λ t was.
+puts_notice old new x count back h = goes_with old new (Notice x) h.1 (λ t was. made_of put_notices (notice_row x) old new _ (put_notices_means old.now.schema (was.places Notices) (was.tables Notices)) refl refl count h.0) (λ t was.
     let done = puts_row Notices bare id_cmp notice_key notice_row (behind notice_row) notice_in 11 notice_terms notice_cells notice_stored old new was.places was.tables put_notices x count t.notices (put_notices_means old.now.schema (was.places Notices) (was.tables Notices)) (λ v. back.entry v x) (was.stands Notices) h.0 in
     holds_put Notices id_cmp notice_key (behind notice_row) notice_in old.now new.now t (after_put (Notice x) t) was _ done (after_notice (λ j. old.now.trees (was.places j)) (new.now.trees (was.places Notices)) t x was.stands))
 
@@ -86,7 +87,7 @@ after_lot rows changed t x was stand Lots = stand
 after_lot rows changed t x was stand k = was k
 
 pub puts_lot : (old new : State) (x : LotRow) (count : ℕ) → LotComesBack → (fits : items_in (items_text x.items) ≡ x.items) → ExecutesInside 0 put_lots (lot_row x) old new (Ok count) → Puts old new (Lot x ∷ [])
-puts_lot old new x count back fits h = goes_with old new (Lot x) h.1 (λ t was.
+puts_lot old new x count back fits h = goes_with old new (Lot x) h.1 (λ t was. made_of put_lots (lot_row x) old new _ (put_lots_means old.now.schema (was.places Lots) (was.tables Lots)) refl refl count h.0) (λ t was.
     let done = puts_row Lots bare lot_cmp lot_key lot_row (behind lot_row) lot_in 9 lot_terms lot_cells lot_stored old new was.places was.tables put_lots x count t.lots (put_lots_means old.now.schema (was.places Lots) (was.tables Lots)) (λ v. back.entry v x fits) (was.stands Lots) h.0 in
     holds_put Lots lot_cmp lot_key (behind lot_row) lot_in old.now new.now t (after_put (Lot x) t) was _ done (after_lot (λ j. old.now.trees (was.places j)) (new.now.trees (was.places Lots)) t x was.stands))
 
@@ -96,7 +97,7 @@ after_envelope rows changed t x was stand Envelopes = stand
 after_envelope rows changed t x was stand k = was k
 
 pub puts_envelope : (old new : State) (x : EnvelopeRow) (count : ℕ) → ComesBack envelope_row envelope_read envelope_in → ExecutesInside 0 put_envelopes (envelope_row x) old new (Ok count) → Puts old new (Envelope x ∷ [])
-puts_envelope old new x count back h = goes_with old new (Envelope x) h.1 (λ t was.
+puts_envelope old new x count back h = goes_with old new (Envelope x) h.1 (λ t was. made_of put_envelopes (envelope_row x) old new _ (put_envelopes_means old.now.schema (was.places Envelopes) (was.tables Envelopes)) refl refl count h.0) (λ t was.
     let done = puts_row Envelopes bare nat_cmp envelope_key envelope_row (by_rowid envelope_row) (read_by_rowid envelope_read) 16 envelope_terms envelope_cells envelope_stored old new was.places was.tables put_envelopes x count t.envelopes (put_envelopes_means old.now.schema (was.places Envelopes) (was.tables Envelopes)) (λ v. back.row x) (was.stands Envelopes) h.0 in
     holds_put Envelopes nat_cmp envelope_key (by_rowid envelope_row) (read_by_rowid envelope_read) old.now new.now t (after_put (Envelope x) t) was _ done (after_envelope (λ j. old.now.trees (was.places j)) (new.now.trees (was.places Envelopes)) t x was.stands))
 
@@ -106,7 +107,7 @@ after_seal rows changed t x was stand Seals = stand
 after_seal rows changed t x was stand k = was k
 
 pub puts_seal : (old new : State) (x : SealRow) (count : ℕ) → ComesBack seal_row seal_read seal_in → ExecutesInside 0 put_seals (seal_row x) old new (Ok count) → Puts old new (Seal x ∷ [])
-puts_seal old new x count back h = goes_with old new (Seal x) h.1 (λ t was.
+puts_seal old new x count back h = goes_with old new (Seal x) h.1 (λ t was. made_of put_seals (seal_row x) old new _ (put_seals_means old.now.schema (was.places Seals) (was.tables Seals)) refl refl count h.0) (λ t was.
     let done = puts_row Seals bare nat_cmp seal_key seal_row (by_rowid seal_row) (read_by_rowid seal_read) 2 seal_terms seal_cells seal_stored old new was.places was.tables put_seals x count t.seals (put_seals_means old.now.schema (was.places Seals) (was.tables Seals)) (λ v. back.row x) (was.stands Seals) h.0 in
     holds_put Seals nat_cmp seal_key (by_rowid seal_row) (read_by_rowid seal_read) old.now new.now t (after_put (Seal x) t) was _ done (after_seal (λ j. old.now.trees (was.places j)) (new.now.trees (was.places Seals)) t x was.stands))
 
@@ -116,7 +117,7 @@ after_security rows changed t x was stand Securities = stand
 after_security rows changed t x was stand k = was k
 
 pub puts_security : (old new : State) (x : SecurityRow) (count : ℕ) → ComesBack security_row security_read security_in → ExecutesInside 0 put_securities (security_row x) old new (Ok count) → Puts old new (Security x ∷ [])
-puts_security old new x count back h = goes_with old new (Security x) h.1 (λ t was.
+puts_security old new x count back h = goes_with old new (Security x) h.1 (λ t was. made_of put_securities (security_row x) old new _ (put_securities_means old.now.schema (was.places Securities) (was.tables Securities)) refl refl count h.0) (λ t was.
     let done = puts_row Securities bare nat_cmp security_key security_row (by_rowid security_row) (read_by_rowid security_read) 7 security_terms security_cells security_stored old new was.places was.tables put_securities x count t.securities (put_securities_means old.now.schema (was.places Securities) (was.tables Securities)) (λ v. back.row x) (was.stands Securities) h.0 in
     holds_put Securities nat_cmp security_key (by_rowid security_row) (read_by_rowid security_read) old.now new.now t (after_put (Security x) t) was _ done (after_security (λ j. old.now.trees (was.places j)) (new.now.trees (was.places Securities)) t x was.stands))
 
@@ -126,7 +127,7 @@ after_award rows changed t x was stand Awards = stand
 after_award rows changed t x was stand k = was k
 
 pub puts_award : (old new : State) (x : AwardRow) (count : ℕ) → ComesBack award_row award_read award_in → ExecutesInside 0 put_awards (award_row x) old new (Ok count) → Puts old new (Award x ∷ [])
-puts_award old new x count back h = goes_with old new (Award x) h.1 (λ t was.
+puts_award old new x count back h = goes_with old new (Award x) h.1 (λ t was. made_of put_awards (award_row x) old new _ (put_awards_means old.now.schema (was.places Awards) (was.tables Awards)) refl refl count h.0) (λ t was.
     let done = puts_row Awards bare nat_cmp award_key award_row (by_rowid award_row) (read_by_rowid award_read) 7 award_terms award_cells award_stored old new was.places was.tables put_awards x count t.awards (put_awards_means old.now.schema (was.places Awards) (was.tables Awards)) (λ v. back.row x) (was.stands Awards) h.0 in
     holds_put Awards nat_cmp award_key (by_rowid award_row) (read_by_rowid award_read) old.now new.now t (after_put (Award x) t) was _ done (after_award (λ j. old.now.trees (was.places j)) (new.now.trees (was.places Awards)) t x was.stands))
 
@@ -136,7 +137,7 @@ after_contract rows changed t x was stand Contracts = stand
 after_contract rows changed t x was stand k = was k
 
 pub puts_contract : (old new : State) (x : ContractRow) (count : ℕ) → ComesBack contract_row contract_read contract_in → ExecutesInside 0 put_contracts (contract_row x) old new (Ok count) → Puts old new (Contract x ∷ [])
-puts_contract old new x count back h = goes_with old new (Contract x) h.1 (λ t was.
+puts_contract old new x count back h = goes_with old new (Contract x) h.1 (λ t was. made_of put_contracts (contract_row x) old new _ (put_contracts_means old.now.schema (was.places Contracts) (was.tables Contracts)) refl refl count h.0) (λ t was.
     let done = puts_row Contracts bare nat_cmp contract_key contract_row (by_rowid contract_row) (read_by_rowid contract_read) 9 contract_terms contract_cells contract_stored old new was.places was.tables put_contracts x count t.contracts (put_contracts_means old.now.schema (was.places Contracts) (was.tables Contracts)) (λ v. back.row x) (was.stands Contracts) h.0 in
     holds_put Contracts nat_cmp contract_key (by_rowid contract_row) (read_by_rowid contract_read) old.now new.now t (after_put (Contract x) t) was _ done (after_contract (λ j. old.now.trees (was.places j)) (new.now.trees (was.places Contracts)) t x was.stands))
 
@@ -146,7 +147,7 @@ after_entry rows changed t x was stand Entries = stand
 after_entry rows changed t x was stand k = was k
 
 pub puts_entry : (old new : State) (x : EntryRow) (count : ℕ) → ComesBack entry_row entry_read entry_in → ExecutesInside 0 put_entries (entry_row x) old new (Ok count) → Puts old new (Entry x ∷ [])
-puts_entry old new x count back h = goes_with old new (Entry x) h.1 (λ t was.
+puts_entry old new x count back h = goes_with old new (Entry x) h.1 (λ t was. made_of put_entries (entry_row x) old new _ (put_entries_means old.now.schema (was.places Entries) (was.tables Entries)) refl refl count h.0) (λ t was.
     let done = puts_row Entries bare entry_cmp entry_key entry_row (behind entry_row) entry_in 6 entry_terms entry_cells entry_stored old new was.places was.tables put_entries x count t.entries (put_entries_means old.now.schema (was.places Entries) (was.tables Entries)) (λ v. back.entry v x) (was.stands Entries) h.0 in
     holds_put Entries entry_cmp entry_key (behind entry_row) entry_in old.now new.now t (after_put (Entry x) t) was _ done (after_entry (λ j. old.now.trees (was.places j)) (new.now.trees (was.places Entries)) t x was.stands))
 
@@ -156,7 +157,7 @@ after_release rows changed t x was stand Releases = stand
 after_release rows changed t x was stand k = was k
 
 pub puts_release : (old new : State) (x : ReleaseRow) (count : ℕ) → ComesBack release_row release_read release_in → ExecutesInside 0 put_releases (release_row x) old new (Ok count) → Puts old new (Release x ∷ [])
-puts_release old new x count back h = goes_with old new (Release x) h.1 (λ t was.
+puts_release old new x count back h = goes_with old new (Release x) h.1 (λ t was. made_of put_releases (release_row x) old new _ (put_releases_means old.now.schema (was.places Releases) (was.tables Releases)) refl refl count h.0) (λ t was.
     let done = puts_row Releases bare release_cmp release_key release_row (behind release_row) release_in 4 release_terms release_cells release_stored old new was.places was.tables put_releases x count t.releases (put_releases_means old.now.schema (was.places Releases) (was.tables Releases)) (λ v. back.entry v x) (was.stands Releases) h.0 in
     holds_put Releases release_cmp release_key (behind release_row) release_in old.now new.now t (after_put (Release x) t) was _ done (after_release (λ j. old.now.trees (was.places j)) (new.now.trees (was.places Releases)) t x was.stands))
 
@@ -166,7 +167,7 @@ after_compiled rows changed t x was stand Compiled = stand
 after_compiled rows changed t x was stand k = was k
 
 pub puts_compiled : (old new : State) (x : CompiledRow) (count : ℕ) → ComesBack compiled_row compiled_read compiled_in → ExecutesInside 0 put_compiled (compiled_row x) old new (Ok count) → Puts old new (Compiled x ∷ [])
-puts_compiled old new x count back h = goes_with old new (Compiled x) h.1 (λ t was.
+puts_compiled old new x count back h = goes_with old new (Compiled x) h.1 (λ t was. made_of put_compiled (compiled_row x) old new _ (put_compiled_means old.now.schema (was.places Compiled) (was.tables Compiled)) refl refl count h.0) (λ t was.
     let done = puts_row Compiled bare id_cmp compiled_key compiled_row (behind compiled_row) compiled_in 2 compiled_terms compiled_cells compiled_stored old new was.places was.tables put_compiled x count t.compiled (put_compiled_means old.now.schema (was.places Compiled) (was.tables Compiled)) (λ v. back.entry v x) (was.stands Compiled) h.0 in
     holds_put Compiled id_cmp compiled_key (behind compiled_row) compiled_in old.now new.now t (after_put (Compiled x) t) was _ done (after_compiled (λ j. old.now.trees (was.places j)) (new.now.trees (was.places Compiled)) t x was.stands))
 
@@ -176,7 +177,7 @@ after_late rows changed t x was stand LateRules = stand
 after_late rows changed t x was stand k = was k
 
 pub puts_late : (old new : State) (x : LateRow) (count : ℕ) → ComesBack late_row late_read late_in → ExecutesInside 0 put_late_rules (late_row x) old new (Ok count) → Puts old new (Late x ∷ [])
-puts_late old new x count back h = goes_with old new (Late x) h.1 (λ t was.
+puts_late old new x count back h = goes_with old new (Late x) h.1 (λ t was. made_of put_late_rules (late_row x) old new _ (put_late_rules_means old.now.schema (was.places LateRules) (was.tables LateRules)) refl refl count h.0) (λ t was.
     let done = puts_row LateRules bare id_cmp late_key late_row (behind late_row) late_in 1 late_terms late_cells late_stored old new was.places was.tables put_late_rules x count t.late_rules (put_late_rules_means old.now.schema (was.places LateRules) (was.tables LateRules)) (λ v. back.entry v x) (was.stands LateRules) h.0 in
     holds_put LateRules id_cmp late_key (behind late_row) late_in old.now new.now t (after_put (Late x) t) was _ done (after_late (λ j. old.now.trees (was.places j)) (new.now.trees (was.places LateRules)) t x was.stands))
 
@@ -187,6 +188,6 @@ after_clock rows changed t x was stand k = was k
 
 pub puts_clock : (old new : State) (x : ClockRow) (count : ℕ) → ComesBack clock_row clock_read clock_in → ExecutesInside 0 put_office (clock_row x) old new (Ok count) → Puts old new (Clock x ∷ [])
 unfolding row_put
-puts_clock old new x count back h = goes_with old new (Clock x) h.1 (λ t was.
+puts_clock old new x count back h = goes_with old new (Clock x) h.1 (λ t was. made_of put_office (clock_row x) old new _ (put_office_means old.now.schema (was.places Office) (was.tables Office)) refl refl count h.0) (λ t was.
     let done = puts_row Office bare clock_cmp clock_key clock_row (by_rowid clock_row) (read_by_rowid clock_read) 4 clock_terms clock_cells clock_stored old new was.places was.tables put_office x count (t.clock ∷ []) (put_office_means old.now.schema (was.places Office) (was.tables Office)) (λ v. back.row x) (was.stands Office) h.0 in
     holds_put Office clock_cmp clock_key (by_rowid clock_row) (read_by_rowid clock_read) old.now new.now t (after_put (Clock x) t) was _ done (after_clock (λ j. old.now.trees (was.places j)) (new.now.trees (was.places Office)) t x was.stands))

@@ -19,7 +19,7 @@ use Rattle.office_base.specs.declared.shelf.ShelfFault.{ShelfFault}
 use Rattle.office_base.specs.declared.shelf.ShelfFault.TheVariants.{NoMemory, Store}
 use Rattle.office_sql.specs.Standing.{Holds}
 use Rattle.office_sql.specs.Statements.{statement_of, values_of}
-use Rattle.office_sql.specs.Steps.{IsAsked, IsRefusal, ShowsTables}
+use Rattle.office_sql.specs.Steps.{IsAsked, IsRefusal, ShowsTables, MakeAll}
 
 -- the fault that an error is told as
 abbrev pub fault_of : Error → ShelfFault
@@ -45,13 +45,14 @@ Declines limit db text values =
     (c : Compiled) × (understood db.schema text ≡ Ok c)
     × (why : Option Error) × Does limit (record { keys = Enforced; in_doubt = false; may_wait = false }) values db (text_of text c) c.returning c.command (Err why)
 
--- one of the puts is declined by a database that holds what those before it made of the office
+-- one of the puts is declined by the database that those before it made of the first, which holds what they made of the office
 pub record OneIsDeclined (limit : Option ℕ) (start : Database) (puts : List Put) : Type 0 where
   pub done : List Put
   pub put : Put
   pub more : List Put
   pub is : puts ≡ done ++ put ∷ more
   pub db : Database
+  pub made : MakeAll limit done start db
   pub holds : (t : Tables) → Holds start t → Holds db (after_puts done t)
   pub declined : Declines limit db (statement_of put) (values_of put)
 

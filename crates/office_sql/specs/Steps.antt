@@ -1,9 +1,13 @@
 -- What look-ups answer, what a transaction has done so far, and what a change of the office leaves.
-use Rattle.std.specs.Prelude.{◌≡◌, ◌⊎◌, true, IsTrue, ℕ, Result, IfOk, List}
+use Rattle.std.specs.Prelude.{◌≡◌, ◌⊎◌, true, false, IsTrue, ℕ, Option, Result, Ok, IfOk, List, [], ◌∷◌}
 use Rattle.sqlite_value.specs.Order.{Row}
+use Rattle.sqlite_schema.specs.declared.schema.Keys.TheVariants.{Enforced}
+use Rattle.sqlite_resolve.specs.declared.compiled.Compiled.{Compiled}
 use Rattle.sqlite_trees.specs.Tree.{Trees}
 use Rattle.sqlite_trees.specs.declared.store.Store.{Ghosts}
-use Rattle.sqlite.specs.State.{State, HasCleanDisk, Shown, FailsToQuery, IsTooLate}
+use Rattle.sqlite.specs.Does.{Tally, Does}
+use Rattle.sqlite.specs.Listing.{understood}
+use Rattle.sqlite.specs.State.{State, HasCleanDisk, Shown, FailsToQuery, IsTooLate, text_of}
 use Rattle.sqlite.specs.declared.error.Error.{Error}
 use Rattle.sqlite.specs.declared.error.Error.TheVariants.{InvalidQuery}
 use Rattle.sqlite.specs.Effect.{Database}
@@ -11,6 +15,7 @@ use Rattle.sqlite.specs.Held.{Held, state}
 use Rattle.office_base.specs.Tables.{Tables, after_puts}
 use Rattle.office_base.specs.declared.puts.Put.{Put}
 use Rattle.office_sql.specs.Standing.{Holds}
+use Rattle.office_sql.specs.Statements.{statement_of, values_of}
 
 -- the last commit of an open store holds these tables
 abbrev pub ShowsTables : State → Tables → Type 0
@@ -32,9 +37,21 @@ pub record Goes (old new : State) : Type 0 where
   pub is_open : IsTrue new.is_open
   pub committed : new.committed ≡ old.committed
 
+-- the statement of a put makes the second database of the first
+abbrev pub MakesOne : Option ℕ → Put → Database → Database → Type 0
+MakesOne limit put first second =
+    (c : Compiled) × (understood first.schema (statement_of put) ≡ Ok c)
+    × (tally : Tally) × Does limit (record { keys = Enforced; in_doubt = false; may_wait = false }) (values_of put) first (text_of (statement_of put) c) c.returning c.command (Ok (tally, second))
+
+-- the statements of these puts make the last one, each of what those before it made
+abbrev pub MakeAll : Option ℕ → List Put → Database → Database → Type 0
+MakeAll limit [] first last = last ≡ first
+MakeAll limit (put ∷ more) first last = (second : Database) × MakesOne limit put first second × MakeAll limit more second last
+
 -- the transaction goes on, nothing is committed, and these puts were made
 pub record Puts (old new : State) (puts : List Put) : Type 0 where
   pub goes : Goes old new
+  pub made : (t : Tables) → Holds old.now t → MakeAll old.step_limit puts old.now new.now
   pub tables : (t : Tables) → Holds old.now t → Holds new.now (after_puts puts t)
 
 -- trees that stand for these tables, under the schema that they list

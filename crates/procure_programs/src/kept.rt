@@ -33,7 +33,7 @@ fn serve_at<H: StoredShelf + Drop>(
 }
 
 /// Serves so many connections on 127.0.0.1 and this port, from an office on this shelf. Gives the shelf back, and what serving came to.
-/// Only for want of memory it doesn't begin.
+/// Only for want of memory it doesn't begin; the shelf is let go then, and its store isn't closed, which loses nothing.
 pub(crate) fn serve_office<H: StoredShelf + Drop>(
     rt: &HostRuntime,
     settings: Settings,

@@ -19,7 +19,7 @@ puts-preserved g c =
           let early : HasCleanDisk mid = omega (arith, c.put_one.ensures.survives.clean) in
           let first = c.puts.invariant.2 early in
           let second = c.in_ok-put_one.ensures.puts clean first.goes.mode in
-          let both = puts_push old mid new _ _ first second in
+          let both = puts_push old mid new _ _ c.puts.invariant.1.limit first second in
           let more : take (c.puts.put-index + 1) c.args.puts.now ≡ take c.puts.put-index c.args.puts.now ++ c.put-item.result ∷ [] = search (rules, take_more) in
           rw more both,
     )
@@ -55,4 +55,4 @@ returns-in_err-put_one-clause-failed g c clean inside t was =
     let whole : done ++ here ++ rest ≡ c.args.puts.now = ap (λ l. l ++ rest) (sym more) ∙ take-append-drop (c.puts.put-index + 1) c.args.puts.now in
     same_err c.from_residual-in_err-put_one.result _ _ c.from_residual-in_err-put_one.ensures.1
     (excused_with _ _ _ (c.in_err-put_one.ensures.failed late first.goes.mode _ (first.tables t was)) (λ cause.
-    subst (StoreFails old new old.now) whole (fails_early old new old.now (done ++ here) rest (fails_later old mid new done here first c.puts.invariant.1.counts c.puts.invariant.1.limit cause))))
+    subst (StoreFails old new old.now) whole (fails_early old new old.now (done ++ here) rest (fails_later old mid new done here t was first c.puts.invariant.1.counts c.puts.invariant.1.limit cause))))
