@@ -175,32 +175,16 @@ fn stops(alloc: Global, disks: &Disks, of_log: bool) -> Result<Found, Wrong> {
     Err(Wrong::Stop(2000))
 }
 
-// Whether stops of the log's disk leave the office without that table, and with it.
-fn is_stopped_by_the_log(alloc: Global) -> Result<bool, Wrong> {
-    let found = stops(alloc, &earlier(alloc, "")?, true)?;
-    Ok(found.without > 0 && found.with > 0)
+// Stops of the log's disk are to leave the office without the table and with it, those of the database file with it.
+fn is_stopped(alloc: Global) -> Result<bool, Wrong> {
+    let disks = earlier(alloc, "")?;
+    let log = stops(alloc, &disks, true)?;
+    let db = stops(alloc, &disks, false)?;
+    Ok(log.without > 0 && log.with > 0 && db.with > 0)
 }
 
 #[test]
-fn its_opening_is_stopped_by_the_log(rt: HostRuntime) {
+fn its_opening_is_stopped(rt: HostRuntime) {
     let alloc = rt.alloc();
-    assert!(rt;
-        matches!(is_stopped_by_the_log(alloc), Ok(true))
-            || matches!(is_stopped_by_the_log(alloc), Ok(true))
-    );
-}
-
-// Whether stops of the database file's disk leave the office with that table.
-fn is_stopped_by_the_database(alloc: Global) -> Result<bool, Wrong> {
-    let found = stops(alloc, &earlier(alloc, "")?, false)?;
-    Ok(found.with > 0)
-}
-
-#[test]
-fn its_opening_is_stopped_by_the_database(rt: HostRuntime) {
-    let alloc = rt.alloc();
-    assert!(rt;
-        matches!(is_stopped_by_the_database(alloc), Ok(true))
-            || matches!(is_stopped_by_the_database(alloc), Ok(true))
-    );
+    assert!(rt; matches!(is_stopped(alloc), Ok(true)) || matches!(is_stopped(alloc), Ok(true)));
 }
