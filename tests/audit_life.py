@@ -63,7 +63,7 @@ class Life:
         return self.clerk(f"/awards/{award}/sign")["contract"]
 
     def before_the_deadline(self):
-        """The budget, the tenderers, seven notices and their tenders; N3 is cancelled, and N5 goes on receiving."""
+        """The budget, the tenderers, eight notices and their tenders; N3 is cancelled, N5 goes on receiving, and tenders for N8 may be withdrawn late."""
         self.clerk("/budget/B1", "line,kind,amount,title\n1000,add,100000,Roads\n2000,add,100000,Schools\n2000,cut,5000,Schools\n3000,add,0007,Parks\n")
         for name in TENDERERS:
             key = hashlib.sha256(b"key of " + name.encode()).hexdigest()
@@ -76,6 +76,7 @@ class Life:
         self.publish("N5", self.deadline + 86400, lot("L1", "1000", 900, 10))
         self.publish("N6", self.deadline, lot("L1", "2000", 100, 0), lot("L2", "2000", 200, 10))
         self.publish("N7", self.deadline, lot("L1", "1000", 100, 0))
+        self.publish("N8", self.deadline, lot("L1", "1000", 100, 10), criteria="price", late_withdrawal="forfeits")
         self.present("dear", "T1", "N1", "L1", tender(90, 30, wrong=20), 50)
         self.present("first", "T2", "N1", "L1", tender(100, 30), 60)
         self.present("taken", "T3", "N1", "L1", tender(80, 20), 50)
@@ -96,6 +97,8 @@ class Life:
         self.clerk("/notices/N5/amend", {"deadline": text_of(self.deadline + 90000), "rationale": "More time"})
         self.present("active", "T1", "N6", "L1", tender(1, 1))
         self.present("open", "T2", "N6", "L2", tender(1, 2), 10)
+        self.present("regretted", "T1", "N8", "L1", tender(1, 1), 10)
+        self.present("steady", "T2", "N8", "L1", tender(1, 2), 10)
 
     def after_the_deadline(self):
         """Late tenders, the openings, and how each notice goes on."""
@@ -103,7 +106,7 @@ class Life:
             fail("the deadline came before all tenders were in: the machine is too busy")
         time.sleep(self.deadline + 1.05 - time.time())
         self.present("late", "T5", "N1", "L1", tender(1, 1), 50)
-        for notice in ("N1", "N2", "N4", "N6", "N7"):
+        for notice in ("N1", "N2", "N4", "N6", "N7", "N8"):
             self.clerk(f"/notices/{notice}/open")
         self.present("later", "T5", "N1", "L1", tender(1, 1))
         self.first_notice()
@@ -119,6 +122,9 @@ class Life:
         self.clerk("/notices/N4/cancel", {"rationale": "No need"})
         self.active = self.award("N6", "L1")
         self.award("N7", "L1")
+        self.withdraw("T1", "regretted")
+        self.examine("steady")
+        self.sign(self.award("N8", "L1"))
 
     def first_notice(self):
         """N1: its winner fails to sign, the next one signs; the contract is raised, cut, paid and ended. Nobody wins its other lot."""

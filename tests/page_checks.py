@@ -222,11 +222,11 @@ def each_refusal(scene):
 # Of a lot decided by price with three tenders, A for 100, B for 90, C for 100: the lot's state, to whom awards were made and what became of them, what is said of each.
 LOTS = [("active", [], ["Waits", "Waits", "Waits"]),
         ("cancelled", [], ["Not decided", "Not decided", "Not decided"]),
-        ("unsuccessful", [], ["Not responsive", "Not responsive", "Not responsive"]),
-        ("unsuccessful", [("B", "cancelled")], ["Not responsive", "Passed over", "Not responsive"]),
-        ("active", [("A", "cancelled")], ["Passed over", "Not responsive", "Examined"]),
-        ("active", [("B", "active")], ["Examined", "Won", "Examined"]),
-        ("complete", [("B", "cancelled"), ("C", "active")], ["Not responsive", "Passed over", "Won"])]
+        ("unsuccessful", [], ["Couldn't win", "Couldn't win", "Couldn't win"]),
+        ("unsuccessful", [("B", "cancelled")], ["Couldn't win", "Passed over", "Couldn't win"]),
+        ("active", [("A", "cancelled")], ["Passed over", "Couldn't win", "Not chosen"]),
+        ("active", [("B", "active")], ["Not chosen", "Won", "Not chosen"]),
+        ("complete", [("B", "cancelled"), ("C", "active")], ["Couldn't win", "Passed over", "Won"])]
 PAID, HALF, NONE = ({"amount": 10}, [4, 6]), ({"amount": 10}, [4]), ({"amount": 10}, [])
 # The state of the tender, whether it was opened, its contracts with what was paid and whether they ended, and what is said of the whole.
 STATES = [("active", False, [], "Deadline passed, tenders not opened yet"), ("unsuccessful", True, [], "Ended without an award"),

@@ -71,12 +71,14 @@ def publish(asker, now, deadline):
     for name, standstill, lot in (("N2", 10, {}), ("N3", 0, {"security": 0}), ("N4", 0, {}), ("N5", 0, {}), ("N7", 0, {"line": "3000"})):
         ask("publish", "clerk", name, body=notice(deadline, standstill, **lot))
     ask("publish", "clerk", "N6", body=sent("publish", "byPoints", deadline=deadline, standstill_days=0))
+    ask("publish", "clerk", "N8", body={**notice(deadline), "late_withdrawal": "forfeits"})
     items = [{"id": f"I{number}", "title": "Paving", "quantity": 1} for number in range(51)]
     lots = [{**LOT, "id": f"L{number}", "estimate": 1} for number in range(21)]
     refused(asker, "publish", "clerk",
             ("Exists", ["N1"], body), ("NoSuch line", ["N9"], notice(deadline, line="9")), ("DeadlinePassed", ["N9"], notice(moment(now - 1))),
             ("InsufficientFunds", ["N9"], notice(deadline, line="3000", estimate=1)), ("LimitReached", ["N9"], notice(deadline, items=items)),
-            ("LimitReached", ["N9"], {**notice(deadline), "lots": lots}), ("BadBody lots", ["N9"], {**notice(deadline), "lots": [LOT, LOT]}))
+            ("LimitReached", ["N9"], {**notice(deadline), "lots": lots}),
+            ("BadBody late_withdrawal", ["N9"], {**notice(deadline), "late_withdrawal": "returns", "lots": []}), ("BadBody lots", ["N9"], {**notice(deadline), "lots": [LOT, LOT]}))
 
 
 def present(asker):
@@ -86,7 +88,7 @@ def present(asker):
     ask("present", "T1", "N1", "L1", body=sent("present", "another"), query=named("G1"))
     ask("modify", "T1", 2, body=sent("modify", "cheaper"), like="cheaper")
     receipts = {}
-    for who, place, unit in (("T1", "N2", 100), ("T1", "N5", 100), ("T2", "N5", 150), ("T1", "N6", 100), ("T2", "N6", 150), ("T1", "N7", 250), ("T1", "N4", 1)):
+    for who, place, unit in (("T1", "N2", 100), ("T1", "N5", 100), ("T2", "N5", 150), ("T1", "N6", 100), ("T2", "N6", 150), ("T1", "N7", 250), ("T1", "N4", 1), ("T1", "N8", 1)):
         receipts[who, place] = ask("present", who, place, "L1", body=tender(unit), query=named("G3"))["receipt"]
     receipts["T2", "N2"] = ask("present", "T2", "N2", "L1", body=b"abc", query=named("G4", 51))["receipt"]
     receipts["T1", "N3"] = ask("present", "T1", "N3", "L1", body=b"abc")["receipt"]
@@ -138,9 +140,14 @@ def at_the_deadline(asker, receipts):
     if late["state"] != "returned":
         asker.note(f"a late tender is {late['state']}")
     ask("open", "clerk", "N1", like="two")
-    for name in ("N2", "N3", "N5", "N6", "N7"):
+    for name in ("N2", "N3", "N5", "N6", "N7", "N8"):
         ask("open", "clerk", name)
     refused(asker, "open", "clerk", ("AlreadyOpened", ["N2"]), ("NotOpenForTenders", ["N4"]))
+    gone = ask("withdraw", "T1", receipts["T1", "N8"])
+    if gone["state"] != "opened":
+        asker.note(f"a tender that is withdrawn after its opening is {gone['state']}")
+    refused(asker, "withdraw", "T1", ("AlreadyDecided", [receipts["T1", "N8"]]))
+    refused(asker, "examine", "clerk", ("AlreadyDecided", [receipts["T1", "N8"]], {"responsive": True}))
 
 
 def decide_first(asker):

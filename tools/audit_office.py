@@ -17,14 +17,18 @@ TABLES = {
     "releases": ("notice seq", "moment text"),
     "compiled": ("notice", "text"),
     "office": ("version", "moment receipts awards"),
+    "late_rules": ("notice", ""),
 }
+
+# What makes the tables that an office of an earlier program lacks until it is opened again: the copy gets them.
+LATER = {"late_rules": "CREATE TABLE late_rules (notice TEXT NOT NULL PRIMARY KEY CHECK (length(notice) BETWEEN 1 AND 32)) STRICT"}
 
 # Each table and index of version 1, with the first digits of the SHA-256 of the SQL that makes it.
 MADE = dict(it.split(":") for it in (
     "lines:e4f278d6871f batches:f823b56fb3f0 tenderers:e429681bbc78 notices:d1f8ce1fb5a8 lots:72143f3de381 envelopes:a50cdf08cdcf "
     "seals:8e885df67690 securities:b17f4e600e34 awards:6048d7d19a7d contracts:f9925bd6b77a entries:8a6a7428858f releases:0a28d41b2c20 "
     "compiled:f27d2fca5cdd office:a457f3144f8d lots_of_line:37f74644bf24 envelopes_of_notice:a88cd83d7304 securities_of_notice:b04554dff328 "
-    "awards_of_notice:daec4a3a20b9 contracts_of_notice:e57713968ea5").split())
+    "awards_of_notice:daec4a3a20b9 contracts_of_notice:e57713968ea5 late_rules:224904b111b7").split())
 
 # What each contract gained and lost; the four pots of each line, summed from joined rows; the tenders that may win.
 SUMS = """
@@ -114,6 +118,9 @@ class Office:
         self.base.create_function("text_of", 1, text_of, deterministic=True)
         for table, (key, others) in TABLES.items():
             there = {row[1] for row in self.rows(f"PRAGMA table_info({table})")}
+            if not there and table in LATER:
+                self.base.execute(LATER[table])
+                continue
             if not there >= set((key + " " + others).split()):
                 raise Unreadable(f"{path}: it is no office: the table {table} isn't there, or lacks a column")
         if self.rows("SELECT version FROM office") != [(1,)]:

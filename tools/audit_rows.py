@@ -16,7 +16,7 @@ WORDS = {
 PARENTS = (
     "lots notice notices, lots line lines, envelopes notice|lot lots, envelopes tenderer tenderers, envelopes security securities, seals receipt envelopes, "
     "securities notice|lot lots, securities tenderer tenderers, awards notice|lot lots, awards receipt envelopes, contracts notice|lot lots, "
-    "contracts tenderer tenderers, entries contract contracts, releases notice notices, compiled notice notices")
+    "contracts tenderer tenderers, entries contract contracts, releases notice notices, compiled notice notices, late_rules notice notices")
 MOMENTS = ("batches moment, notices published, notices opened, envelopes moment, awards moment, contracts moment, contracts ended, entries moment, "
            "releases moment")
 
@@ -211,11 +211,12 @@ def contracts_keep_their_time(office):
 
 @rule("file")
 def awards_go_to_the_best(office):
-    """An award is of the best tender of its lot that may win and hasn't failed before, at that tender's corrected price."""
+    """An award is of the best tender of its lot that may win, hasn't failed before and wasn't withdrawn late, at that tender's corrected price."""
     for award, notice, lot, receipt, price, weight in office.rows(
             "SELECT award, a.notice, lot, receipt, price, weight FROM awards AS a JOIN notices AS n ON n.notice = a.notice ORDER BY award"):
         offers = office.rows("""SELECT corrected, receipt, coalesce(quality, 0) FROM offers WHERE notice = ? AND lot = ? AND receipt NOT IN
-            (SELECT receipt FROM awards WHERE notice = offers.notice AND award < ? AND state = 'failed')""", notice, lot, award)
+            (SELECT receipt FROM awards WHERE notice = offers.notice AND award < ? AND state = 'failed')
+            AND NOT (failed AND receipt NOT IN (SELECT receipt FROM awards WHERE notice = offers.notice))""", notice, lot, award)
         best = best_of(offers, weight)
         if best is None or best[:2] != (price, receipt):
             yield f"awards {award}", f"went to tender {receipt} at {price}, and the best " + (f"is {best[1]} at {best[0]}" if best else "isn't there")
@@ -323,22 +324,22 @@ def reading_of(data, items):
 
 @rule("file")
 def examinations_fit_their_tenders(office):
-    """Priced tenders alone are examined, all of a lot before it is decided; quality is given where points decide, within what the price leaves."""
+    """Priced tenders alone are examined, all of a lot that haven't failed before it is decided; quality is given where points decide, within what the price leaves."""
     yield from office.find("envelopes", """
         SELECT receipt, 'was examined, and has no price' FROM envelopes WHERE responsive IS NOT NULL AND reading IS NOT 'priced'
         UNION ALL SELECT receipt, 'its quality isn''t what its notice asks for' FROM envelopes AS e JOIN notices AS n ON n.notice = e.notice
         WHERE (quality IS NOT NULL) <> (weight > 0 AND responsive IS 1) OR weight + quality > 100
         UNION ALL SELECT receipt, 'wasn''t examined, and its lot is decided' FROM envelopes AS e JOIN lots AS l ON l.notice = e.notice AND l.lot = e.lot
-        WHERE reading = 'priced' AND responsive IS NULL AND (l.state IN ('awarded', 'contracted', 'unsuccessful')
+        WHERE reading = 'priced' AND responsive IS NULL AND NOT failed AND (l.state IN ('awarded', 'contracted', 'unsuccessful')
             OR EXISTS (SELECT 1 FROM awards AS a WHERE a.notice = e.notice AND a.lot = e.lot))""")
 
 
 @rule("file")
 def failures_are_of_awards(office):
-    """A tender has failed where an award of it has, and nowhere else; an award is of a tender for its lot."""
+    """A tender has failed where an award of it has, or where its notice lets tenders be withdrawn late, and nowhere else; an award is of a tender for its lot."""
     yield from office.find("envelopes", """
-        SELECT receipt, iif(failed, 'has failed, and no award of it has', 'hasn''t failed, and an award of it has') FROM envelopes
-        WHERE failed <> (receipt IN (SELECT receipt FROM awards WHERE state = 'failed'))""")
+        SELECT receipt, iif(failed, 'has failed, and no award of it has, nor may it be withdrawn late', 'hasn''t failed, and an award of it has') FROM envelopes
+        WHERE failed <> (receipt IN (SELECT receipt FROM awards WHERE state = 'failed')) AND NOT (failed AND notice IN (SELECT notice FROM late_rules))""")
     yield from office.find("awards", """
         SELECT award, 'its tender is for another lot' FROM awards AS a JOIN envelopes AS e ON e.receipt = a.receipt
         WHERE (a.notice, a.lot) <> (e.notice, e.lot)""")

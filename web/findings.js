@@ -105,28 +105,29 @@ function ofWinner(award, passed, byPrice) {
     : ["stopped", "Award ended", "Examined, and won; then the lot was cancelled."];
 }
 
-/** A priced tender that never won. A lot is decided only when each of these was examined, and goes to the best of those that were found responsive; so one
- * that was better than a winner, or stands in a lot that nobody won, was found not responsive. */
+/** A priced tender that never won. A lot is decided only when each of these was examined or taken back, and goes to the best of those that were found responsive; so one
+ * that was better than a winner, or stands in a lot that nobody won, was found not responsive, or was taken back after the deadline, where its notice lets it:
+ * which of the two is published nowhere. */
 function ofOther(lot, awards, place) {
   if (lot.status === "unsuccessful" || place === "before") {
-    return ["stopped", "Not responsive", "Examined. It doesn't meet what was asked."];
+    return ["stopped", "Couldn't win", "It doesn't meet what was asked, or was taken back after the deadline."];
   }
   if (awards.length === 0) {
     return lot.status === "cancelled" ? ["stopped", "Not decided", "The lot was cancelled before a decision."] : ["running", "Waits", "The lot isn't decided yet."];
   }
   const again = lot.status === "active" && awards.every(({ status }) => status !== "active") ? " The lot is decided again." : "";
-  return ["open", "Examined", BEHIND[place] + again];
+  return ["open", "Not chosen", BEHIND[place] + again];
 }
 
 const BEHIND = {
   beside: "As low a price as a winner's, but it came later.",
   behind: "Its price wasn't the lowest.",
-  unknown: "Not the best by points, or not responsive; which of the two isn't published.",
+  unknown: "Not the best by points, not responsive, or taken back after the deadline; which of these isn't published.",
 };
 
 /** How the best tender is found, as a sentence. */
 export function criteria(compiled) {
   return compiled.tender.awardCriteria === "priceOnly"
-    ? "The lowest price wins, among the tenders that were found responsive; of equal prices the one that came first."
-    : "The most points for price and quality win, among the tenders that were found responsive; of equal points the lower price.";
+    ? "The lowest price wins, among the tenders that were found responsive and weren't taken back; of equal prices the one that came first."
+    : "The most points for price and quality win, among the tenders that were found responsive and weren't taken back; of equal points the lower price.";
 }

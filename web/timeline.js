@@ -37,7 +37,7 @@ function amended({ tender }) {
 
 function updated({ tender }, lots) {
   if (tender.numberOfTenderers === undefined) {
-    return ["Not awarded", [names(lots, tender.lots.map(({ id }) => id)), " went to nobody: there was no responsive tender."]];
+    return ["Not awarded", [names(lots, tender.lots.map(({ id }) => id)), " went to nobody: there was no tender that could win."]];
   }
   const who = count(tender.numberOfTenderers, "tenderer");
   return ["Opened", [tender.numberOfTenderers === 0 ? "Nobody tendered." : `The sealed tenders of ${who} were opened and read.`]];

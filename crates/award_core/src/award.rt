@@ -43,8 +43,7 @@ pub struct AwardRows {
 fn some_isnt_examined(rows: &[EnvelopeRow]) -> bool
     ensures { result ≡ list_any isnt_examined rows.now }
 {
-    rows.iter()
-        .any(|row| is_priced(row) && row.responsive.is_none())
+    rows.iter().any(|row| is_priced(row) && row.responsive.is_none() && !row.failed)
 }
 
 // Whether one of these tenders may win.

@@ -37,7 +37,8 @@ pub fn price_of(row: &EnvelopeRow) -> Amount
     }
 }
 
-// Whether the tender may win: it was opened, is priced, was found responsive, and hasn't failed to sign.
+// Whether the tender may win: it was opened, is priced, was found responsive, and is not out of the running (its tenderer neither failed
+// to sign nor took it back after the deadline).
 pub(crate) fn is_admissible(row: &EnvelopeRow) -> bool
     ensures { result ≡ is_admissible row.now }
 {

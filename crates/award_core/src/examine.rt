@@ -48,7 +48,7 @@ fn is_refused(responsive: bool, quality: &Option<Quality>, notice: &Option<Notic
     }
 }
 
-// Whether nothing is left to find: the tender has no price or was examined before, or its lot was decided.
+// Whether nothing is left to find: the tender has no price, was examined before or is out of the running, or its lot was decided.
 fn is_decided(envelope: &EnvelopeRow, lot: &Option<LotRow>) -> bool
     ensures { result ≡ (cant_be_examined envelope.now || holds_of (λ l. not (is_undecided l.state)) lot.now) }
 {
@@ -56,7 +56,7 @@ fn is_decided(envelope: &EnvelopeRow, lot: &Option<LotRow>) -> bool
         Some(row) => row.state != LotState::Undecided,
         None => false,
     };
-    !is_priced(envelope) || envelope.responsive.is_some() || is_closed
+    !is_priced(envelope) || envelope.responsive.is_some() || envelope.failed || is_closed
 }
 
 // The tender with what was found: the quality that is given, or the one that it has where none is.

@@ -38,6 +38,14 @@ impl Criteria {
     }
 }
 
+/// What becomes of a tender whose tenderer would take it back after the deadline: it can't be, or it is out of the running and its
+/// security is forfeited.
+#[derive(Clone, Copy, Debug, PartialEq, Eq)]
+pub enum LateWithdrawal {
+    Refused,
+    Forfeits,
+}
+
 /// A notice that is to be published.
 #[derive(Drop)]
 pub struct NewNotice {
@@ -46,5 +54,6 @@ pub struct NewNotice {
     pub validity: Validity,
     pub standstill: Standstill,
     pub criteria: Criteria,
+    pub late_withdrawal: LateWithdrawal,
     pub lots: NewLots,
 }

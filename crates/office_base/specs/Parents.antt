@@ -1,12 +1,13 @@
 -- The rows that a row speaks of, where all of them are there.
 use Rattle.std.specs.Prelude.{List, [], Option, Some, None, option_and_then}
-use Rattle.office_base.specs.Tables.{Tables, line_at, notice_at, lot_at, envelope_at, security_at, securities_of_lot}
+use Rattle.office_base.specs.Tables.{Tables, line_at, notice_at, lot_at, envelope_at, security_at, late_at, securities_of_lot}
 use Rattle.office_base.specs.declared.records.LineRow.{LineRow}
 use Rattle.office_base.specs.declared.records.NoticeRow.{NoticeRow}
 use Rattle.office_base.specs.declared.records.LotRow.{LotRow}
 use Rattle.office_base.specs.declared.records.EnvelopeRow.{EnvelopeRow}
 use Rattle.office_base.specs.declared.records.SecurityRow.{SecurityRow}
 use Rattle.office_base.specs.declared.records.AwardRow.{AwardRow}
+use Rattle.office_base.specs.declared.records.LateRow.{LateRow}
 use Rattle.office_base.specs.declared.records.ContractRow.{ContractRow}
 
 -- of a tender
@@ -21,6 +22,11 @@ lot_of_envelope (Some e) s = lot_at (e.notice, e.lot) s
 abbrev pub security_of_envelope : Option EnvelopeRow → Tables → Option SecurityRow
 security_of_envelope None s = None
 security_of_envelope (Some e) s = option_and_then (λ n. security_at n s) e.security
+
+-- what its notice says of late withdrawals
+abbrev pub late_of_envelope : Option EnvelopeRow → Tables → Option LateRow
+late_of_envelope None s = None
+late_of_envelope (Some e) s = late_at e.notice s
 
 -- of a lot
 abbrev pub line_of_lot : Option LotRow → Tables → Option LineRow

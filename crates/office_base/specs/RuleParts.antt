@@ -1,5 +1,5 @@
 -- What the rules of several commands share.
-use Rattle.std.specs.Prelude.{ℕ, ◌+◌, Bool, true, not, cond, ◌&&◌, List, [], ◌∷◌, map, filter, Option, Some, None, nat_le}
+use Rattle.std.specs.Prelude.{ℕ, ◌+◌, Bool, true, not, cond, ◌&&◌, List, [], ◌∷◌, map, filter, Option, Some, None, is_some, nat_le}
 use Rattle.office_base.specs.Limits.{release_limit, receipt_limit, days}
 use Rattle.office_base.specs.Rows.{holds_of}
 use Rattle.office_base.specs.States.{is_held, is_opened}
@@ -8,6 +8,7 @@ use Rattle.office_base.specs.declared.records.NoticeRow.{NoticeRow}
 use Rattle.office_base.specs.declared.records.EnvelopeRow.{EnvelopeRow}
 use Rattle.office_base.specs.declared.records.SecurityState.{SecurityState}
 use Rattle.office_base.specs.declared.records.SecurityRow.{SecurityRow}
+use Rattle.office_base.specs.declared.records.LateRow.{LateRow}
 use Rattle.office_base.specs.declared.records.ClockRow.{ClockRow}
 use Rattle.office_base.specs.declared.puts.Put.TheVariants as puts
 use Rattle.office_base.specs.declared.puts.Put.{Put}
@@ -60,6 +61,10 @@ settled state s = record s { state = cond (is_held s.state) state s.state }
 -- a tender that is out of the running
 abbrev pub passed_over : EnvelopeRow → EnvelopeRow
 passed_over e = record e { failed = true }
+
+-- the notice is there, its deadline is past, and it lets tenders be withdrawn then
+abbrev pub is_late : Option LateRow → ℕ → Option NoticeRow → Bool
+is_late late t notice = is_some late && holds_of (is_past_deadline t) notice
 
 abbrev pub security_returned : SecurityRow → Put
 security_returned s = puts.Security (returned s)

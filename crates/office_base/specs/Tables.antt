@@ -17,6 +17,7 @@ use Rattle.office_base.specs.declared.records.ContractRow.{ContractRow}
 use Rattle.office_base.specs.declared.records.EntryRow.{EntryRow}
 use Rattle.office_base.specs.declared.records.ReleaseRow.{ReleaseRow}
 use Rattle.office_base.specs.declared.records.CompiledRow.{CompiledRow}
+use Rattle.office_base.specs.declared.records.LateRow.{LateRow}
 use Rattle.office_base.specs.declared.records.ClockRow.{ClockRow}
 use Rattle.office_base.specs.declared.puts.Put.{Put}
 use Rattle.office_base.specs.declared.puts.Put.TheVariants as puts
@@ -35,6 +36,7 @@ pub record Tables : Type 0 where
   pub entries : List EntryRow
   pub releases : List ReleaseRow
   pub compiled : List CompiledRow
+  pub late_rules : List LateRow
   pub clock : ClockRow
 
 -- the clock of an office where nothing was accepted
@@ -43,7 +45,7 @@ first_clock = record { moment = 0; receipts = 0; awards = 0 }
 
 -- the empty office
 abbrev pub no_tables : Tables
-no_tables = record { lines = []; batches = []; tenderers = []; notices = []; lots = []; envelopes = []; seals = []; securities = []; awards = []; contracts = []; entries = []; releases = []; compiled = []; clock = first_clock }
+no_tables = record { lines = []; batches = []; tenderers = []; notices = []; lots = []; envelopes = []; seals = []; securities = []; awards = []; contracts = []; entries = []; releases = []; compiled = []; late_rules = []; clock = first_clock }
 
 -- lots in the order of their notices, and in a notice in that of their own identifiers
 abbrev pub lot_cmp : List ℕ × List ℕ → List ℕ × List ℕ → Ordering
@@ -99,6 +101,9 @@ release_key r = (r.notice, r.seq)
 
 abbrev pub compiled_key : CompiledRow → List ℕ
 compiled_key r = r.notice
+
+abbrev pub late_key : LateRow → List ℕ
+late_key r = r.notice
 
 -- the row of a key among rows, and the rows with one row put
 abbrev pub find_line : List LineRow → List ℕ → Option LineRow
@@ -179,6 +184,12 @@ find_compiled rows key = row_at id_cmp compiled_key rows key
 abbrev pub put_compiled : List CompiledRow → CompiledRow → List CompiledRow
 put_compiled rows row = row_put id_cmp compiled_key rows row
 
+abbrev pub find_late : List LateRow → List ℕ → Option LateRow
+find_late rows key = row_at id_cmp late_key rows key
+
+abbrev pub put_late : List LateRow → LateRow → List LateRow
+put_late rows row = row_put id_cmp late_key rows row
+
 abbrev pub drop_seal : List SealRow → ℕ → List SealRow
 drop_seal rows receipt = row_drop nat_cmp seal_key rows receipt
 
@@ -221,6 +232,9 @@ release_at key t = find_release t.releases key
 
 abbrev pub compiled_at : List ℕ → Tables → Option CompiledRow
 compiled_at key t = find_compiled t.compiled key
+
+abbrev pub late_at : List ℕ → Tables → Option LateRow
+late_at key t = find_late t.late_rules key
 
 -- the lots of a notice, and those of a line
 abbrev pub of_notice : List ℕ → LotRow → Bool
@@ -289,6 +303,7 @@ after_put (puts.Contract r) t = record t { contracts = put_contract t.contracts 
 after_put (puts.Entry r) t = record t { entries = put_entry t.entries r }
 after_put (puts.Release r) t = record t { releases = put_release t.releases r }
 after_put (puts.Compiled r) t = record t { compiled = put_compiled t.compiled r }
+after_put (puts.Late r) t = record t { late_rules = put_late t.late_rules r }
 after_put (puts.Clock r) t = record t { clock = r }
 
 -- the office after changes, one after another
@@ -311,6 +326,7 @@ pub record IsSorted (t : Tables) : Type 0 where
   pub entries : IsInOrder entry_cmp entry_key t.entries
   pub releases : IsInOrder release_cmp release_key t.releases
   pub compiled : IsInOrder id_cmp compiled_key t.compiled
+  pub late_rules : IsInOrder id_cmp late_key t.late_rules
 
 -- changes keep the tables in the order of their keys
 abbrev pub ChangesKeepOrder : Type 0

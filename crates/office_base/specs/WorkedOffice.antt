@@ -58,6 +58,7 @@ worked_office = record {
   entries = worked_payment (codes "P1") ∷ worked_payment (codes "P2") ∷ [];
   releases = [];
   compiled = [];
+  late_rules = [];
   clock = first_clock;
 }
 

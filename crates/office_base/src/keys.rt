@@ -2,7 +2,7 @@
 ghost use Rattle.std.proofs.Common.{rules};
 
 use crate::records::{
-    AwardRow, BatchRow, CompiledRow, ContractRow, EntryRow, EnvelopeRow, LineRow, LotRow,
+    AwardRow, BatchRow, CompiledRow, ContractRow, EntryRow, EnvelopeRow, LateRow, LineRow, LotRow,
     NoticeRow, ReleaseRow, SealRow, SecurityRow, TendererRow,
 };
 use crate::row::Row;
@@ -153,6 +153,18 @@ impl Row for ReleaseRow {
 }
 
 impl Row for CompiledRow {
+    type Key = Id;
+
+    ghost key_of = { λ r. r.notice };
+
+    ghost clone_same = { λ a b h. Prim.search rules };
+
+    fn key(&self) -> Id {
+        self.notice
+    }
+}
+
+impl Row for LateRow {
     type Key = Id;
 
     ghost key_of = { λ r. r.notice };

@@ -2,8 +2,8 @@
 ghost use Rattle.std.specs.Prelude.{◌≡◌};
 
 use crate::records::{
-    AwardRow, BatchRow, ClockRow, CompiledRow, ContractRow, EntryRow, EnvelopeRow, LineRow, LotRow,
-    NoticeRow, ReleaseRow, SealRow, SecurityRow, TendererRow,
+    AwardRow, BatchRow, ClockRow, CompiledRow, ContractRow, EntryRow, EnvelopeRow, LateRow,
+    LineRow, LotRow, NoticeRow, ReleaseRow, SealRow, SecurityRow, TendererRow,
 };
 use crate::row::copy_of;
 use office_values::given::GivenNumber;
@@ -26,6 +26,7 @@ pub enum Put {
     Entry(EntryRow),
     Release(ReleaseRow),
     Compiled(CompiledRow),
+    Late(LateRow),
     Clock(ClockRow),
 }
 
@@ -48,6 +49,7 @@ impl Clone for Put {
             Put::Entry(row) => Ok(Put::Entry(copy_of(row)?)),
             Put::Release(row) => Ok(Put::Release(copy_of(row)?)),
             Put::Compiled(row) => Ok(Put::Compiled(copy_of(row)?)),
+            Put::Late(row) => Ok(Put::Late(copy_of(row)?)),
             Put::Clock(row) => Ok(Put::Clock(*row)),
         }
     }

@@ -100,7 +100,8 @@ pub enum EnvelopeState {
 }
 
 /// A tender that was received: the length and the SHA-256 of its bytes, and the security that came with it; what its opening read in it,
-/// whether its examination found it responsive and of which quality, and whether its tenderer failed to sign.
+/// whether its examination found it responsive and of which quality, and whether it is out of the running: its tenderer failed to sign, or
+/// took it back after the deadline.
 #[derive(Clone, Drop)]
 pub struct EnvelopeRow {
     pub receipt: GivenNumber,
@@ -214,6 +215,12 @@ pub struct ReleaseRow {
 pub struct CompiledRow {
     pub notice: Id,
     pub text: JsonText,
+}
+
+/// A notice whose tenders may be withdrawn after the deadline, at the price of their securities (Model Law, article 17).
+#[derive(Clone, Drop)]
+pub struct LateRow {
+    pub notice: Id,
 }
 
 /// The moment of the last accepted command, and the last numbers given to receipts and awards.

@@ -32,6 +32,7 @@ fn put_one<S: Alter>(alloc: Global, tx: &mut Transaction<'_, S>, put: &Put) -> R
         Put::Entry(row) => puts::put_entry(tx, row),
         Put::Release(row) => puts::put_release(tx, row),
         Put::Compiled(row) => puts::put_compiled(tx, row),
+        Put::Late(row) => puts::put_late(tx, row),
         Put::Clock(row) => puts::put_clock(tx, row),
     }
 }

@@ -7,8 +7,8 @@ use office_base::counts::Sequence;
 use office_base::ledger::{ContractSums, LedgerRow};
 use office_base::puts::Put;
 use office_base::records::{
-    AwardRow, BatchRow, ClockRow, CompiledRow, ContractRow, EntryRow, EnvelopeRow, LineRow, LotRow,
-    NoticeRow, ReleaseRow, SealRow, SecurityRow, TendererRow,
+    AwardRow, BatchRow, ClockRow, CompiledRow, ContractRow, EntryRow, EnvelopeRow, LateRow,
+    LineRow, LotRow, NoticeRow, ReleaseRow, SealRow, SecurityRow, TendererRow,
 };
 use office_base::shelf::{Lookups, Shelf, ShelfFault};
 use office_store::shelf::SqlShelf;
@@ -101,6 +101,10 @@ impl Lookups for SqlOffice {
 
     fn get_compiled(&mut self, notice: &Id) -> Result<Option<CompiledRow>, ShelfFault> {
         self.shelf.get_compiled(notice)
+    }
+
+    fn get_late(&mut self, notice: &Id) -> Result<Option<LateRow>, ShelfFault> {
+        self.shelf.get_late(notice)
     }
 
     fn get_clock(&mut self) -> Result<ClockRow, ShelfFault> {

@@ -88,6 +88,18 @@ pub securities_left : (make : SecurityRow → SecurityRow) (rows : List Security
     → find_security rows s ≡ option_map (λ w. cond (has_number s None) (make w) w) (find_security rows s)
 securities_left make rows s = map_same (find_security rows s)
 
+past : (t : ℕ) (o : Option NoticeRow) → holds_of (is_past_deadline t) o ≡ true → holds_of (is_before_deadline t) o ≡ false
+past t None late = cc
+past t (Some n) late = grind (arith, nat_tests)
+
+-- and one whose notice's deadline is past isn't
+pub not_effective : (xs : List Given) (x : Given) (r : ℕ) (e : EnvelopeRow) (a : Reception) → came xs r ≡ Some a → e.notice ≡ a.notice
+    → holds_of (is_past_deadline (Rattle.office_machine.specs.Machine.time_of x)) (notice_at e.notice x.before) ≡ true → is_effective x (came xs r) ≡ false
+not_effective xs x r e a came_is same late =
+    ap (is_effective x) came_is
+    ∙ ap (λ n. holds_of (is_before_deadline (Rattle.office_machine.specs.Machine.time_of x)) (notice_at n x.before)) (sym same)
+    ∙ past (Rattle.office_machine.specs.Machine.time_of x) (notice_at e.notice x.before) late
+
 not_past : (t : ℕ) (o : Option NoticeRow) → is_some o ≡ true → holds_of (is_past_deadline t) o ≡ false → holds_of (is_before_deadline t) o ≡ true
 not_past t None there h = there
 not_past t (Some n) there h = grind (arith, nat_tests)

@@ -21,6 +21,7 @@ pub data TableName : Type 0 where
   Entries : TableName
   Releases : TableName
   Merges : TableName
+  LateRules : TableName
   Clock : TableName
 
 abbrev pub table_of : Put → TableName
@@ -38,6 +39,7 @@ table_of (puts.Contract r) = Contracts
 table_of (puts.Entry r) = Entries
 table_of (puts.Release r) = Releases
 table_of (puts.Compiled r) = Merges
+table_of (puts.Late r) = LateRules
 table_of (puts.Clock r) = Clock
 
 -- each put is of one of these tables
@@ -89,6 +91,7 @@ one_leaves test (puts.Contract r) t on = record { lines = λ _. refl; notices = 
 one_leaves test (puts.Entry r) t on = record { lines = λ _. refl; notices = λ _. refl; lots = λ _. refl; awards = λ _. refl; contracts = λ _. refl; entries = λ off. clash on off; releases = λ _. refl; compiled = λ _. refl; clock = λ _. refl }
 one_leaves test (puts.Release r) t on = record { lines = λ _. refl; notices = λ _. refl; lots = λ _. refl; awards = λ _. refl; contracts = λ _. refl; entries = λ _. refl; releases = λ off. clash on off; compiled = λ _. refl; clock = λ _. refl }
 one_leaves test (puts.Compiled r) t on = record { lines = λ _. refl; notices = λ _. refl; lots = λ _. refl; awards = λ _. refl; contracts = λ _. refl; entries = λ _. refl; releases = λ _. refl; compiled = λ off. clash on off; clock = λ _. refl }
+one_leaves test (puts.Late r) t on = record { lines = λ _. refl; notices = λ _. refl; lots = λ _. refl; awards = λ _. refl; contracts = λ _. refl; entries = λ _. refl; releases = λ _. refl; compiled = λ _. refl; clock = λ _. refl }
 one_leaves test (puts.Clock r) t on = record { lines = λ _. refl; notices = λ _. refl; lots = λ _. refl; awards = λ _. refl; contracts = λ _. refl; entries = λ _. refl; releases = λ _. refl; compiled = λ _. refl; clock = λ off. clash on off }
 
 pub leaves : (test : TableName → Bool) (ps : List Put) (t : Tables) → AreOn test ps → Leaves test t (after_puts ps t)

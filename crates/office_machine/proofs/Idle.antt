@@ -1,6 +1,8 @@
 -- Commands that move nothing keep the accounts.
 use Rattle.std.proofs.Common.{ℕ, ◌≤◌, Bool, true, false, List, ◌∷◌, map, Option, Some, None, refl, arith}
 use Rattle.office_acts.specs.declared.item.Item.{Item}
+use Rattle.office_base.specs.declared.records.LateRow.{LateRow}
+use Rattle.office_base.specs.declared.records.SecurityState.TheVariants.{Returned, Forfeited}
 use Rattle.office_base.specs.declared.reading.Reading.{Reading}
 use Rattle.office_acts.specs.declared.command.Caller.{Caller}
 use Rattle.office_acts.specs.declared.tender.NamedSecurity.{NamedSecurity}
@@ -9,15 +11,14 @@ use Rattle.office_base.specs.declared.records.EnvelopeRow.{EnvelopeRow}
 use Rattle.office_base.specs.declared.records.SecurityRow.{SecurityRow}
 use Rattle.office_base.specs.declared.records.ClockRow.{ClockRow}
 use Rattle.office_base.specs.Tables.{Tables, notice_at, envelope_at, after_puts}
-use Rattle.office_base.specs.RuleParts.{security_settled}
+use Rattle.office_base.specs.RuleParts.{security_settled, is_late}
 use Rattle.tender_core.specs.Rules.AmendNotice.{amend_notice_effect}
 use Rattle.tender_core.specs.Rules.Open.{SealedTender, open_effect, opened_put}
 use Rattle.tender_core.specs.Rules.Present.{received_puts, seal_puts, security_put}
 use Rattle.tender_core.specs.Rules.Modify.{modify_effect}
-use Rattle.office_base.specs.declared.records.SecurityState.TheVariants.{Returned}
-use Rattle.tender_core.specs.Rules.Withdraw.{withdraw_effect}
+use Rattle.tender_core.specs.Rules.Withdraw.{withdraw_effect, taken_back_puts}
 use Rattle.award_core.specs.Rules.Examine.{examine_effect}
-use Rattle.office_base.specs.Parents.{security_of_envelope}
+use Rattle.office_base.specs.Parents.{security_of_envelope, notice_of_envelope, late_of_envelope}
 use Rattle.office_machine.specs.Machine.{Given, time_of, effect}
 use Rattle.office_machine.specs.Readings.{Readings}
 use Rattle.office_machine.specs.Rule.{sealed_tenders}
@@ -52,9 +53,13 @@ modify_aside : (digest : List ℕ → List ℕ) (clock : ClockRow) (t : ℕ) (en
 modify_aside digest clock t None bytes = tt
 modify_aside digest clock t (Some e) bytes = (tt, (tt, (tt, (tt, (same clock.awards, tt)))))
 
-withdraw_aside : (clock : ClockRow) (t : ℕ) (envelope : Option EnvelopeRow) (security : Option SecurityRow) → AreAside clock.awards (withdraw_effect clock t envelope security)
-withdraw_aside clock t None security = tt
-withdraw_aside clock t (Some e) security = (tt, (tt, (same clock.awards, aside-if clock.awards (security_settled Returned) security (λ _. tt))))
+taken_back_aside : (clock : ClockRow) (t : ℕ) (e : EnvelopeRow) (security : Option SecurityRow) (late : Bool) → AreAside clock.awards (taken_back_puts clock t e security late)
+taken_back_aside clock t e security false = (tt, (tt, (same clock.awards, aside-if clock.awards (security_settled Returned) security (λ _. tt))))
+taken_back_aside clock t e security true = (tt, (same clock.awards, aside-if clock.awards (security_settled Forfeited) security (λ _. tt)))
+
+withdraw_aside : (clock : ClockRow) (t : ℕ) (envelope : Option EnvelopeRow) (notice : Option NoticeRow) (late : Option LateRow) (security : Option SecurityRow) → AreAside clock.awards (withdraw_effect clock t envelope notice late security)
+withdraw_aside clock t None notice late security = tt
+withdraw_aside clock t (Some e) notice late security = taken_back_aside clock t e security (is_late late t notice)
 
 examine_aside : (clock : ClockRow) (t : ℕ) (envelope : Option EnvelopeRow) (responsive : Bool) (quality : Option ℕ) → AreAside clock.awards (examine_effect clock t envelope responsive quality)
 examine_aside clock t None responsive quality = tt
@@ -86,7 +91,7 @@ module _ (readings : Readings) (xs : List Given) (s : Tables) (moment : ℕ) (ca
 
   pub withdraw_keeps : (receipt : ℕ) → IsKept (given (commands.Withdraw receipt) ∷ xs) (after_puts (effect readings (given (commands.Withdraw receipt))) s)
   withdraw_keeps receipt =
-      idle_keeps readings (given (commands.Withdraw receipt)) xs (record { moves_none = refl; held = λ _. refl; none_brought = λ _. refl; none_taken = λ _. refl }) (withdraw_aside s.clock _ (envelope_at receipt s) (security_of_envelope (envelope_at receipt s) s)) kept
+      idle_keeps readings (given (commands.Withdraw receipt)) xs (record { moves_none = refl; held = λ _. refl; none_brought = λ _. refl; none_taken = λ _. refl }) (withdraw_aside s.clock _ (envelope_at receipt s) (notice_of_envelope (envelope_at receipt s) s) (late_of_envelope (envelope_at receipt s) s) (security_of_envelope (envelope_at receipt s) s)) kept
 
   pub examine_keeps : (receipt : ℕ) (responsive : Bool) (quality : Option ℕ) → IsKept (given (commands.Examine receipt responsive quality) ∷ xs) (after_puts (effect readings (given (commands.Examine receipt responsive quality))) s)
   examine_keeps receipt responsive quality =

@@ -12,7 +12,7 @@ use Rattle.std.proofs.lemmas.Map.Lookups.{exact_pairs}
 use Rattle.office_values.specs.Ids.{id_cmp}
 use Rattle.office_base.specs.Rows.{by_order, row_at, row_put, StartsAbove, IsInOrder}
 use Rattle.office_base.specs.Sums.{sum_over}
-use Rattle.office_base.specs.Tables.{lot_cmp, entry_cmp, release_cmp, line_key, batch_key, tenderer_key, notice_key, lot_key, envelope_key, seal_key, security_key, award_key, contract_key, entry_key, release_key, compiled_key}
+use Rattle.office_base.specs.Tables.{lot_cmp, entry_cmp, release_cmp, line_key, batch_key, tenderer_key, notice_key, lot_key, envelope_key, seal_key, security_key, award_key, contract_key, entry_key, release_key, compiled_key, late_key}
 use Rattle.office_base.proofs.Orders.{lots_total}
 use Rattle.office_base.proofs.ExactKeys.{ids_exact, lots_exact, equal_keys}
 use Rattle.office_base.proofs.RowLaws.{row_at-row_put}
@@ -37,6 +37,9 @@ notices = record { total = nat_list_cmp_total; exact = ids_exact }
 
 pub compiled : IsKeyed id_cmp compiled_key
 compiled = record { total = nat_list_cmp_total; exact = ids_exact }
+
+pub late_rules : IsKeyed id_cmp late_key
+late_rules = record { total = nat_list_cmp_total; exact = ids_exact }
 
 pub envelopes : IsKeyed nat_cmp envelope_key
 envelopes = record { total = nat_cmp_total; exact = nat_cmp-IsAntisymmetric }

@@ -45,6 +45,7 @@ put_beside trees (puts.Contract r) s = refl
 put_beside trees (puts.Entry r) s = refl
 put_beside trees (puts.Release r) s = refl
 put_beside trees (puts.Compiled r) s = refl
+put_beside trees (puts.Late r) s = refl
 put_beside trees (puts.Clock r) s = refl
 
 puts_beside : (ps : List Put) (trees : List CompiledRow) (s : Tables)

@@ -2,6 +2,11 @@
 use Rattle.std.proofs.Common.{◌≡◌, ℕ, ◌+◌, Bool, true, false, List, [], ◌∷◌, ◌++◌, map, filter, Option, Some, None, is_some, refl, sym, ◌∙◌, ap, subst}
 use Rattle.std.specs.Prelude.{IsSome, option_and_then}
 use Rattle.std.specs.List.{AllByRecursion}
+use Rattle.office_acts.specs.declared.notice.LateWithdrawal.{LateWithdrawal}
+use Rattle.office_acts.specs.declared.notice.LateWithdrawal.TheVariants.{Refused, Forfeits}
+use Rattle.office_base.specs.declared.records.SecurityState.{SecurityState}
+use Rattle.office_base.specs.declared.records.SecurityState.TheVariants.{Returned, Forfeited}
+use Rattle.office_base.specs.declared.records.LateRow.{LateRow}
 use Rattle.office_base.specs.Rows.{row_at}
 use Rattle.office_acts.specs.declared.command.Caller.{Caller}
 use Rattle.office_acts.specs.declared.command.Caller.TheVariants.{Public, Clerk, Tenderer}
@@ -27,28 +32,26 @@ use Rattle.office_base.specs.Tables.{Tables, IsSorted, no_tables, tenderer_at, n
 use Rattle.office_base.specs.declared.puts.Put.{Put}
 use Rattle.office_base.specs.declared.puts.Put.TheVariants as puts
 use Rattle.office_base.specs.Rules.{first_of}
-use Rattle.office_base.specs.RuleParts.{put_if, security_returned, settled, security_settled, passed_over, securities_returned, is_held_security}
+use Rattle.office_base.specs.RuleParts.{put_if, security_returned, settled, security_settled, passed_over, securities_returned, is_held_security, is_late}
 use Rattle.office_base.specs.Standings.{standings}
 use Rattle.tender_core.specs.Rules.Import.{after_rows, line_put as import_line}
-use Rattle.tender_core.specs.Rules.Publish.{line_put, lot_put}
+use Rattle.tender_core.specs.Rules.Publish.{line_put, lot_put, publish_parts, late_puts}
 use Rattle.tender_core.specs.Rules.AmendNotice.{amend_notice_effect}
 use Rattle.tender_core.specs.Rules.Cancel.{is_open_lot, lot_put as cancel_lot, line_put as cancel_line, is_ended_award, award_put, is_ended_envelope, envelope_put, drop_put, is_ended_security, cancel_effect}
 use Rattle.tender_core.specs.Rules.Open.{is_sealed_envelope, opened_put, open_effect}
 use Rattle.tender_core.specs.Rules.Present.{received_puts, seal_puts, security_put}
 use Rattle.tender_core.specs.Rules.Modify.{modify_effect}
-use Rattle.tender_core.specs.Rules.Withdraw.{withdraw_effect}
+use Rattle.tender_core.specs.Rules.Withdraw.{withdraw_effect, taken_back_puts}
 use Rattle.award_core.specs.Rules.Examine.{examine_effect}
 use Rattle.award_core.specs.Rules.Award.{winner, best_of, decision_puts, award_effect}
-use Rattle.office_base.specs.declared.records.SecurityState.{SecurityState}
-use Rattle.office_base.specs.declared.records.SecurityState.TheVariants.{Forfeited, Returned}
 use Rattle.award_core.specs.Rules.Fail.{fail_effect}
 use Rattle.award_core.specs.Rules.Sign.{sign_effect, tenderer_in}
 use Rattle.award_core.specs.Rules.AmendContract.{amend_contract_effect}
 use Rattle.award_core.specs.Rules.Pay.{pay_effect}
 use Rattle.award_core.specs.Rules.End.{end_effect}
 use Rattle.office_base.specs.declared.records.ReleaseRow.{ReleaseRow}
-use Rattle.office_base.specs.Parents.{envelope_of_award, security_of_envelope, lot_of_award, notice_of_award, notice_of_contract, line_of_lot, lot_of_contract}
-use Rattle.office_machine.specs.Machine.{Means, Given, IsRegistered, may_give, publication_puts, command_tests, effect, next, puts_of, publication, with_trees}
+use Rattle.office_base.specs.Parents.{envelope_of_award, security_of_envelope, lot_of_award, notice_of_award, notice_of_envelope, notice_of_contract, line_of_lot, lot_of_contract, late_of_envelope}
+use Rattle.office_machine.specs.Machine.{Means, Given, IsRegistered, may_give, publication_puts, command_tests, effect, next, puts_of, publication, with_trees, time_of}
 use Rattle.office_machine.specs.Rule.{sealed_tender}
 use Rattle.office_base.specs.declared.records.CompiledRow.{CompiledRow}
 use Rattle.office_machine.specs.Parents.{LotHas, EnvelopeHas, SecurityHas, AwardHas, HaveParents, ParentsAreThere}
@@ -96,11 +99,17 @@ module _ (s u : Tables) (order : IsSorted s) (have : HaveParents s s) (g : Grows
 
   publish_parents : (clock : ClockRow) (t : ℕ) (notice : List ℕ) (content : NewNotice) → OnLines s.lines content.lots → IsSome (notice_at notice u) → AllParents u (Rattle.tender_core.specs.Rules.Publish.publish_effect clock t notice s.lines content)
   publish_parents clock t notice content on there =
-      parents-append u (map (line_put s.lines content.lots) content.lots ++ map (lot_put notice) content.lots) _
+      parents-append u (publish_parts clock t notice s.lines content) (late_puts notice content.late_withdrawal)
+      (parents-append u (map (line_put s.lines content.lots) content.lots ++ map (lot_put notice) content.lots) _
       (parents-append u (map (line_put s.lines content.lots) content.lots) (map (lot_put notice) content.lots)
       (parents-map u (line_put s.lines content.lots) content.lots (λ _. tt))
       (parents-all u (lot_put notice) content.lots (published_lots notice there content.lots on)))
-      (tt, (tt, tt))
+      (tt, (tt, tt)))
+      (late_parents content.late_withdrawal)
+    where
+      late_parents : (late : LateWithdrawal) → AllParents u (late_puts notice late)
+      late_parents Refused = tt
+      late_parents Forfeits = (tt, tt)
 
   amend_parents : (clock : ClockRow) (t : ℕ) (notice : Option NoticeRow) (deadline : ℕ) → AllParents u (amend_notice_effect clock t notice deadline)
   amend_parents clock t None deadline = tt
@@ -174,11 +183,17 @@ module _ (s u : Tables) (order : IsSorted s) (have : HaveParents s s) (g : Grows
       by None is = cc
       by (Some n) is = security_still s u g r (have.securities n r is)
 
-  withdraw_parents : (clock : ClockRow) (t receipt : ℕ) (o : Option EnvelopeRow) → envelope_at receipt s ≡ o → AllParents u (withdraw_effect clock t o (security_of_envelope o s))
-  withdraw_parents clock t receipt None is = tt
-  withdraw_parents clock t receipt (Some e) is =
+  taken_back_parents : (clock : ClockRow) (t receipt : ℕ) (e : EnvelopeRow) → envelope_at receipt s ≡ Some e → (late : Bool) → AllParents u (taken_back_puts clock t e (security_of_envelope (Some e) s) late)
+  taken_back_parents clock t receipt e is false =
       let h = envelope_still s u g e (have.envelopes receipt e is) in
       (record { notice = h.notice; lot = h.lot; tenderer = h.tenderer; security = h.security }, (tt, (tt, parents-if u (security_settled Returned) (security_of_envelope (Some e) s) (λ r found. settled_has Returned r (security_found (Some e) r found)))))
+  taken_back_parents clock t receipt e is true =
+      let h = envelope_still s u g e (have.envelopes receipt e is) in
+      (record { notice = h.notice; lot = h.lot; tenderer = h.tenderer; security = h.security }, (tt, parents-if u (security_settled Forfeited) (security_of_envelope (Some e) s) (λ r found. settled_has Forfeited r (security_found (Some e) r found))))
+
+  withdraw_parents : (clock : ClockRow) (t receipt : ℕ) (o : Option EnvelopeRow) (n : Option NoticeRow) (late : Option LateRow) → envelope_at receipt s ≡ o → AllParents u (withdraw_effect clock t o n late (security_of_envelope o s))
+  withdraw_parents clock t receipt None n late is = tt
+  withdraw_parents clock t receipt (Some e) n late is = taken_back_parents clock t receipt e is (is_late late t n)
 
   examine_parents : (clock : ClockRow) (t receipt : ℕ) (responsive : Bool) (quality : Option ℕ) (o : Option EnvelopeRow) → envelope_at receipt s ≡ o → AllParents u (examine_effect clock t o responsive quality)
   examine_parents clock t receipt responsive quality None is = tt
@@ -297,6 +312,10 @@ publish_new front row clock s =
     ap (λ u. is_some (notice_at row.notice u)) (after-append front (puts.Notice row ∷ puts.Clock clock ∷ []) s)
     ∙ ap is_some (found_put keyed.notices (after_puts front s).notices row)
 
+publish_late : (late : LateWithdrawal) (notice k : List ℕ) (u : Tables) → IsSome (notice_at k u) → IsSome (notice_at k (after_puts (late_puts notice late) u))
+publish_late Refused notice k u there = there
+publish_late Forfeits notice k u there = there
+
 -- a tenderer who may present is registered
 presenter : (caller : Caller) (s : Tables) → is_tenderer caller ≡ true → IsRegistered caller s.tenderers → IsSome (tenderer_at (tenderer_of caller) s)
 presenter Public s may registered = cc
@@ -328,7 +347,9 @@ module _ (means : Means) (s : Tables) (moment : ℕ) (caller : Caller) (order : 
   has (Publish notice content) = λ may allowed.
       let passes = none_holds (command_tests (given (Publish notice content))) allowed in
       publish_parents s (after (Publish notice content)) order have (grown (Publish notice content)) s.clock _ notice content (on_lines s.lines content.lots passes.0)
-      ((later (Publish notice content)).notices notice (publish_new (map (line_put s.lines content.lots) content.lots ++ map (lot_put notice) content.lots) _ _ s))
+      ((later (Publish notice content)).notices notice
+      (subst (λ u. IsSome (notice_at notice u)) (sym (after-append (publish_parts s.clock (time_of (given (Publish notice content))) notice s.lines content) (late_puts notice content.late_withdrawal) s))
+      (publish_late content.late_withdrawal notice notice _ (publish_new (map (line_put s.lines content.lots) content.lots ++ map (lot_put notice) content.lots) _ _ s))))
   has (AmendNotice notice deadline rationale) = λ may allowed. amend_parents s (after (AmendNotice notice deadline rationale)) order have (grown (AmendNotice notice deadline rationale)) s.clock _ (notice_at notice s) deadline
   has (Cancel notice rationale) = λ may allowed. cancel_parents s (after (Cancel notice rationale)) order have (grown (Cancel notice rationale)) s.clock _ notice (notice_at notice s)
   has (Open notice) = λ may allowed. open_parents s (after (Open notice)) order have (grown (Open notice)) means.readings.read s.clock _ notice (notice_at notice s)
@@ -339,7 +360,7 @@ module _ (means : Means) (s : Tables) (moment : ℕ) (caller : Caller) (order : 
       present_parents s (after (Present notice lot security bytes)) order have (grown (Present notice lot security bytes)) means.readings.digest s.clock _ caller notice lot security bytes _ there lot_there (presenter caller s may registered)
       (λ named. (later (Present notice lot security bytes)).securities (s.clock.receipts + 1) (present_new means.readings.digest s.clock _ caller notice lot security bytes _ s named))
   has (Modify receipt bytes) = λ may allowed. modify_parents s (after (Modify receipt bytes)) order have (grown (Modify receipt bytes)) means.readings.digest s.clock _ receipt bytes (envelope_at receipt s) refl
-  has (Withdraw receipt) = λ may allowed. withdraw_parents s (after (Withdraw receipt)) order have (grown (Withdraw receipt)) s.clock _ receipt (envelope_at receipt s) refl
+  has (Withdraw receipt) = λ may allowed. withdraw_parents s (after (Withdraw receipt)) order have (grown (Withdraw receipt)) s.clock _ receipt (envelope_at receipt s) (notice_of_envelope (envelope_at receipt s) s) (late_of_envelope (envelope_at receipt s) s) refl
   has (Examine receipt responsive quality) = λ may allowed. examine_parents s (after (Examine receipt responsive quality)) order have (grown (Examine receipt responsive quality)) s.clock _ receipt responsive quality (envelope_at receipt s) refl
   has (Award notice lot) = λ may allowed. award_parents s (after (Award notice lot)) order have (grown (Award notice lot)) s.clock _ notice lot (notice_at notice s) (lot_at (notice, lot) s) (line_of_lot (lot_at (notice, lot) s) s) refl
   has (Fail award) = λ may allowed. fail_parents s (after (Fail award)) order have (grown (Fail award)) s.clock _ award (award_at award s) (notice_of_award (award_at award s) s) (lot_of_award (award_at award s) s) refl refl

@@ -12,6 +12,8 @@ use Rattle.office_acts.specs.declared.notice.NewNotice.{NewNotice}
 use Rattle.office_acts.specs.declared.command.Caller.{Caller}
 use Rattle.office_acts.specs.declared.commands.Command.TheVariants.{Publish}
 use Rattle.office_values.specs.declared.refusal.Refusal.{Refusal}
+use Rattle.office_acts.specs.declared.notice.LateWithdrawal.{LateWithdrawal}
+use Rattle.office_acts.specs.declared.notice.LateWithdrawal.TheVariants.{Refused, Forfeits}
 use Rattle.office_base.specs.Rows.{row_at, row_put}
 use Rattle.office_base.specs.declared.records.LineRow.{LineRow}
 use Rattle.office_base.specs.declared.records.LotRow.{LotRow}
@@ -21,7 +23,7 @@ use Rattle.office_base.specs.declared.records.NoticeState.TheVariants as notice
 use Rattle.office_base.specs.declared.records.NoticeState.{NoticeState}
 use Rattle.office_base.specs.declared.puts.Put.TheVariants as puts
 use Rattle.office_base.specs.declared.puts.Put.{Put}
-use Rattle.tender_core.specs.Rules.Publish.{is_on_no_line, publish_conditions, publish_effect, line_row, line_put, lot_row, lot_put, notice_row, notice_put}
+use Rattle.tender_core.specs.Rules.Publish.{is_on_no_line, publish_conditions, publish_effect, line_row, line_put, lot_row, lot_put, notice_row, notice_put, publish_parts, late_puts}
 use Rattle.office_base.specs.Tables.{Tables, lot_cmp, line_key, lot_key, notice_key, find_line, put_notice, envelope_at, seal_at, security_at, lot_at, notice_at, after_puts}
 use Rattle.office_machine.specs.Machine.{Given}
 use Rattle.office_machine.specs.Readings.{Readings}
@@ -31,9 +33,9 @@ use Rattle.office_machine.proofs.Passed.{none_holds, neither, not_false}
 use Rattle.office_base.proofs.RowLaws.{row_at-row_put}
 use Rattle.office_machine.proofs.RowsChanged.{rows_put}
 use Rattle.office_machine.proofs.Added.{sound_published}
-use Rattle.office_machine.proofs.Seen.{seen, lot_state, notice_state, LotFits, AreInOrder, OnLines, lines-puts, order-puts, after-append, after_lines, after_lots}
+use Rattle.office_machine.proofs.Seen.{seen, lot_state, notice_state, LotFits, AreInOrder, OnLines, lines-puts, order-puts, after-append, after_lines, after_lots, IsQuiet}
 use Rattle.office_machine.proofs.FatesHold.{IsKept, Keeps, given, tenders_same, named_same}
-use Rattle.office_machine.proofs.QuietFates.{all_append, all_of_map}
+use Rattle.office_machine.proofs.QuietFates.{all_append, all_of_map, kept_after}
 
 -- what holds of each row put at a key, and where there is none of what was there, holds of what is found
 module _ {K X : Type 0} {R : K → K → Ordering} (o : IsTotalOrder R) (key : X → K) where
@@ -71,7 +73,7 @@ module _ (readings : Readings) (name : List ℕ) (content : NewNotice) (xs : Lis
   last_puts = notice_put T name content ∷ puts.Clock (record t.clock { moment = T }) ∷ []
 
   abbrev ps : List Put
-  ps = publish_effect t.clock T name t.lines content
+  ps = publish_parts t.clock T name t.lines content
 
   abbrev new_lots : List LotRow
   new_lots = map (lot_row name) content.lots
@@ -162,8 +164,15 @@ module _ (readings : Readings) (name : List ℕ) (content : NewNotice) (xs : Lis
     order = subst (λ (u : Tables). AreInOrder u) after_is (order-puts ps t kept.order);
   }
 
-  published_kept : IsKept readings (x ∷ xs) (after_puts ps t)
-  published_kept = subst (IsKept readings (x ∷ xs)) (sym after_is) after_kept
+  late_quiet : (late : LateWithdrawal) (u : Tables) → AllByRecursion (IsQuiet (seen u) u.clock.receipts) (late_puts name late)
+  late_quiet Refused u = tt
+  late_quiet Forfeits u = (tt, tt)
+
+  published_kept : IsKept readings (x ∷ xs) (after_puts (publish_effect t.clock T name t.lines content) t)
+  published_kept =
+      subst (IsKept readings (x ∷ xs)) (sym (after-append ps (late_puts name content.late_withdrawal) t))
+      (kept_after readings (x ∷ xs) (late_puts name content.late_withdrawal) (after_puts ps t) (late_quiet content.late_withdrawal (after_puts ps t))
+      (subst (IsKept readings (x ∷ xs)) (sym after_is) after_kept))
 
 pub publish_keeps : (readings : Readings) (notice : List ℕ) (content : NewNotice) → Keeps readings (Publish notice content)
 publish_keeps readings name content xs t m caller kept _ allowed =

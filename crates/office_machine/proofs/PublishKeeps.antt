@@ -6,6 +6,9 @@ use Rattle.std.specs.Ordering.{eq_by_cmp}
 use Rattle.office_values.specs.Ids.{same_id}
 use Rattle.office_acts.specs.declared.command.Caller.{Caller}
 use Rattle.office_values.specs.declared.refusal.Refusal.{Refusal}
+use Rattle.office_acts.specs.declared.notice.LateWithdrawal.{LateWithdrawal}
+use Rattle.office_acts.specs.declared.notice.LateWithdrawal.TheVariants.{Refused, Forfeits}
+use Rattle.office_machine.proofs.Aside.{AreAside, kept_aside, after-append}
 use Rattle.office_base.specs.Rules.{first_of}
 use Rattle.office_base.specs.declared.records.LineRow.{LineRow}
 use Rattle.office_base.specs.declared.records.LotRow.{LotRow}
@@ -29,7 +32,7 @@ use Rattle.office_acts.specs.declared.notice.NewNotice.{NewNotice}
 use Rattle.office_acts.specs.Lots.{lot_id}
 use Rattle.office_base.specs.Sums.{sum_over}
 use Rattle.office_base.specs.declared.puts.Put.{Put}
-use Rattle.tender_core.specs.Rules.Publish.{is_on_no_line, line_row, line_put, lot_row, lot_put, notice_row, notice_put}
+use Rattle.tender_core.specs.Rules.Publish.{is_on_no_line, line_row, line_put, lot_row, lot_put, notice_row, notice_put, publish_parts, late_puts}
 use Rattle.office_base.proofs.Orders.{lots_total}
 use Rattle.office_machine.proofs.PublishedRows.{taken_after, enough, AreAbsent, lots_new, reserved_after}
 use Rattle.office_machine.proofs.RowsPut.{lines_put, lots_put, AreNew, after_lines, after_lots, found_after, there_after}
@@ -99,7 +102,7 @@ module _ (readings : Readings) (xs : List Given) (s : Tables) (moment : ℕ) (ca
     abbrev last_puts : List Put
     last_puts = notice_put (time_of x) notice content ∷ puts.Clock (record s.clock { moment = time_of x }) ∷ []
 
-    published_is : after_puts (effect readings x) s ≡ published
+    published_is : after_puts (publish_parts s.clock (time_of x) notice s.lines content) s ≡ published
     published_is =
         ap (λ ps. after_puts ps s) (append_assoc (map (line_put s.lines content.lots) content.lots) (map (lot_put notice) content.lots) last_puts)
         ∙ after_lines (line_row s.lines content.lots) content.lots (map (lot_put notice) content.lots ++ last_puts) s
@@ -206,4 +209,10 @@ module _ (readings : Readings) (xs : List Given) (s : Tables) (moment : ℕ) (ca
     }
 
     pub publish_keeps : IsKept (x ∷ xs) (after_puts (effect readings x) s)
-    publish_keeps = subst (IsKept (x ∷ xs)) (sym published_is) keeps
+    publish_keeps =
+        subst (IsKept (x ∷ xs)) (sym (after-append (publish_parts s.clock (time_of x) notice s.lines content) (late_puts notice content.late_withdrawal) s))
+        (kept_aside (x ∷ xs) (late_puts notice content.late_withdrawal) (after_puts (publish_parts s.clock (time_of x) notice s.lines content) s) (late_aside _ content.late_withdrawal) (subst (IsKept (x ∷ xs)) (sym published_is) keeps))
+      where
+        late_aside : (n : ℕ) (late : LateWithdrawal) → AreAside n (late_puts notice late)
+        late_aside n Refused = tt
+        late_aside n Forfeits = (tt, tt)

@@ -8,6 +8,8 @@ use Rattle.office_acts.specs.Rights.{may_look}
 use Rattle.office_acts.specs.declared.commands.Command.{Command}
 use Rattle.office_acts.specs.declared.commands.Command.TheVariants as commands
 use Rattle.office_values.specs.declared.refusal.Refusal.TheVariants.{Forbidden, NotYourTender}
+use Rattle.office_base.specs.Parents.{notice_of_envelope, late_of_envelope}
+use Rattle.office_base.specs.RuleParts.{is_late}
 use Rattle.office_base.specs.States.{is_opened}
 use Rattle.office_base.specs.declared.records.EnvelopeState.TheVariants as envelope_states
 use Rattle.office_base.specs.declared.records.TendererRow.{TendererRow}
@@ -18,13 +20,13 @@ use Rattle.office_base.specs.declared.records.SealRow.{SealRow}
 use Rattle.office_base.specs.declared.records.ClockRow.{ClockRow}
 use Rattle.tender_core.specs.Rules.Open.{is_sealed_envelope}
 use Rattle.award_core.specs.Rules.Award.{winner}
-use Rattle.office_base.specs.Tables.{Tables, find_envelope, notice_at, envelope_at, contract_at, envelopes_of_notice, envelopes_of_lot, lots_of_notice}
+use Rattle.office_base.specs.Tables.{Tables, find_envelope, notice_at, envelope_at, contract_at, envelopes_of_notice, envelopes_of_lot, lots_of_notice, late_at}
 use Rattle.office_machine.specs.Readings.{Readings}
 use Rattle.office_machine.specs.Worlds.{Theirs, is_theirs, is_of_lot, AlikeRows, Pairs, AlikeOffices, SameBut, Same, Presented, Modified, OpensAlike}
 use Rattle.office_acts.specs.declared.queries.Query.{Query}
 use Rattle.office_acts.specs.declared.queries.Query.TheVariants as queries
 use Rattle.office_acts.specs.Queries.{kind_of}
-use Rattle.office_machine.specs.Replies.{Reply, Refused, OpenedAll, Received, Awarded, OfContract, Tender, Registry, Minutes, release_of, contract_release, left_of, modify_reply, winning}
+use Rattle.office_machine.specs.Replies.{Reply, Refused, OpenedAll, Received, Awarded, OfContract, Tender, Registry, Minutes, release_of, contract_release, left_of, modify_reply, winning, Withdrew, state_after}
 use Rattle.office_machine.specs.Machine.{reply_for}
 use Rattle.office_machine.specs.Sights.{Packages, tender_told, registered, register_told, minuted, is_read_envelope, minutes_told, package_told, shown, told}
 use Rattle.office_machine.specs.Seals.{ButDigest, SeesBlindly, without_digest, ToldAlike}
@@ -157,7 +159,17 @@ module _ (th : Theirs) (W : ℕ → Bool) where
           (pairs-filter th W is_sealed_envelope (λ _ _. refl) (envelopes_of_notice notice s) (envelopes_of_notice notice other) (of_notice notice)))
       same_reply (commands.Present notice lot security bytes) after = refl
       same_reply (commands.Modify receipt bytes) after = blind-option th W (modify_reply readings s.clock t bytes) (λ _ _. refl) (envelope_at receipt s) (find_envelope es' receipt) (found receipt)
-      same_reply (commands.Withdraw receipt) after = refl
+      same_reply (commands.Withdraw receipt) after =
+          by (find_envelope es' receipt)
+          ∙ blind-option th W (λ o. Withdrew receipt (state_after (is_late (late_of_envelope o s) t (notice_of_envelope o s)) o) t) (λ e d. ap (λ st. Withdrew receipt st t) (same_state (is_late (late_at e.notice s) t (notice_at e.notice s)) e d)) (envelope_at receipt s) (find_envelope es' receipt) (found receipt)
+        where
+          same_state : (b : Bool) (e : EnvelopeRow) (d : List ℕ) → state_after b (Some (record e { digest = d })) ≡ state_after b (Some e)
+          same_state true e d = refl
+          same_state false e d = refl
+
+          by : (o : Option EnvelopeRow) → Withdrew receipt (state_after (is_late (late_of_envelope o other) t (notice_of_envelope o other)) o) t ≡ Withdrew receipt (state_after (is_late (late_of_envelope o s) t (notice_of_envelope o s)) o) t
+          by None = refl
+          by (Some e) = refl
       same_reply (commands.Examine receipt responsive quality) after = refl
       same_reply (commands.Award notice lot) after =
           blind-option th W (λ o. Awarded lot (option_map (winning s.clock) o) (release_of s.notices notice) t) (λ _ _. refl) (winner (notice_at notice s) (envelopes_of_lot notice lot s)) (winner (notice_at notice s) (envelopes_of_lot notice lot other))

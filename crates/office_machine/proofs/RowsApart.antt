@@ -1,6 +1,6 @@
 -- The rows that a rule looks at are the same whatever merges stand beside the office.
 use Rattle.std.proofs.Common.{◌≡◌, ℕ, List, Option, Some, None, refl}
-use Rattle.office_base.specs.Parents.{notice_of_envelope, lot_of_envelope, security_of_envelope, line_of_lot, notice_of_award, lot_of_award, envelope_of_award, securities_of_award, notice_of_contract, lot_of_contract}
+use Rattle.office_base.specs.Parents.{notice_of_envelope, lot_of_envelope, late_of_envelope, security_of_envelope, line_of_lot, notice_of_award, lot_of_award, envelope_of_award, securities_of_award, notice_of_contract, lot_of_contract}
 use Rattle.office_base.specs.Tables.{Tables, award_at, contract_at, entries_of_contract, envelope_at, envelopes_of_lot, lot_at, notice_at, securities_of_lot}
 use Rattle.office_base.specs.declared.records.AwardRow.{AwardRow}
 use Rattle.office_base.specs.declared.records.CompiledRow.{CompiledRow}
@@ -28,6 +28,10 @@ module _ (trees : List CompiledRow) (s : Tables) where
   lot_of_envelope_apart : (o : Option EnvelopeRow) → lot_of_envelope o (with_trees trees s) ≡ lot_of_envelope o s
   lot_of_envelope_apart None = refl
   lot_of_envelope_apart (Some row) = refl
+
+  late_of_envelope_apart : (o : Option EnvelopeRow) → late_of_envelope o (with_trees trees s) ≡ late_of_envelope o s
+  late_of_envelope_apart None = refl
+  late_of_envelope_apart (Some row) = refl
 
   security_of_envelope_apart : (o : Option EnvelopeRow) → security_of_envelope o (with_trees trees s) ≡ security_of_envelope o s
   security_of_envelope_apart None = refl
@@ -80,6 +84,8 @@ module _ (trees : List CompiledRow) (s : Tables) where
   withdraw_rows_apart receipt = λ i. record {
     envelope = envelope_at receipt s;
     notice = notice_of_envelope_apart (envelope_at receipt s) i;
+    lot = lot_of_envelope_apart (envelope_at receipt s) i;
+    late = late_of_envelope_apart (envelope_at receipt s) i;
     security = security_of_envelope_apart (envelope_at receipt s) i;
     clock = s.clock;
   }

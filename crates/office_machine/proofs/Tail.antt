@@ -65,6 +65,21 @@ front {ps = ps} fs own h = record {
   counts = h.counts;
 }
 
+-- rows of its own behind
+pub back : {s : Tables} {t : ℕ} {key : Option (List ℕ)} {ps : List Put} (rest : List Put) → AreOn is_own rest → HasTail s t key ps → HasTail s t key (ps ++ rest)
+back {ps = ps} rest own h = record {
+  notice = h.notice;
+  clock = h.clock;
+  writes = record {
+    notices = λ u. ap (λ (v : Tables). v.notices) (after-append ps rest u) ∙ (leaves is_own rest (after_puts ps u) own).notices refl ∙ h.writes.notices u;
+    clock_is = λ u. ap (λ (v : Tables). v.clock) (after-append ps rest u) ∙ (leaves is_own rest (after_puts ps u) own).clock refl ∙ h.writes.clock_is u;
+    releases = λ u. ap (λ (v : Tables). v.releases) (after-append ps rest u) ∙ (leaves is_own rest (after_puts ps u) own).releases refl ∙ h.writes.releases u;
+    compiled = λ u. ap (λ (v : Tables). v.compiled) (after-append ps rest u) ∙ (leaves is_own rest (after_puts ps u) own).compiled refl ∙ h.writes.compiled u;
+  };
+  moment = h.moment;
+  counts = h.counts;
+}
+
 -- the clock, and rows of its own
 pub ending : (clock : ClockRow) (rest : List Put) → AreOn is_own rest → Writes (puts.Clock clock ∷ rest) None clock
 ending clock rest own = record {

@@ -9,6 +9,8 @@ use Rattle.office_base.specs.Standings.{standings}
 use Rattle.office_acts.specs.declared.budget.BudgetRow.{BudgetRow}
 use Rattle.office_acts.specs.declared.contract.ChangeKind.{ChangeKind}
 use Rattle.office_acts.specs.declared.contract.How.{How}
+use Rattle.office_acts.specs.declared.notice.LateWithdrawal.{LateWithdrawal}
+use Rattle.office_acts.specs.declared.notice.LateWithdrawal.TheVariants.{Refused, Forfeits}
 use Rattle.office_acts.specs.declared.notice.NewNotice.{NewNotice}
 use Rattle.office_acts.specs.declared.tender.NamedSecurity.{NamedSecurity}
 use Rattle.office_acts.specs.declared.command.Caller.{Caller}
@@ -25,7 +27,7 @@ use Rattle.office_base.specs.declared.puts.Put.TheVariants as puts
 use Rattle.office_base.specs.Tables.{Tables, notice_at, award_at, contract_at, envelope_at, lots_of_notice, awards_of_notice, envelopes_of_notice, securities_of_notice, entries_of_contract}
 use Rattle.office_base.specs.Parents.{envelope_of_award, security_of_envelope, securities_of_award, notice_of_contract}
 use Rattle.tender_core.specs.Rules.Import.{after_rows, line_put as import_line}
-use Rattle.tender_core.specs.Rules.Publish.{line_put, lot_put, notice_row}
+use Rattle.tender_core.specs.Rules.Publish.{line_put, lot_put, notice_row, late_puts}
 use Rattle.tender_core.specs.Rules.AmendNotice.{amended, amend_notice_effect}
 use Rattle.tender_core.specs.Rules.Cancel.{is_open_lot, lot_put as cancel_lot, line_put as cancel_line, is_ended_award, award_put, is_ended_envelope, envelope_put, drop_put, is_ended_security, cancelled_notice, cancel_effect}
 use Rattle.tender_core.specs.Rules.Open.{opened_put, opened_notice, open_effect}
@@ -43,10 +45,10 @@ use Rattle.office_machine.specs.Rule.{sealed_tenders}
 use Rattle.office_machine.specs.Parents.{HaveParents}
 use Rattle.office_machine.specs.Publications.{published_for}
 use Rattle.office_machine.specs.Counted.{releases_in}
-use Rattle.office_machine.proofs.Footprint.{on-append, on-map, on-if}
+use Rattle.office_machine.proofs.Footprint.{AreOn, on-append, on-map, on-if}
 use Rattle.office_machine.proofs.Passed.{none_holds, not_false, neither, witness}
 use Rattle.office_machine.proofs.SpokenOf.{OfContract, of_award, of_contract}
-use Rattle.office_machine.proofs.Tail.{HasTail, moved, front, quiet, counted, loud, returned_own, is_own}
+use Rattle.office_machine.proofs.Tail.{HasTail, moved, front, back, quiet, counted, loud, returned_own, is_own}
 
 module _ (readings : Readings) (s : Tables) (moment : ℕ) (caller : Caller) (have : HaveParents s s) where
   abbrev given : Command → Given
@@ -71,13 +73,18 @@ module _ (readings : Readings) (s : Tables) (moment : ℕ) (caller : Caller) (ha
   publishing notice content allowed =
       let row : NoticeRow = notice_row now notice content in
       let old = ap releases_in (absent (notice_at notice s) (passes (Publish notice content) allowed).1.0) in
-      front (map (line_put s.lines content.lots) content.lots ++ map (lot_put notice) content.lots)
+      back (late_puts notice content.late_withdrawal) (late_own content.late_withdrawal)
+      (front (map (line_put s.lines content.lots) content.lots ++ map (lot_put notice) content.lots)
       (on-append is_own (map (line_put s.lines content.lots) content.lots) (map (lot_put notice) content.lots) (on-map is_own (line_put s.lines content.lots) content.lots (λ _. refl)) (on-map is_own (lot_put notice) content.lots (λ _. refl)))
-      (counted notice row _ [] refl (omega (arith, old)) (omega arith) tt refl)
+      (counted notice row _ [] refl (omega (arith, old)) (omega arith) tt refl))
     where
       absent : (o : Option NoticeRow) → is_some o ≡ false → o ≡ None
       absent None e = refl
       absent (Some n) e = cc
+
+      late_own : (late : LateWithdrawal) → AreOn is_own (late_puts notice late)
+      late_own Refused = tt
+      late_own Forfeits = (refl, tt)
 
   pub amending_notice : (notice : List ℕ) (deadline : ℕ) (rationale : List ℕ) → Tail (AmendNotice notice deadline rationale)
   amending_notice notice deadline rationale allowed =

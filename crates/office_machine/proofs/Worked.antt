@@ -8,6 +8,7 @@ pub mod Receiving
 pub mod Replacing
 pub mod Looking
 pub mod Securities
+pub mod Withdrawing
 pub mod Opening
 pub mod Examining
 pub mod Awarding

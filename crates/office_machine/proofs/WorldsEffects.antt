@@ -1,6 +1,8 @@
 -- In two worlds a command is refused alike, and puts alike.
 use Rattle.std.proofs.Common.{◌≡◌, ℕ, ◌+◌, Bool, true, false, cond, List, [], ◌∷◌, ◌++◌, map, filter, length, Option, Some, None, unwrap_or, refl, sym, ◌∙◌, ap, subst}
 use Rattle.std.specs.List.{AllByRecursion}
+use Rattle.office_base.specs.declared.records.LateRow.{LateRow}
+use Rattle.office_base.specs.declared.records.SecurityState.TheVariants.{Forfeited, Returned}
 use Rattle.office_base.specs.Rows.{holds_of}
 use Rattle.office_acts.specs.declared.command.Caller.{Caller}
 use Rattle.office_acts.specs.declared.tender.NamedSecurity.{NamedSecurity}
@@ -14,14 +16,13 @@ use Rattle.office_base.specs.declared.records.AwardRow.{AwardRow}
 use Rattle.office_base.specs.declared.records.ClockRow.{ClockRow}
 use Rattle.office_base.specs.declared.puts.Put.{Put}
 use Rattle.office_base.specs.declared.puts.Put.TheVariants as puts
-use Rattle.office_base.specs.RuleParts.{clock_put, put_if, security_returned, security_settled, passed_over, is_held_security}
+use Rattle.office_base.specs.RuleParts.{clock_put, put_if, security_returned, security_settled, passed_over, is_held_security, is_late}
 use Rattle.tender_core.specs.Rules.Present.{received, received_puts, seal_puts, security_put}
 use Rattle.tender_core.specs.Rules.Modify.{modify_effect, withdrawn, replacing}
-use Rattle.tender_core.specs.Rules.Withdraw.{withdraw_effect}
+use Rattle.tender_core.specs.Rules.Withdraw.{withdraw_effect, taken_back_puts}
 use Rattle.award_core.specs.Rules.Examine.{examine_effect, examined}
 use Rattle.tender_core.specs.Rules.Cancel.{is_open_lot, lot_put as cancel_lot, line_put as cancel_line, is_ended_award, award_put, is_ended_envelope, envelope_put, drop_put, returned_envelope, is_ended_security, cancelled_notice, cancel_effect}
 use Rattle.award_core.specs.Rules.Award.{is_admissible, price_of, lesser, lowest_price, is_better, better, best_with, winner, decision_puts, award_effect}
-use Rattle.office_base.specs.declared.records.SecurityState.TheVariants.{Forfeited, Returned}
 use Rattle.award_core.specs.Rules.Fail.{fail_effect}
 use Rattle.office_machine.specs.Worlds.{Theirs, is_theirs, Pairs}
 use Rattle.office_machine.proofs.WorldsPut.{Alike, IsPlain, PutPair, Plain, Envelopes, Seals, AlikeOptions, receipt_is, pairs-filter, blind, blind-option, plain_pairs, pairs-append, pairs-map, alike-set}
@@ -131,17 +132,24 @@ module _ (th : Theirs) (W : ℕ → Bool) where
     )
 
   -- a withdrawal and an examination
-  pub withdraw_pairs : (clock : ClockRow) (t : ℕ) (o o' : Option EnvelopeRow) (r r' : Option SecurityRow) → AlikeOptions th W o o' → r' ≡ r → Pairs (PutPair th W) (withdraw_effect clock t o r) (withdraw_effect clock t o' r')
-  withdraw_pairs clock t None None r r' a same = tt
-  withdraw_pairs clock t None (Some e') r r' a same = absurd a
-  withdraw_pairs clock t (Some e) None r r' a same = absurd a
-  withdraw_pairs clock t (Some e) (Some e') r r' a same = (
+  taken_back_pairs : (clock : ClockRow) (t : ℕ) (e e' : EnvelopeRow) (r r' : Option SecurityRow) (late : Bool) → Alike th W e e' → r' ≡ r → Pairs (PutPair th W) (taken_back_puts clock t e r late) (taken_back_puts clock t e' r' late)
+  taken_back_pairs clock t e e' r r' false a same = (
     Envelopes (withdrawn e) (withdrawn e') refl refl (alike-set th W withdrawn (λ _ _. refl) (λ _. refl) (λ _. refl) (λ _. refl) e e' a),
     (
       Plain tt (ap (λ n. puts.DropSeal n) (sym (receipt_is th W e e' a))),
       (Plain tt refl, subst (λ q. Pairs (PutPair th W) (put_if (security_settled Returned) r) (put_if (security_settled Returned) q)) (sym same) (plain_pairs th W (put_if (security_settled Returned) r) (plain-if (security_settled Returned) r (λ _. tt)))),
     ),
   )
+  taken_back_pairs clock t e e' r r' true a same = (
+    Envelopes (passed_over e) (passed_over e') refl refl (alike-set th W passed_over (λ _ _. refl) (λ _. refl) (λ _. refl) (λ _. refl) e e' a),
+    (Plain tt refl, subst (λ q. Pairs (PutPair th W) (put_if (security_settled Forfeited) r) (put_if (security_settled Forfeited) q)) (sym same) (plain_pairs th W (put_if (security_settled Forfeited) r) (plain-if (security_settled Forfeited) r (λ _. tt)))),
+  )
+
+  pub withdraw_pairs : (clock : ClockRow) (t : ℕ) (o o' : Option EnvelopeRow) (n : Option NoticeRow) (late : Option LateRow) (r r' : Option SecurityRow) → AlikeOptions th W o o' → r' ≡ r → Pairs (PutPair th W) (withdraw_effect clock t o n late r) (withdraw_effect clock t o' n late r')
+  withdraw_pairs clock t None None n late r r' a same = tt
+  withdraw_pairs clock t None (Some e') n late r r' a same = absurd a
+  withdraw_pairs clock t (Some e) None n late r r' a same = absurd a
+  withdraw_pairs clock t (Some e) (Some e') n late r r' a same = taken_back_pairs clock t e e' r r' (is_late late t n) a same
 
   pub examine_pairs : (clock : ClockRow) (t : ℕ) (responsive : Bool) (quality : Option ℕ) (o o' : Option EnvelopeRow) → AlikeOptions th W o o' → Pairs (PutPair th W) (examine_effect clock t o responsive quality) (examine_effect clock t o' responsive quality)
   examine_pairs clock t responsive quality None None a = tt

@@ -2,6 +2,8 @@
 use Rattle.std.proofs.Common.{◌≡◌, ℕ, ◌+◌, Bool, false, ◌&&◌, List, [], ◌∷◌, ◌++◌, map, filter, Option, Some, None, refl, sym, ◌∙◌, ap, subst}
 use Rattle.std.specs.List.{AllByRecursion}
 use Rattle.office_values.specs.Ids.{same_id}
+use Rattle.office_acts.specs.declared.notice.LateWithdrawal.{LateWithdrawal}
+use Rattle.office_acts.specs.declared.notice.LateWithdrawal.TheVariants.{Refused, Forfeits}
 use Rattle.office_base.specs.Rows.{holds_of}
 use Rattle.office_acts.specs.declared.item.Item.{Item}
 use Rattle.office_base.specs.declared.reading.Reading.{Reading}
@@ -22,10 +24,10 @@ use Rattle.office_base.specs.declared.puts.Put.TheVariants as puts
 use Rattle.office_base.specs.RuleParts.{security_returned, is_held_security, released, clock_put, securities_returned}
 use Rattle.office_base.specs.Standings.{standings}
 use Rattle.tender_core.specs.Rules.Import.{after_rows, line_put as import_line}
-use Rattle.tender_core.specs.Rules.Publish.{line_put, lot_put}
+use Rattle.tender_core.specs.Rules.Publish.{line_put, lot_put, publish_parts, late_puts}
 use Rattle.tender_core.specs.Rules.Present.{is_sealed_by}
 use Rattle.tender_core.specs.Rules.Modify.{modify_conditions}
-use Rattle.tender_core.specs.Rules.Withdraw.{withdraw_conditions}
+use Rattle.tender_core.specs.Rules.Withdraw.{withdraw_conditions, withdraw_effect}
 use Rattle.award_core.specs.Rules.Examine.{examine_conditions}
 use Rattle.tender_core.specs.Rules.AmendNotice.{amend_notice_effect}
 use Rattle.tender_core.specs.Rules.Open.{is_sealed_envelope, opened_envelope, opened_put, open_effect}
@@ -35,7 +37,7 @@ use Rattle.award_core.specs.Rules.AmendContract.{amend_contract_conditions, amen
 use Rattle.award_core.specs.Rules.Pay.{pay_conditions, pay_effect}
 use Rattle.award_core.specs.Rules.End.{end_conditions, end_effect}
 use Rattle.award_core.specs.Rules.Sign.{sign_effect, tenderer_in, signed_award, contracted_lot, contract_row}
-use Rattle.office_base.specs.Parents.{notice_of_envelope, lot_of_envelope, security_of_envelope, envelope_of_award, lot_of_award, notice_of_award, securities_of_award, notice_of_contract, lot_of_contract, line_of_lot}
+use Rattle.office_base.specs.Parents.{notice_of_envelope, lot_of_envelope, security_of_envelope, envelope_of_award, lot_of_award, notice_of_award, securities_of_award, notice_of_contract, lot_of_contract, line_of_lot, late_of_envelope}
 use Rattle.office_machine.specs.Readings.{Readings}
 use Rattle.office_machine.specs.Machine.{tests_for, puts_for}
 use Rattle.office_machine.specs.Rule.{sealed_tender, sealed_tenders, bytes_in, items_in}
@@ -64,6 +66,10 @@ module _ (th : Theirs) (W : ℕ → Bool) (s : Tables) (es' : List EnvelopeRow) 
   envelope_lot : (o : Option EnvelopeRow) → lot_of_envelope o s' ≡ lot_of_envelope o s
   envelope_lot None = refl
   envelope_lot (Some e) = refl
+
+  envelope_late : (o : Option EnvelopeRow) → late_of_envelope o s' ≡ late_of_envelope o s
+  envelope_late None = refl
+  envelope_late (Some e) = refl
 
   envelope_security : (o : Option EnvelopeRow) → security_of_envelope o s' ≡ security_of_envelope o s
   envelope_security None = refl
@@ -111,8 +117,8 @@ module _ (th : Theirs) (W : ℕ → Bool) (s : Tables) (es' : List EnvelopeRow) 
       ap (modify_conditions s.clock t caller (find_envelope es' receipt)) (envelope_notice (find_envelope es' receipt))
       ∙ blind-option th W (λ o. modify_conditions s.clock t caller o (notice_of_envelope o s)) (λ _ _. refl) (envelope_at receipt s) (find_envelope es' receipt) (found receipt)
   tests_same t caller (Withdraw receipt) =
-      ap (withdraw_conditions t caller (find_envelope es' receipt)) (envelope_notice (find_envelope es' receipt))
-      ∙ blind-option th W (λ o. withdraw_conditions t caller o (notice_of_envelope o s)) (λ _ _. refl) (envelope_at receipt s) (find_envelope es' receipt) (found receipt)
+      (λ i. withdraw_conditions t caller (find_envelope es' receipt) (envelope_notice (find_envelope es' receipt) i) (envelope_lot (find_envelope es' receipt) i) (envelope_late (find_envelope es' receipt) i))
+      ∙ blind-option th W (λ o. withdraw_conditions t caller o (notice_of_envelope o s) (lot_of_envelope o s) (late_of_envelope o s)) (λ _ _. refl) (envelope_at receipt s) (find_envelope es' receipt) (found receipt)
   tests_same t caller (Examine receipt responsive quality) =
       (λ i. examine_conditions (find_envelope es' receipt) (envelope_notice (find_envelope es' receipt) i) (envelope_lot (find_envelope es' receipt) i) responsive quality)
       ∙ blind-option th W (λ o. examine_conditions o (notice_of_envelope o s) (lot_of_envelope o s) responsive quality) (λ _ _. refl) (envelope_at receipt s) (find_envelope es' receipt) (found receipt)
@@ -215,12 +221,24 @@ module _ (th : Theirs) (W : ℕ → Bool) (s : Tables) (es' : List EnvelopeRow) 
       (plain-append (map (import_line (after_rows (standings s) rows)) rows) _ (plain-map (import_line (after_rows (standings s) rows)) rows (λ _. tt)) (tt, (tt, tt)))
   puts_pair readings t caller (Register tenderer name address key) quiet = (Plain tt refl, (Plain tt refl, tt))
   puts_pair readings t caller (Publish notice content) quiet = plain_pairs th W (puts_for readings s t caller (Publish notice content))
+      (plain-append (publish_parts s.clock t notice s.lines content) (late_puts notice content.late_withdrawal)
       (plain-append (map (line_put s.lines content.lots) content.lots ++ map (lot_put notice) content.lots) _
-      (plain-append (map (line_put s.lines content.lots) content.lots) (map (lot_put notice) content.lots) (plain-map (line_put s.lines content.lots) content.lots (λ _. tt)) (plain-map (lot_put notice) content.lots (λ _. tt))) (tt, (tt, tt)))
+      (plain-append (map (line_put s.lines content.lots) content.lots) (map (lot_put notice) content.lots) (plain-map (line_put s.lines content.lots) content.lots (λ _. tt)) (plain-map (lot_put notice) content.lots (λ _. tt))) (tt, (tt, tt))) (late_plain content.late_withdrawal))
+    where
+      late_plain : (late : LateWithdrawal) → AllByRecursion IsPlain (late_puts notice late)
+      late_plain Refused = tt
+      late_plain Forfeits = (tt, tt)
   puts_pair readings t caller (AmendNotice notice deadline rationale) quiet = plain_pairs th W (amend_notice_effect s.clock t (notice_at notice s) deadline) (plain_options s.clock t (notice_at notice s) deadline)
   puts_pair readings t caller (Cancel notice rationale) quiet = cancel_pairs th W s.clock t s.lines (notice_at notice s) (lots_of_notice notice s) (awards_of_notice notice s) (envelopes_of_notice notice s) (envelopes_of_notice notice s') (securities_of_notice notice s) (of_notice notice)
   puts_pair readings t caller (Open notice) quiet = open_pairs readings.read s.clock t notice (notice_at notice s) quiet
-  puts_pair readings t caller (Withdraw receipt) quiet = withdraw_pairs th W s.clock t (envelope_at receipt s) (find_envelope es' receipt) (security_of_envelope (envelope_at receipt s) s) (security_of_envelope (find_envelope es' receipt) s') (found receipt) (envelope_security (find_envelope es' receipt) ∙ security_of (envelope_at receipt s) (find_envelope es' receipt) (found receipt))
+  puts_pair readings t caller (Withdraw receipt) quiet =
+      let o : Option EnvelopeRow = envelope_at receipt s in
+      let o' : Option EnvelopeRow = find_envelope es' receipt in
+      let notice : notice_of_envelope o s ≡ notice_of_envelope o' s' = sym (envelope_notice o' ∙ blind-option th W (λ o. notice_of_envelope o s) (λ _ _. refl) o o' (found receipt)) in
+      let late : late_of_envelope o s ≡ late_of_envelope o' s' = sym (envelope_late o' ∙ blind-option th W (λ o. late_of_envelope o s) (λ _ _. refl) o o' (found receipt)) in
+      subst (λ ps. Pairs (PutPair th W) (puts_for readings s t caller (Withdraw receipt)) ps)
+      (λ i. withdraw_effect s.clock t o' (notice i) (late i) (security_of_envelope o' s'))
+      (withdraw_pairs th W s.clock t o o' (notice_of_envelope o s) (late_of_envelope o s) (security_of_envelope o s) (security_of_envelope o' s') (found receipt) (envelope_security o' ∙ security_of o o' (found receipt)))
   puts_pair readings t caller (Examine receipt responsive quality) quiet = examine_pairs th W s.clock t responsive quality (envelope_at receipt s) (find_envelope es' receipt) (found receipt)
   puts_pair readings t caller (Award notice lot) quiet =
       subst (λ w. Pairs (PutPair th W) (puts_for readings s t caller (Award notice lot)) (Rattle.award_core.specs.Rules.Award.award_effect s.clock t (notice_at notice s) (lot_at (notice, lot) s) w (envelopes_of_lot notice lot s') (securities_of_lot notice lot s)))

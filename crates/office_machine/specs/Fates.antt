@@ -137,9 +137,13 @@ abbrev pub is_award_security : ℕ → (ℕ → Option Reception) → Option Awa
 is_award_security s earlier None = false
 is_award_security s earlier (Some w) = carries s (earlier w.receipt)
 
+-- a withdrawal gives the security back before the deadline, and forfeits it from then on
+abbrev pub withdrawn_security : Given → Option Reception → SecurityState
+withdrawn_security x c = cond (is_effective x c) security_states.Returned security_states.Forfeited
+
 -- what a command decides of a held security: held is undecided
 abbrev pub security_decided : Command → Given → (ℕ → Option Reception) → ℕ → SecurityState
-security_decided (Withdraw receipt) x earlier s = cond (carries s (earlier receipt) && is_effective x (earlier receipt)) security_states.Returned security_states.Held
+security_decided (Withdraw receipt) x earlier s = cond (carries s (earlier receipt)) (withdrawn_security x (earlier receipt)) security_states.Held
 security_decided (Cancel notice rationale) x earlier s = cond (is_of_notice notice (earlier s)) security_states.Returned security_states.Held
 security_decided (Award notice lot) x earlier s = cond (is_of_lot notice lot (earlier s) && is_for_nobody x notice lot) security_states.Returned security_states.Held
 security_decided (Sign award) x earlier s = cond (is_of_award (award_at award x.before) (earlier s)) security_states.Returned security_states.Held

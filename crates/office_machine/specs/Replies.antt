@@ -1,5 +1,5 @@
 -- What the office answers: replies to commands, and what queries see.
-use Rattle.std.specs.Prelude.{ℕ, ◌+◌, Bool, List, length, Option, Some, None}
+use Rattle.std.specs.Prelude.{ℕ, ◌+◌, Bool, true, List, length, Option, Some, None}
 use Rattle.office_values.specs.declared.refusal.Thing.TheVariants as things
 use Rattle.office_values.specs.declared.refusal.Refusal.{Refusal}
 use Rattle.office_values.specs.declared.refusal.Refusal.TheVariants.{NoSuch}
@@ -7,6 +7,7 @@ use Rattle.office_base.specs.declared.reading.Reading.{Reading}
 use Rattle.office_base.specs.declared.ledger.Pots.{Pots}
 use Rattle.office_base.specs.declared.ledger.LedgerRow.{LedgerRow}
 use Rattle.office_base.specs.declared.records.EnvelopeState.{EnvelopeState}
+use Rattle.office_base.specs.declared.records.EnvelopeState.TheVariants.{Withdrawn}
 use Rattle.office_base.specs.declared.records.SecurityState.{SecurityState}
 use Rattle.office_base.specs.declared.records.TendererRow.{TendererRow}
 use Rattle.office_base.specs.declared.records.NoticeRow.{NoticeRow}
@@ -51,7 +52,7 @@ pub data Reply : Type 0 where
   OfNotice : (notice : List ℕ) → (release : ℕ) → (moment : ℕ) → Reply
   OpenedAll : (notice : List ℕ) → (count : ℕ) → (release : ℕ) → (moment : ℕ) → Reply
   Received : (digest : List ℕ) → (receipt : ℕ) → (security : Option ℕ) → (state : EnvelopeState) → (moment : ℕ) → Reply
-  Withdrew : (receipt : ℕ) → (moment : ℕ) → Reply
+  Withdrew : (receipt : ℕ) → (state : EnvelopeState) → (moment : ℕ) → Reply
   Examined : (receipt : ℕ) → (responsive : Bool) → (moment : ℕ) → Reply
   Awarded : (lot : List ℕ) → (best : Option Winning) → (release : ℕ) → (moment : ℕ) → Reply
   Failed : (award : ℕ) → (release : ℕ) → (moment : ℕ) → Reply
@@ -89,6 +90,11 @@ received_reply e = Received e.digest e.receipt e.security e.state e.moment
 abbrev pub modify_reply : Readings → ClockRow → ℕ → List ℕ → Option EnvelopeRow → Reply
 modify_reply readings clock t bytes None = Refused (NoSuch things.Tender)
 modify_reply readings clock t bytes (Some e) = received_reply (replacing readings.digest clock t e bytes)
+
+-- where a tender that is taken back is: from the deadline on it stays where it was
+abbrev pub state_after : Bool → Option EnvelopeRow → EnvelopeState
+state_after true (Some e) = e.state
+state_after late envelope = Withdrawn
 
 abbrev pub winning : ClockRow → EnvelopeRow → Winning
 winning clock e = record { award = clock.awards + 1; price = price_of e; tender = e.receipt }

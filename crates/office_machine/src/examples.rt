@@ -18,6 +18,7 @@ ghost use Rattle.office_machine.specs.Worked.Replacing.{ReplacingWorked};
 ghost use Rattle.office_machine.specs.Worked.Rights.{RightsWorked};
 ghost use Rattle.office_machine.specs.Worked.Seals.{SealsWorked};
 ghost use Rattle.office_machine.specs.Worked.Securities.{SecuritiesWorked};
+ghost use Rattle.office_machine.specs.Worked.Withdrawing.{WithdrawingWorked};
 ghost use Rattle.office_machine.specs.Worked.Signing.{SigningWorked};
 ghost use Rattle.office_machine.specs.Worked.WholeRun.{WholeRunWorked};
 
@@ -64,6 +65,11 @@ pub fn looking()
 /// Tender securities are asked for, held, returned and forfeited.
 pub fn securities()
     ensures { SecuritiesWorked }
+{}
+
+/// Tenders are withdrawn after the deadline, where their notice lets them, at the price of their securities.
+pub fn withdrawing()
+    ensures { WithdrawingWorked }
 {}
 
 /// Tenders are opened at the deadline, and the minutes tell how they read.

@@ -13,8 +13,8 @@ use office_base::laws::changes_keep_order;
 use office_base::ledger::{ContractSums, LedgerRow};
 use office_base::puts::Put;
 use office_base::records::{
-    AwardRow, BatchRow, ClockRow, CompiledRow, ContractRow, EntryRow, EnvelopeRow, LineRow, LotRow,
-    NoticeRow, ReleaseRow, SealRow, SecurityRow, TendererRow,
+    AwardRow, BatchRow, ClockRow, CompiledRow, ContractRow, EntryRow, EnvelopeRow, LateRow,
+    LineRow, LotRow, NoticeRow, ReleaseRow, SealRow, SecurityRow, TendererRow,
 };
 use office_base::shelf::{Lookups, Shelf, ShelfFault};
 use office_values::given::AskedNumber;
@@ -185,6 +185,13 @@ impl Lookups for MemoryShelf {
 
     fn get_compiled(&mut self, notice: &Id) -> Result<Option<CompiledRow>, ShelfFault> {
         match self.tables.compiled.copy_at(notice) {
+            Ok(found) => Ok(found),
+            Err(_) => Err(self.refused()),
+        }
+    }
+
+    fn get_late(&mut self, notice: &Id) -> Result<Option<LateRow>, ShelfFault> {
+        match self.tables.late_rules.copy_at(notice) {
             Ok(found) => Ok(found),
             Err(_) => Err(self.refused()),
         }

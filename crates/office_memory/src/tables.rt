@@ -11,8 +11,8 @@ use keyed_table::table::{Replaced, Table};
 use office_base::laws::rows_are_kept;
 use office_base::puts::Put;
 use office_base::records::{
-    AwardRow, BatchRow, ClockRow, CompiledRow, ContractRow, EntryRow, EnvelopeRow, LineRow, LotRow,
-    NoticeRow, ReleaseRow, SealRow, SecurityRow, TendererRow,
+    AwardRow, BatchRow, ClockRow, CompiledRow, ContractRow, EntryRow, EnvelopeRow, LateRow,
+    LineRow, LotRow, NoticeRow, ReleaseRow, SealRow, SecurityRow, TendererRow,
 };
 use office_base::row::Row;
 use office_values::given::LastNumber;
@@ -36,6 +36,7 @@ pub struct MemoryTables {
     pub entries: Table<EntryRow>,
     pub releases: Table<ReleaseRow>,
     pub compiled: Table<CompiledRow>,
+    pub late_rules: Table<LateRow>,
     pub clock: ClockRow,
 }
 
@@ -55,6 +56,7 @@ pub enum Undo {
     Entry(Replaced<EntryRow>),
     Release(Replaced<ReleaseRow>),
     Compiled(Replaced<CompiledRow>),
+    Late(Replaced<LateRow>),
     Clock(ClockRow),
     /// Nothing was changed yet.
     Nothing,
@@ -90,6 +92,7 @@ pub fn empty(alloc: Global) -> MemoryTables
         entries: Table::new(alloc),
         releases: Table::new(alloc),
         compiled: Table::new(alloc),
+        late_rules: Table::new(alloc),
         clock: first_clock(),
     }
 }
@@ -145,6 +148,7 @@ fn put_one(tables: &mut MemoryTables, drops: &mut Vec<u64>, put: Put) -> Result<
         Put::Entry(row) => Ok(Undo::Entry(tables.entries.put(row)?)),
         Put::Release(row) => Ok(Undo::Release(tables.releases.put(row)?)),
         Put::Compiled(row) => Ok(Undo::Compiled(tables.compiled.put(row)?)),
+        Put::Late(row) => Ok(Undo::Late(tables.late_rules.put(row)?)),
         Put::Clock(row) => Ok(Undo::Clock(mem::replace(&mut tables.clock, row))),
     }
 }
@@ -168,6 +172,7 @@ fn take_back(tables: &mut MemoryTables, undo: Undo)
         Undo::Entry(replaced) => tables.entries.take_back(replaced),
         Undo::Release(replaced) => tables.releases.take_back(replaced),
         Undo::Compiled(replaced) => tables.compiled.take_back(replaced),
+        Undo::Late(replaced) => tables.late_rules.take_back(replaced),
         Undo::Clock(row) => tables.clock = row,
         Undo::Nothing => {}
     }

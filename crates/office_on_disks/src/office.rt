@@ -25,8 +25,8 @@ impl Drop for OfficeOnDisks {
 pub enum Unopened {
     /// What stands in the files is none; they come back.
     NotAnOffice(Disks),
-    /// The files can't be used, or read.
-    Unusable,
+    /// The files can't be used, or read, or what they hold can't be made an office; they come back as they were left.
+    Unusable(Disks),
 }
 
 impl OfficeOnDisks {
@@ -34,14 +34,16 @@ impl OfficeOnDisks {
     pub fn open(alloc: Global, disks: Disks) -> Result<OfficeOnDisks, Unopened> {
         let files = disks.into_files();
         if !files.may_be_used() {
-            return Err(Unopened::Unusable);
+            return Err(Unopened::Unusable(Disks { files }));
         }
         match SqlShelf::open_files(alloc, files, Options::new(7)) {
             Ok(shelf) => Ok(OfficeOnDisks { shelf }),
             Err((OpenFault::NotAnOffice, left)) => Err(Unopened::NotAnOffice(Disks {
                 files: left.into_files(),
             })),
-            Err((OpenFault::NoMemory | OpenFault::Store, _left)) => Err(Unopened::Unusable),
+            Err((OpenFault::NoMemory | OpenFault::Store, left)) => Err(Unopened::Unusable(Disks {
+                files: left.into_files(),
+            })),
         }
     }
 

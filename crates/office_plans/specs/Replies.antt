@@ -7,7 +7,6 @@ use Rattle.office_values.specs.Moments.{moment_text}
 use Rattle.office_values.specs.declared.refusal.Refusal.{Refusal}
 use Rattle.office_base.specs.declared.reading.Reading.TheVariants.{Unreadable}
 use Rattle.office_base.specs.declared.records.EnvelopeState.{EnvelopeState}
-use Rattle.office_base.specs.declared.records.EnvelopeState.TheVariants as envelopes
 use Rattle.office_base.specs.declared.records.SecurityState.{SecurityState}
 use Rattle.office_base.specs.declared.records.SecurityState.TheVariants as securities
 use Rattle.office_base.specs.declared.records.TendererRow.{TendererRow}
@@ -61,7 +60,7 @@ reply_entries (OpenedAll notice count release moment) =
     moment_entry moment ∷ text_entry (codes "notice") notice ∷ number_entry (codes "opened") count ∷ release_entry release ∷ []
 reply_entries (Received digest receipt security state moment) =
     digest_entry digest ∷ moment_entry moment ∷ number_entry (codes "receipt") receipt ∷ count_entry (codes "security") security ∷ state_entry state ∷ []
-reply_entries (Withdrew receipt moment) = moment_entry moment ∷ number_entry (codes "receipt") receipt ∷ state_entry envelopes.Withdrawn ∷ []
+reply_entries (Withdrew receipt state moment) = moment_entry moment ∷ number_entry (codes "receipt") receipt ∷ state_entry state ∷ []
 reply_entries (Examined receipt responsive moment) = moment_entry moment ∷ (codes "responsive", boolean responsive) ∷ number_entry (codes "tender") receipt ∷ []
 reply_entries (Awarded lot best release moment) =
     count_entry (codes "award") (option_map award_number best) ∷ text_entry (codes "lot") lot ∷ moment_entry moment
@@ -118,7 +117,7 @@ said (variants.Enrolled tenderer moment) = Enrolled tenderer moment
 said (variants.OfNotice notice release moment) = OfNotice notice release moment
 said (variants.OpenedAll notice count release moment) = OpenedAll notice count release moment
 said (variants.Received digest receipt security state moment) = Received digest receipt security state moment
-said (variants.Withdrew receipt moment) = Withdrew receipt moment
+said (variants.Withdrew receipt state moment) = Withdrew receipt state moment
 said (variants.Examined receipt responsive moment) = Examined receipt responsive moment
 said (variants.Awarded lot best release moment) = Awarded lot (option_map winning best) release moment
 said (variants.Failed award release moment) = Failed award release moment

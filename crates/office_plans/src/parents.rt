@@ -1,12 +1,12 @@
 //! The rows that a row speaks of, looked up where that row is there.
 ghost use Rattle.std.specs.Prelude.{◌≡◌};
 ghost use Rattle.office_base.specs.Parents.{line_of_lot, notice_of_contract, lot_of_contract};
-ghost use Rattle.office_base.specs.Parents.{notice_of_envelope, lot_of_envelope, security_of_envelope};
+ghost use Rattle.office_base.specs.Parents.{notice_of_envelope, lot_of_envelope, late_of_envelope, security_of_envelope};
 ghost use Rattle.office_base.specs.Parents.{notice_of_award, lot_of_award, envelope_of_award};
 ghost use Rattle.office_base.specs.Shelves.{LooksUp};
 
 use office_base::records::{
-    AwardRow, ContractRow, EnvelopeRow, LineRow, LotRow, NoticeRow, SecurityRow,
+    AwardRow, ContractRow, EnvelopeRow, LateRow, LineRow, LotRow, NoticeRow, SecurityRow,
 };
 use office_base::shelf::{Lookups, ShelfFault};
 use office_values::given::asked;
@@ -72,6 +72,19 @@ pub fn lot_of_envelope<H: Lookups>(
 {
     match envelope {
         Some(row) => shelf.get_lot(&row.notice, &row.lot),
+        None => Ok(None),
+    }
+}
+
+/// What the notice of a tender says of late withdrawals.
+pub fn late_of_envelope<H: Lookups>(
+    shelf: &mut H,
+    envelope: &Option<EnvelopeRow>,
+) -> Result<Option<LateRow>, ShelfFault>
+    ensures { LooksUp H.meaning shelf.old shelf.new result (λ s row. row ≡ late_of_envelope envelope.now s) }
+{
+    match envelope {
+        Some(row) => shelf.get_late(&row.notice),
         None => Ok(None),
     }
 }

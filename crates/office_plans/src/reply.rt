@@ -1,6 +1,6 @@
 //! Replies to accepted commands, and their texts.
 ghost use Rattle.std.specs.Prelude.{◌≡◌, IfOk, Option, option_map};
-ghost use Rattle.office_machine.specs.Replies.{Imported, OpenedAll, Received, Examined, Awarded, OfContract};
+ghost use Rattle.office_machine.specs.Replies.{Imported, OpenedAll, Received, Withdrew, Examined, Awarded, OfContract};
 ghost use Rattle.office_plans.specs.Replies.{award_number, award_price, award_tender, reply_text, said, security_word, winning};
 ghost use Rattle.tender_papers.specs.Register.{state_word};
 
@@ -58,8 +58,10 @@ pub enum Reply {
         state: EnvelopeState,
         moment: Moment,
     },
+    /// A tender was taken back, and is then there.
     Withdrew {
         receipt: AskedNumber,
+        state: EnvelopeState,
         moment: Moment,
     },
     Examined {
@@ -134,6 +136,26 @@ fn received_text(
             ("moment", Plain::Moment(moment)),
             ("receipt", Plain::Number(receipt)),
             ("security", Plain::Count(security)),
+            ("state", Plain::Text(word)),
+        ],
+    )
+}
+
+// The reply that a tender was taken back.
+fn withdrew_text(
+    alloc: Global,
+    receipt: u64,
+    state: EnvelopeState,
+    moment: Moment,
+) -> Result<Vec<u8>, AllocError>
+    ensures { IfOk result (λ text. text.items ≡ reply_text (Withdrew receipt state moment)) }
+{
+    let word = state_word(state);
+    object_text(
+        alloc,
+        &[
+            ("moment", Plain::Moment(moment)),
+            ("receipt", Plain::Number(receipt)),
             ("state", Plain::Text(word)),
         ],
     )
@@ -297,14 +319,11 @@ pub fn reply_text(alloc: Global, reply: &Reply) -> Result<Vec<u8>, AllocError>
             state,
             moment,
         } => received_text(alloc, digest, receipt, security, state, moment),
-        Reply::Withdrew { receipt, moment } => object_text(
-            alloc,
-            &[
-                ("moment", Plain::Moment(moment)),
-                ("receipt", Plain::Number(receipt.get())),
-                ("state", Plain::Text("withdrawn")),
-            ],
-        ),
+        Reply::Withdrew {
+            receipt,
+            state,
+            moment,
+        } => withdrew_text(alloc, receipt.get(), state, moment),
         Reply::Examined {
             receipt,
             responsive,

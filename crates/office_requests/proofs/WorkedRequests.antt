@@ -8,6 +8,7 @@ unfolding requests_on_literals
 routes = record {
   imports = refl;
   registers = refl;
+  publishes_with_late_withdrawals = refl;
   publishes = refl;
   amends = refl;
   cancels = refl;
@@ -72,6 +73,8 @@ unfolding requests_on_literals
 publications = record {
   weight_missing = refl;
   weight_with_price = refl;
+  another_word = refl;
+  no_word = refl;
   no_lots = refl;
   no_items = refl;
   wrong_item = refl;

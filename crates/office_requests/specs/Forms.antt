@@ -9,6 +9,8 @@ use Rattle.office_acts.specs.declared.contract.ChangeKind.{ChangeKind}
 use Rattle.office_acts.specs.declared.contract.ChangeKind.TheVariants as changes
 use Rattle.office_acts.specs.declared.contract.How.{How}
 use Rattle.office_acts.specs.declared.contract.How.TheVariants as endings
+use Rattle.office_acts.specs.declared.notice.LateWithdrawal.{LateWithdrawal}
+use Rattle.office_acts.specs.declared.notice.LateWithdrawal.TheVariants as withdrawals
 use Rattle.office_requests.specs.declared.publication.Basis.{Basis}
 use Rattle.office_requests.specs.declared.publication.Basis.TheVariants as bases
 
@@ -50,3 +52,7 @@ ending_of text = if is_word (codes "regular") text then Some endings.Regular els
 -- what decides between tenders: `price` or `points`
 unfoldable pub basis_of : List ℕ → Option Basis
 basis_of text = if is_word (codes "price") text then Some bases.Price else if is_word (codes "points") text then Some bases.Points else None
+
+-- what becomes of a tender that is withdrawn late: `refused` or `forfeits`
+unfoldable pub lateness_of : List ℕ → Option LateWithdrawal
+lateness_of text = if is_word (codes "refused") text then Some withdrawals.Refused else if is_word (codes "forfeits") text then Some withdrawals.Forfeits else None

@@ -1,5 +1,5 @@
 -- The body of a publication. Any fault inside its lots is one of the field `lots`.
-use Rattle.std.specs.Prelude.{ℕ, ◌^◌, Bool, not, ◌&&◌, nat_le, List, [], ◌∷◌, length, codes, Option, option_and_then, Result, Ok}
+use Rattle.std.specs.Prelude.{ℕ, ◌^◌, Bool, not, ◌&&◌, nat_le, List, [], ◌∷◌, length, codes, Option, option_and_then, Result, Ok, if◌then◌else◌}
 use Rattle.serde_json.specs.Data.{Data, Items, no_items, item}
 use Rattle.serde_json.specs.Find.{get, as_array}
 use Rattle.office_values.specs.declared.refusal.Field.TheVariants as fields
@@ -13,10 +13,12 @@ use Rattle.office_acts.specs.declared.item.Item.{Item}
 use Rattle.office_acts.specs.declared.lot.NewLot.{NewLot}
 use Rattle.office_acts.specs.declared.notice.Criteria.{Criteria}
 use Rattle.office_acts.specs.declared.notice.Criteria.TheVariants.{Price, Points}
+use Rattle.office_acts.specs.declared.notice.LateWithdrawal.{LateWithdrawal}
+use Rattle.office_acts.specs.declared.notice.LateWithdrawal.TheVariants.{Refused}
 use Rattle.office_acts.specs.declared.notice.NewNotice.{NewNotice}
-use Rattle.office_requests.specs.Forms.{passing, id_of, line_of, basis_of}
+use Rattle.office_requests.specs.Forms.{passing, id_of, line_of, basis_of, lateness_of}
 use Rattle.office_requests.specs.Moments.{moment_of}
-use Rattle.office_requests.specs.Fields.{◌>>=◌, needed, text_at, number_at, text_in, line_in, number_in, absent_in}
+use Rattle.office_requests.specs.Fields.{◌>>=◌, needed, has, text_at, number_at, text_in, line_in, number_in, absent_in}
 use Rattle.office_requests.specs.declared.publication.Basis.{Basis}
 use Rattle.office_requests.specs.declared.publication.Basis.TheVariants as bases
 
@@ -79,6 +81,10 @@ criteria_in body = do
   basis ← text_in basis_of fields.Criteria body
   criteria_with basis body
 
+-- whether tenders may be withdrawn after the deadline: not where nothing is said of it
+unfoldable pub late_in : Data → Result LateWithdrawal Refusal
+late_in body = if has fields.LateWithdrawal body then text_in lateness_of fields.LateWithdrawal body else Ok Refused
+
 unfoldable pub notice_in : Data → Result NewNotice Refusal
 notice_in body = do
   title ← line_in fields.Title body
@@ -86,8 +92,9 @@ notice_in body = do
   validity ← number_in 1 365 fields.ValidityDays body
   standstill ← number_in 0 90 fields.StandstillDays body
   criteria ← criteria_in body
+  late ← late_in body
   lots ← lots_in body
-  Ok (record { title = title; deadline = deadline; validity = validity; standstill = standstill; criteria = criteria; lots = lots })
+  Ok (record { title = title; deadline = deadline; validity = validity; standstill = standstill; criteria = criteria; late_withdrawal = late; lots = lots })
 
 abbrev pub publication_in : List ℕ → Data → Result Command Refusal
 publication_in notice body = notice_in body >>= λ content. Ok (commands.Publish notice content)

@@ -12,6 +12,7 @@ use Rattle.office_acts.specs.declared.commands.Command.TheVariants as commands
 use Rattle.office_acts.specs.declared.contract.ChangeKind.TheVariants.{Cut}
 use Rattle.office_acts.specs.declared.contract.How.TheVariants.{ForDefault}
 use Rattle.office_acts.specs.declared.notice.Criteria.TheVariants.{Price}
+use Rattle.office_acts.specs.declared.notice.LateWithdrawal.TheVariants.{Refused, Forfeits}
 use Rattle.office_acts.specs.declared.notice.NewNotice.{NewNotice}
 use Rattle.office_acts.specs.declared.queries.Query.{Query}
 use Rattle.office_acts.specs.declared.queries.Query.TheVariants as queries
@@ -85,6 +86,7 @@ published = record {
   validity = 90;
   standstill = 10;
   criteria = Price;
+  late_withdrawal = Refused;
   lots = record {
     id = codes "L1";
     title = codes "North";
@@ -101,6 +103,8 @@ pub record RoutesAreTaken : Type 0 where
   pub registers : ClerkDoes (codes "/tenderers/T1")
       (codes "{\"name\":\"Ann\",\"address\":\"Road 1\",\"key\":\"00000000000000000000000000000000000000000000000000000000000000fF\"}")
       (commands.Register (codes "T1") (codes "Ann") (codes "Road 1") (replicate 31 0 ++ 255 ∷ []))
+  pub publishes_with_late_withdrawals : ClerkDoes (codes "/notices/N1")
+      (publication_with (codes "\"criteria\":\"price\",\"late_withdrawal\":\"forfeits\"") (lot_with one_item)) (commands.Publish (codes "N1") (record published { late_withdrawal = Forfeits }))
   pub publishes : ClerkDoes (codes "/notices/N1") (publication_with by_price (lot_with one_item)) (commands.Publish (codes "N1") published)
   pub amends : ClerkDoes (codes "/notices/N1/amend") (codes "{\"rationale\":\"late\",\"deadline\":\"1970-01-02T00:00:01Z\",\"more\":[1]}")
       (commands.AmendNotice (codes "N1") 86401 (codes "late"))
@@ -158,11 +162,15 @@ pub record BodiesAreRefused : Type 0 where
   pub with_a_point : Refuses (codes "/contracts/17/pay") (codes "{\"id\":\"E1\",\"amount\":5.0}") (parts.Field fields.Amount)
   pub no_ending : Refuses (codes "/contracts/17/end") (codes "{\"how\":null}") (parts.Field fields.How)
 
--- a publication's weight goes with points alone, and any fault inside its lots is one of its lots
+-- a publication's weight goes with points alone, what it says of late withdrawals is one of two words, and any fault inside its lots is one of
+-- its lots
 pub record PublicationsAreRefused : Type 0 where
   pub weight_missing : Refuses (codes "/notices/N1") (publication_with (codes "\"criteria\":\"points\"") []) (parts.Field fields.PriceWeight)
   pub weight_with_price : Refuses (codes "/notices/N1")
       (publication_with (codes "\"criteria\":\"price\",\"price_weight\":60") []) (parts.Field fields.PriceWeight)
+  pub another_word : Refuses (codes "/notices/N1")
+      (publication_with (codes "\"criteria\":\"price\",\"late_withdrawal\":\"returns\"") []) (parts.Field fields.LateWithdrawal)
+  pub no_word : Refuses (codes "/notices/N1") (publication_with (codes "\"criteria\":\"price\",\"late_withdrawal\":null") []) (parts.Field fields.LateWithdrawal)
   pub no_lots : Refuses (codes "/notices/N1") (publication_with by_price []) (parts.Field fields.Lots)
   pub no_items : Refuses (codes "/notices/N1") (publication_with by_price (lot_with [])) (parts.Field fields.Lots)
   pub wrong_item : Refuses (codes "/notices/N1")

@@ -15,8 +15,8 @@ use office_values::text::TextLine;
 use serde_json::Value;
 use std::alloc::{AllocError, Global};
 
-// Whether there is a member of this name.
-fn has(body: &Value, name: &str) -> bool
+/// Whether there is a member of this name, be it right or wrong.
+pub fn has(body: &Value, name: &str) -> bool
     ensures { result ≡ is_some (get name.now (view body.now)) }
 {
     body.get(name).is_some()

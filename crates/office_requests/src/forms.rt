@@ -6,6 +6,7 @@ use crate::publication::Basis;
 use hex::FromHex;
 use office_acts::amounts::SecurityAmount;
 use office_acts::contract::{ChangeKind, How};
+use office_acts::notice::LateWithdrawal;
 use office_values::bounded::Bounded;
 use office_values::id::Id;
 use office_values::moment::Moment;
@@ -111,6 +112,23 @@ impl FromText for Basis {
             Some(Basis::Price)
         } else if text == b"points".as_slice() {
             Some(Basis::Points)
+        } else {
+            None
+        }
+    }
+}
+
+impl FromText for LateWithdrawal {
+    ghost use Rattle.office_requests.specs.Forms.{lateness_of};
+
+    ghost of_text = { lateness_of };
+
+    #[tactic(auto, unfolding(crate::specs::Forms::lateness_of))]
+    fn from_text(text: &[u8]) -> Option<LateWithdrawal> {
+        if text == b"refused".as_slice() {
+            Some(LateWithdrawal::Refused)
+        } else if text == b"forfeits".as_slice() {
+            Some(LateWithdrawal::Forfeits)
         } else {
             None
         }

@@ -4,14 +4,14 @@ ghost use Rattle.serde_json.specs.View.{view, items_view};
 ghost use Rattle.office_acts.specs.Commands.{kind_of};
 ghost use Rattle.office_requests.specs.Inside.Answers.{ReadsAs, ReadsList};
 ghost use Rattle.office_requests.specs.Publications as spec;
-ghost use Rattle.office_requests.specs.Publications.{in_lots, each_of, array_at, elements_at, item_of, items_of, lot_of, lots_in, criteria_with, criteria_in, notice_in, publication_in};
+ghost use Rattle.office_requests.specs.Publications.{in_lots, each_of, array_at, elements_at, item_of, items_of, lot_of, lots_in, criteria_with, criteria_in, late_in, notice_in, publication_in};
 
-use crate::fields::{absent, line, line_at, needed, number, number_at, text, text_at};
+use crate::fields::{absent, has, line, line_at, needed, number, number_at, text, text_at};
 use office_acts::command::CommandKind;
 use office_acts::commands::Command;
 use office_acts::item::{Item, Items};
 use office_acts::lot::{NewLot, NewLots};
-use office_acts::notice::{Criteria, NewNotice};
+use office_acts::notice::{Criteria, LateWithdrawal, NewNotice};
 use office_values::bounded::Bounded;
 use office_values::id::Id;
 use office_values::money::{AMOUNT_LIMIT, Amount};
@@ -162,6 +162,18 @@ fn criteria(body: &Value) -> Result<Criteria, Refusal>
     criteria_with(text(body, Field::Criteria)?, body)
 }
 
+// Whether tenders may be withdrawn after the deadline: not where nothing is said of it.
+#[tactic(auto, unfolding(crate::specs::Publications::late_in))]
+fn late_withdrawal(body: &Value) -> Result<LateWithdrawal, Refusal>
+    ensures { result ≡ late_in (view body.now) }
+{
+    if has(body, Field::LateWithdrawal.name()) {
+        text(body, Field::LateWithdrawal)
+    } else {
+        Ok(LateWithdrawal::Refused)
+    }
+}
+
 // What the body of a publication says.
 #[tactic(auto, unfolding(crate::specs::Publications::notice_in))]
 fn new_notice(alloc: Global, body: &Value) -> Result<NewNotice, Refusal>
@@ -173,6 +185,7 @@ fn new_notice(alloc: Global, body: &Value) -> Result<NewNotice, Refusal>
         validity: number(body, Field::ValidityDays)?,
         standstill: number(body, Field::StandstillDays)?,
         criteria: criteria(body)?,
+        late_withdrawal: late_withdrawal(body)?,
         lots: lots(alloc, body)?,
     })
 }

@@ -1,9 +1,10 @@
--- Tenderers, notices and lots as rows of SQL: the key, then the other fields.
+-- Tenderers, notices, what they say of late withdrawals, and lots as rows of SQL: the key, then the other fields.
 use Rattle.std.specs.Prelude.{pos, [], ◌∷◌}
 use Rattle.sqlite_value.specs.declared.value.Value.TheVariants.{Int, Text, Blob}
 use Rattle.sqlite_value.specs.Order.{Row, column, bytes}
 use Rattle.office_base.specs.declared.records.TendererRow.{TendererRow}
 use Rattle.office_base.specs.declared.records.NoticeRow.{NoticeRow}
+use Rattle.office_base.specs.declared.records.LateRow.{LateRow}
 use Rattle.office_base.specs.declared.records.LotRow.{LotRow}
 use Rattle.office_rows.specs.Values.{number_in, or_null, perhaps_in, tail}
 use Rattle.office_rows.specs.Words.{notice_state_text, notice_state_in, lot_state_text, lot_state_in}
@@ -42,6 +43,16 @@ notice_read r = record {
 
 abbrev pub notice_in : Row → NoticeRow
 notice_in r = notice_read (tail r)
+
+-- that tenders for a notice may be withdrawn late: its row, what a row is read as, and what a row is read as that stands behind a rowid
+abbrev pub late_row : LateRow → Row
+late_row x = Text x.notice ∷ []
+
+abbrev pub late_read : Row → LateRow
+late_read r = record { notice = bytes (column r 0) }
+
+abbrev pub late_in : Row → LateRow
+late_in r = late_read (tail r)
 
 -- a lot: its row, what a row is read as, and what a row is read as that stands behind a rowid
 abbrev pub lot_row : LotRow → Row

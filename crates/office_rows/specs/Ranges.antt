@@ -21,6 +21,7 @@ use Rattle.office_base.specs.declared.records.ContractRow.{ContractRow}
 use Rattle.office_base.specs.declared.records.EntryRow.{EntryRow}
 use Rattle.office_base.specs.declared.records.ReleaseRow.{ReleaseRow}
 use Rattle.office_base.specs.declared.records.CompiledRow.{CompiledRow}
+use Rattle.office_base.specs.declared.records.LateRow.{LateRow}
 use Rattle.office_base.specs.declared.records.ClockRow.{ClockRow}
 
 -- no more is asked
@@ -95,6 +96,9 @@ ReleaseFits x = IsId x.notice × IsWithin 1 9999 x.seq × (x.moment ≤ last_mom
 
 abbrev pub CompiledFits : CompiledRow → Type 0
 CompiledFits x = IsId x.notice × IsUtf8 x.text
+
+abbrev pub LateFits : LateRow → Type 0
+LateFits x = IsId x.notice
 
 abbrev pub ClockFits : ClockRow → Type 0
 ClockFits x = (x.moment ≤ last_moment) × (x.receipts ≤ 10 ^ 9) × (x.awards ≤ 10 ^ 9)

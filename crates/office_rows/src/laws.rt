@@ -4,7 +4,7 @@ ghost use Rattle.std.specs.List.{AllByRecursion};
 ghost use Rattle.office_acts.specs.declared.item.Item.{Item};
 ghost use Rattle.office_rows.specs.ItemTexts.{items_text, items_in, ItemFits};
 ghost use Rattle.office_rows.specs.Budget.{line_row, line_read, line_in, batch_row, batch_read, batch_in};
-ghost use Rattle.office_rows.specs.Notices.{tenderer_row, tenderer_read, tenderer_in, notice_row, notice_read, notice_in};
+ghost use Rattle.office_rows.specs.Notices.{tenderer_row, tenderer_read, tenderer_in, notice_row, notice_read, notice_in, late_row, late_read, late_in};
 ghost use Rattle.office_rows.specs.Tenders.{envelope_row, envelope_read, envelope_in, seal_row, seal_read, seal_in, security_row, security_read, security_in};
 ghost use Rattle.office_rows.specs.Awards.{award_row, award_read, award_in, contract_row, contract_read, contract_in, entry_row, entry_read, entry_in};
 ghost use Rattle.office_rows.specs.Releases.{release_row, release_read, release_in, compiled_row, compiled_read, compiled_in, clock_row, clock_read, clock_in};
@@ -78,6 +78,11 @@ pub fn releases_come_back()
 /// A law: the merge of a notice's releases comes back from its row.
 pub fn compiled_comes_back()
     ensures { ComesBack compiled_row compiled_read compiled_in }
+{}
+
+/// A law: that tenders for a notice may be withdrawn late comes back from its row.
+pub fn late_rules_come_back()
+    ensures { ComesBack late_row late_read late_in }
 {}
 
 /// A law: the clock comes back from its row.

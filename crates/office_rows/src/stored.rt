@@ -7,11 +7,11 @@ ghost use Rattle.office_rows.specs.Values.{whole, number_in};
 ghost use Rattle.office_base.specs.Faults.{IsFaultOf};
 ghost use Rattle.office_rows.specs.Unwritten.{IsUnwritten};
 ghost use Rattle.office_rows.specs.Budget.{line_row, line_read, batch_row, batch_read};
-ghost use Rattle.office_rows.specs.Notices.{tenderer_row, tenderer_read, notice_row, notice_read, lot_row, lot_read};
+ghost use Rattle.office_rows.specs.Notices.{tenderer_row, tenderer_read, notice_row, notice_read, late_row, late_read, lot_row, lot_read};
 ghost use Rattle.office_rows.specs.Tenders.{envelope_row, envelope_read, seal_row, seal_read, security_row, security_read};
 ghost use Rattle.office_rows.specs.Awards.{award_row, award_read, contract_row, contract_read, entry_row, entry_read};
 ghost use Rattle.office_rows.specs.Releases.{release_row, release_read, compiled_row, compiled_read, clock_row, clock_read};
-ghost use Rattle.office_rows.specs.Ranges.{LineFits, BatchFits, TendererFits, NoticeFits, IsLot, EnvelopeFits, SealFits, SecurityFits, AwardFits, ContractFits, EntryFits, ReleaseFits, CompiledFits, ClockFits};
+ghost use Rattle.office_rows.specs.Ranges.{LineFits, BatchFits, TendererFits, NoticeFits, IsLot, EnvelopeFits, SealFits, SecurityFits, AwardFits, ContractFits, EntryFits, ReleaseFits, CompiledFits, LateFits, ClockFits};
 
 use crate::columns::{
     amount_at, bounded_at, digest_at, has_columns, id_at, json_at, line_at, moment_at,
@@ -25,8 +25,8 @@ use crate::words::{
     perhaps_how_at, security_state_at,
 };
 use office_base::records::{
-    AwardRow, BatchRow, ClockRow, CompiledRow, ContractRow, EntryRow, EnvelopeRow, LineRow, LotRow,
-    NoticeRow, ReleaseRow, SealRow, SecurityRow, TendererRow,
+    AwardRow, BatchRow, ClockRow, CompiledRow, ContractRow, EntryRow, EnvelopeRow, LateRow,
+    LineRow, LotRow, NoticeRow, ReleaseRow, SealRow, SecurityRow, TendererRow,
 };
 use office_base::shelf::ShelfFault;
 use office_values::money::Amount;
@@ -307,6 +307,21 @@ impl Stored for CompiledRow {
         Ok(CompiledRow {
             notice: id_at(row, 0)?,
             text: json_at(alloc, row, 1)?,
+        })
+    }
+}
+
+impl Stored for LateRow {
+    ghost read = { late_read };
+
+    ghost row_of = { late_row };
+
+    ghost fits = { LateFits };
+
+    fn from_row(_alloc: Global, row: &Row) -> Result<LateRow, ShelfFault> {
+        has_columns(row, 1)?;
+        Ok(LateRow {
+            notice: id_at(row, 0)?,
         })
     }
 }

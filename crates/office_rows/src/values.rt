@@ -9,11 +9,11 @@ ghost use Rattle.office_rows.specs.Values.{or_null, text_or_null, as_number};
 ghost use Rattle.office_rows.specs.Words.{how_text};
 ghost use Rattle.office_rows.specs.ItemTexts.{items_text};
 ghost use Rattle.office_rows.specs.Budget.{line_row, batch_row};
-ghost use Rattle.office_rows.specs.Notices.{tenderer_row, notice_row, lot_row};
+ghost use Rattle.office_rows.specs.Notices.{tenderer_row, notice_row, late_row, lot_row};
 ghost use Rattle.office_rows.specs.Tenders.{envelope_row, seal_row, security_row};
 ghost use Rattle.office_rows.specs.Awards.{award_row, contract_row, entry_row};
 ghost use Rattle.office_rows.specs.Releases.{release_row, compiled_row, clock_row};
-ghost use Rattle.office_rows.specs.Ranges.{IsGiven, LineFits, BatchFits, TendererFits, NoticeFits, LotFits, EnvelopeFits, SealFits, SecurityFits, AwardFits, ContractFits, EntryFits, ReleaseFits, CompiledFits, ClockFits};
+ghost use Rattle.office_rows.specs.Ranges.{IsGiven, LineFits, BatchFits, TendererFits, NoticeFits, LotFits, EnvelopeFits, SealFits, SecurityFits, AwardFits, ContractFits, EntryFits, ReleaseFits, CompiledFits, LateFits, ClockFits};
 
 use crate::readings::{corrected_value, corrections_value, stated_value, word_value};
 use crate::words::{
@@ -23,8 +23,8 @@ use crate::words::{
 use office_acts::contract::How;
 use office_acts::tender::Quality;
 use office_base::records::{
-    AwardRow, BatchRow, ClockRow, CompiledRow, ContractRow, EntryRow, EnvelopeRow, LineRow, LotRow,
-    NoticeRow, ReleaseRow, SealRow, SecurityRow, TendererRow,
+    AwardRow, BatchRow, ClockRow, CompiledRow, ContractRow, EntryRow, EnvelopeRow, LateRow,
+    LineRow, LotRow, NoticeRow, ReleaseRow, SealRow, SecurityRow, TendererRow,
 };
 use office_values::given::GivenNumber;
 use office_values::moment::Moment;
@@ -304,6 +304,14 @@ pub fn compiled_values(row: &CompiledRow) -> [ValueRef<'_>; 2]
         ValueRef::Text(row.notice.as_bytes()),
         ValueRef::Text(row.text.as_str().as_bytes()),
     ]
+}
+
+/// The values of the row that lets tenders for a notice be withdrawn late.
+pub fn late_values(row: &LateRow) -> [ValueRef<'_>; 1]
+    ensures row { bound result ≡ late_row row.now }
+    ensures fits { LateFits row.now }
+{
+    [ValueRef::Text(row.notice.as_bytes())]
 }
 
 /// The values of the office's one row: the version of its tables, which is 1, and the clock.

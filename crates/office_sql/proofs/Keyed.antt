@@ -13,7 +13,7 @@ use Rattle.sqlite_schema.specs.Rules.{agree, guards}
 use Rattle.sqlite_rules.specs.Keys.{conflicts, shares}
 use Rattle.sqlite_resolve.specs.Given.{are_among, is_key_at, key_at}
 use Rattle.office_sql.specs.Schema.{OfficeTable, table_of}
-use Rattle.office_sql.specs.Schema.OfficeTable.{Lines, Batches, Tenderers, Notices, Lots, Envelopes, Seals, Securities, Awards, Contracts, Entries, Releases, Compiled, Office}
+use Rattle.office_sql.specs.Schema.OfficeTable.{Lines, Batches, Tenderers, Notices, Lots, Envelopes, Seals, Securities, Awards, Contracts, Entries, Releases, Compiled, Office, LateRules}
 use Rattle.office_sql.specs.Known.{IsIn, at_tree, key_indexes}
 
 -- the key has an index of its own, in the order of bytes
@@ -54,6 +54,7 @@ keyed Entries = indexed refl refl refl refl refl
 keyed Releases = indexed refl refl refl refl refl
 keyed Compiled = indexed refl refl refl refl refl
 keyed Office = numbered refl refl refl
+keyed LateRules = indexed refl refl refl refl refl
 
 -- ---- conflicts
 

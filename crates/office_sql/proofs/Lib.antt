@@ -36,6 +36,7 @@ mod CreateFacts
 mod Makes
 mod Founds
 mod MakingSteps
+pub mod Earlier
 mod Told
 mod Versions
 mod Failing

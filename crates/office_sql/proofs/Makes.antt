@@ -23,9 +23,9 @@ use Rattle.sqlite.specs.State.{State, Writes, Executes, ExecutesIn, mode_of}
 use Rattle.sqlite.specs.Listing.{understood}
 use Rattle.sqlite.proofs.Callers.{runs_as, command_of, statement_of, IsPlain}
 use Rattle.office_sql.specs.Schema.{OfficeTable, table_of}
-use Rattle.office_sql.specs.Schema.OfficeTable.{Lines, Batches, Tenderers, Notices, Lots, Envelopes, Seals, Securities, Awards, Contracts, Entries, Releases, Compiled as Merges, Office}
+use Rattle.office_sql.specs.Schema.OfficeTable.{Lines, Batches, Tenderers, Notices, Lots, Envelopes, Seals, Securities, Awards, Contracts, Entries, Releases, Compiled as Merges, Office, LateRules}
 use Rattle.office_sql.specs.Known.{IsIn, at_tree}
-use Rattle.office_sql.specs.Making.{Says, IsCreate, IsIndexing, AreMade, KeepsOthers, AreNew}
+use Rattle.office_sql.specs.Making.{Says, IsCreate, IsIndexing, AreMade, KeepsOthers, KeepsOffice, AreNew}
 use Rattle.sqlite_catalog.proofs.ListFacts.{none_placed}
 use Rattle.office_sql.proofs.Keyed.{keyed}
 use Rattle.office_sql.proofs.Upserted.{went, same_value}
@@ -56,10 +56,20 @@ record Grows (old new : Database) : Type 0 where
 abbrev Stands : Database → OfficeTable → Type 0
 Stands db k = (n : ℕ) × IsIn db.schema (table_of k) n × (db.trees n ≡ [])
 
+grows_stays : (old new : Database) → Grows old new → KeepsOffice old new
+grows_stays old new it k n was =
+    let there = place_has old.schema.tables was.place (at_tree (table_of k) n) was.found in
+    (subst (λ s. IsIn s (table_of k) n) (sym it.schema) (created_keeps old.schema (table_of k) it.more n it.key it.one was), all_has (λ (t : Table). new.trees t.tree ≡ old.trees t.tree) old.schema.tables (at_tree (table_of k) n) it.others there)
+
+pub stays_then : (a b c : Database) → KeepsOffice a b → KeepsOffice b c → KeepsOffice a c
+stays_then a b c p q k n was = let one = p k n was in let two = q k n one.0 in (two.0, two.1 ∙ one.1)
+
+-- one that has no rows still has none
+stands_on : (old new : Database) → KeepsOffice old new → (k : OfficeTable) → Stands old k → Stands new k
+stands_on old new stays k was = let kept = stays k was.0 was.1 in (was.0, kept.0, kept.1 ∙ was.2)
+
 grows_keeps : (old new : Database) → Grows old new → (k : OfficeTable) → Stands old k → Stands new k
-grows_keeps old new it k was =
-    let there = place_has old.schema.tables was.1.place (at_tree (table_of k) was.0) was.1.found in
-    (was.0, subst (λ s. IsIn s (table_of k) was.0) (sym it.schema) (created_keeps old.schema (table_of k) it.more was.0 it.key it.one was.1), all_has (λ (t : Table). new.trees t.tree ≡ old.trees t.tree) old.schema.tables (at_tree (table_of k) was.0) it.others there ∙ was.2)
+grows_keeps old new it = stands_on old new (grows_stays old new it)
 
 pub all_so : (P Q : OfficeTable → Type 0) (ks : List OfficeTable) → ((k : OfficeTable) → P k → Q k) → AllByRecursion P ks → AllByRecursion Q ks
 all_so P Q [] f h = tt
@@ -82,6 +92,7 @@ named Entries = refl
 named Releases = refl
 named Merges = refl
 named Office = refl
+named LateRules = refl
 
 -- each has one key, with an index or without
 one_key : (k : OfficeTable) → ((table_of k).uniques ≡ (table_of k).primary ∷ []) ⊎ ((table_of k).uniques ≡ [])
@@ -135,10 +146,13 @@ made_stands k old after sound sound_after it =
     let stands : Stands it.mid k = (n, subst (λ s. IsIn s (table_of k) n) (sym schema) (created_is old (table_of k) (keyed k) sound it.unnamed (named k) below), it.first.empty) in
     elim it.then [ inl same ↦ subst (λ d. Stands d k) (sym same) stands | inr more ↦ grows_keeps it.mid after more k stands ]
 
+one_more_stays : (k : OfficeTable) (old after : Database) → IsOneMore k old after → KeepsOffice old after
+one_more_stays k old after it =
+    let first = grows_stays old it.mid it.first in
+    elim it.then [ inl same ↦ subst (KeepsOffice old) (sym same) first | inr more ↦ stays_then old it.mid after first (grows_stays it.mid after more) ]
+
 kept_stands : (k : OfficeTable) (old after : Database) → IsOneMore k old after → (j : OfficeTable) → Stands old j → Stands after j
-kept_stands k old after it j was =
-    let mid = grows_keeps old it.mid it.first j was in
-    elim it.then [ inl same ↦ subst (λ d. Stands d j) (sym same) mid | inr more ↦ grows_keeps it.mid after more j mid ]
+kept_stands k old after it = stands_on old after (one_more_stays k old after it)
 
 pub makes_table : (old new : State) (text : List ℕ) (k : OfficeTable) (done : List OfficeTable) (count : ℕ) → IsCreate text (table_of k) → AreMade done old.now → Executes text [] old new (Ok count) → AreMade (k ∷ done) new.now
 makes_table old new text k done count it was h =
@@ -165,7 +179,8 @@ one_more_others k old after it =
     elim it.then [ inl same ↦ subst (KeepsOthers old) (sym same) first | inr more ↦ others_then old it.mid after first (grows_others it.mid after more) ]
 
 -- what is there stays, and the name was none of its
-pub table_others : (old new : State) (text : List ℕ) (k : OfficeTable) (count : ℕ) → IsCreate text (table_of k) → Executes text [] old new (Ok count) → KeepsOthers old.now new.now × AreNew old.now (k ∷ [])
+pub table_others : (old new : State) (text : List ℕ) (k : OfficeTable) (count : ℕ) → IsCreate text (table_of k) → Executes text [] old new (Ok count)
+    → KeepsOthers old.now new.now × AreNew old.now (k ∷ []) × KeepsOffice old.now new.now
 table_others old new text k count it h =
     let u = was_understood text old new count h in
     let says = wrote text old new count u.0 CreateTable u.1 (it.means old.now.schema u.0 u.1) in
@@ -179,6 +194,7 @@ table_others old new text k count it h =
         λ t there called. true≢false (sym (ap (λ n. same_name n (table_of k).name) called ∙ (named k)) ∙ none_placed (λ (u : Table). same_name u.name (table_of k).name) old.now.schema.tables 0 t one.unnamed there),
         tt,
       ),
+      subst (KeepsOffice old.now) (sym now) (one_more_stays k old.now all.0 one),
     )
 
 pub index_others : (old new : State) (text : List ℕ) (k : OfficeTable) (index : Index) (count : ℕ) → IsIndexing text (table_of k) index → Stands old.now k → Executes text [] old new (Ok count) → KeepsOthers old.now new.now

@@ -4,7 +4,7 @@ use Rattle.std.specs.Ordering.{nat_cmp}
 use Rattle.sqlite.specs.State.{State, ExecutesInside}
 use Rattle.office_values.specs.Ids.{id_cmp}
 use Rattle.office_base.specs.Rows.{row_put}
-use Rattle.office_base.specs.Tables.{Tables, after_put, line_key, batch_key, tenderer_key, notice_key, lot_key, envelope_key, seal_key, security_key, award_key, contract_key, entry_key, release_key, compiled_key, entry_cmp, lot_cmp, release_cmp}
+use Rattle.office_base.specs.Tables.{Tables, after_put, line_key, batch_key, tenderer_key, notice_key, lot_key, envelope_key, seal_key, security_key, award_key, contract_key, entry_key, release_key, compiled_key, late_key, entry_cmp, lot_cmp, release_cmp}
 use Rattle.office_base.specs.declared.records.LineRow.{LineRow}
 use Rattle.office_base.specs.declared.records.BatchRow.{BatchRow}
 use Rattle.office_base.specs.declared.records.TendererRow.{TendererRow}
@@ -18,10 +18,11 @@ use Rattle.office_base.specs.declared.records.ContractRow.{ContractRow}
 use Rattle.office_base.specs.declared.records.EntryRow.{EntryRow}
 use Rattle.office_base.specs.declared.records.ReleaseRow.{ReleaseRow}
 use Rattle.office_base.specs.declared.records.CompiledRow.{CompiledRow}
+use Rattle.office_base.specs.declared.records.LateRow.{LateRow}
 use Rattle.office_base.specs.declared.records.ClockRow.{ClockRow}
-use Rattle.office_base.specs.declared.puts.Put.TheVariants.{Line, Batch, Tenderer, Notice, Lot, Envelope, Seal, Security, Award, Contract, Entry, Release, Compiled, Clock}
+use Rattle.office_base.specs.declared.puts.Put.TheVariants.{Line, Batch, Tenderer, Notice, Lot, Envelope, Seal, Security, Award, Contract, Entry, Release, Compiled, Late, Clock}
 use Rattle.office_rows.specs.Budget.{line_row, line_read, line_in, batch_row, batch_read, batch_in}
-use Rattle.office_rows.specs.Notices.{tenderer_row, tenderer_read, tenderer_in, notice_row, notice_read, notice_in, lot_row, lot_in}
+use Rattle.office_rows.specs.Notices.{tenderer_row, tenderer_read, tenderer_in, notice_row, notice_read, notice_in, late_row, late_read, late_in, lot_row, lot_in}
 use Rattle.office_rows.specs.Tenders.{envelope_row, envelope_read, envelope_in, seal_row, seal_read, seal_in, security_row, security_read, security_in}
 use Rattle.office_rows.specs.Awards.{award_row, award_read, award_in, contract_row, contract_read, contract_in, entry_row, entry_read, entry_in}
 use Rattle.office_rows.specs.Releases.{release_row, release_read, release_in, compiled_row, compiled_read, compiled_in, clock_row, clock_read, clock_in}
@@ -29,7 +30,7 @@ use Rattle.office_sql.specs.Clock.{clock_key, clock_cmp}
 use Rattle.office_rows.specs.ItemTexts.{items_text, items_in}
 use Rattle.office_rows.specs.Laws.{ComesBack, LotComesBack}
 use Rattle.office_sql.specs.Schema.{OfficeTable}
-use Rattle.office_sql.specs.Schema.OfficeTable.{Lines, Batches, Tenderers, Notices, Lots, Envelopes, Seals, Securities, Awards, Contracts, Entries, Releases, Compiled, Office}
+use Rattle.office_sql.specs.Schema.OfficeTable.{Lines, Batches, Tenderers, Notices, Lots, Envelopes, Seals, Securities, Awards, Contracts, Entries, Releases, Compiled, Office, LateRules}
 use Rattle.office_sql.specs.Kept.{behind, by_rowid, read_by_rowid}
 use Rattle.office_sql.specs.Standing.{StandFor, Stands}
 use Rattle.office_sql.specs.Steps.{Puts}
@@ -37,8 +38,8 @@ use Rattle.sqlite_value.specs.Order.{Row}
 use Rattle.office_sql.proofs.Writes.{puts_row, with_rows}
 use Rattle.office_sql.proofs.Held.{holds_put, goes_with}
 use Rattle.office_sql.proofs.Made.{made_of}
-use Rattle.office_sql.proofs.Stored.{bare, line_terms, line_cells, line_stored, batch_terms, batch_cells, batch_stored, tenderer_terms, tenderer_cells, tenderer_stored, notice_terms, notice_cells, notice_stored, lot_terms, lot_cells, lot_stored, envelope_terms, envelope_cells, envelope_stored, seal_terms, seal_cells, seal_stored, security_terms, security_cells, security_stored, award_terms, award_cells, award_stored, contract_terms, contract_cells, contract_stored, entry_terms, entry_cells, entry_stored, release_terms, release_cells, release_stored, compiled_terms, compiled_cells, compiled_stored, clock_terms, clock_cells, clock_stored}
-use Rattle.office_sql.proofs.PutTexts.{put_lines, put_lines_means, put_batches, put_batches_means, put_tenderers, put_tenderers_means, put_notices, put_notices_means, put_lots, put_lots_means, put_envelopes, put_envelopes_means, put_seals, put_seals_means, put_securities, put_securities_means, put_awards, put_awards_means, put_contracts, put_contracts_means, put_entries, put_entries_means, put_releases, put_releases_means, put_compiled, put_compiled_means, put_office, put_office_means}
+use Rattle.office_sql.proofs.Stored.{bare, line_terms, line_cells, line_stored, batch_terms, batch_cells, batch_stored, tenderer_terms, tenderer_cells, tenderer_stored, notice_terms, notice_cells, notice_stored, lot_terms, lot_cells, lot_stored, envelope_terms, envelope_cells, envelope_stored, seal_terms, seal_cells, seal_stored, security_terms, security_cells, security_stored, award_terms, award_cells, award_stored, contract_terms, contract_cells, contract_stored, entry_terms, entry_cells, entry_stored, release_terms, release_cells, release_stored, compiled_terms, compiled_cells, compiled_stored, clock_terms, clock_cells, clock_stored, late_terms, late_cells, late_stored}
+use Rattle.office_sql.proofs.PutTexts.{put_lines, put_lines_means, put_batches, put_batches_means, put_tenderers, put_tenderers_means, put_notices, put_notices_means, put_lots, put_lots_means, put_envelopes, put_envelopes_means, put_seals, put_seals_means, put_securities, put_securities_means, put_awards, put_awards_means, put_contracts, put_contracts_means, put_entries, put_entries_means, put_releases, put_releases_means, put_compiled, put_compiled_means, put_office, put_office_means, put_late_rules, put_late_rules_means}
 
 after_line : (rows : OfficeTable → List Row) (changed : List Row) (t : Tables) (x : LineRow) → Stands rows t → StandFor Lines changed (after_put (Line x) t)
     → Stands (with_rows rows Lines changed) (after_put (Line x) t)
@@ -169,6 +170,16 @@ pub puts_compiled : (old new : State) (x : CompiledRow) (count : ℕ) → ComesB
 puts_compiled old new x count back h = goes_with old new (Compiled x) h.1 (λ t was. made_of put_compiled (compiled_row x) old new _ (put_compiled_means old.now.schema (was.places Compiled) (was.tables Compiled)) refl refl count h.0) (λ t was.
     let done = puts_row Compiled bare id_cmp compiled_key compiled_row (behind compiled_row) compiled_in 2 compiled_terms compiled_cells compiled_stored old new was.places was.tables put_compiled x count t.compiled (put_compiled_means old.now.schema (was.places Compiled) (was.tables Compiled)) (λ v. back.entry v x) (was.stands Compiled) h.0 in
     holds_put Compiled id_cmp compiled_key (behind compiled_row) compiled_in old.now new.now t (after_put (Compiled x) t) was _ done (after_compiled (λ j. old.now.trees (was.places j)) (new.now.trees (was.places Compiled)) t x was.stands))
+
+after_late : (rows : OfficeTable → List Row) (changed : List Row) (t : Tables) (x : LateRow) → Stands rows t → StandFor LateRules changed (after_put (Late x) t)
+    → Stands (with_rows rows LateRules changed) (after_put (Late x) t)
+after_late rows changed t x was stand LateRules = stand
+after_late rows changed t x was stand k = was k
+
+pub puts_late : (old new : State) (x : LateRow) (count : ℕ) → ComesBack late_row late_read late_in → ExecutesInside 0 put_late_rules (late_row x) old new (Ok count) → Puts old new (Late x ∷ [])
+puts_late old new x count back h = goes_with old new (Late x) h.1 (λ t was. made_of put_late_rules (late_row x) old new _ (put_late_rules_means old.now.schema (was.places LateRules) (was.tables LateRules)) refl refl count h.0) (λ t was.
+    let done = puts_row LateRules bare id_cmp late_key late_row (behind late_row) late_in 1 late_terms late_cells late_stored old new was.places was.tables put_late_rules x count t.late_rules (put_late_rules_means old.now.schema (was.places LateRules) (was.tables LateRules)) (λ v. back.entry v x) (was.stands LateRules) h.0 in
+    holds_put LateRules id_cmp late_key (behind late_row) late_in old.now new.now t (after_put (Late x) t) was _ done (after_late (λ j. old.now.trees (was.places j)) (new.now.trees (was.places LateRules)) t x was.stands))
 
 after_clock : (rows : OfficeTable → List Row) (changed : List Row) (t : Tables) (x : ClockRow) → Stands rows t → StandFor Office changed (after_put (Clock x) t)
     → Stands (with_rows rows Office changed) (after_put (Clock x) t)

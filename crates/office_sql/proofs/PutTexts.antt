@@ -6,15 +6,15 @@ use Rattle.sqlite_schema.specs.declared.command.Conflict.TheVariants.{Abort}
 use Rattle.sqlite_schema.specs.declared.command.Source.TheVariants.{Values}
 use Rattle.sqlite_tied.specs.Compute.{everything}
 pub use Rattle.office_sql.specs.Schema.{put_office}
-pub use Rattle.office_sql.specs.Statements.{put_lines, put_batches, put_tenderers, put_notices, put_lots, put_envelopes, put_seals, put_securities, put_awards, put_contracts, put_entries, put_releases, put_compiled}
-use Rattle.office_sql.specs.Schema.{lines, batches, tenderers, notices, lots, envelopes, seals, securities, awards, contracts, entries, releases, compiled, office}
+pub use Rattle.office_sql.specs.Statements.{put_lines, put_batches, put_tenderers, put_notices, put_lots, put_envelopes, put_seals, put_securities, put_awards, put_contracts, put_entries, put_releases, put_compiled, put_late_rules}
+use Rattle.office_sql.specs.Schema.{lines, batches, tenderers, notices, lots, envelopes, seals, securities, awards, contracts, entries, releases, compiled, office, late_rules}
 use Rattle.office_sql.specs.Known.{IsIn, at_tree}
 use Rattle.office_sql.proofs.Meanings.{Means, IsOne, parsed_in}
 use Rattle.office_sql.proofs.Keyed.{keyed}
-use Rattle.office_sql.specs.Schema.OfficeTable.{Lines, Batches, Tenderers, Notices, Lots, Envelopes, Seals, Securities, Awards, Contracts, Entries, Releases, Compiled, Office}
+use Rattle.office_sql.specs.Schema.OfficeTable.{Lines, Batches, Tenderers, Notices, Lots, Envelopes, Seals, Securities, Awards, Contracts, Entries, Releases, Compiled, Office, LateRules}
 use Rattle.office_sql.proofs.Selecting.{found_by_tree}
 use Rattle.office_sql.proofs.Upserts.{IsUpsert, InsertsRows, NamesKey, Updates, on_conflict, columns_in, rows_in, clause_in, upserts_mean}
-use Rattle.office_sql.proofs.Stored.{line_terms, line_cells, batch_terms, batch_cells, tenderer_terms, tenderer_cells, notice_terms, notice_cells, lot_terms, lot_cells, envelope_terms, envelope_cells, seal_terms, seal_cells, security_terms, security_cells, award_terms, award_cells, contract_terms, contract_cells, entry_terms, entry_cells, release_terms, release_cells, compiled_terms, compiled_cells, clock_terms, clock_cells}
+use Rattle.office_sql.proofs.Stored.{line_terms, line_cells, batch_terms, batch_cells, tenderer_terms, tenderer_cells, notice_terms, notice_cells, lot_terms, lot_cells, envelope_terms, envelope_cells, seal_terms, seal_cells, security_terms, security_cells, award_terms, award_cells, contract_terms, contract_cells, entry_terms, entry_cells, release_terms, release_cells, compiled_terms, compiled_cells, clock_terms, clock_cells, late_terms, late_cells}
 
 lines_read : IsUpsert put_lines (codes "lines")
 unfolding everything parsed_in columns_in rows_in clause_in
@@ -351,3 +351,27 @@ put_office_one = record { whole = refl; given = refl }
 pub put_office_means : (schema : Schema) (n : ℕ) (it : IsIn schema office n) → Means schema put_office (InsertOr it.place Abort (Values clock_terms 5) (on_conflict (at_tree office n) 4 clock_cells ∷ []))
 put_office_means schema n it =
     upserts_mean schema put_office office n it office_read refl (keyed Office) _ (office_rows schema n) (office_key n) 4 clock_cells (office_update schema it.place n) (rw (it.stored, found_by_tree schema office n it))
+
+late_rules_read : IsUpsert put_late_rules (codes "late_rules")
+unfolding everything parsed_in columns_in rows_in clause_in
+late_rules_read = record { is = refl; statement = refl; formats = refl; targeted = refl; changes = refl }
+
+late_rules_rows : (schema : Schema) (n : ℕ) → InsertsRows schema (at_tree late_rules n) put_late_rules (Values late_terms 2)
+unfolding everything parsed_in columns_in rows_in
+late_rules_rows schema n = refl
+
+late_rules_key : (n : ℕ) → NamesKey (at_tree late_rules n) put_late_rules
+unfolding everything parsed_in clause_in
+late_rules_key n = refl
+
+late_rules_update : (schema : Schema) (at n : ℕ) → Updates schema at (at_tree late_rules n) put_late_rules 1 late_cells
+unfolding everything parsed_in clause_in
+late_rules_update schema at n = refl
+
+pub put_late_rules_one : IsOne put_late_rules 1
+unfolding everything parsed_in
+put_late_rules_one = record { whole = refl; given = refl }
+
+pub put_late_rules_means : (schema : Schema) (n : ℕ) (it : IsIn schema late_rules n) → Means schema put_late_rules (InsertOr it.place Abort (Values late_terms 2) (on_conflict (at_tree late_rules n) 1 late_cells ∷ []))
+put_late_rules_means schema n it =
+    upserts_mean schema put_late_rules late_rules n it late_rules_read refl (keyed LateRules) _ (late_rules_rows schema n) (late_rules_key n) 1 late_cells (late_rules_update schema it.place n) (rw (it.stored, found_by_tree schema late_rules n it))

@@ -7,7 +7,7 @@ use Rattle.sqlite_schema.specs.declared.schema.Kind.TheVariants.{Integer, Text}
 use Rattle.sqlite_schema.specs.declared.command.Command.TheVariants.{Select}
 use Rattle.sqlite_resolve.specs.Lowering.{alone, chosen, first_found, max_budget}
 use Rattle.sqlite_tied.specs.Compute.{everything}
-use Rattle.office_sql.specs.Schema.{column_of, lines, batches, tenderers, notices, lots, envelopes, seals, securities, awards, contracts, entries, releases, compiled, office}
+use Rattle.office_sql.specs.Schema.{column_of, lines, batches, tenderers, notices, lots, envelopes, seals, securities, awards, contracts, entries, releases, compiled, office, late_rules}
 use Rattle.office_sql.specs.Known.{IsIn, at_tree}
 use Rattle.office_sql.proofs.Meanings.{Means, IsOne, parsed_in}
 use Rattle.office_sql.proofs.Simple.{equals_e, both_e, names_of, outputs_of, Has, no_test, one_test, two_tests, three_tests}
@@ -64,6 +64,10 @@ releases_has n = (refl, refl, refl, (refl, refl, refl, (refl, refl, refl, (refl,
 compiled_has : (n : ℕ) → Has (at_tree compiled n) max_budget (columns_of compiled)
 unfolding same_name
 compiled_has n = (refl, refl, refl, (refl, refl, refl, tt))
+
+late_rules_has : (n : ℕ) → Has (at_tree late_rules n) max_budget (columns_of late_rules)
+unfolding same_name
+late_rules_has n = (refl, refl, refl, tt)
 
 office_has : (n : ℕ) → Has (at_tree office n) max_budget (columns_of office)
 unfolding same_name
@@ -250,6 +254,20 @@ get_compiled_means schema n it =
     selects_mean schema compiled n it (columns_of compiled) ([]) get_compiled (compiled_has n) (Some (equals_e (codes "notice") 1)) _ _ _ get_compiled_read
     (one_test schema it.place (at_tree compiled n) it.found compiled.name (outputs_of (at_tree compiled n) [] (columns_of compiled)) (0, column_of (codes "notice") Text true) 1 (left (columns_of compiled)) _ (refl, refl, refl, tt) refl refl (inl (inl refl, refl), refl, refl))
     tt tt (rw (it.stored, found_by_tree schema compiled n it))
+
+abbrev pub get_late : List ℕ
+get_late = codes "SELECT notice FROM late_rules WHERE notice = ?1"
+
+get_late_read : IsSelect get_late (codes "late_rules") (names_of (columns_of late_rules)) (Some (equals_e (codes "notice") 1)) ([])
+unfolding everything parsed_in
+get_late_read = record { is = refl; statement = refl; formats = refl }
+
+pub get_late_means : (schema : Schema) (n : ℕ) → IsIn schema late_rules n → Means schema get_late (Select (record { lets = []; body = select n (1 ∷ []) (range_with_len 1 1) ([]) }) (names_of (columns_of late_rules)))
+unfolding same_name alone chosen first_found
+get_late_means schema n it =
+    selects_mean schema late_rules n it (columns_of late_rules) ([]) get_late (late_rules_has n) (Some (equals_e (codes "notice") 1)) _ _ _ get_late_read
+    (one_test schema it.place (at_tree late_rules n) it.found late_rules.name (outputs_of (at_tree late_rules n) [] (columns_of late_rules)) (0, column_of (codes "notice") Text true) 1 (left (columns_of late_rules)) _ (refl, refl, refl, tt) refl refl (inl (inl refl, refl), refl, refl))
+    tt tt (rw (it.stored, found_by_tree schema late_rules n it))
 
 abbrev pub get_clock : List ℕ
 get_clock = codes "SELECT version, moment, receipts, awards FROM office"

@@ -11,7 +11,7 @@ use Rattle.sqlite_sql.specs.Term.{Term, lit, col}
 use Rattle.sqlite_schema.specs.Rules.{agree}
 use Rattle.std.specs.Prelude.{option_map}
 use Rattle.office_values.specs.Ids.{id_cmp}
-use Rattle.office_base.specs.Tables.{line_key, batch_key, tenderer_key, notice_key, lot_key, envelope_key, seal_key, security_key, award_key, contract_key, entry_key, release_key, compiled_key, entry_cmp, lot_cmp, release_cmp}
+use Rattle.office_base.specs.Tables.{line_key, batch_key, tenderer_key, notice_key, lot_key, envelope_key, seal_key, security_key, award_key, contract_key, entry_key, release_key, compiled_key, late_key, entry_cmp, lot_cmp, release_cmp}
 use Rattle.office_base.specs.declared.records.LineRow.{LineRow}
 use Rattle.office_base.specs.declared.records.BatchRow.{BatchRow}
 use Rattle.office_base.specs.declared.records.TendererRow.{TendererRow}
@@ -25,6 +25,7 @@ use Rattle.office_base.specs.declared.records.ContractRow.{ContractRow}
 use Rattle.office_base.specs.declared.records.EntryRow.{EntryRow}
 use Rattle.office_base.specs.declared.records.ReleaseRow.{ReleaseRow}
 use Rattle.office_base.specs.declared.records.CompiledRow.{CompiledRow}
+use Rattle.office_base.specs.declared.records.LateRow.{LateRow}
 use Rattle.office_base.specs.declared.records.ClockRow.{ClockRow}
 use Rattle.office_rows.specs.Values.{as_number}
 use Rattle.office_rows.specs.Words.{how_text}
@@ -32,14 +33,14 @@ use Rattle.office_rows.specs.Readings.{reading_word, stated_of, corrected_of, co
 use Rattle.office_base.proofs.ExactKeys.{ids_exact, lots_exact}
 use Rattle.office_base.proofs.Orders.{lots_total, entries_total, releases_total}
 use Rattle.office_rows.specs.Budget.{line_row, batch_row}
-use Rattle.office_rows.specs.Notices.{tenderer_row, notice_row, lot_row}
+use Rattle.office_rows.specs.Notices.{tenderer_row, notice_row, late_row, lot_row}
 use Rattle.office_rows.specs.Tenders.{envelope_row, seal_row, security_row}
 use Rattle.office_rows.specs.Awards.{award_row, contract_row, entry_row}
 use Rattle.office_rows.specs.Releases.{release_row, compiled_row, clock_row}
 use Rattle.office_sql.specs.Clock.{clock_key, clock_cmp}
 use Rattle.office_sql.specs.Kept.{behind, by_rowid}
-use Rattle.office_sql.specs.Schema.{OfficeTable, table_of, lines, batches, tenderers, notices, lots, envelopes, seals, securities, awards, contracts, entries, releases, compiled, office}
-use Rattle.office_sql.specs.Schema.OfficeTable.{Lines, Batches, Tenderers, Notices, Lots, Envelopes, Seals, Securities, Awards, Contracts, Entries, Releases, Compiled, Office}
+use Rattle.office_sql.specs.Schema.{OfficeTable, table_of, lines, batches, tenderers, notices, lots, envelopes, seals, securities, awards, contracts, entries, releases, compiled, office, late_rules}
+use Rattle.office_sql.specs.Schema.OfficeTable.{Lines, Batches, Tenderers, Notices, Lots, Envelopes, Seals, Securities, Awards, Contracts, Entries, Releases, Compiled, Office, LateRules}
 use Rattle.office_sql.proofs.Cells.{cast_null, cast_int, cast_perhaps, cast_words, texts_equal, equal_texts, numbers_equal, equal_numbers, both_true, one_true, first_true, only_true}
 use Rattle.office_sql.proofs.Keyed.{keyed}
 use Rattle.office_sql.proofs.Writes.{IsStored, IsBare}
@@ -60,6 +61,7 @@ bare Entries = record { childless = refl; key = keyed Entries; uncounted = refl 
 bare Releases = record { childless = refl; key = keyed Releases; uncounted = refl }
 bare Compiled = record { childless = refl; key = keyed Compiled; uncounted = refl }
 bare Office = record { childless = refl; key = keyed Office; uncounted = refl }
+bare LateRules = record { childless = refl; key = keyed LateRules; uncounted = refl }
 
 -- ---- lines
 
@@ -504,6 +506,38 @@ clock_stored = record {
   kept = λ m x. refl;
   meets = clock_meets;
   met = clock_met;
+  finds = λ x id more. refl;
+  updates = λ n x y v more e. refl;
+}
+
+-- ---- late withdrawals
+
+late_meets : (u v : Value) (x y : LateRow) → late_key x ≡ late_key y → agree plain late_rules.primary (u ∷ late_row x) late_rules.primary (v ∷ late_row y) ≡ true
+unfolding first_key
+late_meets u v x y e = one_true _ (texts_equal x.notice y.notice e)
+
+late_met : (u v : Value) (x y : LateRow) → agree plain late_rules.primary (u ∷ late_row x) late_rules.primary (v ∷ late_row y) ≡ true → late_key x ≡ late_key y
+unfolding first_key
+late_met u v x y h = equal_texts x.notice y.notice (only_true _ h)
+
+abbrev pub late_terms : List Term
+late_terms = lit Null ∷ col 0 0 ∷ []
+
+abbrev pub late_cells : List Term
+late_cells = col 0 0 ∷ []
+
+pub late_stored : IsStored LateRules id_cmp late_key late_row (behind late_row) 1 late_terms late_cells
+late_stored = record {
+  total = nat_list_cmp_total;
+  exact = ids_exact;
+  given = λ n x. refl;
+  chosen = λ rows x. refl;
+  tries = λ n x. rw (cast_null);
+  stores = λ n m x. rw (cast_int m);
+  numbered = λ m x. refl;
+  kept = λ m x. refl;
+  meets = late_meets;
+  met = late_met;
   finds = λ x id more. refl;
   updates = λ n x y v more e. refl;
 }

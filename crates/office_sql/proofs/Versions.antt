@@ -1,4 +1,4 @@
--- Where an office stands, its version is 1, and the schema takes the question for it.
+-- Where the office is of version 1, that is the answer, and the schema takes the question.
 use Rattle.std.proofs.Common.{◌≡◌, ◌⊎◌, inl, inr, ℕ, List, [], Option, Some, None, Ok, Err, Result, true, refl, sym, ap, subst, ◌∙◌, IsTrue}
 use Rattle.std.specs.Prelude.{IfOk, IfErr}
 use Rattle.sqlite_value.specs.Order.{Row}
@@ -18,12 +18,8 @@ use Rattle.sqlite.specs.Held.{Held, state}
 use Rattle.sqlite.specs.Listing.{understood}
 use Rattle.sqlite.specs.State.{State, FailsToQuery, FailsToShow, IsTooLate, IsNotRun, IsNoStatement, store_error}
 use Rattle.sqlite.proofs.Callers.{IsPlain, command_of}
-use Rattle.office_base.specs.Tables.{Tables}
-use Rattle.office_sql.specs.Schema.OfficeTable.{Office}
-use Rattle.office_sql.specs.Standing.{Holds}
-use Rattle.office_sql.specs.Steps.{IsAsked, IsRefusal, ShowsTables}
-use Rattle.office_sql.specs.Version.{get_version, version_one}
-use Rattle.office_sql.proofs.Asked.{asked}
+use Rattle.office_sql.specs.Steps.{IsAsked, IsRefusal}
+use Rattle.office_sql.specs.Version.{get_version, version_one, HasVersionOne, ShowsVersionOne}
 use Rattle.office_sql.proofs.SelectTexts.{get_version_means}
 use Rattle.office_sql.proofs.Selects.{select_get_version}
 
@@ -44,14 +40,14 @@ never_read limit q names db full e why is (inr (inr stopped)) = let x = sym stop
 never_asked : (limit : Option ℕ) (k : Command) (q : Program) (names : List (List ℕ)) (db : Database) (full : Row) (e : Error) (why : CompileError) → e ≡ SqlInputError why → k ≡ Select q names → RefusesToRead limit k db full e → ⊥
 never_asked limit k q names db full e why is selects refused = never_read limit q names db full e why is (subst (λ c. RefusesToRead limit c db full e) selects refused)
 
-module _ (old new : State) (t : Tables) (shows : IsTrue old.is_open → Holds old.now t) (e : Error) (why : CompileError) (is : e ≡ SqlInputError why) where
+module _ (old new : State) (shows : IsTrue old.is_open → HasVersionOne old.now) (e : Error) (why : CompileError) (is : e ≡ SqlInputError why) where
   plain : IsTrue old.is_open → IsPlain (understood old.now.schema get_version)
-  plain o = let was = shows o in (get_version_means old.now.schema (was.places Office) (was.tables Office)).plain
+  plain o = let was = shows o in (get_version_means old.now.schema was.place was.table).plain
 
   shown : (returning : Option Returning) (c : Compiled) (full : Row) → c.returning ≡ returning → understood old.now.schema get_version ≡ Ok c → FailsToShow old new get_version c full e returning → ⊥
   shown None c full none u it =
       let was = shows it.3.0.was_open in
-      let means = get_version_means old.now.schema (was.places Office) (was.tables Office) in
+      let means = get_version_means old.now.schema was.place was.table in
       never_asked old.step_limit c.command _ _ it.0 full e why is (ap command_of (sym u) ∙ means.is) it.2
   shown (Some what) c full some u (inl it) =
       let p : IsPlain (Ok c) = subst IsPlain u (plain it.1.0.was_open) in
@@ -72,14 +68,15 @@ module _ (old new : State) (t : Tables) (shows : IsTrue old.is_open → Holds ol
   never_input (inl (inr h)) = shown h.0.returning h.0 _ refl h.1.is h.2
   never_input (inr late) = let x = sym late.4 ∙ is in cc
 
-pub asked_version : {S A E : Type 0} (g : Ghosts S) (old : Held S) (rows_of : A → List Row) (r : Result A E) (t : Tables) → IfOk r (λ a. IsAsked g get_version [] old (rows_of a)) → ShowsTables (state g old) t
+pub asked_version : {S A E : Type 0} (g : Ghosts S) (old : Held S) (rows_of : A → List Row) (r : Result A E) → IfOk r (λ a. IsAsked g get_version [] old (rows_of a)) → ShowsVersionOne (state g old)
     → IfOk r (λ a. rows_of a ≡ version_one)
-asked_version g old rows_of (Ok a) t h shows = asked g get_version [] old (rows_of a) t _ h shows (λ before after holds shown. select_get_version before after (rows_of a) t holds shown)
-asked_version g old rows_of (Err e) t h shows = tt
+asked_version g old rows_of (Ok a) h shows =
+    select_get_version (state g (record old { in_transaction = true })) (state g h.after) (rows_of a) (subst HasVersionOne (sym h.settled) (shows h.was_open)) h.shown
+asked_version g old rows_of (Err e) h shows = tt
 
-pub refused_version : {S A : Type 0} (g : Ghosts S) (old : Held S) (r : Result A Error) (t : Tables) → IfErr r (IsRefusal g get_version [] old) → (IsTrue (state g old).is_open → (state g old).now ≡ (state g old).committed)
-    → ShowsTables (state g old) t → IfErr r (λ e. (why : CompileError) → e ≡ SqlInputError why → ⊥)
-refused_version g old (Ok a) t h settled shows = tt
-refused_version g old (Err e) t (inl h) settled shows = λ why is.
-    never_input (state g (record old { in_transaction = true })) (state g h.0) t (λ o. subst (λ d. Holds d t) (sym (settled o)) (shows o)) e why is h.1
-refused_version g old (Err e) t (inr h) settled shows = λ why is. let x : InvalidQuery ≡ SqlInputError why = sym h ∙ is in cc
+pub refused_version : {S A : Type 0} (g : Ghosts S) (old : Held S) (r : Result A Error) → IfErr r (IsRefusal g get_version [] old) → (IsTrue (state g old).is_open → (state g old).now ≡ (state g old).committed)
+    → ShowsVersionOne (state g old) → IfErr r (λ e. (why : CompileError) → e ≡ SqlInputError why → ⊥)
+refused_version g old (Ok a) h settled shows = tt
+refused_version g old (Err e) (inl h) settled shows = λ why is.
+    never_input (state g (record old { in_transaction = true })) (state g h.0) (λ o. subst HasVersionOne (sym (settled o)) (shows o)) e why is h.1
+refused_version g old (Err e) (inr h) settled shows = λ why is. let x : InvalidQuery ≡ SqlInputError why = sym h ∙ is in cc

@@ -14,7 +14,7 @@ use Rattle.sqlite.specs.State.{State, text_of}
 use Rattle.sqlite.specs.Effect.{Database, IsDatabase}
 use Rattle.office_base.specs.Tables.{no_tables}
 use Rattle.office_sql.specs.Schema.{OfficeTable, table_of}
-use Rattle.office_sql.specs.Schema.OfficeTable.{Lines, Batches, Tenderers, Notices, Lots, Envelopes, Seals, Securities, Awards, Contracts, Entries, Releases, Compiled as Merges, Office}
+use Rattle.office_sql.specs.Schema.OfficeTable.{Lines, Batches, Tenderers, Notices, Lots, Envelopes, Seals, Securities, Awards, Contracts, Entries, Releases, Compiled as Merges, Office, LateRules}
 use Rattle.office_sql.specs.Known.{IsIn, at_tree}
 use Rattle.office_sql.specs.Standing.{Holds}
 use Rattle.office_sql.specs.Steps.{Goes}
@@ -43,11 +43,15 @@ pub record AreMade (done : List OfficeTable) (db : Database) : Type 0 where
 
 -- all tables of an office, the last that is made first
 abbrev pub all_tables : List OfficeTable
-all_tables = Office ∷ Merges ∷ Releases ∷ Entries ∷ Contracts ∷ Awards ∷ Securities ∷ Seals ∷ Envelopes ∷ Lots ∷ Notices ∷ Tenderers ∷ Batches ∷ Lines ∷ []
+all_tables = LateRules ∷ Office ∷ Merges ∷ Releases ∷ Entries ∷ Contracts ∷ Awards ∷ Securities ∷ Seals ∷ Envelopes ∷ Lots ∷ Notices ∷ Tenderers ∷ Batches ∷ Lines ∷ []
 
 -- each table that was there is there, with its rows
 abbrev pub KeepsOthers : Database → Database → Type 0
 KeepsOthers old new = (t : Table) → Has old.schema.tables t → Has new.schema.tables t × (new.trees t.tree ≡ old.trees t.tree)
+
+-- each table of an office that stood stands, with its rows
+abbrev pub KeepsOffice : Database → Database → Type 0
+KeepsOffice old new = (k : OfficeTable) (n : ℕ) → IsIn old.schema (table_of k) n → IsIn new.schema (table_of k) n × (new.trees n ≡ old.trees n)
 
 -- no table of the database has these names
 abbrev pub AreNew : Database → List OfficeTable → Type 0
@@ -58,6 +62,8 @@ pub record Makes (old new : State) (more : List OfficeTable) : Type 0 where
   pub goes : Goes old new
   pub others : KeepsOthers old.now new.now
   pub fresh : AreNew old.now more
+  -- what stood of an office stands as it did
+  pub stays : KeepsOffice old.now new.now
   pub made : (done : List OfficeTable) → AreMade done old.now → AreMade (more ++ done) new.now
 
 -- the same, and the tables that were made still are

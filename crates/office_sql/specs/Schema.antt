@@ -137,6 +137,12 @@ create_compiled = codes "CREATE TABLE compiled (notice TEXT NOT NULL PRIMARY KEY
 abbrev pub compiled : Table
 compiled = table_with (codes "compiled") (column_of (codes "notice") Text true ∷ column_of (codes "text") Text true ∷ []) (1 ∷ []) create_compiled
 
+abbrev pub create_late_rules : List ℕ
+create_late_rules = codes "CREATE TABLE late_rules (notice TEXT NOT NULL PRIMARY KEY CHECK (length(notice) BETWEEN 1 AND 32)) STRICT"
+
+abbrev pub late_rules : Table
+late_rules = table_with (codes "late_rules") (column_of (codes "notice") Text true ∷ []) (1 ∷ []) create_late_rules
+
 abbrev pub create_office : List ℕ
 create_office = codes "CREATE TABLE office (version INTEGER NOT NULL PRIMARY KEY CHECK (version BETWEEN 1 AND 2147483647), moment INTEGER NOT NULL CHECK (moment BETWEEN 0 AND 4102444799), receipts INTEGER NOT NULL CHECK (receipts BETWEEN 0 AND 1000000000), awards INTEGER NOT NULL CHECK (awards BETWEEN 0 AND 1000000000)) STRICT"
 
@@ -193,6 +199,7 @@ pub data OfficeTable : Type 0 where
   Releases : OfficeTable
   Compiled : OfficeTable
   Office : OfficeTable
+  LateRules : OfficeTable
 
 abbrev pub table_of : OfficeTable → Table
 table_of Lines = lines
@@ -209,3 +216,4 @@ table_of Entries = entries
 table_of Releases = releases
 table_of Compiled = compiled
 table_of Office = office
+table_of LateRules = late_rules

@@ -3,9 +3,9 @@ use Rattle.std.specs.Prelude.{List, ℕ, [], ◌∷◌, codes, pos}
 use Rattle.sqlite_value.specs.declared.value.Value.TheVariants.{Int}
 use Rattle.sqlite_value.specs.Order.{Row}
 use Rattle.office_base.specs.declared.puts.Put.{Put}
-use Rattle.office_base.specs.declared.puts.Put.TheVariants.{Line, Batch, Tenderer, Notice, Lot, Envelope, Seal, DropSeal, Security, Award, Contract, Entry, Release, Compiled, Clock}
+use Rattle.office_base.specs.declared.puts.Put.TheVariants.{Line, Batch, Tenderer, Notice, Lot, Envelope, Seal, DropSeal, Security, Award, Contract, Entry, Release, Compiled, Late, Clock}
 use Rattle.office_rows.specs.Budget.{line_row, batch_row}
-use Rattle.office_rows.specs.Notices.{tenderer_row, notice_row, lot_row}
+use Rattle.office_rows.specs.Notices.{tenderer_row, notice_row, late_row, lot_row}
 use Rattle.office_rows.specs.Tenders.{envelope_row, seal_row, security_row}
 use Rattle.office_rows.specs.Awards.{award_row, contract_row, entry_row}
 use Rattle.office_rows.specs.Releases.{release_row, compiled_row, clock_row}
@@ -50,6 +50,9 @@ put_releases = codes "INSERT INTO releases (notice, seq, moment, text) VALUES (?
 abbrev pub put_compiled : List ℕ
 put_compiled = codes "INSERT INTO compiled (notice, text) VALUES (?1, ?2) ON CONFLICT (notice) DO UPDATE SET text = ?2"
 
+abbrev pub put_late_rules : List ℕ
+put_late_rules = codes "INSERT INTO late_rules (notice) VALUES (?1) ON CONFLICT (notice) DO UPDATE SET notice = ?1"
+
 abbrev pub drop_seal : List ℕ
 drop_seal = codes "DELETE FROM seals WHERE receipt = ?1"
 
@@ -69,6 +72,7 @@ statement_of (Contract row) = put_contracts
 statement_of (Entry row) = put_entries
 statement_of (Release row) = put_releases
 statement_of (Compiled row) = put_compiled
+statement_of (Late row) = put_late_rules
 statement_of (Clock row) = put_office
 
 -- its values: the record, column by column
@@ -87,4 +91,5 @@ values_of (Contract row) = contract_row row
 values_of (Entry row) = entry_row row
 values_of (Release row) = release_row row
 values_of (Compiled row) = compiled_row row
+values_of (Late row) = late_row row
 values_of (Clock row) = clock_row row

@@ -1,11 +1,20 @@
 -- The question for the version of an office.
-use Rattle.std.specs.Prelude.{ℕ, List, [], ◌∷◌, codes, pos}
+use Rattle.std.specs.Prelude.{ℕ, List, [], ◌∷◌, codes, pos, IsTrue}
 use Rattle.sqlite_value.specs.declared.value.Value.TheVariants.{Int}
 use Rattle.sqlite_value.specs.Order.{Row}
 use Rattle.sqlite_trees.specs.declared.store.Store.{Ghosts}
 use Rattle.sqlite_resolve.specs.declared.error.CompileError.{CompileError}
+use Rattle.sqlite.specs.Effect.{Database}
 use Rattle.sqlite.specs.Held.{Held}
+use Rattle.sqlite.specs.State.{State}
 use Rattle.sqlite.specs.declared.error.Error.TheVariants.{SqlInputError}
+use Rattle.office_base.specs.declared.records.ClockRow.{ClockRow}
+use Rattle.office_rows.specs.Releases.{clock_row, clock_read}
+use Rattle.office_sql.specs.Clock.{clock_key, clock_cmp}
+use Rattle.office_sql.specs.Kept.{by_rowid, read_by_rowid}
+use Rattle.office_sql.specs.Known.{IsIn}
+use Rattle.office_sql.specs.Schema.{office}
+use Rattle.office_sql.specs.Standing.{Stand}
 use Rattle.office_sql.specs.Steps.{IsRefusal}
 
 abbrev pub get_version : List ℕ
@@ -14,6 +23,17 @@ get_version = codes "SELECT version FROM office"
 -- one row, and it is version 1
 abbrev pub version_one : List Row
 version_one = (Int (pos 1) ∷ []) ∷ []
+
+-- the table `office` is there, with one row, of version 1
+pub record HasVersionOne (db : Database) : Type 0 where
+  pub place : ℕ
+  pub table : IsIn db.schema office place
+  pub clock : ClockRow
+  pub stand : Stand clock_cmp clock_key (by_rowid clock_row) (read_by_rowid clock_read) (db.trees place) (clock ∷ [])
+
+-- in the last commit of an open store
+abbrev pub ShowsVersionOne : State → Type 0
+ShowsVersionOne s = IsTrue s.is_open → HasVersionOne s.committed
 
 -- the schema has no table that answers
 abbrev pub HasNoVersion : {S : Type 0} → Ghosts S → Held S → Type 0

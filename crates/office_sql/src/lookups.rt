@@ -2,15 +2,15 @@
 ghost use Rattle.std.specs.Prelude.{◌≡◌, IfOk};
 ghost use Rattle.sqlite.specs.Held.{state};
 ghost use Rattle.sqlite.specs.State.{HasCleanDisk, Survives};
-ghost use Rattle.office_base.specs.Tables.{line_at, batch_at, tenderer_at, notice_at, lot_at, envelope_at, seal_at, security_at, award_at, contract_at, entry_at, release_at, compiled_at};
+ghost use Rattle.office_base.specs.Tables.{line_at, batch_at, tenderer_at, notice_at, lot_at, envelope_at, seal_at, security_at, award_at, contract_at, entry_at, release_at, compiled_at, late_at};
 ghost use Rattle.office_sql.specs.Steps.{Tells, Refused};
 
 use crate::ask::ask_first;
 use crate::values::{id_value, number_value, sequence_value};
 use office_base::counts::Sequence;
 use office_base::records::{
-    AwardRow, BatchRow, ClockRow, CompiledRow, ContractRow, EntryRow, EnvelopeRow, LineRow, LotRow,
-    NoticeRow, ReleaseRow, SealRow, SecurityRow, TendererRow,
+    AwardRow, BatchRow, ClockRow, CompiledRow, ContractRow, EntryRow, EnvelopeRow, LateRow,
+    LineRow, LotRow, NoticeRow, ReleaseRow, SealRow, SecurityRow, TendererRow,
 };
 use office_base::shelf::ShelfFault;
 use office_values::given::AskedNumber;
@@ -251,6 +251,24 @@ pub fn get_compiled<S: Alter>(
         alloc,
         conn,
         "SELECT notice, text FROM compiled WHERE notice = ?1",
+        &[id_value(notice)],
+    )
+}
+
+/// The row that lets tenders of this notice be withdrawn late.
+pub fn get_late<S: Alter>(
+    alloc: Global,
+    conn: &mut Connection<S>,
+    notice: &Id,
+) -> Result<Option<LateRow>, ShelfFault>
+    ensures got { Tells S.Store conn.old conn.new result (λ t row. row ≡ late_at notice.now t) }
+    ensures kept { HasCleanDisk (state S.Store conn.new) → Refused (state S.Store conn.old) (state S.Store conn.new) }
+    ensures survives { Survives (state S.Store conn.old) (state S.Store conn.new) (λ _. ⊥) }
+{
+    ask_first(
+        alloc,
+        conn,
+        "SELECT notice FROM late_rules WHERE notice = ?1",
         &[id_value(notice)],
     )
 }

@@ -1,5 +1,6 @@
 //! Making an office in a database, whatever other tables stand there.
 ghost use Rattle.std.specs.Prelude.{◌≡◌, ℕ, false, [], ◌∷◌, Ok, IsTrue, OnOk, OnErr};
+ghost use Rattle.std.specs.List.{list_all};
 ghost use Rattle.sqlite_schema.specs.declared.schema.Index.{Index};
 ghost use Rattle.sqlite.specs.Held.{state};
 ghost use Rattle.sqlite.specs.State.{HasCleanDisk, Survives, ExecutesInside};
@@ -8,6 +9,7 @@ ghost use Rattle.office_rows.specs.Releases.{clock_row};
 ghost use Rattle.office_sql.specs.Schema.{OfficeTable, table_of, put_office};
 ghost use Rattle.office_sql.specs.Schema.OfficeTable.{Lines, Batches, Tenderers, Notices, Lots, Envelopes, Seals, Securities, Awards, Contracts, Entries, Releases, Compiled, Office};
 ghost use Rattle.office_sql.specs.Making.{IsCreate, IsIndexing, Makes, Indexes, Founds, all_tables};
+ghost use Rattle.office_sql.specs.Earlier.{later_tables, has_table, has_later, Completes};
 ghost use Rattle.office_sql.specs.Steps.{Refused};
 
 use crate::statement::execute_one;
@@ -17,6 +19,7 @@ use office_rows::values::clock_values;
 use office_values::given::LastNumber;
 use office_values::moment::Moment;
 use sqlite::{Alter, Error, Transaction};
+use sqlite_schema::schema::Schema;
 
 // One CREATE TABLE.
 fn make_table<S: Alter>(tx: &mut Transaction<'_, S>, sql: &str) -> Result<(), Error>
@@ -130,6 +133,57 @@ fn make_kept<S: Alter>(tx: &mut Transaction<'_, S>) -> Result<(), Error>
     )
 }
 
+// The tables that came later: the notices whose tenders may be withdrawn late.
+fn make_later<S: Alter>(tx: &mut Transaction<'_, S>) -> Result<(), Error>
+    ensures same_reference { tx.new.conn.ghost_name ≡ tx.old.conn.ghost_name }
+    ensures made { HasCleanDisk (state S.Store tx.new.conn.now) → IsTrue (state S.Store tx.old.conn.now).in_transaction → OnOk result (Makes (state S.Store tx.old.conn.now) (state S.Store tx.new.conn.now) later_tables) }
+    ensures refused { HasCleanDisk (state S.Store tx.new.conn.now) → IsTrue (state S.Store tx.old.conn.now).in_transaction → OnErr result (Refused (state S.Store tx.old.conn.now) (state S.Store tx.new.conn.now)) }
+    ensures survives { Survives (state S.Store tx.old.conn.now) (state S.Store tx.new.conn.now) (λ _. ⊥) }
+{
+    make_table(
+        tx,
+        "CREATE TABLE late_rules (notice TEXT NOT NULL PRIMARY KEY CHECK (length(notice) BETWEEN 1 AND 32)) STRICT",
+    )
+}
+
+/// Makes the tables that an office of an earlier program lacks, with no rows, beside what is there. Where it is refused, as where an index or a
+/// view has a name of theirs, nothing is committed.
+pub fn complete<S: Alter>(tx: &mut Transaction<'_, S>) -> Result<(), Error>
+    ensures same_reference { tx.new.conn.ghost_name ≡ tx.old.conn.ghost_name }
+    ensures completes { HasCleanDisk (state S.Store tx.new.conn.now) → IsTrue (state S.Store tx.old.conn.now).in_transaction → OnOk result (Completes (state S.Store tx.old.conn.now) (state S.Store tx.new.conn.now)) }
+    ensures refused { HasCleanDisk (state S.Store tx.new.conn.now) → IsTrue (state S.Store tx.old.conn.now).in_transaction → OnErr result (Refused (state S.Store tx.old.conn.now) (state S.Store tx.new.conn.now)) }
+    ensures survives { Survives (state S.Store tx.old.conn.now) (state S.Store tx.new.conn.now) (λ _. ⊥) }
+{
+    make_later(tx)
+}
+
+// Whether the schema has a table of this name.
+fn has_table(schema: &Schema, name: &[u8]) -> bool
+    ensures { result ≡ has_table schema.now name.now }
+{
+    schema.table_named(name).is_some()
+}
+
+// Whether it has one of each of these names.
+fn has_all(schema: &Schema, names: &[&[u8]]) -> bool
+    ensures { result ≡ list_all (λ name. has_table schema.now name.now) names.now }
+{
+    'names: for name in names {
+        if !has_table(schema, name) {
+            return false;
+        }
+    }
+    true
+}
+
+/// Whether the tables that came later are there.
+pub fn has_later(schema: &Schema) -> bool
+    ensures { result ≡ has_later schema.now }
+{
+    let names: [&[u8]; 1] = [b"late_rules"];
+    has_all(schema, names.as_slice())
+}
+
 // All tables.
 fn make_tables<S: Alter>(tx: &mut Transaction<'_, S>) -> Result<(), Error>
     ensures same_reference { tx.new.conn.ghost_name ≡ tx.old.conn.ghost_name }
@@ -140,7 +194,8 @@ fn make_tables<S: Alter>(tx: &mut Transaction<'_, S>) -> Result<(), Error>
     make_budget(tx)?;
     make_tenders(tx)?;
     make_contracts(tx)?;
-    make_kept(tx)
+    make_kept(tx)?;
+    make_later(tx)
 }
 
 // The first indexes.

@@ -9,20 +9,20 @@ use crate::statement::execute_one;
 use crate::values::given_value;
 use office_base::puts::Put;
 use office_base::records::{
-    AwardRow, BatchRow, ClockRow, CompiledRow, ContractRow, EntryRow, EnvelopeRow, LineRow, LotRow,
-    NoticeRow, ReleaseRow, SealRow, SecurityRow, TendererRow,
+    AwardRow, BatchRow, ClockRow, CompiledRow, ContractRow, EntryRow, EnvelopeRow, LateRow,
+    LineRow, LotRow, NoticeRow, ReleaseRow, SealRow, SecurityRow, TendererRow,
 };
 use office_rows::items::items_text;
 use office_rows::laws::{
     awards_come_back, batches_come_back, clock_comes_back, compiled_comes_back,
-    contracts_come_back, entries_come_back, envelopes_come_back, lines_come_back, lots_come_back,
-    notices_come_back, releases_come_back, seals_come_back, securities_come_back,
-    tenderers_come_back,
+    contracts_come_back, entries_come_back, envelopes_come_back, late_rules_come_back,
+    lines_come_back, lots_come_back, notices_come_back, releases_come_back, seals_come_back,
+    securities_come_back, tenderers_come_back,
 };
 use office_rows::values::{
     award_values, batch_values, clock_values, compiled_values, contract_values, entry_values,
-    envelope_values, line_values, lot_values, notice_values, release_values, seal_values,
-    security_values, tenderer_values,
+    envelope_values, late_values, line_values, lot_values, notice_values, release_values,
+    seal_values, security_values, tenderer_values,
 };
 use office_values::given::GivenNumber;
 use sqlite::{Alter, Error, Transaction};
@@ -250,6 +250,22 @@ pub fn put_compiled<S: Alter>(tx: &mut Transaction<'_, S>, row: &CompiledRow) ->
         tx,
         "INSERT INTO compiled (notice, text) VALUES (?1, ?2) ON CONFLICT (notice) DO UPDATE SET text = ?2",
         &compiled_values(row),
+    )
+}
+
+/// Adds the row that lets tenders of a notice be withdrawn late.
+pub fn put_late<S: Alter>(tx: &mut Transaction<'_, S>, row: &LateRow) -> Result<(), Error>
+    ensures same_reference { tx.new.conn.ghost_name ≡ tx.old.conn.ghost_name }
+    ensures puts { HasCleanDisk (state S.Store tx.new.conn.now) → IsTrue (state S.Store tx.old.conn.now).in_transaction → OnOk result (Puts (state S.Store tx.old.conn.now) (state S.Store tx.new.conn.now) (Put.Late row.now ∷ [])) }
+    ensures refused { HasCleanDisk (state S.Store tx.new.conn.now) → IsTrue (state S.Store tx.old.conn.now).in_transaction → OnErr result (Refused (state S.Store tx.old.conn.now) (state S.Store tx.new.conn.now)) }
+    ensures failed { ErrorHasCause (state S.Store tx.old.conn.now) (state S.Store tx.new.conn.now) (Put.Late row.now ∷ []) result }
+    ensures survives { Survives (state S.Store tx.old.conn.now) (state S.Store tx.new.conn.now) (λ _. ⊥) }
+{
+    late_rules_come_back();
+    execute_one(
+        tx,
+        "INSERT INTO late_rules (notice) VALUES (?1) ON CONFLICT (notice) DO UPDATE SET notice = ?1",
+        &late_values(row),
     )
 }
 

@@ -52,7 +52,7 @@ founded_after old mid new kept it = record {
 
 pub leaves_before : {S : Type 0} (g : Ghosts S) (old mid : Held S) (db : Trees) → HasNoVersion g old → takes_a_name old.schema ≡ false → Refused (state g old) (state g mid)
     → IsSoundOpen (state g mid) → LeavesNew (state g mid) db → LeavesOffice g old db
-leaves_before g old mid db none free kept sound it = (kept.was_open it.0, none, free, it.1 (sound it.0))
+leaves_before g old mid db none free kept sound it = inl (kept.was_open it.0, none, free, it.1 (sound it.0))
 
 -- two calls that commit nothing, one after the other
 pub refused_on : (a b c : State) → Refused a b → Refused b c → Refused a c
@@ -84,7 +84,7 @@ unfolding Shown is_understood
 no_version g old first none (rows, asked, is) = true≢false (sym (ap is_understood asked.shown.1.is) ∙ ap (λ s. is_understood (understood s get_version)) none ∙ unanswered)
 
 pub enters_bare : {S : Type 0} (g : Ghosts S) (old new : Held S) → old.schema ≡ no_schema → Enters g old new → ShowsTables (state g new) no_tables
-enters_bare g old new bare (inl answered) = absurd (no_version g old true bare answered)
+enters_bare g old new bare (inl entered) = absurd (no_version g old true bare entered.0)
 enters_bare g old new bare (inr made) = λ is_open. made.2.tables
 
 pub enters_empty : (old new : Held MemStore) → IsEmpty (state over_memory old) → Enters over_memory old new → ShowsTables (state over_memory new) no_tables

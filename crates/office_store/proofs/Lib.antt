@@ -2,6 +2,7 @@ mod Kept
 mod Once
 mod Shelves
 mod Founding
+mod Completing
 mod Reopening
 mod Paths
 mod Joined

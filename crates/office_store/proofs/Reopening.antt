@@ -22,8 +22,8 @@ use Rattle.sqlite.specs.declared.file.Leftover.{Leftover}
 use Rattle.sqlite.specs.declared.file.Leftover.TheVariants as left
 use Rattle.sqlite.proofs.ListingLemmas.{empty_is_sound}
 use Rattle.office_base.specs.Tables.{Tables}
-use Rattle.office_sql.specs.Standing.{Holds}
-use Rattle.office_sql.specs.Steps.{Refused, ShowsTables}
+use Rattle.office_sql.specs.Earlier.{ShowsOffice, HoldsOffice as HasOffice}
+use Rattle.office_sql.specs.Steps.{Refused}
 use Rattle.office_store.specs.Founding.{LeavesOffice, IsNoOffice}
 use Rattle.office_store.specs.Reopening.{Found, HoldsOffice, HoldStill, IsLeftOf, IsReason, IsUsableLeft, LeavesFound, MayCommit}
 use Rattle.office_store.specs.declared.found.OpenFault.{OpenFault}
@@ -34,18 +34,18 @@ use Rattle.office_store.proofs.Once.{schema_once}
 pub finds_in : {D : Type 0} {g : Ghosts D} (files : Files D) (now : Held (FileStore D g)) → Finds files now → FindsIn (image_of g files) (file_state now)
 finds_in files now found = record { holds = found.holds; reads = found.reads }
 
--- the office that files hold is shown by what was opened there
+-- the office that files hold is in what was opened there
 pub held_shown : {D : Type 0} {g : Ghosts D} (image : Image) (now : Held (FileStore D g)) → IsOpened now → FindsIn image (file_state now)
-    → (t : Tables) → HoldsOffice image t → ShowsTables (file_state now) t
+    → (t : Tables) → HoldsOffice image t → ShowsOffice (file_state now) t
 held_shown image now opened found t (db, held, (d, is, holds)) is_open =
     let trees : (file_state now).committed.trees ≡ d.trees = ∥∥₁_elim held (Trees-set _ _) (found.holds db) ∙ is in
     let schema : (file_state now).committed.schema ≡ d.schema = schema_once (file_state now).committed d (opened.1 is_open).1 holds.sound trees in
     let same : d ≡ (file_state now).committed = λ i. record { schema = (sym schema) i; trees = (sym trees) i } in
-    subst (λ (x : Database). Holds x t) same holds
+    subst (λ (x : Database). HasOffice x t) same holds
 
 -- what was shown as files were closed is held by them
 pub closed_holds : {D : Type 0} {g : Ghosts D} (old : Held (FileStore D g)) (files : Files D) → IsCopied old files
-    → (t : Tables) → ShowsTables (file_state old) t → HoldsOffice (image_of g files) t
+    → (t : Tables) → ShowsOffice (file_state old) t → HoldsOffice (image_of g files) t
 closed_holds old files copied t shows =
     ((file_state old).committed.trees, copied.seen.both, ((file_state old).committed, refl, shows copied.was_open))
 
@@ -102,7 +102,7 @@ pub record Turned {D : Type 0} {g : Ghosts D} (why : OpenFault) (before now : He
   pub stops : Survives (file_state before) (file_state now) (LeavesOffice over_files before)
   pub spared : why ≡ fault.NotAnOffice → Survives (file_state before) (file_state now) (λ _. ⊥)
   pub none : HasCleanDisk (file_state now) → why ≡ fault.NotAnOffice → IsNoOffice over_files before
-  pub known : HasCleanDisk (file_state now) → (t : Tables) → ShowsTables (file_state before) t → why ≡ fault.NotAnOffice → ⊥
+  pub known : HasCleanDisk (file_state now) → (t : Tables) → ShowsOffice (file_state before) t → why ≡ fault.NotAnOffice → ⊥
 
 stops_by : {D : Type 0} {g : Ghosts D} (why : OpenFault) (before now : Held (FileStore D g)) → Turned why before now
     → Survives (file_state before) (file_state now) (MayCommit over_files why before)

@@ -8,13 +8,14 @@ use Rattle.sqlite_trees.specs.declared.store.Store.{Ghosts}
 use Rattle.sqlite_schema.specs.declared.schema.Schema.{Schema}
 use Rattle.sqlite_schema.specs.Names.{same_name, is_key}
 use Rattle.sqlite_catalog.specs.Change.{is_used}
-use Rattle.sqlite.specs.Effect.{IsDatabase}
+use Rattle.sqlite.specs.Effect.{Database, IsDatabase}
 use Rattle.sqlite.specs.Held.{Held, state}
 use Rattle.sqlite.specs.State.{State}
-use Rattle.office_base.specs.Tables.{no_tables}
-use Rattle.office_sql.specs.Making.{KeepsOthers}
+use Rattle.office_base.specs.Tables.{Tables, no_tables}
+use Rattle.office_sql.specs.Earlier.{has_later, later_tables, HoldsOffice}
+use Rattle.office_sql.specs.Making.{AreMade, KeepsOthers}
 use Rattle.office_sql.specs.Standing.{Holds}
-use Rattle.office_sql.specs.Steps.{Leaves, IsAsked}
+use Rattle.office_sql.specs.Steps.{Leaves, Refused, IsAsked}
 use Rattle.office_sql.specs.Version.{get_version, HasNoVersion}
 
 -- the names of the office's tables; those of indexes are none
@@ -22,7 +23,7 @@ abbrev pub table_names : List (List ℕ)
 table_names =
     codes "lines" ∷ codes "batches" ∷ codes "tenderers" ∷ codes "notices" ∷ codes "lots" ∷ codes "envelopes" ∷ codes "seals"
     ∷ codes "securities" ∷ codes "awards" ∷ codes "contracts" ∷ codes "entries" ∷ codes "releases" ∷ codes "compiled" ∷ codes "office"
-    ∷ []
+    ∷ codes "late_rules" ∷ []
 
 -- a table, an index or a view of the schema has one of them
 abbrev pub takes_a_name : Schema → Bool
@@ -58,13 +59,39 @@ IsSoundOpen s = IsTrue s.is_open → IsDatabase s.committed
 abbrev pub LeavesNew : State → Trees → Type 0
 LeavesNew old trees = IsTrue old.is_open × (IsDatabase old.committed → Leaves no_tables trees)
 
--- what an opening may commit: the whole of an empty office, where nothing answered and no name of a table was taken
-abbrev pub LeavesOffice : {S : Type 0} → Ghosts S → Held S → Trees → Type 0
-LeavesOffice g old trees = IsTrue (state g old).is_open × HasNoVersion g old × (takes_a_name old.schema ≡ false) × Leaves no_tables trees
+-- the tables that came later stand beside what was there, with no rows; an office of an earlier program has all its tables with them, and the content that it had
+pub record HasAdded (old new : Database) : Type 0 where
+  pub made : AreMade later_tables new
+  pub others : KeepsOthers old new
+  pub tables : (t : Tables) → HoldsOffice old t → Holds new t
 
--- an office of version 1 was there; or nothing answered, no name of a table was taken, and an office was made
+-- these tables weren't there, and were added
+pub record Completed (old new : State) : Type 0 where
+  pub was_open : IsTrue old.is_open
+  pub lacked : has_later old.committed.schema ≡ false
+  pub is_open : IsTrue new.is_open
+  pub added : HasAdded old.committed new.committed
+  -- a stop leaves this and nothing else
+  pub only : (db : Trees) → new.may_leave db → db ≡ new.committed.trees
+
+-- what the commit of these tables leaves, where they weren't there
+abbrev pub LeavesCompleted : State → Trees → Type 0
+LeavesCompleted old trees = IsTrue old.is_open × (has_later old.committed.schema ≡ false) × ((db : Database) × (trees ≡ db.trees) × HasAdded old.committed db)
+
+-- the tables that came later are there: they were, and the last commit is as it was; or they weren't, and were added
+abbrev pub Readied : State → State → Type 0
+Readied old new = ((has_later old.committed.schema ≡ true) × Refused old new) ⊎ Completed old new
+
+-- what an opening may commit: the whole of an empty office, where nothing answered and no name of a table was taken; or the tables that came later, where version 1
+-- answered and they weren't there
+abbrev pub LeavesOffice : {S : Type 0} → Ghosts S → Held S → Trees → Type 0
+LeavesOffice g old trees =
+    (IsTrue (state g old).is_open × HasNoVersion g old × (takes_a_name old.schema ≡ false) × Leaves no_tables trees)
+    ⊎ (Answered g old true × LeavesCompleted (state g old) trees)
+
+-- an office of version 1 was there, and the tables that came later are there now; or nothing answered, no name of a table was taken, and an office was made
 abbrev pub Enters : {S : Type 0} → Ghosts S → Held S → Held S → Type 0
-Enters g old new = Answered g old true ⊎ (HasNoVersion g old × (takes_a_name old.schema ≡ false) × Founded (state g old) (state g new))
+Enters g old new = (Answered g old true × Readied (state g old) (state g new)) ⊎ (HasNoVersion g old × (takes_a_name old.schema ≡ false) × Founded (state g old) (state g new))
 
 -- what answered is another version or no single row; or nothing answered, and the name of a table is taken
 abbrev pub IsNoOffice : {S : Type 0} → Ghosts S → Held S → Type 0

@@ -9,6 +9,7 @@ use Rattle.sqlite_store.specs.declared.store.FileStore.{FileStore}
 use Rattle.sqlite_store.specs.FileStore.{recovers}
 use Rattle.sqlite_trees.specs.Tree.{Trees}
 use Rattle.sqlite_trees.specs.declared.store.Store.{Ghosts as StoreGhosts}
+use Rattle.sqlite.specs.Effect.{Database}
 use Rattle.sqlite.specs.Held.{Held, state}
 use Rattle.sqlite.specs.State.{HasCleanDisk, Survives}
 use Rattle.sqlite.specs.Files.{file_state, over_files, image_of, HoldsDatabase, IsOpened, IsClosed, IsCleanLeft, LeavesFiles}
@@ -17,26 +18,32 @@ use Rattle.sqlite.specs.Closing.{HoldsAlone, IsCopied}
 use Rattle.sqlite.specs.declared.file.Leftover.{Leftover}
 use Rattle.sqlite.specs.declared.file.Leftover.TheVariants as left
 use Rattle.office_base.specs.Tables.{Tables, no_tables}
-use Rattle.office_sql.specs.Steps.{Leaves, ShowsTables}
+use Rattle.office_sql.specs.Earlier.{ShowsOffice, HoldsOffice as HasOffice}
+use Rattle.office_sql.specs.Steps.{ShowsTables}
 use Rattle.office_store.specs.Founding.{Enters, IsNoOffice, LeavesOffice}
 use Rattle.office_store.specs.declared.found.OpenFault.{OpenFault}
 use Rattle.office_store.specs.declared.found.OpenFault.TheVariants as fault
 
--- two files with these bytes hold a database, and its trees are those of an office with this content
-abbrev pub HoldsOffice : Image → Tables → Type 0
-HoldsOffice image t = (db : Trees) × ∥ HoldsDatabase image db ∥₁ × Leaves t db
+-- trees that stand for an office with this content, as this program makes its tables or as an earlier one did, under the schema that they list
+abbrev pub StandForOffice : Tables → Trees → Type 0
+StandForOffice t trees = (db : Database) × (trees ≡ db.trees) × HasOffice db t
 
--- they hold none
+-- two files with these bytes hold a database, and its trees are those of an office with this content, of this program or of an earlier one
+abbrev pub HoldsOffice : Image → Tables → Type 0
+HoldsOffice image t = (db : Trees) × ∥ HoldsDatabase image db ∥₁ × StandForOffice t db
+
+-- they hold none, neither of this program nor of an earlier one
 abbrev pub HoldsNoOffice : Image → Type 0
 HoldsNoOffice image = (t : Tables) → HoldsOffice image t → ⊥
 
--- what stood there was entered: its content is kept, and a stop leaves what was or the whole empty office
+-- what stood there was entered: its content is kept, be it of this program or of an earlier one, and a stop leaves what was or what an opening may commit
 pub record Entered {S : Type 0} (g : StoreGhosts S) (before now : Held S) : Type 0 where
   pub enters : Enters g before now
-  pub kept : (t : Tables) → ShowsTables (state g before) t → ShowsTables (state g now) t
+  pub kept : (t : Tables) → ShowsOffice (state g before) t → ShowsTables (state g now) t
   pub stops : Survives (state g before) (state g now) (LeavesOffice g before)
 
--- what an opening may have committed that was then refused: nothing where it met no office, else at most the whole of an empty one where none was
+-- what an opening may have committed that was then refused: nothing where it met no office, else at most the whole of an empty one where none was, or the tables
+-- that one of an earlier program lacked
 abbrev pub MayCommit : {S : Type 0} → StoreGhosts S → OpenFault → Held S → Trees → Type 0
 MayCommit g fault.NotAnOffice before db = ⊥
 MayCommit g fault.NoMemory before db = LeavesOffice g before db
@@ -69,14 +76,14 @@ module _ {D : Type 0} {g : Ghosts D} where
     pub finds : FindsIn image (file_state before)
     pub only : (db : Trees) → (file_state before).may_leave db → db ≡ (file_state before).committed.trees
 
-  -- the office that they hold is shown
+  -- the office that they hold is shown; one of an earlier program has its content, and nothing in the tables that it lacked
   abbrev pub OpensHeld : Image → Held (FileStore D g) → Type 0
   OpensHeld image now = HasCleanDisk (file_state now) → (t : Tables) → HoldsOffice image t → ShowsTables (file_state now) t
 
-  -- it shows what was shown when the files were closed
+  -- it shows what was shown when the files were closed, by this program or by an earlier one
   abbrev pub OpensAgain : Files D → Held (FileStore D g) → Type 0
   OpensAgain files now = HasCleanDisk (file_state now) → (last : Held (FileStore D g)) → (AreClean g files.log files.db → IsCopied last files)
-      → (t : Tables) → ShowsTables (file_state last) t → ShowsTables (file_state now) t
+      → (t : Tables) → ShowsOffice (file_state last) t → ShowsTables (file_state now) t
 
   -- where the database file has no bytes, whatever its log holds, there is an office with no content
   abbrev pub OpensBlank : Image → Held (FileStore D g) → Type 0

@@ -5,10 +5,12 @@ ghost use Rattle.sqlite_catalog.specs.Change.{is_used};
 ghost use Rattle.sqlite.specs.Held.{state};
 ghost use Rattle.sqlite.specs.State.{HasCleanDisk, Survives};
 ghost use Rattle.office_base.specs.Tables.{Tables};
+ghost use Rattle.office_sql.specs.Earlier.{ShowsOffice};
 ghost use Rattle.office_sql.specs.Steps.{Refused, ShowsTables};
 ghost use Rattle.office_store.specs.Founding.{Founded, LeavesNew, LeavesOffice, Enters, IsNoOffice, IsSoundOpen, takes_a_name, has_rowids, is_version_one};
 ghost use Rattle.office_store.specs.SqlMeaning.{LeavesShown};
 
+use crate::complete::ready;
 use office_base::shelf::ShelfFault;
 use office_sql::faults::fault;
 use office_sql::make::make;
@@ -24,7 +26,8 @@ use sqlite_value::value::ValueRef;
 pub enum OpenFault {
     /// Memory was refused.
     NoMemory,
-    /// The store failed, or keeps its tables in another form than this program makes, or the name of an index of the office's is taken.
+    /// The store failed, or keeps its tables in another form than this program makes, or the name of an index of the office's is taken, or, in
+    /// an office of an earlier program, that of a table which it lacks.
     Store,
     /// What stands there is no office of version 1: it has another version or no single row of one, or its schema takes no question for
     /// the version, and has the name of a table of the office's for a table, an index or a view.
@@ -71,7 +74,7 @@ fn any_is_used(schema: &Schema, names: &[&[u8]]) -> bool
 fn takes_a_name(schema: &Schema) -> bool
     ensures { result ≡ takes_a_name schema.now }
 {
-    let names: [&[u8]; 14] = [
+    let names: [&[u8]; 15] = [
         b"lines",
         b"batches",
         b"tenderers",
@@ -86,6 +89,7 @@ fn takes_a_name(schema: &Schema) -> bool
         b"releases",
         b"compiled",
         b"office",
+        b"late_rules",
     ];
     any_is_used(schema, names.as_slice())
 }
@@ -108,7 +112,7 @@ fn has_rowids(schema: &Schema) -> bool
 }
 
 // A store that answered may have been shut by the end of the transaction in which it was asked: this one is open.
-fn still_open<S: Alter>(conn: &mut Connection<S>) -> Result<(), OpenFault>
+pub(crate) fn still_open<S: Alter>(conn: &mut Connection<S>) -> Result<(), OpenFault>
     ensures is_open { HasCleanDisk (state S.Store conn.new) → OnOk result (IsTrue (state S.Store conn.new).is_open) }
     ensures cause { IfErr result (λ e. e ≡ OpenFault.NotAnOffice → ⊥) }
     ensures kept { HasCleanDisk (state S.Store conn.new) → Refused (state S.Store conn.old) (state S.Store conn.new) }
@@ -120,12 +124,13 @@ fn still_open<S: Alter>(conn: &mut Connection<S>) -> Result<(), OpenFault>
     Ok(())
 }
 
-/// Enters the office that is there, or makes one where no name of its tables is taken. The store is open then.
+/// Enters the office that is there, and makes the tables that an earlier program didn't make; or makes an office where no name of its tables is
+/// taken. The store is open then.
 pub(crate) fn enter<S: Alter>(conn: &mut Connection<S>) -> Result<(), OpenFault>
     ensures enters { HasCleanDisk (state S.Store conn.new) → OnOk result (Enters S.Store conn.old conn.new) }
     ensures none { HasCleanDisk (state S.Store conn.new) → IfErr result (λ e. e ≡ OpenFault.NotAnOffice → IsNoOffice S.Store conn.old) }
-    ensures found { HasCleanDisk (state S.Store conn.new) → (t : Tables) → ShowsTables (state S.Store conn.old) t → OnOk result (ShowsTables (state S.Store conn.new) t) }
-    ensures known { HasCleanDisk (state S.Store conn.new) → (t : Tables) → ShowsTables (state S.Store conn.old) t → IfErr result (λ e. e ≡ OpenFault.NotAnOffice → ⊥) }
+    ensures found { HasCleanDisk (state S.Store conn.new) → (t : Tables) → ShowsOffice (state S.Store conn.old) t → OnOk result (ShowsTables (state S.Store conn.new) t) }
+    ensures known { HasCleanDisk (state S.Store conn.new) → (t : Tables) → ShowsOffice (state S.Store conn.old) t → IfErr result (λ e. e ≡ OpenFault.NotAnOffice → ⊥) }
     ensures is_open { HasCleanDisk (state S.Store conn.new) → OnOk result (IsTrue (state S.Store conn.new).is_open) }
     ensures sound { HasCleanDisk (state S.Store conn.new) → OnOk result (LeavesShown (state S.Store conn.new)) }
     ensures kept { HasCleanDisk (state S.Store conn.new) → OnErr result (Refused (state S.Store conn.old) (state S.Store conn.new)) }
@@ -145,7 +150,7 @@ pub(crate) fn enter<S: Alter>(conn: &mut Connection<S>) -> Result<(), OpenFault>
             if !has_key {
                 return Err(OpenFault::Store);
             }
-            match still_open(conn) {
+            match ready(conn) {
                 Ok(()) => Ok(()),
                 Err(fault) => Err(fault),
             }

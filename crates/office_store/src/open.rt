@@ -52,9 +52,9 @@ impl SqlShelf<MemStore> {
 }
 
 impl<D: Disk + Drop> SqlShelf<FileStore<D>> {
-    /// The office in two files, or a new one where no name of the office's tables is taken there. Other tables stay. Where it shows the
-    /// tables of an office, a stop leaves one. A refusal comes with what is left of the files: they are closed, or, where they can't be, it
-    /// is their store.
+    /// The office in two files, or a new one where no name of the office's tables is taken there. Other tables stay. An office of an earlier
+    /// program gets the tables that it lacks. Where it shows the tables of an office, a stop leaves one. A refusal comes with what is left of
+    /// the files: they are closed, or, where they can't be, it is their store.
     pub fn open_files(
         alloc: Global,
         files: Files<D>,

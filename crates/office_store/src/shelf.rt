@@ -11,8 +11,8 @@ use office_base::laws::changes_keep_order;
 use office_base::ledger::{ContractSums, LedgerRow};
 use office_base::puts::Put;
 use office_base::records::{
-    AwardRow, BatchRow, ClockRow, CompiledRow, ContractRow, EntryRow, EnvelopeRow, LineRow, LotRow,
-    NoticeRow, ReleaseRow, SealRow, SecurityRow, TendererRow,
+    AwardRow, BatchRow, ClockRow, CompiledRow, ContractRow, EntryRow, EnvelopeRow, LateRow,
+    LineRow, LotRow, NoticeRow, ReleaseRow, SealRow, SecurityRow, TendererRow,
 };
 use office_base::shelf::{Lookups, Shelf, ShelfFault};
 use office_changes::apply::apply_all;
@@ -189,6 +189,13 @@ impl<S: Alter> Lookups for SqlShelf<S> {
 
     fn get_compiled(&mut self, notice: &Id) -> Result<Option<CompiledRow>, ShelfFault> {
         match lookups::get_compiled(self.alloc, &mut self.conn, notice) {
+            Ok(found) => Ok(found),
+            Err(fault) => Err(self.count(fault)),
+        }
+    }
+
+    fn get_late(&mut self, notice: &Id) -> Result<Option<LateRow>, ShelfFault> {
+        match lookups::get_late(self.alloc, &mut self.conn, notice) {
             Ok(found) => Ok(found),
             Err(fault) => Err(self.count(fault)),
         }

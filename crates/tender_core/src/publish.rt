@@ -7,16 +7,16 @@ ghost use Rattle.office_base.specs.Joined.{free_in};
 ghost use Rattle.office_base.specs.Deciding.{Decides};
 ghost use Rattle.office_base.specs.Rules.{first_of};
 ghost use Rattle.office_base.specs.RuleParts.{clock_put};
-ghost use Rattle.tender_core.specs.Rules.Publish.{wanted, is_on_no_line, is_short, has_too_many_items, publish_tests, publish_puts, line_put, lot_put, notice_put, publish_conditions};
+ghost use Rattle.tender_core.specs.Rules.Publish.{wanted, is_on_no_line, is_short, has_too_many_items, publish_tests, publish_puts, line_put, lot_put, notice_put, publish_conditions, late_puts};
 
 use keyed_table::table::Table;
 use office_acts::amounts::amount_of;
 use office_acts::lot::NewLot;
-use office_acts::notice::NewNotice;
+use office_acts::notice::{LateWithdrawal, NewNotice};
 use office_base::counts::{AmendmentCount, ReleaseCount};
 use office_base::parts::at_moment;
 use office_base::puts::Put;
-use office_base::records::{ClockRow, LineRow, LotRow, LotState, NoticeRow, NoticeState};
+use office_base::records::{ClockRow, LateRow, LineRow, LotRow, LotState, NoticeRow, NoticeState};
 use office_values::id::Id;
 use office_values::moment::Moment;
 use office_values::money::Total;
@@ -175,6 +175,17 @@ fn push_lots(made: &mut Vec<Put>, notice: Id, lots: Vec<NewLot>) -> Result<(), R
     Ok(())
 }
 
+// That tenders may be withdrawn late, where the notice says so.
+fn push_late(made: &mut Vec<Put>, notice: Id, late: LateWithdrawal) -> Result<(), Refusal>
+    ensures puts { OnOk result (made.new.items ≡ made.old.items ++ late_puts notice late) }
+    ensures fault { IfErr result (λ e. e ≡ Unavailable) }
+{
+    if late == LateWithdrawal::Forfeits {
+        made.push(Put::Late(LateRow { notice }))?;
+    }
+    Ok(())
+}
+
 // All lots, the notice, open for tenders, with its first release, and the clock.
 fn push_notice(
     made: &mut Vec<Put>,
@@ -204,7 +215,7 @@ fn push_notice(
     Ok(())
 }
 
-// The lines, the lots, the notice and the clock.
+// The lines, the lots, the notice and the clock, and what the notice says of late withdrawals.
 fn publish_puts(
     alloc: Global,
     t: Moment,
@@ -216,9 +227,11 @@ fn publish_puts(
     ensures fault { IfErr result (λ e. e ≡ Unavailable) }
 {
     let lots = new.lots.as_slice();
-    let mut made = Vec::with_capacity(alloc, lots.len().saturating_mul(2).saturating_add(2))?;
+    let mut made = Vec::with_capacity(alloc, lots.len().saturating_mul(2).saturating_add(3))?;
     push_lines(&mut made, &rows.lines, lots)?;
+    let late = new.late_withdrawal;
     push_notice(&mut made, t, rows.clock, notice, new)?;
+    push_late(&mut made, notice, late)?;
     Ok(made)
 }
 

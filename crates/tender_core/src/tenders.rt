@@ -2,12 +2,12 @@
 ghost use Rattle.std.specs.Prelude.{◌≡◌};
 ghost use Rattle.office_acts.specs.Callers.{is_by};
 ghost use Rattle.office_base.specs.Rows.{holds_of};
-ghost use Rattle.office_base.specs.RuleParts.{is_in_time, is_past_deadline};
+ghost use Rattle.office_base.specs.RuleParts.{is_in_time, is_late, is_past_deadline};
 ghost use Rattle.tender_core.specs.Rules.Modify.{withdrawn};
 
 use office_acts::command::Caller;
 use office_base::parts;
-use office_base::records::{EnvelopeRow, EnvelopeState, NoticeRow};
+use office_base::records::{EnvelopeRow, EnvelopeState, LateRow, NoticeRow};
 use office_values::id::Id;
 use office_values::moment::Moment;
 
@@ -40,6 +40,13 @@ pub fn is_past_deadline(t: Moment, notice: &Option<NoticeRow>) -> bool
         Some(row) => parts::is_past_deadline(t, row),
         None => false,
     }
+}
+
+/// Whether the notice is there, its deadline is past, and it lets tenders be withdrawn then.
+pub fn is_late(late: &Option<LateRow>, t: Moment, notice: &Option<NoticeRow>) -> bool
+    ensures { result ≡ is_late late.now t notice.now }
+{
+    late.is_some() && is_past_deadline(t, notice)
 }
 
 /// The tender, taken back by its tenderer.

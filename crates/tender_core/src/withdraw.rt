@@ -1,41 +1,108 @@
 //! The decision on the withdrawal of a tender.
-ghost use Rattle.std.specs.Prelude.{◌≡◌, ◌++◌, IfErr, OnOk};
+ghost use Rattle.std.specs.Prelude.{◌≡◌, ◌++◌, IfErr, OnOk, IfOk, Some, None};
 ghost use Rattle.office_values.specs.declared.refusal.Refusal.TheVariants.{Unavailable};
 ghost use Rattle.office_base.specs.Deciding.{Decides};
+ghost use Rattle.office_base.specs.Rows.{holds_of};
 ghost use Rattle.office_base.specs.Rules.{first_of};
-ghost use Rattle.office_base.specs.RuleParts.{put_if, security_settled};
-ghost use Rattle.office_base.specs.declared.records.SecurityState.TheVariants.{Returned};
-ghost use Rattle.tender_core.specs.Rules.Withdraw.{withdraw_tests, withdraw_puts};
+ghost use Rattle.office_base.specs.RuleParts.{is_expired, is_late, put_if, security_settled};
+ghost use Rattle.tender_core.specs.Rules.Withdraw.{cant_be_taken_back, is_decided, taken_back_puts, withdraw_tests, withdraw_puts};
 
 use crate::tenders::{is_by, is_past_deadline, withdrawn};
 use office_acts::command::Caller;
-use office_base::parts::{at_moment, settled};
+use office_base::parts::{at_moment, is_expired, passed_over, settled};
 use office_base::puts::Put;
 use office_base::records::{
-    ClockRow, EnvelopeRow, EnvelopeState, NoticeRow, SecurityRow, SecurityState,
+    ClockRow, EnvelopeRow, EnvelopeState, LateRow, LotRow, LotState, NoticeRow, SecurityRow,
+    SecurityState,
 };
 use office_values::moment::Moment;
 use office_values::refusal::{Refusal, Thing};
 use std::alloc::Global;
 
-/// The rows that a withdrawal looks at: the tender with its notice and its security, and the clock.
+/// The rows that a withdrawal looks at: the tender with its notice, its lot, what its notice says of late withdrawals, and its security;
+/// and the clock.
 #[derive(Drop)]
 pub struct WithdrawRows {
     pub envelope: Option<EnvelopeRow>,
     pub notice: Option<NoticeRow>,
+    pub lot: Option<LotRow>,
+    pub late: Option<LateRow>,
     pub security: Option<SecurityRow>,
     pub clock: ClockRow,
 }
 
-// The security that came with the tender goes back.
-fn push_returned(made: &mut Vec<Put>, security: Option<SecurityRow>) -> Result<(), Refusal>
-    ensures puts { OnOk result (made.new.items ≡ made.old.items ++ put_if (security_settled Returned) security) }
+// Whether the tender can't be withdrawn where it is: from the deadline on one that was opened can be as well.
+fn cant_be_taken_back(is_late: bool, envelope: &EnvelopeRow) -> bool
+    ensures { result ≡ cant_be_taken_back is_late envelope.now }
+{
+    match envelope.state {
+        EnvelopeState::Sealed => false,
+        EnvelopeState::Opened => !is_late,
+        EnvelopeState::Withdrawn | EnvelopeState::Returned => true,
+    }
+}
+
+// Whether the tender is out of the running, or its lot isn't undecided.
+fn is_decided(envelope: &EnvelopeRow, lot: &Option<LotRow>) -> bool
+    ensures { result ≡ is_decided (Some envelope.now) lot.now }
+{
+    let is_closed = match lot {
+        Some(row) => row.state != LotState::Undecided,
+        None => false,
+    };
+    envelope.failed || is_closed
+}
+
+// Whether the notice is there and tenders for it are no longer in effect.
+fn is_over(t: Moment, notice: &Option<NoticeRow>) -> bool
+    ensures { result ≡ holds_of (is_expired t) notice.now }
+{
+    match notice {
+        Some(row) => is_expired(t, row),
+        None => false,
+    }
+}
+
+// What becomes of the security that came with the tender.
+fn push_settled(
+    made: &mut Vec<Put>,
+    security: Option<SecurityRow>,
+    state: SecurityState,
+) -> Result<(), Refusal>
+    ensures puts { OnOk result (made.new.items ≡ made.old.items ++ put_if (security_settled state) security) }
     ensures fault { IfErr result (λ e. e ≡ Unavailable) }
 {
     if let Some(row) = security {
-        made.push(Put::Security(settled(row, SecurityState::Returned)))?;
+        made.push(Put::Security(settled(row, state)))?;
     }
     Ok(())
+}
+
+// What a withdrawal puts, before the deadline or from then on.
+fn puts_of(
+    alloc: Global,
+    t: Moment,
+    clock: ClockRow,
+    row: EnvelopeRow,
+    security: Option<SecurityRow>,
+    is_late: bool,
+) -> Result<Vec<Put>, Refusal>
+    ensures puts { IfOk result (λ made. made.items ≡ taken_back_puts clock t row security is_late) }
+    ensures fault { IfErr result (λ e. e ≡ Unavailable) }
+{
+    let mut made = Vec::with_capacity(alloc, 4)?;
+    if is_late {
+        made.push(Put::Envelope(passed_over(row)))?;
+        made.push(Put::Clock(at_moment(clock, t)))?;
+        push_settled(&mut made, security, SecurityState::Forfeited)?;
+    } else {
+        let receipt = row.receipt;
+        made.push(Put::Envelope(withdrawn(row)))?;
+        made.push(Put::DropSeal(receipt))?;
+        made.push(Put::Clock(at_moment(clock, t)))?;
+        push_settled(&mut made, security, SecurityState::Returned)?;
+    }
+    Ok(made)
 }
 
 /// Decides the withdrawal of a tender: its refusal, or what it puts.
@@ -51,6 +118,8 @@ pub fn decide_withdraw(
     let WithdrawRows {
         envelope,
         notice,
+        lot,
+        late,
         security,
         clock,
     } = rows;
@@ -60,17 +129,19 @@ pub fn decide_withdraw(
     if !is_by(caller, &row.tenderer) {
         return Err(Refusal::NotYourTender);
     }
-    if is_past_deadline(t, &notice) {
+    let is_past = is_past_deadline(t, &notice);
+    let is_late = late.is_some() && is_past;
+    if is_past && !is_late {
         return Err(Refusal::DeadlinePassed);
     }
-    if row.state != EnvelopeState::Sealed {
+    if cant_be_taken_back(is_late, &row) {
         return Err(Refusal::NotSealed);
     }
-    let receipt = row.receipt;
-    let mut made = Vec::with_capacity(alloc, 4)?;
-    made.push(Put::Envelope(withdrawn(row)))?;
-    made.push(Put::DropSeal(receipt))?;
-    made.push(Put::Clock(at_moment(clock, t)))?;
-    push_returned(&mut made, security)?;
-    Ok(made)
+    if is_late && is_decided(&row, &lot) {
+        return Err(Refusal::AlreadyDecided);
+    }
+    if is_late && is_over(t, &notice) {
+        return Err(Refusal::Expired);
+    }
+    puts_of(alloc, t, clock, row, security, is_late)
 }

@@ -4,7 +4,7 @@ use office_acts::command::CommandKind;
 use office_acts::commands::Command;
 use office_acts::item::{Item, Items, Quantity};
 use office_acts::lot::{NewLot, NewLots};
-use office_acts::notice::{Criteria, NewNotice, PriceWeight, Standstill, Validity};
+use office_acts::notice::{Criteria, LateWithdrawal, NewNotice, PriceWeight, Standstill, Validity};
 use office_values::id::Id;
 use office_values::moment::Moment;
 use office_values::money::Amount;
@@ -60,6 +60,7 @@ fn notice(alloc: Global, ids: &[&str]) -> Option<NewNotice> {
         validity: Validity::read(90)?,
         standstill: Standstill::read(10)?,
         criteria: Criteria::Price,
+        late_withdrawal: LateWithdrawal::Refused,
         title: line(alloc, b"Road repair")?,
         lots: lots(alloc, ids)?,
     })

@@ -76,7 +76,7 @@ fn asks_for_each(alloc: Global, caller: &Caller, rows: &[(&str, &[u8], Endpoint)
 
 const PUBLICATION: &[u8] = br#"{
     "title": "Road repair", "deadline": "2026-03-01T12:00:00Z", "validity_days": 90, "standstill_days": 10,
-    "criteria": "points", "price_weight": 60,
+    "criteria": "points", "price_weight": 60, "late_withdrawal": "forfeits",
     "lots": [{
         "id": "L1", "title": "North", "line": "1000", "estimate": 600, "security": 50,
         "items": [{"id": "I1", "title": "Paving", "quantity": 3}]

@@ -53,6 +53,7 @@ const FIELDS: &[(Field, &str)] = &[
     (Field::StandstillDays, "standstill_days"),
     (Field::Criteria, "criteria"),
     (Field::PriceWeight, "price_weight"),
+    (Field::LateWithdrawal, "late_withdrawal"),
     (Field::Lots, "lots"),
     (Field::Rationale, "rationale"),
     (Field::Security, "security"),

@@ -28,6 +28,8 @@ pub enum Made {
     /// The price, and the second.
     Award(AwardState, [u64; 2]),
     Contract(MadeContract),
+    /// That tenders for N1 may be withdrawn late.
+    Late,
     Entry(MadeEntry),
     /// The second, and the last receipt and award.
     Clock([u64; 3]),
@@ -94,6 +96,7 @@ fn is_made(put: &Put, wanted: &Made) -> bool {
         (Put::Security(row), Made::Security(number, state)) => is_security(row, *number, *state),
         (Put::Award(row), Made::Award(state, numbers)) => is_award(row, *state, *numbers),
         (Put::Contract(row), Made::Contract(wanted)) => is_contract(row, wanted),
+        (Put::Late(row), Made::Late) => row.notice.as_str() == "N1",
         (Put::Entry(row), Made::Entry(wanted)) => is_entry(row, wanted),
         (Put::Clock(row), Made::Clock(numbers)) => is_clock(row, *numbers),
         _ => false,

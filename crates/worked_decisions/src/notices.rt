@@ -5,7 +5,7 @@ use crate::rows;
 use keyed_table::table::Table;
 use office_acts::amounts::Estimate;
 use office_acts::lot::{NewLot, NewLots};
-use office_acts::notice::{Criteria, NewNotice, Standstill, Validity};
+use office_acts::notice::{Criteria, LateWithdrawal, NewNotice, Standstill, Validity};
 use office_base::records::{LineRow, LotState, NoticeState};
 use office_values::money::Amount;
 use std::alloc::Global;
@@ -50,12 +50,13 @@ fn tenderers_are_registered(rt: HostRuntime) {
     assert!(rt; are_decided(rt.alloc(), &REGISTRATIONS));
 }
 
-// The publication of a notice with one lot of this line and estimate; 300 is free on the line 1000.
+// The publication of a notice with one lot of this line and estimate; 300 is free on the line 1000, and tenders may or may not be withdrawn late.
 #[derive(Clone, Copy)]
 pub struct Publication {
     pub line: &'static str,
     pub estimate: u64,
     pub deadline: u64,
+    pub late: LateWithdrawal,
 }
 
 fn new_lot(alloc: Global, line: &str, estimate: u64) -> Option<NewLot> {
@@ -81,6 +82,7 @@ fn new_notice(alloc: Global, content: &Publication) -> Option<NewNotice> {
         validity: Validity::read(90)?,
         standstill: Standstill::read(10)?,
         criteria: Criteria::Price,
+        late_withdrawal: content.late,
         title: rows::text(alloc, "Road repair")?,
         lots: new_lots(alloc, content.line, content.estimate)?,
     })
@@ -105,12 +107,13 @@ impl Publication {
     }
 }
 
-static PUBLICATIONS: [(Case, Wanted); 4] = [
+static PUBLICATIONS: [(Case, Wanted); 5] = [
     (
         Case::Publication(Publication {
             line: "1000",
             estimate: 300,
             deadline: 9,
+            late: LateWithdrawal::Refused,
         }),
         Wanted::Puts(&[
             Made::Line([900, 0]),
@@ -125,9 +128,29 @@ static PUBLICATIONS: [(Case, Wanted); 4] = [
     ),
     (
         Case::Publication(Publication {
+            line: "1000",
+            estimate: 300,
+            deadline: 9,
+            late: LateWithdrawal::Forfeits,
+        }),
+        Wanted::Puts(&[
+            Made::Line([900, 0]),
+            Made::Lot(LotState::Undecided, [300, 300]),
+            Made::Notice(MadeNotice {
+                numbers: [9, 0, 1],
+                state: NoticeState::Receiving,
+                opened: None,
+            }),
+            Made::Clock([5, 1, 0]),
+            Made::Late,
+        ]),
+    ),
+    (
+        Case::Publication(Publication {
             line: "2000",
             estimate: 300,
             deadline: 9,
+            late: LateWithdrawal::Refused,
         }),
         Wanted::RefusedOf("NoSuch", "line"),
     ),
@@ -136,6 +159,7 @@ static PUBLICATIONS: [(Case, Wanted); 4] = [
             line: "1000",
             estimate: 301,
             deadline: 9,
+            late: LateWithdrawal::Refused,
         }),
         Wanted::Refused("InsufficientFunds"),
     ),
@@ -144,6 +168,7 @@ static PUBLICATIONS: [(Case, Wanted); 4] = [
             line: "1000",
             estimate: 300,
             deadline: 5,
+            late: LateWithdrawal::Refused,
         }),
         Wanted::Refused("DeadlinePassed"),
     ),

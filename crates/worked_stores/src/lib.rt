@@ -4,6 +4,10 @@
 #[cfg(test)]
 mod changes;
 #[cfg(test)]
+mod earlier;
+#[cfg(test)]
+mod earlier_file;
+#[cfg(test)]
 mod life;
 #[cfg(test)]
 mod no_offices;

@@ -1,6 +1,7 @@
 //! A procurement from its tenderer to a payment, each command one time.
 
-/// A tenderer is registered, two lines are imported, a notice is published, a tender is presented, opened, examined and awarded, a contract is signed and paid.
+/// A tenderer is registered, two lines are imported, a notice is published whose tenders may be withdrawn late, a tender is presented, opened, examined and
+/// awarded, a contract is signed and paid.
 pub(crate) static LIFE: &str = r#"
 at 2026-01-05T09:00:00Z clerk POST /tenderers/T1
 > {"name":"Alpha","address":"High Street 1","key":"2cf24dba5fb0a30e26e83b2ac5b9e29e1b161e5c1fa7425e73043362938b9824"}
@@ -13,7 +14,7 @@ at 2026-01-05T09:00:00Z clerk POST /budget/B1
 = 200 {"batch":"B1","moment":"2026-01-05T09:00:00Z","rows":2}
 
 at 2026-02-01T09:00:00Z clerk POST /notices/N1
-> {"title":"Road repair","deadline":"2026-03-01T12:00:00Z","validity_days":90,"standstill_days":10,"criteria":"price","lots":[
+> {"title":"Road repair","deadline":"2026-03-01T12:00:00Z","validity_days":90,"standstill_days":10,"criteria":"price","late_withdrawal":"forfeits","lots":[
 > {"id":"L1","title":"North","line":"1000","estimate":700,"security":50,"items":[{"id":"I1","title":"Paving","quantity":1}]}]}
 = 200 {"moment":"2026-02-01T09:00:00Z","notice":"N1","release":1}
 

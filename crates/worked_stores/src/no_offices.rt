@@ -59,6 +59,8 @@ fn names_are_taken(rt: HostRuntime) {
     assert!(rt; shows_number(alloc, lots, "SELECT x FROM lots", 5));
     let view = "CREATE VIEW seals AS SELECT 6";
     assert!(rt; shows_number(alloc, view, "SELECT * FROM seals", 6));
+    let late = "CREATE TABLE late_rules (x INTEGER); INSERT INTO late_rules VALUES (9)";
+    assert!(rt; shows_number(alloc, late, "SELECT x FROM late_rules", 9));
 }
 
 #[test]
@@ -82,29 +84,33 @@ fn versions_are_others(rt: HostRuntime) {
     assert!(rt; office_shows_number(alloc, "DROP TABLE office", "SELECT count(*) FROM lots", 0));
 }
 
-// Whether these files are refused behind these statements, and not for want of an office.
-fn is_wrong(alloc: Global, disks: Disks, statements: &str) -> Option<bool> {
-    let disks = changed(alloc, disks, statements)?;
-    Some(matches!(OfficeOnDisks::open(alloc, disks), Err(Unopened::Unusable)))
+// Whether an office's files are refused behind these statements, and not for want of an office.
+fn is_wrong(alloc: Global, statements: &str) -> Option<bool> {
+    let disks = changed(alloc, made(alloc).ok()?, statements)?;
+    Some(matches!(
+        OfficeOnDisks::open(alloc, disks),
+        Err(Unopened::Unusable(_))
+    ))
 }
 
-fn blank_is_wrong(alloc: Global, statements: &str) -> bool {
-    is_wrong(alloc, Disks::blank(alloc), statements) == Some(true)
-        || is_wrong(alloc, Disks::blank(alloc), statements) == Some(true)
-}
-
-fn office_is_wrong(alloc: Global, statements: &str) -> bool {
-    match made(alloc) {
-        Ok(disks) => is_wrong(alloc, disks, statements) == Some(true),
-        Err(_) => false,
+// What a question shows of files behind these statements in which no office could then be made.
+fn unmade(alloc: Global, statements: &str, question: &str) -> Option<i64> {
+    let disks = changed(alloc, Disks::blank(alloc), statements)?;
+    match OfficeOnDisks::open(alloc, disks) {
+        Err(Unopened::Unusable(disks)) => number(alloc, disks, question),
+        _ => None,
     }
 }
 
 #[test]
 fn names_of_indexes_are_taken(rt: HostRuntime) {
     let alloc = rt.alloc();
-    let ours = "CREATE TABLE others (a INTEGER); CREATE INDEX lots_of_line ON others (a)";
-    assert!(rt; blank_is_wrong(alloc, ours));
+    let ours =
+        "CREATE TABLE others (a INTEGER); CREATE INDEX lots_of_line ON others (a); INSERT INTO others VALUES (7)";
+    let question = "SELECT a FROM others";
+    assert!(rt;
+        unmade(alloc, ours, question) == Some(7) || unmade(alloc, ours, question) == Some(7)
+    );
 }
 
 #[test]
@@ -112,7 +118,7 @@ fn the_key_is_no_rowid(rt: HostRuntime) {
     let alloc = rt.alloc();
     let other =
         "DROP TABLE office; CREATE TABLE office (version INT NOT NULL PRIMARY KEY CHECK (version = 1), moment INTEGER NOT NULL, receipts INTEGER NOT NULL, awards INTEGER NOT NULL) STRICT; INSERT INTO office VALUES (1, 0, 0, 0)";
-    assert!(rt; office_is_wrong(alloc, other) || office_is_wrong(alloc, other));
+    assert!(rt; is_wrong(alloc, other) == Some(true) || is_wrong(alloc, other) == Some(true));
 }
 
 // What is shown by a question of files in which another table stood, and an office was made then, and changed.

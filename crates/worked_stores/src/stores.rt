@@ -13,15 +13,18 @@ pub(crate) fn opened(alloc: Global, disks: Disks) -> Result<OfficeOnDisks, Wrong
     match OfficeOnDisks::open(alloc, disks) {
         Ok(office) => Ok(office),
         Err(Unopened::NotAnOffice(_)) => Err(Wrong::NotAnOffice),
-        Err(Unopened::Unusable) => Err(Wrong::Unopened),
+        Err(Unopened::Unusable(_)) => Err(Wrong::Unopened),
     }
+}
+
+/// The files of the office in these, or of a new one, once it was opened and closed.
+pub(crate) fn reopened(alloc: Global, disks: Disks) -> Result<Disks, Wrong> {
+    opened(alloc, disks)?.close().ok_or(Wrong::Unopened)
 }
 
 /// A new office's files.
 pub(crate) fn made(alloc: Global) -> Result<Disks, Wrong> {
-    opened(alloc, Disks::blank(alloc))?
-        .close()
-        .ok_or(Wrong::Unopened)
+    reopened(alloc, Disks::blank(alloc))
 }
 
 /// The files of this office behind a command's changes.
@@ -45,8 +48,8 @@ pub(crate) fn all_changed(
     Ok(disks)
 }
 
-// Each of an office's tables, in the order of its keys.
-const TABLES: [&str; 14] = [
+/// Each of an office's tables, in the order of its keys, the one that came later at the end.
+pub(crate) static TABLES: [&str; 15] = [
     "SELECT * FROM office ORDER BY version",
     "SELECT * FROM lines ORDER BY line",
     "SELECT * FROM batches ORDER BY batch",
@@ -61,6 +64,7 @@ const TABLES: [&str; 14] = [
     "SELECT * FROM entries ORDER BY contract, entry",
     "SELECT * FROM releases ORDER BY notice, seq",
     "SELECT * FROM compiled ORDER BY notice",
+    "SELECT * FROM late_rules ORDER BY notice",
 ];
 
 // The text of an office's ledger.
@@ -69,14 +73,30 @@ fn ledger_of(alloc: Global, office: &mut OfficeOnDisks) -> Result<Vec<u8>, Wrong
     Ok(ledger_text(alloc, &rows)?.into_vec())
 }
 
-// Appends all rows of the office in these files.
-fn append_tables(alloc: Global, bytes: &mut Vec<u8>, disks: Disks) -> Result<(), Wrong> {
+// Appends all rows that these questions have for their answers.
+fn append_answers(
+    alloc: Global,
+    bytes: &mut Vec<u8>,
+    disks: Disks,
+    questions: &[&str],
+) -> Result<(), Wrong> {
     let mut database = Database::open(alloc, disks).ok_or(Wrong::Unopened)?;
-    for table in TABLES {
-        bytes.extend_from_slice(table.as_bytes())?;
-        database.append_all(bytes, table).ok_or(Wrong::Unopened)?;
+    for question in questions {
+        bytes.extend_from_slice(question.as_bytes())?;
+        database.append_all(bytes, question).ok_or(Wrong::Unopened)?;
     }
     Ok(())
+}
+
+/// All rows that these questions have for their answers in these files, whether or not they are an office's.
+pub(crate) fn answers_in(
+    alloc: Global,
+    disks: Disks,
+    questions: &[&str],
+) -> Result<Vec<u8>, Wrong> {
+    let mut bytes = Vec::new(alloc);
+    append_answers(alloc, &mut bytes, disks, questions)?;
+    Ok(bytes)
 }
 
 /// The text of the ledger of the office in these files.
@@ -90,6 +110,6 @@ pub(crate) fn rows_in(alloc: Global, disks: Disks) -> Result<Vec<u8>, Wrong> {
     let mut office = opened(alloc, disks)?;
     let mut bytes = ledger_of(alloc, &mut office)?;
     let disks = office.close().ok_or(Wrong::Unopened)?;
-    append_tables(alloc, &mut bytes, disks)?;
+    append_answers(alloc, &mut bytes, disks, TABLES.as_slice())?;
     Ok(bytes)
 }

@@ -34,6 +34,7 @@ pub enum Change {
     Entry(u64, &'static str, EntryKind, u64),
     Release(&'static str, u64, &'static str),
     Compiled(&'static str, &'static str),
+    Late(&'static str),
 }
 
 /// Changes that are made at once, and what the office tells before them and after.
@@ -65,6 +66,7 @@ fn put_of(alloc: Global, change: Change) -> Option<Put> {
             Some(Put::Release(rows::release(alloc, notice, seq, text)?))
         }
         Change::Compiled(notice, text) => Some(Put::Compiled(rows::compiled(alloc, notice, text)?)),
+        Change::Late(notice) => Some(Put::Late(rows::late(notice)?)),
         Change::Seal(receipt, byte) => Some(Put::Seal(rows::seal(alloc, receipt, byte)?)),
         other => put_of_numbers(other),
     }

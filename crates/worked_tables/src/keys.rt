@@ -12,6 +12,7 @@ const EACH: &[Change] = &[
     Change::Lot("N1", "L1", "1000", 600),
     Change::Release("N1", 2, "[]"),
     Change::Compiled("N1", "{}"),
+    Change::Late("N1"),
     Change::Priced(2, "N1", (95, 90)),
     Change::Seal(3, 65),
     Change::Security(4, "N1", 50),
@@ -50,6 +51,7 @@ const FOUND: &[Told] = &[
     (Look::At(Key::Entry(7, "E1")), &[(&["E1"], &[7, 1, 10])]),
     (Look::At(Key::Release("N1", 2)), &[(&["N1", "[]"], &[2])]),
     (Look::At(Key::Compiled("N1")), &[(&["N1", "{}"], &[])]),
+    (Look::At(Key::Late("N1")), &[(&["N1"], &[])]),
     (Look::At(Key::Clock), &[(&[], &[5, 3, 1])]),
 ];
 
@@ -90,6 +92,7 @@ const OTHERS: &[Told] = &[
     (Look::At(Key::Release("N1", 3)), &[]),
     (Look::At(Key::Release("N2", 2)), &[]),
     (Look::At(Key::Compiled("N2")), &[]),
+    (Look::At(Key::Late("N")), &[]),
 ];
 
 static OTHERS_NOT_FOUND: [Step; 1] = [Step {

@@ -34,6 +34,7 @@ pub enum Key {
     Entry(u64, &'static str),
     Release(&'static str, u64),
     Compiled(&'static str),
+    Late(&'static str),
     Clock,
 }
 
@@ -108,6 +109,7 @@ fn is_record(shelf: &mut MemoryShelf, key: Key, wanted: &[Shown]) -> Option<bool
             wanted,
         ),
         Key::Compiled(notice) => is_found(shelf.get_compiled(&id(notice)?), wanted),
+        Key::Late(notice) => is_found(shelf.get_late(&id(notice)?), wanted),
         Key::Clock => Some(all_show(&[shelf.get_clock().ok()?], wanted)),
         Key::Entry(number, entry) => is_found(
             shelf.get_entry(AskedNumber::read(number)?, &id(entry)?),

@@ -10,8 +10,8 @@ use office_base::json_text::JsonText;
 use office_base::reading::Reading;
 use office_base::records::{
     AwardRow, AwardState, BatchRow, ClockRow, CompiledRow, ContractRow, EntryKind, EntryRow,
-    EnvelopeRow, EnvelopeState, LineRow, LotRow, LotState, NoticeRow, NoticeState, ReleaseRow,
-    SealRow, SecurityRow, SecurityState, TendererRow,
+    EnvelopeRow, EnvelopeState, LateRow, LineRow, LotRow, LotState, NoticeRow, NoticeState,
+    ReleaseRow, SealRow, SecurityRow, SecurityState, TendererRow,
 };
 use office_values::given::{GivenNumber, LastNumber};
 use office_values::id::Id;
@@ -234,6 +234,13 @@ pub fn release(alloc: Global, notice: &str, seq: u64, text: &str) -> Option<Rele
         seq: Sequence::read(seq)?,
         moment: Moment::from_second(5)?,
         text: json(alloc, text)?,
+    })
+}
+
+/// That tenders for this notice may be withdrawn late.
+pub fn late(notice: &str) -> Option<LateRow> {
+    Some(LateRow {
+        notice: id(notice)?,
     })
 }
 

@@ -3,7 +3,7 @@ use office_base::ledger::{ContractSums, LedgerRow, Pots};
 use office_base::reading::Reading;
 use office_base::records::{
     AwardRow, AwardState, BatchRow, ClockRow, CompiledRow, ContractRow, EntryKind, EntryRow,
-    EnvelopeRow, EnvelopeState, LineRow, LotRow, LotState, NoticeRow, ReleaseRow, SealRow,
+    EnvelopeRow, EnvelopeState, LateRow, LineRow, LotRow, LotState, NoticeRow, ReleaseRow, SealRow,
     SecurityRow, TendererRow,
 };
 use office_values::money::Amount;
@@ -180,6 +180,12 @@ impl Shows for ReleaseRow {
 impl Shows for CompiledRow {
     fn shows(&self, wanted: &Shown) -> bool {
         are(&[self.notice.as_str(), self.text.as_str()], &[], wanted)
+    }
+}
+
+impl Shows for LateRow {
+    fn shows(&self, wanted: &Shown) -> bool {
+        are(&[self.notice.as_str()], &[], wanted)
     }
 }
 

@@ -91,6 +91,7 @@ fn tables_take_rows_of_notices(rt: HostRuntime) {
     assert!(rt; takes(alloc, rows::lot(alloc, ("N1", "L1"), "1000", 600)));
     assert!(rt; takes(alloc, rows::release(alloc, "N1", 1, "{}")));
     assert!(rt; takes(alloc, rows::compiled(alloc, "N1", "{}")));
+    assert!(rt; takes(alloc, rows::late("N1")));
 }
 
 #[test]

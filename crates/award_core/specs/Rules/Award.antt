@@ -31,7 +31,7 @@ is_responsive (Some b) = b
 abbrev pub price_of : EnvelopeRow → ℕ
 price_of e = price_in e.reading
 
--- opened, priced, examined as responsive, and not failed
+-- opened, priced, examined as responsive, and not out of the running: its tenderer neither failed to sign nor took it back late
 abbrev pub is_admissible : EnvelopeRow → Bool
 is_admissible e = is_read e.state && is_priced e.reading && is_responsive e.responsive && not e.failed
 
@@ -85,9 +85,9 @@ weight_in (Some n) = n.weight
 abbrev pub winner : Option NoticeRow → List EnvelopeRow → Option EnvelopeRow
 winner notice envelopes = best_of (weight_in notice) envelopes
 
--- a priced tender waits for its examination
+-- a priced tender that isn't out of the running waits for its examination
 abbrev pub isnt_examined : EnvelopeRow → Bool
-isnt_examined e = is_priced e.reading && not (is_some e.responsive)
+isnt_examined e = is_priced e.reading && not (is_some e.responsive) && not e.failed
 
 abbrev pub reserved_in : Option LotRow → ℕ
 reserved_in None = 0

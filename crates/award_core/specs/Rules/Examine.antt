@@ -35,8 +35,9 @@ is_bad_quality responsive quality n =
 abbrev pub isnt_read : EnvelopeRow → Bool
 isnt_read e = not (is_read e.state)
 
+-- it has no price, was examined, or is out of the running
 abbrev pub cant_be_examined : EnvelopeRow → Bool
-cant_be_examined e = not (is_priced e.reading) || is_some e.responsive
+cant_be_examined e = not (is_priced e.reading) || is_some e.responsive || e.failed
 
 -- the envelope, its notice and its lot
 abbrev pub examine_conditions : Option EnvelopeRow → Option NoticeRow → Option LotRow → Bool → Option ℕ → List (Bool × Refusal)

@@ -13,6 +13,7 @@ use Rattle.office_acts.specs.declared.lot.NewLot.{NewLot}
 use Rattle.office_acts.specs.declared.notice.Criteria.{Criteria}
 use Rattle.office_acts.specs.declared.notice.Criteria.TheVariants.{Price}
 use Rattle.office_acts.specs.declared.notice.NewNotice.{NewNotice}
+use Rattle.office_acts.specs.declared.notice.LateWithdrawal.TheVariants.{Refused, Forfeits}
 use Rattle.office_acts.specs.declared.queries.Query.{Query}
 use Rattle.office_acts.specs.declared.tender.NamedSecurity.{NamedSecurity}
 use Rattle.office_values.specs.declared.refusal.Refusal.{Refusal}
@@ -155,7 +156,11 @@ lot id estimate = record { id = id; title = codes "North"; line = roads; estimat
 
 -- road repair; tenders are in effect for 90 days, and contracts wait for 10
 abbrev pub notice : ℕ → Criteria → List NewLot → NewNotice
-notice due criteria lots = record { title = codes "Road repair"; deadline = due; validity = 90; standstill = 10; criteria = criteria; lots = lots }
+notice due criteria lots = record { title = codes "Road repair"; deadline = due; validity = 90; standstill = 10; criteria = criteria; late_withdrawal = Refused; lots = lots }
+
+-- the same, whose tenders can be withdrawn after the deadline at the price of their securities
+abbrev pub lenient : ℕ → Criteria → List NewLot → NewNotice
+lenient due criteria lots = record (notice due criteria lots) { late_withdrawal = Forfeits }
 
 -- a row of a budget file
 abbrev pub row : List ℕ → BudgetKind → (amount : ℕ) → 1 ≤ amount → BudgetRow

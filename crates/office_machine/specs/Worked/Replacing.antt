@@ -42,7 +42,7 @@ pub record ReplacingWorked : Type 0 where
   -- the one security is held
   pub security_is_held : states_of_securities modified ≡ security_in.Held ∷ []
   -- the modified tender is withdrawn
-  pub is_withdrawn : told modified (withdraws t1 february 2 ∷ []) ≡ Withdrew 2 february ∷ []
+  pub is_withdrawn : told modified (withdraws t1 february 2 ∷ []) ≡ Withdrew 2 envelope.Withdrawn february ∷ []
   -- then both are
   pub both_are_withdrawn : states_of_tenders withdrawn ≡ envelope.Withdrawn ∷ envelope.Withdrawn ∷ []
   -- no bytes are kept
@@ -54,7 +54,7 @@ pub record ReplacingWorked : Type 0 where
       ≡ Refused NotSealed ∷ Refused NotSealed ∷ Refused NotSealed ∷ Received (codes "500") 3 (Some 3) envelope.Sealed february ∷ []
   -- a tender is modified and withdrawn up to the last second before the deadline
   pub at_last_second : told (setup ++ first ∷ []) (modifies t1 (deadline - 1) 1 ∷ withdraws t1 (deadline - 1) 2 ∷ [])
-      ≡ Received (codes "450") 2 (Some 1) envelope.Sealed (deadline - 1) ∷ Withdrew 2 (deadline - 1) ∷ []
+      ≡ Received (codes "450") 2 (Some 1) envelope.Sealed (deadline - 1) ∷ Withdrew 2 envelope.Withdrawn (deadline - 1) ∷ []
   -- and not at it
   pub not_at_deadline : told (setup ++ first ∷ []) (modifies t1 deadline 1 ∷ withdraws t1 deadline 1 ∷ [])
       ≡ Refused DeadlinePassed ∷ Refused DeadlinePassed ∷ []
@@ -68,4 +68,4 @@ pub record ReplacingWorked : Type 0 where
       ≡ Refused (NoSuch things.Tender) ∷ Refused (NoSuch things.Tender) ∷ []
   -- 10^9 receipts are the most; a withdrawal needs none
   pub receipts_are_bounded : told_in (numbered 1000000000) (modifies t1 february 1 ∷ withdraws t1 february 1 ∷ [])
-      ≡ Refused LimitReached ∷ Withdrew 1 february ∷ []
+      ≡ Refused LimitReached ∷ Withdrew 1 envelope.Withdrawn february ∷ []

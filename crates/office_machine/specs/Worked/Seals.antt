@@ -60,7 +60,7 @@ telling these those =
     ∷ [])
     ∷ Security 50 (codes "G1") 1 security_in.Held t1
     ∷ Refused NotOpened
-    ∷ Withdrew 2 february
+    ∷ Withdrew 2 envelope.Withdrawn february
     ∷ OpenedAll n1 0 2 deadline
     ∷ Minutes
     (record {

@@ -71,7 +71,7 @@ pub record WholeRunWorked : Type 0 where
       ∷ Received (codes "550/540") 2 (Some 2) envelope.Sealed february
       ∷ Received (codes "400") 3 (Some 3) envelope.Sealed february
       ∷ Received (codes "480") 4 (Some 1) envelope.Sealed february
-      ∷ Withdrew 3 february
+      ∷ Withdrew 3 envelope.Withdrawn february
       ∷ []
   -- what the decisions are told
   pub decision_is_told : told (preparation ++ competition) decision

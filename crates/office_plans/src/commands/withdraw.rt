@@ -3,20 +3,26 @@ ghost use Rattle.std.specs.Prelude.{◌≡◌, true};
 ghost use Rattle.office_acts.specs.Rights.{may};
 ghost use Rattle.office_acts.specs.declared.command.CommandKind.TheVariants as kinds;
 ghost use Rattle.office_acts.specs.declared.commands.Command.TheVariants.{Withdraw};
+ghost use Rattle.office_base.specs.RuleParts.{is_late};
 ghost use Rattle.office_base.specs.Shelves.{Looks, LooksUp};
+ghost use Rattle.office_machine.specs.Replies.{Withdrew, state_after};
 ghost use Rattle.office_plans.specs.Asking.{given_by};
 ghost use Rattle.office_plans.specs.Effects.{HasEffect};
+ghost use Rattle.office_plans.specs.Replies.{said};
 ghost use Rattle.tender_core.specs.Rules.Withdraw.{withdraw_rows};
 
 use crate::decided::planned;
-use crate::parents::{notice_of_envelope, security_of_envelope};
+use crate::parents::{late_of_envelope, lot_of_envelope, notice_of_envelope, security_of_envelope};
 use crate::planned::Planned;
 use crate::reply::Reply;
+use office_base::records::{EnvelopeRow, EnvelopeState};
 use office_base::shelf::{Lookups, ShelfFault};
 use office_values::given::AskedNumber;
+use office_values::moment::Moment;
 use office_values::refusal::Refusal;
 use std::alloc::Global;
 use tender_core::asking::Asking;
+use tender_core::tenders::is_late;
 use tender_core::withdraw::{WithdrawRows, decide_withdraw};
 
 // The rows that it is decided on.
@@ -26,16 +32,47 @@ fn load<H: Lookups>(shelf: &mut H, receipt: AskedNumber) -> Result<WithdrawRows,
     let clock = shelf.get_clock()?;
     let envelope = shelf.get_envelope(receipt)?;
     let notice = notice_of_envelope(shelf, &envelope)?;
+    let lot = lot_of_envelope(shelf, &envelope)?;
+    let late = late_of_envelope(shelf, &envelope)?;
     let security = security_of_envelope(shelf, &envelope)?;
     Ok(WithdrawRows {
         envelope,
         notice,
+        lot,
+        late,
         security,
         clock,
     })
 }
 
-/// Plans the withdrawal of a tender, whose security goes back.
+// Where a tender is that was taken back: from the deadline on it stays where it was.
+fn state_after(late: bool, envelope: &Option<EnvelopeRow>) -> EnvelopeState
+    ensures { result ≡ state_after late envelope.now }
+{
+    if late {
+        match envelope {
+            Some(row) => row.state,
+            None => EnvelopeState::Withdrawn,
+        }
+    } else {
+        EnvelopeState::Withdrawn
+    }
+}
+
+// The reply: where the tender is then.
+fn reply_of(t: Moment, rows: &WithdrawRows, receipt: AskedNumber) -> Reply
+    ensures { said result ≡ Withdrew receipt (state_after (is_late rows.now.late t rows.now.notice) rows.now.envelope) t }
+{
+    let late = is_late(&rows.late, t, &rows.notice);
+    Reply::Withdrew {
+        receipt,
+        state: state_after(late, &rows.envelope),
+        moment: t,
+    }
+}
+
+/// Plans the withdrawal of a tender: before the deadline its security goes back; from then on, where its notice lets it, it is out of the running
+/// and its security is forfeited.
 pub fn plan<H: Lookups>(
     alloc: Global,
     shelf: &mut H,
@@ -47,7 +84,7 @@ pub fn plan<H: Lookups>(
 {
     let rows = load(shelf, receipt)?;
     let t = asking.time(&rows.clock);
-    let reply = Reply::Withdrew { receipt, moment: t };
+    let reply = reply_of(t, &rows, receipt);
     let decided = decide_withdraw(alloc, t, asking.caller, rows);
     planned(alloc, decided, &reply)
 }

@@ -6,6 +6,8 @@ use Rattle.office_values.specs.Ids.{same_id}
 use Rattle.office_acts.specs.Notices.{weight_of}
 use Rattle.office_acts.specs.declared.lot.NewLot.{NewLot}
 use Rattle.office_acts.specs.declared.notice.NewNotice.{NewNotice}
+use Rattle.office_acts.specs.declared.notice.LateWithdrawal.{LateWithdrawal}
+use Rattle.office_acts.specs.declared.notice.LateWithdrawal.TheVariants.{Refused, Forfeits}
 use Rattle.office_values.specs.declared.refusal.Thing.TheVariants as things
 use Rattle.office_values.specs.declared.refusal.Refusal.{Refusal}
 use Rattle.office_values.specs.declared.refusal.Refusal.TheVariants.{NoSuch, Exists, DeadlinePassed, InsufficientFunds, LimitReached}
@@ -103,10 +105,19 @@ notice_row t notice new = record {
 abbrev pub notice_put : ℕ → List ℕ → NewNotice → Put
 notice_put t notice new = puts.Notice (notice_row t notice new)
 
--- what a publication puts: the lines of its lots, the lots, the notice and the clock
-abbrev pub publish_effect : ClockRow → ℕ → List ℕ → List LineRow → NewNotice → List Put
-publish_effect clock t notice lines new =
+-- a notice that says so lets tenders be withdrawn late
+abbrev pub late_puts : List ℕ → LateWithdrawal → List Put
+late_puts notice Refused = []
+late_puts notice Forfeits = puts.Late (record { notice = notice }) ∷ []
+
+-- the lines of its lots, the lots, the notice and the clock
+abbrev pub publish_parts : ClockRow → ℕ → List ℕ → List LineRow → NewNotice → List Put
+publish_parts clock t notice lines new =
     map (line_put lines new.lots) new.lots ++ map (lot_put notice) new.lots ++ (notice_put t notice new ∷ puts.Clock (record clock { moment = t }) ∷ [])
+
+-- what a publication puts: these, and what it says of late withdrawals
+abbrev pub publish_effect : ClockRow → ℕ → List ℕ → List LineRow → NewNotice → List Put
+publish_effect clock t notice lines new = publish_parts clock t notice lines new ++ late_puts notice new.late_withdrawal
 
 -- the rows of an office that a publication looks at
 abbrev pub publish_rows : Tables → List ℕ → PublishRows

@@ -42,5 +42,8 @@ returns-in-Release-clause-failed g c = rw c.in-Release.is c.put_release.ensures.
 pub returns-in-Compiled-clause-failed : goal.returns-in-Compiled-clause-failed
 returns-in-Compiled-clause-failed g c = rw c.in-Compiled.is c.put_compiled.ensures.failed
 
+pub returns-in-Late-clause-failed : goal.returns-in-Late-clause-failed
+returns-in-Late-clause-failed g c = rw c.in-Late.is c.put_late.ensures.failed
+
 pub returns-in-Clock-clause-failed : goal.returns-in-Clock-clause-failed
 returns-in-Clock-clause-failed g c = rw c.in-Clock.is c.put_clock.ensures.failed

@@ -5,46 +5,62 @@ use Rattle.sqlite.specs.State.{HasCleanDisk, IsLive}
 use Rattle.sqlite.proofs.StateLemmas.{survives_then}
 use Rattle.office_sql.specs.Steps.{IsRefusal}
 use Rattle.office_sql.specs.Version.{get_version}
+use Rattle.office_sql.proofs.Earlier.{shown_version}
 use Rattle.office_store.specs.Founding.{is_version_one, takes_a_name, LeavesOffice}
 use Rattle.office_store.proofs.Founding.{sound_after, founded_after, leaves_before, refused_on, shown_is_left}
-use Rattle.office_store.proofs.Shelves.{still_shows}
+use Rattle.office_store.proofs.Completing.{leaves_completed_before, readied_after, office_on}
 use Rattle.office_store.proofs.found.enter.Goals as goal
 
-pub returns-in-Ok-still_open-clause-enters : goal.returns-in-Ok-still_open-clause-enters
-returns-in-Ok-still_open-clause-enters g c clean =
-    let early : HasCleanDisk (state g.S.Store c.ask_version.new.conn) = omega (arith, clean, c.still_open.ensures.survives.clean) in
-    let one : is_version_one c.in-Ok.rows.items ≡ true = search rules in
-    inl (c.in-Ok.rows.items, c.in-Ok.ensures.asked early, one)
-
-pub returns-in-Ok-still_open-clause-found : goal.returns-in-Ok-still_open-clause-found
-returns-in-Ok-still_open-clause-found g c clean t shows =
+pub returns-in-Ok-ready-clause-enters : goal.returns-in-Ok-ready-clause-enters
+returns-in-Ok-ready-clause-enters g c clean =
     let old = state g.S.Store c.args.conn.now in
     let mid = state g.S.Store c.ask_version.new.conn in
-    let end = state g.S.Store c.still_open.new.conn in
-    let early : HasCleanDisk mid = omega (arith, clean, c.still_open.ensures.survives.clean) in
-    still_shows mid end t (c.still_open.ensures.kept clean) (still_shows old mid t (c.ask_version.ensures.kept early) shows)
+    let end = state g.S.Store c.ready.new.conn in
+    let early : HasCleanDisk mid = omega (arith, clean, c.ready.ensures.survives.clean) in
+    let one : is_version_one c.in-Ok.rows.items ≡ true = search rules in
+    inl (
+      (c.in-Ok.rows.items, c.in-Ok.ensures.asked early, one),
+      readied_after old mid end (c.ask_version.ensures.kept early) (c.in-Ok-ready.ensures.is_open clean) (c.in-Ok-ready.ensures.readied clean),
+    )
 
-pub returns-in-Ok-still_open-clause-sound : goal.returns-in-Ok-still_open-clause-sound
-returns-in-Ok-still_open-clause-sound g c clean =
-    shown_is_left (state g.S.Store c.still_open.new.conn) (c.in-Ok-still_open.ensures.is_open clean) (λ open_now db leaves. g.met.S.Store.settled c.still_open.new.conn.store db open_now leaves)
-
-pub returns-in-Ok-still_open-clause-survives : goal.returns-in-Ok-still_open-clause-survives
-returns-in-Ok-still_open-clause-survives g c =
+pub returns-in-Ok-ready-clause-found : goal.returns-in-Ok-ready-clause-found
+returns-in-Ok-ready-clause-found g c clean t shows =
     let old = state g.S.Store c.args.conn.now in
-    survives_then old (state g.S.Store c.ask_version.new.conn) (state g.S.Store c.still_open.new.conn) _ _ (LeavesOffice g.S.Store c.args.conn.now) (λ _ db none. absurd none) (λ _ db none. absurd none)
-    c.ask_version.ensures.survives c.still_open.ensures.survives
+    let mid = state g.S.Store c.ask_version.new.conn in
+    let early : HasCleanDisk mid = omega (arith, clean, c.ready.ensures.survives.clean) in
+    c.in-Ok-ready.ensures.shows clean t (office_on old mid t (c.ask_version.ensures.kept early) shows)
+
+pub returns-in-Ok-ready-clause-sound : goal.returns-in-Ok-ready-clause-sound
+returns-in-Ok-ready-clause-sound g c clean =
+    shown_is_left (state g.S.Store c.ready.new.conn) (c.in-Ok-ready.ensures.is_open clean) (λ open_now db leaves. g.met.S.Store.settled c.ready.new.conn.store db open_now leaves)
+
+pub returns-in-Ok-ready-clause-survives : goal.returns-in-Ok-ready-clause-survives
+returns-in-Ok-ready-clause-survives g c =
+    let old = state g.S.Store c.args.conn.now in
+    let mid = state g.S.Store c.ask_version.new.conn in
+    let one : is_version_one c.in-Ok.rows.items ≡ true = search rules in
+    survives_then old mid (state g.S.Store c.ready.new.conn) _ _ (LeavesOffice g.S.Store c.args.conn.now) (λ _ db none. absurd none)
+    (λ clean db leaves.
+    let early : HasCleanDisk mid = omega (arith, clean, c.ready.ensures.survives.clean) in
+    inr ((c.in-Ok.rows.items, c.in-Ok.ensures.asked early, one), leaves_completed_before old mid db (c.ask_version.ensures.kept early) leaves))
+    c.ask_version.ensures.survives c.ready.ensures.survives
 
 pub returns-in-Ok-clause-kept : goal.returns-in-Ok-clause-kept
 returns-in-Ok-clause-kept g c clean =
     let mid = state g.S.Store c.ask_version.new.conn in
-    let early : HasCleanDisk mid = omega (arith, clean, c.still_open.ensures.survives.clean) in
-    refused_on (state g.S.Store c.args.conn.now) mid (state g.S.Store c.still_open.new.conn) (c.ask_version.ensures.kept early) (c.still_open.ensures.kept clean)
+    let early : HasCleanDisk mid = omega (arith, clean, c.ready.ensures.survives.clean) in
+    refused_on (state g.S.Store c.args.conn.now) mid (state g.S.Store c.ready.new.conn) (c.ask_version.ensures.kept early) (c.in-Err-ready.ensures.kept clean)
 
 pub returns-in-Ok-clause-survives : goal.returns-in-Ok-clause-survives
 returns-in-Ok-clause-survives g c =
     let old = state g.S.Store c.args.conn.now in
-    survives_then old (state g.S.Store c.ask_version.new.conn) (state g.S.Store c.still_open.new.conn) _ _ (LeavesOffice g.S.Store c.args.conn.now) (λ _ db none. absurd none) (λ _ db none. absurd none)
-    c.ask_version.ensures.survives c.still_open.ensures.survives
+    let mid = state g.S.Store c.ask_version.new.conn in
+    let one : is_version_one c.in-Ok.rows.items ≡ true = search rules in
+    survives_then old mid (state g.S.Store c.ready.new.conn) _ _ (LeavesOffice g.S.Store c.args.conn.now) (λ _ db none. absurd none)
+    (λ clean db leaves.
+    let early : HasCleanDisk mid = omega (arith, clean, c.ready.ensures.survives.clean) in
+    inr ((c.in-Ok.rows.items, c.in-Ok.ensures.asked early, one), leaves_completed_before old mid db (c.ask_version.ensures.kept early) leaves))
+    c.ask_version.ensures.survives c.ready.ensures.survives
 
 pub returns-then-not-is_version_one-clause-none : goal.returns-then-not-is_version_one-clause-none
 returns-then-not-is_version_one-clause-none g c clean why =
@@ -54,7 +70,7 @@ returns-then-not-is_version_one-clause-none g c clean why =
 pub returns-then-not-is_version_one-clause-known : goal.returns-then-not-is_version_one-clause-known
 returns-then-not-is_version_one-clause-known g c clean t shows why =
     let other : is_version_one c.in-Ok.rows.items ≡ false = search rules in
-    true≢false (sym (ap is_version_one (c.in-Ok.ensures.one clean t shows)) ∙ other)
+    true≢false (sym (ap is_version_one (c.in-Ok.ensures.one clean (shown_version (state g.S.Store c.args.conn.now) t shows))) ∙ other)
 
 pub returns-then-taken-clause-none : goal.returns-then-taken-clause-none
 returns-then-taken-clause-none g c clean why =
@@ -65,7 +81,7 @@ returns-then-taken-clause-none g c clean why =
 pub returns-then-taken-clause-known : goal.returns-then-taken-clause-known
 returns-then-taken-clause-known g c clean t shows why =
     let input : c.in-Err-SqlInputError.field-0 ≡ SqlInputError c.in-Err-SqlInputError.field-0-0 = search rules in
-    c.in-Err-SqlInputError.ensures.taken clean t shows c.in-Err-SqlInputError.field-0-0 input
+    c.in-Err-SqlInputError.ensures.taken clean (shown_version (state g.S.Store c.args.conn.now) t shows) c.in-Err-SqlInputError.field-0-0 input
 
 pub returns-in-Ok-found-clause-enters : goal.returns-in-Ok-found-clause-enters
 returns-in-Ok-found-clause-enters g c clean =
@@ -102,7 +118,7 @@ pub returns-in-Ok-found-clause-found : goal.returns-in-Ok-found-clause-found
 returns-in-Ok-found-clause-found g c clean t shows =
     let early : HasCleanDisk (state g.S.Store c.ask_version.new.conn) = omega (arith, c.found.ensures.survives.clean) in
     let input : c.in-Err-SqlInputError.field-0 ≡ SqlInputError c.in-Err-SqlInputError.field-0-0 = search rules in
-    absurd (c.in-Err-SqlInputError.ensures.taken early t shows c.in-Err-SqlInputError.field-0-0 input)
+    absurd (c.in-Err-SqlInputError.ensures.taken early (shown_version (state g.S.Store c.args.conn.now) t shows) c.in-Err-SqlInputError.field-0-0 input)
 
 pub returns-in-Ok-found-clause-survives : goal.returns-in-Ok-found-clause-survives
 returns-in-Ok-found-clause-survives g c =
