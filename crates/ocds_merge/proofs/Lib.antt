@@ -11,3 +11,5 @@ pub mod KindLaw
 pub mod HeadLaw
 pub mod IdLaw
 pub mod PlaceLaw
+pub mod ScanLaw
+pub mod SpliceLaw

@@ -1,3 +1,5 @@
 -- Words of private clauses: no public clause speaks of them.
 pub mod Step
 pub mod Places
+pub mod Scan
+pub mod Splice

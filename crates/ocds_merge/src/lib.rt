@@ -13,6 +13,8 @@ mod members;
 mod merging;
 mod places;
 mod release_order;
+mod scan;
+mod splice;
 mod step;
 mod stored;
 

@@ -7,6 +7,7 @@ ghost use Rattle.ocds_merge.specs.Stored.{KeepsMerge, IsStorable};
 ghost use Rattle.ocds_merge.specs.declared.stored.StoredFault.TheVariants.{NoMemory as no_memory};
 
 use crate::merging::{NoMemory, carried_on};
+use crate::splice::{Unspliced, splice_value};
 use serde_json::Value;
 use std::alloc::Global;
 
@@ -67,7 +68,37 @@ pub fn merge_into_text(alloc: Global, stored: &str, value: &Value) -> Result<Str
     ensures unreadable { read stored.now ≡ None → IsErr result }
     ensures empty { stored.now ≡ [] → result ≡ Err StoredFault.Unreadable }
 {
+    match spliced(alloc, stored, value) {
+        Ok(text) => Ok(text),
+        Err(Unspliced::NoMemory) => Err(StoredFault::NoMemory),
+        Err(Unspliced::Unfit) => merge_anew(alloc, stored, value),
+    }
+}
+
+// By the stored merge's tree.
+fn merge_anew(alloc: Global, stored: &str, value: &Value) -> Result<String, StoredFault>
+{
     let before = merge_from_text(alloc, stored)?;
     let after = carried_on(alloc, before, value)?;
     Ok(merge_to_text(alloc, &after)?)
+}
+
+// By the stored text.
+pub(crate) fn spliced(alloc: Global, stored: &str, value: &Value) -> Result<String, Unspliced>
+{
+    let Value::Object(_) = value else {
+        return Err(Unspliced::Unfit);
+    };
+    let Some((b'{', _)) = stored.as_bytes().split_first() else {
+        return Err(Unspliced::Unfit);
+    };
+    let mut out: Vec<u8> = Vec::with_capacity(alloc, stored.len())?;
+    let rest = splice_value(alloc, value, stored.as_bytes(), &mut out)?;
+    if !rest.is_empty() {
+        return Err(Unspliced::Unfit);
+    }
+    match String::from_utf8(out) {
+        Ok(text) => Ok(text),
+        Err(_) => Err(Unspliced::Unfit),
+    }
 }
