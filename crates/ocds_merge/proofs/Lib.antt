@@ -13,3 +13,6 @@ pub mod IdLaw
 pub mod PlaceLaw
 pub mod ScanLaw
 pub mod SpliceLaw
+pub mod KeptLaw
+pub mod MemberTurn
+pub mod ListTextLaw

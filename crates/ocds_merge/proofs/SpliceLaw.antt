@@ -31,13 +31,13 @@ scan-quoted n s r = ap (scan n in_string) (append_assoc (escape s) (34 ∷ []) r
 
 scan-digit : (n c : ℕ) (r : List ℕ) → digit_value c < 10 → scan n between (c ∷ r) ≡ scan n between r
 scan-digit n c r h = rw (
-    ne_eqb c 34 (λ e. grind arith),
-    ne_eqb c 123 (λ e. grind arith),
-    ne_eqb c 91 (λ e. grind arith),
-    ne_eqb c 125 (λ e. grind arith),
-    ne_eqb c 93 (λ e. grind arith),
-    ne_eqb c 44 (λ e. grind arith),
-  ) refl
+  ne_eqb c 34 (λ e. grind arith),
+  ne_eqb c 123 (λ e. grind arith),
+  ne_eqb c 91 (λ e. grind arith),
+  ne_eqb c 125 (λ e. grind arith),
+  ne_eqb c 93 (λ e. grind arith),
+  ne_eqb c 44 (λ e. grind arith),
+) refl
 
 scan-digits : (n : ℕ) (ds r : List ℕ) → AllDigits 10 ds → scan n between (ds ++ r) ≡ scan n between r
 scan-digits n [] r h = refl
@@ -157,11 +157,11 @@ tail_of : List ℕ → List ℕ
 tail_of [] = []
 tail_of (c ∷ r) = r
 
-heads : (a b : ℕ) (s t : List ℕ) → a ∷ s ≡ b ∷ t → a ≡ b
+pub heads : (a b : ℕ) (s t : List ℕ) → a ∷ s ≡ b ∷ t → a ≡ b
 unfolding head_of
 heads a b s t h = ap head_of h
 
-tails : (a b : ℕ) (s t : List ℕ) → a ∷ s ≡ b ∷ t → s ≡ t
+pub tails : (a b : ℕ) (s t : List ℕ) → a ∷ s ≡ b ∷ t → s ≡ t
 unfolding tail_of
 tails a b s t h = ap tail_of h
 

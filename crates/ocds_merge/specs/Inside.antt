@@ -2,4 +2,5 @@
 pub mod Step
 pub mod Places
 pub mod Scan
+pub mod Pending
 pub mod Splice

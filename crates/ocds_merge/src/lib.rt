@@ -9,14 +9,18 @@ mod examples;
 mod head;
 mod identified;
 mod laws;
+mod list_text;
 mod members;
 mod merging;
+mod object_text;
 mod places;
 mod release_order;
 mod scan;
 mod splice;
 mod step;
 mod stored;
+mod unspliced;
+mod writes;
 
 pub use compiling::compile;
 pub use examples::{worked_columns, worked_compilations, worked_merges};

@@ -1,5 +1,5 @@
 //! Where values end in a JSON text.
-ghost use Rattle.std.specs.Prelude.{◌≡◌, ℕ, ◌≤◌, ◌∷◌, ◌++◌, length, MatchOption, ⊤};
+ghost use Rattle.std.specs.Prelude.{◌≡◌, ℕ, List, ◌≤◌, ◌∷◌, ◌++◌, length, MatchOption, ⊤};
 ghost use Rattle.ocds_merge.specs.Inside.Scan.{scan, between, in_string, IsPlain};
 
 /// What comes after a string; the text begins after the opening quote.
@@ -69,4 +69,15 @@ pub(crate) fn plain_string(text: &[u8]) -> Option<(&[u8], &[u8])>
         }
     }
     None
+}
+
+/// What comes after this byte, where a text begins with it.
+pub(crate) fn after_byte(text: &[u8], byte: u8) -> Option<&[u8]>
+    ensures { MatchOption result ((rest : List ℕ) → text.now ≡ byte ∷ rest → ⊥)
+        (λ rest. text.now ≡ byte ∷ rest.now) }
+{
+    match text.split_first() {
+        Some((first, rest)) => { if *first == byte { Some(rest) } else { None } }
+        None => None,
+    }
 }

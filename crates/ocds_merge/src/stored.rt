@@ -7,7 +7,8 @@ ghost use Rattle.ocds_merge.specs.Stored.{KeepsMerge, IsStorable};
 ghost use Rattle.ocds_merge.specs.declared.stored.StoredFault.TheVariants.{NoMemory as no_memory};
 
 use crate::merging::{NoMemory, carried_on};
-use crate::splice::{Unspliced, splice_value};
+use crate::splice::splice_value;
+use crate::unspliced::Unspliced;
 use serde_json::Value;
 use std::alloc::Global;
 
@@ -76,16 +77,14 @@ pub fn merge_into_text(alloc: Global, stored: &str, value: &Value) -> Result<Str
 }
 
 // By the stored merge's tree.
-fn merge_anew(alloc: Global, stored: &str, value: &Value) -> Result<String, StoredFault>
-{
+fn merge_anew(alloc: Global, stored: &str, value: &Value) -> Result<String, StoredFault> {
     let before = merge_from_text(alloc, stored)?;
     let after = carried_on(alloc, before, value)?;
     Ok(merge_to_text(alloc, &after)?)
 }
 
 // By the stored text.
-pub(crate) fn spliced(alloc: Global, stored: &str, value: &Value) -> Result<String, Unspliced>
-{
+pub(crate) fn spliced(alloc: Global, stored: &str, value: &Value) -> Result<String, Unspliced> {
     let Value::Object(_) = value else {
         return Err(Unspliced::Unfit);
     };

@@ -4,9 +4,13 @@ use Rattle.std.specs.declared.cmp.Ordering.TheVariants.{Less, Greater}
 use Rattle.std.specs.Ordering.{nat_cmp}
 use Rattle.std.specs.Cmp.Lexicographic.{slice_cmp}
 use Rattle.serde_json.specs.Data.{Num, unsigned, negative, float, Data, null, boolean, number, string, array, object, Items, no_items, item, Members, no_members, member}
+use Rattle.serde_json.specs.Find.{get_member}
+use Rattle.serde_json.specs.View.{items_of}
 use Rattle.serde_json.specs.Written.{compact_text, items_text, members_text}
 use Rattle.ocds_merge.specs.Inside.Scan.{scan, between}
-use Rattle.ocds_merge.specs.Inside.Step.{step, step_items, step_members}
+use Rattle.ocds_merge.specs.Identified.{all_have_id}
+use Rattle.ocds_merge.specs.Inside.Step.{step_members, items_list}
+use Rattle.ocds_merge.specs.Inside.Pending.{step_list}
 
 -- an integer that a text can give
 abbrev pub IsInRange : Num → Type 0
@@ -72,3 +76,42 @@ pub record Passed (name : List ℕ) (d : Data) (ms ts : Members) (rest old : Lis
   pub others : Members
   pub stand : StandAt left others rest
   pub same : SameText old later (step_members ts (member name d ms)) new more (step_members others (member name d ms))
+
+-- Some of the members to be merged into an object are, and what comes of it is written: these are pending.
+pub record Merged (ts ms : Members) (rest old left new : List ℕ) (more : Bool) (pending : Members) : Type 0 where
+  pub others : Members
+  pub stand : StandAt left others rest
+  pub same : SameText old false (step_members ts ms) new more (step_members others pending)
+
+-- The first of the members has this name, and its value begins here.
+pub record StartsWith (name value : List ℕ) (ts : Members) (rest : List ℕ) : Type 0 where
+  pub old : Data
+  pub others : Members
+  pub is : ts ≡ member name old others
+  pub text : value ≡ compact_text old ++ (members_text true others ++ rest)
+
+-- The members before these have other names.
+pub record Searched (name : List ℕ) (ts : Members) (rest left : List ℕ) : Type 0 where
+  pub others : Members
+  pub stand : StandAt left others rest
+  pub same : get_member name others ≡ get_member name ts
+
+-- Among the members is one of this name, and its value begins here.
+pub record FoundAt (name : List ℕ) (ts : Members) (rest value : List ℕ) : Type 0 where
+  pub old : Data
+  pub others : Members
+  pub found : get_member name ts ≡ Some old
+  pub kept : IsKept old × AreMembersKept others
+  pub text : value ≡ compact_text old ++ (members_text true others ++ rest)
+
+-- the same of the items of a list: what is written of it, and the items that are left
+abbrev pub SameItems : List ℕ → Bool → List Data → List ℕ → Bool → List Data → Type 0
+SameItems old later before new more after = new ++ items_text more (items_of after) ≡ old ++ items_text later (items_of before)
+
+-- Some items of a list are gone through, and what comes of them is written: these of the others' items are pending.
+pub record ItemsMerged (ds : Items) (ps : List Data) (rest old left new : List ℕ) (more : Bool) (left_pending : List Data) : Type 0 where
+  pub others : Items
+  pub stands : no_comma left ≡ items_text false others ++ rest
+  pub kept : AreItemsKept others
+  pub ids : all_have_id others ≡ true → all_have_id ds ≡ true
+  pub same : SameItems old false (step_list (items_list ds) ps) new more (step_list (items_list others) left_pending)

@@ -1,5 +1,5 @@
 use Rattle.ocds_merge.proofs.SpliceLaw.{rest_at}
-use Rattle.ocds_merge.proofs.splice.copy_rest.Goals as goal
+use Rattle.ocds_merge.proofs.object_text.copy_rest.Goals as goal
 
 pub returns : goal.returns
 returns c ts rest st ends =

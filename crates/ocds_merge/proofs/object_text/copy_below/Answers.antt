@@ -4,7 +4,7 @@ use Rattle.ocds_merge.specs.Inside.Scan.{IsPlain}
 use Rattle.ocds_merge.specs.Inside.Splice.{no_comma, StandAt, AllAbove, StartsFrom, Passed}
 use Rattle.ocds_merge.proofs.MemberLemmas.{bytes_cmp}
 use Rattle.ocds_merge.proofs.SpliceLaw.{pass_one, none_left, not_below, some_case, none_case, after_shorter}
-use Rattle.ocds_merge.proofs.splice.copy_below.Goals as goal
+use Rattle.ocds_merge.proofs.object_text.copy_below.Goals as goal
 
 pub returns-then-not-is_above : goal.returns-then-not-is_above
 returns-then-not-is_above c d ms ts rest st ab =
