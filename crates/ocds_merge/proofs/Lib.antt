@@ -16,3 +16,5 @@ pub mod SpliceLaw
 pub mod KeptLaw
 pub mod MemberTurn
 pub mod ListTextLaw
+pub mod PendingLaw
+pub mod ListTurn

@@ -1,6 +1,7 @@
 -- The items of a list in its text, and their ids.
 use Rattle.std.proofs.Common.{◌≡◌, ◌≢◌, ℕ, ◌<◌, ◌^◌, suc, pos, negsuc, List, [], ◌∷◌, ◌++◌, Bool, true, false, Option, Some, None, option_and_then, refl, sym, ap, ◌∙◌, subst, append_assoc, arith, codes, decimal, length, ◌⊎◌, inl, inr}
 use Rattle.std.proofs.lemmas.Fmt.{decimal_is_IsNumeral, decimal_nonempty}
+use Rattle.std.proofs.lemmas.Bool.{ne_eqb}
 use Rattle.std.specs.Str.Parse.{AllDigits}
 use Rattle.std.specs.Char.{digit_value}
 use Rattle.json.specs.Print.{escape, quoted}
@@ -134,6 +135,8 @@ found_one name ts rest left m whole value s = go s.others s.stand s.same
 pub record Opened (d : Data) (rest inside : List ℕ) : Type 0 where
   pub members : Members
   pub is : d ≡ object members
+  pub text : inside ≡ members_text false members ++ rest
+  pub kept : IsKept (object members)
   pub stand : StandAt inside members rest
 
 pub opened : (d : Data) (rest text inside : List ℕ) → IsKept d → text ≡ compact_text d ++ rest → text ≡ 123 ∷ inside → Opened d rest inside
@@ -142,7 +145,7 @@ opened d rest text inside h is form =
     let o = not_object d l.first l.lead (heads l.first 123 l.after inside (sym l.is ∙ sym is ∙ form)) in
     let kept : IsKept (object o.0) = subst IsKept o.1 h in
     let inner : inside ≡ members_text false o.0 ++ rest = tails 123 123 _ _ (sym form ∙ is ∙ ap (λ (x : Data). compact_text x ++ rest) o.1) in
-    record { members = o.0; is = o.1; stand = record { stands = ap no_comma inner ∙ no_comma_members false o.0 rest; order = kept.0; kept = kept.1 } }
+    record { members = o.0; is = o.1; text = inner; kept = kept; stand = record { stands = ap no_comma inner ∙ no_comma_members false o.0 rest; order = kept.0; kept = kept.1 } }
 
 id_text : (ms : Members) (old : Data) (s id : List ℕ) → get_member (codes "id") ms ≡ Some old → old ≡ string s → s ≡ id → text_id (object ms) ≡ Some id
 id_text ms old s id found is same =
@@ -165,3 +168,30 @@ id_at d rest inside value quote id after ends o f starts form plain =
 pub ends_before_items : (ds : Items) (rest : List ℕ) → EndsBefore (items_text true ds ++ rest)
 ends_before_items no_items rest = refl
 ends_before_items (item d ds) rest = refl
+
+pub record OpenedList (d : Data) (rest inside : List ℕ) : Type 0 where
+  pub items : Items
+  pub is : d ≡ array items
+  pub text : inside ≡ items_text false items ++ rest
+  pub kept : AreItemsKept items
+
+pub opened_list : (d : Data) (rest text inside : List ℕ) → IsKept d → text ≡ compact_text d ++ rest → text ≡ 91 ∷ inside → OpenedList d rest inside
+opened_list d rest text inside h is form =
+    let l = led d rest h in
+    let o = not_array d l.first l.lead (heads l.first 91 l.after inside (sym l.is ∙ sym is ∙ form)) in
+    record { items = o.0; is = o.1; text = tails 91 91 _ _ (sym form ∙ is ∙ ap (λ (x : Data). compact_text x ++ rest) o.1); kept = subst IsKept o.1 h }
+
+no_comma_led : (c : ℕ) (s : List ℕ) → c ≢ 44 → no_comma (c ∷ s) ≡ c ∷ s
+no_comma_led c s other = rw (ne_eqb c 44 other) refl
+
+pub item_first : (d : Data) (ds : Items) (rest : List ℕ) → items_text false (item d ds) ++ rest ≡ compact_text d ++ (items_text true ds ++ rest)
+item_first d ds rest = append_assoc (compact_text d) (items_text true ds) rest
+
+pub no_comma_items : (later : Bool) (ds : Items) (rest : List ℕ) → AreItemsKept ds → no_comma (items_text later ds ++ rest) ≡ items_text false ds ++ rest
+no_comma_items true no_items rest h = refl
+no_comma_items false no_items rest h = refl
+no_comma_items true (item d ds) rest h = refl
+no_comma_items false (item d ds) rest h =
+    let l = led d (items_text true ds ++ rest) h.0 in
+    let e : items_text false (item d ds) ++ rest ≡ l.first ∷ l.after = item_first d ds rest ∙ l.is in
+    ap no_comma e ∙ no_comma_led l.first l.after (opens_well d l.first l.lead).1 ∙ sym e

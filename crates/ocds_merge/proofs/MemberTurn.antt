@@ -108,8 +108,12 @@ some_absent name v ts ms old named new later lacks above some a b =
 
 -- ---- the members, one after another
 
-pub merged_none : (text : List ℕ) (ts ms : Members) (rest old : List ℕ) → IsOrdered ts → AreMembersKept ts → text ≡ members_text false ts ++ rest → Merged ts ms rest old text old false ms
-merged_none text ts ms rest old order kept is = record { others = ts; stand = record { stands = ap no_comma is ∙ no_comma_members false ts rest; order = order; kept = kept }; same = refl }
+pub merged_none : (text : List ℕ) (ts ms : Members) (rest old new : List ℕ) → new ≡ old → IsKept (object ts) → text ≡ members_text false ts ++ rest → Merged ts ms rest old text new false ms
+merged_none text ts ms rest old new e kept is = record {
+  others = ts;
+  stand = record { stands = ap no_comma is ∙ no_comma_members false ts rest; order = kept.0; kept = kept.1 };
+  same = ap (λ (s : List ℕ). s ++ members_text false (step_members ts ms)) e;
+}
 
 pub merged_one : (name : List ℕ) (v : Data) (ts all ms : Members) (rest old left new : List ℕ) (more : Bool) (left' new' : List ℕ) (more' : Bool) (left'' new'' : List ℕ) (more'' : Bool)
     → (m : Merged ts all rest old left new more (member name v ms)) → AllAbove name ms

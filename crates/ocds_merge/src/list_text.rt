@@ -34,7 +34,7 @@ pub(crate) fn next_item(text: &[u8]) -> Result<Option<&[u8]>, Unspliced>
 }
 
 /// What comes after an array, from before its closing bracket.
-pub(crate) fn after_list(text: &[u8]) -> Result<&[u8], Unspliced>
+fn after_list(text: &[u8]) -> Result<&[u8], Unspliced>
     ensures { IfOk result (λ rest. no_comma text.now ≡ 93 ∷ rest.now) }
 {
     match after_byte(after_comma(text), b']') {
@@ -69,7 +69,10 @@ pub(crate) fn id_in(text: &[u8]) -> Result<(&[u8], &[u8]), Unspliced>
     let Some(quoted) = after_byte(id_value(inside)?, b'"') else {
         return Err(Unspliced::Unfit);
     };
-    plain_string(quoted).ok_or(Unspliced::Unfit)
+    match plain_string(quoted) {
+        Some(found) => Ok(found),
+        None => Err(Unspliced::Unfit),
+    }
 }
 
 /// Whether no item before this place has this id.
@@ -152,7 +155,7 @@ fn write_unless(
 }
 
 /// Writes the items that are merged into no old one, and closes the array.
-pub(crate) fn write_pending(
+fn write_pending(
     alloc: Global,
     items: &[Value],
     done: &[bool],
@@ -167,5 +170,25 @@ pub(crate) fn write_pending(
     for (place, item) in items.iter().enumerate() {
         later = write_unless(alloc, item, done[place], later, out)?;
     }
-    write_byte(b']', out)
+    write_byte(b']', out)?;
+    Ok(())
+}
+
+/// The same, where the old items end: what comes after them.
+pub(crate) fn close_list<'a>(
+    alloc: Global,
+    items: &[Value],
+    done: &[bool],
+    text: &'a [u8],
+    later: bool,
+    out: &mut Vec<u8>,
+) -> Result<&'a [u8], Unspliced>
+    requires { length done.now ≡ length items.now }
+    ensures { IfOk result (λ rest. AreItemsKept (items_view items.now)
+        → (no_comma text.now ≡ 93 ∷ rest.now)
+        × (out.new.items ≡ out.old.items ++ items_text later (items_of (map alone (pending (map view items.now) done.now))))) }
+{
+    write_pending(alloc, items, done, later, out)?;
+    let rest = after_list(text)?;
+    Ok(rest)
 }

@@ -54,10 +54,10 @@ pub(crate) fn next_member(text: &[u8]) -> Result<Option<Member<'_>>, Unspliced>
 }
 
 /// Whether a name comes after another.
-fn is_above(name: &[u8], other: &[u8]) -> bool
+fn is_above(name: &str, other: &[u8]) -> bool
     ensures { MatchBool result (slice_cmp nat_cmp name.now other.now ≡ Ordering.Greater) (slice_cmp nat_cmp name.now other.now ≢ Ordering.Greater) }
 {
-    match name.cmp(other) {
+    match name.as_bytes().cmp(other) {
         Ordering::Greater => true,
         Ordering::Less => false,
         Ordering::Equal => false,
@@ -66,7 +66,7 @@ fn is_above(name: &[u8], other: &[u8]) -> bool
 
 /// Copies the members with names below this one.
 pub(crate) fn copy_below<'a>(
-    name: &[u8],
+    name: &str,
     text: &'a [u8],
     later: bool,
     out: &mut Vec<u8>,
@@ -115,14 +115,14 @@ pub(crate) fn copy_rest<'a>(
 }
 
 /// The old value of this name, from where it begins, among members of which none comes before it.
-pub(crate) fn old_value<'a>(text: &'a [u8], name: &[u8]) -> Result<Option<&'a [u8]>, Unspliced>
+pub(crate) fn old_value<'a>(text: &'a [u8], name: &str) -> Result<Option<&'a [u8]>, Unspliced>
     ensures { IfOk result (λ found. (ts : Members) (rest : List ℕ) → StandAt text.now ts rest → StartsFrom name.now ts
         → MatchOption found (AllAbove name.now ts) (λ value. StartsWith name.now value.now ts rest)) }
 {
     let Some(member) = next_member(text)? else {
         return Ok(None);
     };
-    if member.name == name {
+    if member.name == name.as_bytes() {
         Ok(Some(member.value))
     } else {
         Ok(None)

@@ -1,17 +1,17 @@
 //! The merge of a text and one more value: what the value doesn't touch is copied as it stands.
-ghost use Rattle.std.specs.Prelude.{◌≡◌, ◌<◌, ℕ, List, [], ◌∷◌, ◌++◌, Bool, true, false, length, map, is_some, IfOk, IsTrue, ◌↔◌, unwrap_or, Some};
+ghost use Rattle.std.specs.Prelude.{◌≡◌, ◌<◌, ℕ, List, [], ◌∷◌, ◌++◌, Bool, true, false, length, map, is_some, MatchBool, IfOk, OnOk, unwrap_or, Some};
 ghost use Rattle.serde_json.specs.Data.{Data, null, Members, member, Items, array, object};
 ghost use Rattle.serde_json.specs.View.{view, items_of, items_view, members_view};
 ghost use Rattle.serde_json.specs.Written.{compact_text, members_text, items_text};
 ghost use Rattle.ocds_merge.specs.Identified.{all_have_id, text_id};
-ghost use Rattle.ocds_merge.specs.Inside.Step.{step, step_members, step_items, id_list_of};
+ghost use Rattle.ocds_merge.specs.Inside.Step.{step, step_members, step_items, id_list_of, items_list};
 ghost use Rattle.ocds_merge.specs.Inside.Places.{Serves};
-ghost use Rattle.ocds_merge.specs.Inside.Splice.{IsKept, AreItemsKept, EndsBefore, StandAt, AllAbove, StartsFrom, SameText, SameItems};
+ghost use Rattle.ocds_merge.specs.Inside.Splice.{IsKept, AreItemsKept, EndsBefore, no_comma, StandAt, AllAbove, StartsFrom, SameText, SameItems};
 ghost use Rattle.ocds_merge.specs.Inside.Pending.{HaveDistinctIds, step_list, pending};
 
 use crate::identified::is_id_list;
 use crate::list_text::{
-    after_list, distinct_places, id_in, next_item, none_done, note_done, place_in, write_pending,
+    close_list, distinct_places, id_in, next_item, none_done, note_done, place_in,
 };
 use crate::object_text::{copy_below, copy_rest, old_value};
 use crate::places::Places;
@@ -22,7 +22,7 @@ use serde_json::{Map, Value};
 use std::alloc::Global;
 
 fn is_null(value: &Value) -> bool
-    ensures { IsTrue result ↔ (view value.now ≡ null) }
+    ensures { MatchBool result (view value.now ≡ null) (view value.now ≡ null → ⊥) }
 {
     match value {
         Value::Null => true,
@@ -76,8 +76,9 @@ fn splice_members<'a>(
     let mut left = text;
     let mut later = false;
     for (name, value) in members.iter() {
-        (left, later) = copy_below(name.as_bytes(), left, later, out)?;
-        (left, later) = splice_member(alloc, name.as_str(), value, left, later, out)?;
+        let name = name.as_str();
+        (left, later) = copy_below(name, left, later, out)?;
+        (left, later) = splice_member(alloc, name, value, left, later, out)?;
     }
     copy_rest(left, later, out)
 }
@@ -97,7 +98,7 @@ fn splice_member<'a>(
         → (others : Members) × StandAt p.0.now others rest
         × SameText out.old.items later (step_members ts (member name.now (view value.now) ms)) out.new.items p.1 (step_members others ms)) }
 {
-    let old = old_value(text, name.as_bytes())?;
+    let old = old_value(text, name)?;
     if is_null(value) {
         return match old {
             Some(old) => Ok((after_value(old, 0), later)),
@@ -131,15 +132,40 @@ fn splice_items<'a>(
     let places = distinct_places(alloc, items)?;
     let mut done = none_done(alloc, items.len())?;
     write_byte(b'[', out)?;
+    let (left, later) = splice_old_items(alloc, items, &places, &mut done, text, out)?;
+    drop(places);
+    close_list(alloc, items, &done, left, later, out)
+}
+
+/// Goes through the old items, and notes which of the new ones are merged into them: what is left at the closing bracket, and whether anything stands before it.
+#[cycle(splicing)]
+fn splice_old_items<'a>(
+    alloc: Global,
+    items: &Vec<Value>,
+    places: &Places,
+    done: &mut Vec<bool>,
+    text: &'a [u8],
+    out: &mut Vec<u8>,
+) -> Result<(&'a [u8], bool), Unspliced>
+    requires ids { all_have_id (items_view items.now.items) ≡ true }
+    requires serves { Serves places.now.by_id (map view items.now.items) }
+    requires distinct { HaveDistinctIds (map view items.now.items) }
+    requires marks { length done.old.items ≡ length items.now.items }
+    ensures marks { OnOk result (length done.new.items ≡ length items.now.items) }
+    ensures splices { IfOk result (λ p. AreItemsKept (items_view items.now.items) → (ds : Items) (rest : List ℕ)
+        → AreItemsKept ds → text.now ≡ items_text false ds ++ rest
+        → (no_comma p.0.now ≡ 93 ∷ rest) × (all_have_id ds ≡ true)
+        × SameItems out.old.items false (step_list (items_list ds) (pending (map view items.now.items) done.old.items))
+        out.new.items p.1 (step_list [] (pending (map view items.now.items) done.new.items))) }
+{
     let mut left = text;
     let mut later = false;
     // A list has no more items than bytes.
     for _turn in 0..text.len() {
         let Some(item) = next_item(left)? else {
-            write_pending(alloc, items, &done, later, out)?;
-            return after_list(left);
+            return Ok((left, later));
         };
-        left = splice_item(alloc, items, &places, &mut done, item, later, out)?;
+        left = splice_item(alloc, items, places, done, item, later, out)?;
         later = true;
     }
     Err(Unspliced::Unfit)
@@ -160,7 +186,7 @@ fn splice_item<'a>(
     requires serves { Serves places.now.by_id (map view items.now.items) }
     requires distinct { HaveDistinctIds (map view items.now.items) }
     requires marks { length done.old.items ≡ length items.now.items }
-    ensures marks { length done.new.items ≡ length items.now.items }
+    ensures marks { OnOk result (length done.new.items ≡ length items.now.items) }
     ensures splices { IfOk result (λ left. AreItemsKept (items_view items.now.items) → (t : Data) (rest : List ℕ)
         → IsKept t → EndsBefore rest → text.now ≡ compact_text t ++ rest
         → (left.now ≡ rest) × (is_some (text_id t) ≡ true) × ((ts : List Data)
@@ -175,5 +201,6 @@ fn splice_item<'a>(
     };
     note_done(done, place)?;
     write_comma(later, out)?;
-    splice_value(alloc, &items[place], text, out)
+    let left = splice_value(alloc, &items[place], text, out)?;
+    Ok(left)
 }

@@ -9,11 +9,11 @@ returns-then-eq c ts rest h start =
     let m = c.in-Some.member in
     let e = some_case _ _ c.in_ok-member.field-0 m c.in-Some.is c.in_ok-member.ensures in
     value_at c.args.name.now c.args.text.now ts rest m.name.now m.whole.now m.value.now h e.0 e.1 e.2
-    ((bytes_eq-Decides m.name.now c.args.name.now).0 (sym c.if-eq.ensures))
+    ((bytes_eq-Decides m.name.now c.as_bytes.result.now).0 (sym c.if-eq.ensures) ∙ c.as_bytes.ensures.value)
 
 pub returns-else-eq : goal.returns-else-eq
 returns-else-eq c ts rest h start =
     let m = c.in-Some.member in
     let e = some_case _ _ c.in_ok-member.field-0 m c.in-Some.is c.in_ok-member.ensures in
     absent_at c.args.name.now c.args.text.now ts rest m.name.now m.whole.now m.value.now h e.0 e.1 e.2 start
-    (λ same. absurd (true≢false (sym ((bytes_eq-Decides m.name.now c.args.name.now).1 same) ∙ sym c.if-eq.ensures)))
+    (λ same. absurd (true≢false (sym ((bytes_eq-Decides m.name.now c.as_bytes.result.now).1 (same ∙ sym c.as_bytes.ensures.value)) ∙ sym c.if-eq.ensures)))
