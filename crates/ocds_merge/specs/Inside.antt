@@ -4,3 +4,4 @@ pub mod Places
 pub mod Scan
 pub mod Pending
 pub mod Splice
+pub mod Readable
