@@ -18,3 +18,4 @@ pub mod MemberTurn
 pub mod ListTextLaw
 pub mod PendingLaw
 pub mod ListTurn
+pub mod ReadLaw

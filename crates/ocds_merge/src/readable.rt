@@ -1,5 +1,5 @@
 //! Whether a text is JSON, without a tree of it.
-ghost use Rattle.std.specs.Prelude.{◌≡◌, ◌<◌, ℕ, List, length, IsTrue, IfOk, OnErr, Some};
+ghost use Rattle.std.specs.Prelude.{◌≡◌, ◌<◌, ◌≤◌, ℕ, List, length, slice_index, IsTrue, IfOk, OnErr, Some};
 ghost use Rattle.json.specs.Json.{value, items, members};
 ghost use Rattle.serde_json.specs.Data.{Data, unsigned, no_members};
 ghost use Rattle.serde_json.specs.Read.{read, number_of, of_json, of_items, of_members};
@@ -11,13 +11,26 @@ use std::alloc::{AllocError, Global};
 /// How deep a text may nest, in levels: no deeper than `Value::from_str` reads.
 const MAX_DEPTH: usize = 127;
 
+/// Whether a text begins with no sign.
+fn has_no_sign(text: &[u8]) -> bool
+    ensures { IsTrue result → 48 ≤ slice_index text.now 0 }
+{
+    match text.first() {
+        Some(first) => *first >= b'0',
+        None => false,
+    }
+}
+
 /// Whether a number is plain digits that fit 64 bits, as all are that this project writes.
 fn is_plain_number(text: &str) -> bool
     ensures { IsTrue result → (n : ℕ) × (number_of text.now ≡ Some (unsigned n)) }
 {
-    match text.as_bytes().first() {
-        Some(b'0'..=b'9') => text.parse::<u64>().is_ok(),
-        _ => false,
+    if !has_no_sign(text.as_bytes()) {
+        return false;
+    }
+    match text.parse::<u64>() {
+        Ok(_) => true,
+        Err(_) => false,
     }
 }
 
