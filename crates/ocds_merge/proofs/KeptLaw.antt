@@ -1,5 +1,7 @@
 -- Values that read back from their texts have no float, and their objects are in order.
-use Rattle.std.proofs.Common.{◌≡◌, ℕ, List, [], ◌∷◌, Bool, true, false, ◌||◌, refl, Less, pos, negsuc}
+use Rattle.std.proofs.Common.{◌≡◌, ℕ, List, [], ◌∷◌, Bool, true, false, ◌||◌, refl, Less, Greater, pos, negsuc, ap, ◌∙◌}
+use Rattle.std.specs.Ordering.{ordering_reverse}
+use Rattle.std.proofs.lemmas.Cmp.{nat_list_cmp_total}
 use Rattle.std.specs.List.{AllByRecursion}
 use Rattle.std.specs.List.Sorted.{IsStrictlySortedBy}
 use Rattle.serde_json.specs.Data.{Num, unsigned, negative, float, Data, null, boolean, number, string, array, object, Items, no_items, item, Members, no_members, member}
@@ -66,3 +68,15 @@ mutual
   members_proper : (ms : Members) → AreMembersKept ms → AreMembersProper ms
   members_proper no_members h = tt
   members_proper (member k d ms) h = (kept_proper d h.0, members_proper ms h.1)
+
+pub greater_from_less : (k l : List ℕ) → bytes_cmp k l ≡ Less → bytes_cmp l k ≡ Greater
+greater_from_less k l h = nat_list_cmp_total.antisymm l k ∙ ap ordering_reverse h
+
+above_names : (k : List ℕ) (ms : Members) → AllByRecursion (λ y. bytes_cmp k y ≡ Less) (names_of ms) → AllAbove k ms
+above_names k no_members h = tt
+above_names k (member l e ms) h = (h.0, greater_from_less k l h.0, above_names k ms h.1)
+
+pub ordered_names : (ms : Members) → IsStrictlySortedBy bytes_cmp (names_of ms) → IsOrdered ms
+unfolding IsStrictlySortedBy
+ordered_names no_members h = tt
+ordered_names (member k d ms) h = (above_names k ms h.0, ordered_names ms h.1)

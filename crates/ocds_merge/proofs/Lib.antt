@@ -19,3 +19,6 @@ pub mod ListTextLaw
 pub mod PendingLaw
 pub mod ListTurn
 pub mod ReadLaw
+pub mod KeptStep
+pub mod ReadKept
+pub mod TextLaw
