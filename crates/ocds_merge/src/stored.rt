@@ -1,4 +1,4 @@
-ghost use Rattle.std.specs.Prelude.{◌≡◌, List, [], ◌∷◌, ◌++◌, Some, None, Err, string_bytes, IfOk, OnOk, IfErr, IsErr, All, unwrap_or};
+ghost use Rattle.std.specs.Prelude.{◌≡◌, List, [], ◌∷◌, ◌++◌, Some, None, Err, string_bytes, IsTrue, ◌↔◌, IfOk, OnOk, IfErr, IsErr, All, unwrap_or};
 ghost use Rattle.serde_json.specs.Data.{Data, null};
 ghost use Rattle.serde_json.specs.Read.{read};
 ghost use Rattle.serde_json.specs.View.{view};
@@ -60,6 +60,20 @@ pub fn merge_from_text(alloc: Global, stored: &str) -> Result<Value, StoredFault
         } else {
             StoredFault::Unreadable
         }),
+    }
+}
+
+/// Whether a text keeps a merge that can be carried on: it is JSON of at most 127 levels. No tree is made of it where its numbers are digits alone.
+pub fn is_readable(alloc: Global, stored: &str) -> Result<bool, NoMemory>
+    ensures { IfOk result (λ is. IsTrue is ↔ ((merge : Data) × (read stored.now ≡ Some merge))) }
+{
+    if is_plain_json(alloc, stored)? {
+        return Ok(true);
+    }
+    match merge_from_text(alloc, stored) {
+        Ok(_) => Ok(true),
+        Err(StoredFault::Unreadable) => Ok(false),
+        Err(StoredFault::NoMemory) => Err(NoMemory),
     }
 }
 

@@ -2,7 +2,7 @@
 use std::alloc::AllocError;
 
 /// Why no text came.
-#[derive(Clone, Copy, Debug, PartialEq, Eq)]
+#[derive(Clone, Copy)]
 pub(crate) enum Unspliced {
     NoMemory,
     /// The text isn't of the form that is spliced, as where a name has an escape.
