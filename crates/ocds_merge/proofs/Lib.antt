@@ -11,3 +11,14 @@ pub mod KindLaw
 pub mod HeadLaw
 pub mod IdLaw
 pub mod PlaceLaw
+pub mod ScanLaw
+pub mod SpliceLaw
+pub mod KeptLaw
+pub mod MemberTurn
+pub mod ListTextLaw
+pub mod PendingLaw
+pub mod ListTurn
+pub mod ReadLaw
+pub mod KeptStep
+pub mod ReadKept
+pub mod TextLaw
