@@ -6,7 +6,8 @@ use Rattle.std.proofs.lemmas.Float.Parse.{scan_numeral-text_of}
 use Rattle.json.specs.Token.{Token}
 use Rattle.json.specs.Lex.{tokens}
 use Rattle.json.specs.Json as json
-use Rattle.serde_json.specs.Data.{Num, unsigned, Data, number, Items, item, Members, put}
+use Rattle.json.proofs.Grammar.{value-begin_object}
+use Rattle.serde_json.specs.Data.{Num, unsigned, Data, number, object, Items, item, Members, no_members, put}
 use Rattle.serde_json.specs.Read.{number_of, number_from, read, max_depth, of_json, of_items, of_members}
 use Rattle.ocds_merge.specs.Inside.Readable.{Converts}
 use Rattle.serde_json.proofs.OnLiterals.{serde_json_on_literals}
@@ -50,6 +51,18 @@ whole o = option_and_then of_json (option_and_then (λ p. json.if_last p.0 p.1) 
 pub whole_read : (text : List ℕ) (h : Converts of_json (json.value max_depth (tokens text)) []) → read text ≡ Some h.to
 unfolding whole
 whole_read text h = ap whole h.reads ∙ h.is
+
+-- the text begins an object, and its members are passed up to the end
+pub object_read : (text : List ℕ) (ts : List Token) → tokens text ≡ Token.begin_object ∷ ts
+    → (h : Converts (λ ms. of_members ms no_members) (json.members (json.value 126) (length ts) ts) []) → read text ≡ Some (object h.to)
+object_read text ts is h =
+    whole_read text
+    (record {
+      from = json.object h.from;
+      to = object h.to;
+      reads = ap (json.value max_depth) is ∙ value-begin_object max_depth ts (omega arith) ∙ ap (json.parse_map json.object) h.reads;
+      is = ap (λ (o : Option Members). option_map object o) h.is;
+    })
 
 -- an empty text is no JSON
 pub nothing_read : (merge : Data) → read [] ≡ Some merge → ⊥

@@ -1,7 +1,7 @@
 //! Whether a text is JSON, without a tree of it.
 ghost use Rattle.std.specs.Prelude.{◌≡◌, ◌<◌, ◌≤◌, ℕ, List, length, slice_index, IsTrue, IfOk, OnErr, Some};
 ghost use Rattle.json.specs.Json.{value, items, members};
-ghost use Rattle.serde_json.specs.Data.{Data, unsigned, no_members};
+ghost use Rattle.serde_json.specs.Data.{Data, Members, unsigned, object, no_members};
 ghost use Rattle.serde_json.specs.Read.{read, number_of, of_json, of_items, of_members};
 ghost use Rattle.ocds_merge.specs.Inside.Readable.{Converts};
 
@@ -104,6 +104,22 @@ pub(crate) fn is_plain_json(alloc: Global, text: &str) -> Result<bool, AllocErro
     let mut scratch = Scratch::new(alloc);
     let mut reader = Reader::new(text, &mut scratch)?;
     if !passes_value(&mut reader, MAX_DEPTH) {
+        return Ok(false);
+    }
+    Ok(reader.next().is_none())
+}
+
+/// Whether a text is a JSON object whose numbers are plain: where it answers `false` the text may still be one.
+pub(crate) fn is_plain_object(alloc: Global, text: &str) -> Result<bool, AllocError>
+    ensures reads { IfOk result (λ is. IsTrue is → (members : Members) × (read text.now ≡ Some (object members))) }
+{
+    let mut scratch = Scratch::new(alloc);
+    let mut reader = Reader::new(text, &mut scratch)?;
+    match reader.next() {
+        Some(Token::BeginObject) => {}
+        _ => return Ok(false),
+    }
+    if !passes_members(&mut reader, MAX_DEPTH - 1) {
         return Ok(false);
     }
     Ok(reader.next().is_none())

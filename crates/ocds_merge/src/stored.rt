@@ -1,5 +1,5 @@
 ghost use Rattle.std.specs.Prelude.{◌≡◌, List, [], ◌∷◌, ◌++◌, Some, None, Err, string_bytes, IsTrue, ◌↔◌, IfOk, OnOk, IfErr, IsErr, All, unwrap_or};
-ghost use Rattle.serde_json.specs.Data.{Data, null};
+ghost use Rattle.serde_json.specs.Data.{Data, Members, null, object};
 ghost use Rattle.serde_json.specs.Read.{read};
 ghost use Rattle.serde_json.specs.View.{view};
 ghost use Rattle.serde_json.specs.Written.{compact_text};
@@ -11,7 +11,7 @@ ghost use Rattle.ocds_merge.specs.declared.stored.StoredFault.TheVariants.{NoMem
 
 use crate::kept_value::is_kept;
 use crate::merging::{NoMemory, carried_on};
-use crate::readable::is_plain_json;
+use crate::readable::{is_plain_json, is_plain_object};
 use crate::splice::splice_value;
 use crate::unspliced::Unspliced;
 use serde_json::Value;
@@ -63,16 +63,16 @@ pub fn merge_from_text(alloc: Global, stored: &str) -> Result<Value, StoredFault
     }
 }
 
-/// Whether a text keeps a merge that can be carried on: it is JSON of at most 127 levels. No tree is made of it where its numbers are digits alone.
-pub fn is_readable(alloc: Global, stored: &str) -> Result<bool, NoMemory>
-    ensures { IfOk result (λ is. IsTrue is ↔ ((merge : Data) × (read stored.now ≡ Some merge))) }
+/// Whether a text is a JSON object of at most 127 levels, so that it can be merged. No tree is made of it where its numbers are digits alone.
+pub fn is_object(alloc: Global, text: &str) -> Result<bool, NoMemory>
+    ensures { IfOk result (λ is. IsTrue is ↔ ((members : Members) × (read text.now ≡ Some (object members)))) }
 {
-    if is_plain_json(alloc, stored)? {
+    if is_plain_object(alloc, text)? {
         return Ok(true);
     }
-    match merge_from_text(alloc, stored) {
-        Ok(_) => Ok(true),
-        Err(StoredFault::Unreadable) => Ok(false),
+    match merge_from_text(alloc, text) {
+        Ok(Value::Object(_)) => Ok(true),
+        Ok(_) | Err(StoredFault::Unreadable) => Ok(false),
         Err(StoredFault::NoMemory) => Err(NoMemory),
     }
 }
