@@ -12,6 +12,8 @@ pub mod HeadLaw
 pub mod IdLaw
 pub mod PlaceLaw
 pub mod ScanLaw
+pub mod PlainLaw
+pub mod NumberLaw
 pub mod SpliceLaw
 pub mod KeptLaw
 pub mod MemberTurn
@@ -21,4 +23,6 @@ pub mod ListTurn
 pub mod ReadLaw
 pub mod KeptStep
 pub mod ReadKept
+pub mod ReadWritten
+pub mod PassLaw
 pub mod TextLaw

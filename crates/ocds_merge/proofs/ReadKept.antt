@@ -196,7 +196,7 @@ all_follow_none : (ms : Members) → AllFollow ms no_members
 all_follow_none no_members = tt
 all_follow_none (member k d ms) = (tt, all_follow_none ms)
 
-outline_number : (n : Num) → IsInRange n → of_json (json.number (number_text n)) ≡ Some (number n)
+pub outline_number : (n : Num) → IsInRange n → of_json (json.number (number_text n)) ≡ Some (number n)
 outline_number (unsigned n) h = ap (λ (o : Option Num). option_map number o) (number_of-decimal n h)
 outline_number (negative (pos n)) h = absurd h
 outline_number (negative (negsuc n)) h = ap (λ (o : Option Num). option_map number o) (number_of-negative n h)
@@ -227,7 +227,7 @@ mutual
       ∙ members_outline_read ms (join found (member k d no_members)) o.1 h.1 (all_follow_more k d ms found o.0 f.1)
       ∙ ap Some (join_more k d found ms))
 
-outline_number_text : (n : Num) → IsInRange n → IsNumber (number_text n)
+pub outline_number_text : (n : Num) → IsInRange n → IsNumber (number_text n)
 outline_number_text (unsigned n) h = IsNumber-decimal n h
 outline_number_text (negative (pos n)) h = absurd h
 outline_number_text (negative (negsuc n)) h = IsNumber-signed_decimal (negsuc n) h
@@ -251,7 +251,7 @@ mutual
   members_outline_numbers (member k d ms) h = (outline_numbers d h.0, members_outline_numbers ms h.1)
 
 mutual
-  outline_depth : (d : Data) → tree.depth (outline d) ≡ depth d
+  pub outline_depth : (d : Data) → tree.depth (outline d) ≡ depth d
   outline_depth null = refl
   outline_depth (boolean b) = refl
   outline_depth (number n) = refl
@@ -272,5 +272,4 @@ kept_reads d h shallow =
     let j = outline d in
     let told : tokens (compact_text d) ≡ json_tokens j = ap tokens (sym (print-outline d)) ∙ tokens-print (json_tokens j) (ArePrintable-json_tokens j (outline_numbers d h)) in
     let low : tree.depth j ≤ max_depth = omega (arith, outline_depth d) in
-    whole_read (compact_text d)
-    (record { from = j; to = d; reads = ap (json.value max_depth) (told ∙ sym (append-nil (json_tokens j))) ∙ value-json_tokens j max_depth [] low; is = outline_read d h })
+    whole_read (compact_text d) j d (ap (json.value max_depth) (told ∙ sym (append-nil (json_tokens j))) ∙ value-json_tokens j max_depth [] low) (outline_read d h)

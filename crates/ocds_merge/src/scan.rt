@@ -1,23 +1,63 @@
 //! Where values end in a JSON text.
-ghost use Rattle.std.specs.Prelude.{◌≡◌, ℕ, List, ◌≤◌, ◌∷◌, ◌++◌, length, MatchOption, ⊤};
-ghost use Rattle.ocds_merge.specs.Inside.Scan.{scan, between, in_string, IsPlain};
+ghost use Rattle.std.specs.Prelude.{◌≡◌, ◌≢◌, ℕ, List, ◌≤◌, ◌∷◌, ◌++◌, length, MatchOption, MatchBool, ⊤};
+ghost use Rattle.ocds_merge.specs.Inside.Scan.{scan, between, in_string, escaped, IsPlain, StandsForItself, AllStandForThemselves};
+
+/// Whether a byte stands for itself in a string.
+fn is_plain(byte: u8) -> bool
+    ensures { MatchBool result (StandsForItself byte) ⊤ }
+{
+    if byte < b' ' {
+        return false;
+    }
+    if byte == b'"' {
+        return false;
+    }
+    byte != b'\\'
+}
+
+/// The rest of a string, from the first byte on that doesn't stand for itself.
+pub(crate) fn after_plain(text: &[u8]) -> &[u8]
+    ensures passes { (s : List ℕ) × (text.now ≡ s ++ result.now) × AllStandForThemselves s }
+    ensures shorter { length result.now ≤ length text.now }
+{
+    for (at, byte) in text.iter().enumerate() {
+        if !is_plain(*byte) {
+            return &text[at..];
+        }
+    }
+    &text[text.len()..]
+}
+
+/// The text without its first byte.
+fn after_one(text: &[u8]) -> &[u8]
+    ensures passes { (n : ℕ) → scan n escaped text.now ≡ scan n in_string result.now }
+    ensures shorter { length result.now ≤ length text.now }
+{
+    match text.split_first() {
+        Some((_, rest)) => rest,
+        None => text,
+    }
+}
+
+/// What comes after a byte that doesn't stand for itself, and the byte that a backslash takes with it.
+fn after_stop(stop: u8, rest: &[u8]) -> &[u8]
+    ensures passes { stop ≢ 34 → (n : ℕ) → scan n in_string (stop ∷ rest.now) ≡ scan n in_string result.now }
+    ensures shorter { length result.now ≤ length rest.now }
+{
+    if stop == b'\\' { after_one(rest) } else { rest }
+}
 
 /// What comes after a string; the text begins after the opening quote.
 pub(crate) fn after_string(text: &[u8]) -> &[u8]
     ensures scans { (n : ℕ) → scan n in_string text.now ≡ scan n between result.now }
     ensures shorter { length result.now ≤ length text.now }
 {
-    let mut left = text;
-    let mut escaped = false;
+    let mut left = after_plain(text);
     while let Some((first, rest)) = left.split_first() {
-        left = rest;
-        if escaped {
-            escaped = false;
-        } else if *first == b'\\' {
-            escaped = true;
-        } else if *first == b'"' {
-            return left;
+        if *first == b'"' {
+            return rest;
         }
+        left = after_plain(after_stop(*first, rest));
     }
     left
 }

@@ -67,7 +67,7 @@ pub fn merge_from_text(alloc: Global, stored: &str) -> Result<Value, StoredFault
 pub fn is_object(alloc: Global, text: &str) -> Result<bool, NoMemory>
     ensures { IfOk result (λ is. IsTrue is ↔ ((members : Members) × (read text.now ≡ Some (object members)))) }
 {
-    if is_plain_object(alloc, text)? {
+    if is_plain_object(text.as_bytes()) {
         return Ok(true);
     }
     match merge_from_text(alloc, text) {
@@ -123,10 +123,11 @@ fn spliced(alloc: Global, stored: &str, value: &Value) -> Result<String, Unsplic
     if !is_kept(value) {
         return Err(Unspliced::Unfit);
     }
-    if !is_plain_json(alloc, stored)? {
+    let bytes = stored.as_bytes();
+    if !is_plain_json(bytes) {
         return Err(Unspliced::Unfit);
     }
-    let text = spliced_bytes(alloc, stored.as_bytes(), value)?;
+    let text = spliced_bytes(alloc, bytes, value)?;
     match String::from_utf8(text) {
         Ok(text) => Ok(text),
         Err(_) => Err(Unspliced::Unfit),

@@ -1,5 +1,5 @@
 -- Where values end in a JSON text, a byte at a time. No public clause rests on this file.
-use Rattle.std.specs.Prelude.{◌≡◌, ◌≢◌, ℕ, ◌+◌, ◌-◌, List, [], ◌∷◌, ◌||◌, ◌&&◌, ◌==◌, cond, ⊤}
+use Rattle.std.specs.Prelude.{◌≡◌, ◌≢◌, ℕ, ◌+◌, ◌-◌, List, [], ◌∷◌, ◌||◌, ◌&&◌, ◌==◌, ◌≤◌, cond, ⊤}
 
 -- outside strings, inside one, and after a backslash there
 pub data Mode : Type 0 where
@@ -24,3 +24,11 @@ scan n escaped (c ∷ r) = scan n in_string r
 abbrev pub IsPlain : List ℕ → Type 0
 IsPlain [] = ⊤
 IsPlain (c ∷ r) = (c ≢ 34) × (c ≢ 92) × IsPlain r
+
+-- a byte of a string that needs no escape
+abbrev pub StandsForItself : ℕ → Type 0
+StandsForItself c = (32 ≤ c) × (c ≢ 34) × (c ≢ 92)
+
+abbrev pub AllStandForThemselves : List ℕ → Type 0
+AllStandForThemselves [] = ⊤
+AllStandForThemselves (c ∷ r) = StandsForItself c × AllStandForThemselves r

@@ -1,110 +1,60 @@
-use Rattle.std.proofs.Common.{◌≡◌, ◌-◌, ◌<◌, ◌≤◌, ◌∙◌, ◌∷◌, List, length, Option, Some, None, option_map, sym, ap, subst, refl, arith, true}
-use Rattle.json.specs.Token.{Token}
-use Rattle.json.specs.Json as json
-use Rattle.json.specs.Json.{parse_map, after_end_array, read_key, items, members, value}
-use Rattle.json.specs.Reads.{token_of}
-use Rattle.json.proofs.Grammar.{value_is, value-begin_array, value-begin_object, read_key-shorter, items_end, items_more, members_end, members_more}
-use Rattle.serde_json.specs.Data.{null, boolean, number, string, array, object, unsigned, Items, item, no_items, Members, no_members, put}
-use Rattle.serde_json.specs.Read.{of_json, of_items, of_members}
-use Rattle.ocds_merge.proofs.ReadLaw.{number_converts, item_converts, member_converts}
+use Rattle.std.proofs.Common.{◌≡◌, ◌≤◌, ◌∙◌, ◌++◌, ◌∷◌, [], ℕ, suc, max, List, true, false, ap, sym, arith, append_assoc}
+use Rattle.json.specs.Print.{escape, quoted}
+use Rattle.serde_json.specs.Data.{Data, null, boolean, number, string, array, object, unsigned, Items, no_items, item, Members, no_members, member, depth, items_depth, members_depth}
+use Rattle.serde_json.specs.Written.{compact_text, items_text, members_text, comma_if}
+use Rattle.ocds_merge.specs.Inside.Readable.{Passed, PassedItems, PassedMembers}
+use Rattle.ocds_merge.proofs.PassLaw.{string_passed, word_passed, array_passed, object_passed, item_before, member_before}
 use Rattle.ocds_merge.proofs.readable.+passing.Goals as goal
 
-pub passes_value-returns-in-String-clause-reads : goal.passes_value-returns-in-String-clause-reads
-passes_value-returns-in-String-clause-reads t c _ =
-    let s = c.in-String.field-0.now in
-    let is : c.args.reader.now ≡ Token.string s ∷ c.next.new.self = c.in-Some.ensures.value ∙ ap (λ k. token_of k ∷ c.next.new.self) c.in-String.is in
-    record { from = json.string s; to = string s; reads = ap (value c.args.depth) is ∙ value_is c.args.depth _; is = refl }
+pub passed_items-returns-in-Some : goal.passed_items-returns-in-Some
+passed_items-returns-in-Some t c = c.loop-turn.invariant no_items c.in-Some.rest.now tt (omega arith) c.in-Some.ensures
 
-pub passes_value-returns-in-Bool-clause-reads : goal.passes_value-returns-in-Bool-clause-reads
-passes_value-returns-in-Bool-clause-reads t c _ =
-    let b = c.in-Bool.field-0 in
-    let is : c.args.reader.now ≡ Token.boolean b ∷ c.next.new.self = c.in-Some.ensures.value ∙ ap (λ k. token_of k ∷ c.next.new.self) c.in-Bool.is in
-    record { from = json.boolean b; to = boolean b; reads = ap (value c.args.depth) is ∙ value_is c.args.depth _; is = refl }
+pub passed_items-loop-turn-preserved : goal.passed_items-loop-turn-preserved
+passed_items-loop-turn-preserved t c ds rest w deep e =
+    let v = c.in_ok-left.ensures in
+    let low : items_depth (item v.value ds) ≤ c.args.depth = omega (arith, v.shallow, deep) in
+    c.loop-turn.invariant (item v.value ds) rest (v.written, w) low (item_before c.loop-turn.later v.value ds c.loop-turn.left.now c.in_ok-item.item.now c.in_ok-left.left.now rest c.in_ok-item.ensures v.is e)
 
-pub passes_value-returns-in-Null-clause-reads : goal.passes_value-returns-in-Null-clause-reads
-passes_value-returns-in-Null-clause-reads t c _ =
-    let is : c.args.reader.now ≡ Token.null ∷ c.next.new.self = c.in-Some.ensures.value ∙ ap (λ k. token_of k ∷ c.next.new.self) c.in-Null.is in
-    record { from = json.null; to = null; reads = ap (value c.args.depth) is ∙ value_is c.args.depth _; is = refl }
+pub passed_members-returns-in-Some : goal.passed_members-returns-in-Some
+passed_members-returns-in-Some t c = c.loop-turn.invariant no_members c.in-Some.rest.now tt (omega arith) c.in-Some.ensures
 
-pub passes_value-returns-in-Number-clause-reads : goal.passes_value-returns-in-Number-clause-reads
-passes_value-returns-in-Number-clause-reads t c plain =
-    let s = c.in-Number.text.now in
-    let is : c.args.reader.now ≡ Token.number s ∷ c.next.new.self = c.in-Some.ensures.value ∙ ap (λ k. token_of k ∷ c.next.new.self) c.in-Number.is in
-    let n = c.is_plain_number.ensures plain in
-    record { from = json.number s; to = number (unsigned n.0); reads = ap (value c.args.depth) is ∙ value_is c.args.depth _; is = number_converts s (unsigned n.0) n.1 }
+pub passed_members-loop-turn-preserved : goal.passed_members-loop-turn-preserved
+passed_members-loop-turn-preserved t c ms rest w deep e =
+    let v = c.in_ok-left.ensures in
+    let k = c.in_ok-value.ensures in
+    let low : members_depth (member k.0 v.value ms) ≤ c.args.depth = omega (arith, v.shallow, deep) in
+    c.loop-turn.invariant (member k.0 v.value ms) rest (v.written, w) low
+    (member_before c.loop-turn.later k.0 v.value ms c.loop-turn.left.now c.in_ok-after_comma_if.field-0.now c.in_ok-value.value.now c.in_ok-left.left.now rest c.in_ok-after_comma_if.ensures k.1 v.is e)
 
-pub passes_value-returns-else-depth-eq0-clause-reads : goal.passes_value-returns-else-depth-eq0-clause-reads
-passes_value-returns-else-depth-eq0-clause-reads t c passed =
-    let ts = c.next.new.self in
-    let is : c.args.reader.now ≡ Token.begin_array ∷ ts = c.in-Some.ensures.value ∙ ap (λ k. token_of k ∷ ts) c.in-BeginArray.is in
-    let h = c.passes_items.ensures.reads passed in
-    record {
-      from = json.array h.from;
-      to = array h.to;
-      reads = ap (value c.args.depth) is ∙ value-begin_array c.args.depth ts (omega arith) ∙ ap (parse_map json.array) h.reads;
-      is = ap (λ (o : Option Items). option_map array o) h.is;
-    }
+pub passed_value-returns-in_ok-passed_string-in-34 : goal.passed_value-returns-in_ok-passed_string-in-34
+passed_value-returns-in_ok-passed_string-in-34 t c =
+    let p = c.in_ok-passed_string-in-34.ensures in
+    string_passed c.args.text.now c.in_ok-first.rest.now c.in_ok-passed_string-in-34.field-0.now c.in_ok-first.first.now p.0 c.args.depth c.in_ok-first.ensures.cases.0 c.in-34.is p.1
 
-pub passes_value-returns-else-depth-eq0-2-clause-reads : goal.passes_value-returns-else-depth-eq0-2-clause-reads
-passes_value-returns-else-depth-eq0-2-clause-reads t c passed =
-    let ts = c.next.new.self in
-    let is : c.args.reader.now ≡ Token.begin_object ∷ ts = c.in-Some.ensures.value ∙ ap (λ k. token_of k ∷ ts) c.in-BeginObject.is in
-    let h = c.passes_members.ensures.reads passed in
-    record {
-      from = json.object h.from;
-      to = object h.to;
-      reads = ap (value c.args.depth) is ∙ value-begin_object c.args.depth ts (omega arith) ∙ ap (parse_map json.object) h.reads;
-      is = ap (λ (o : Option Members). option_map object o) h.is;
-    }
+pub passed_value-returns-in_ok-passed_members-in-123 : goal.passed_value-returns-in_ok-passed_members-in-123
+passed_value-returns-in_ok-passed_members-in-123 t c =
+    object_passed c.args.text.now c.in_ok-first.rest.now c.in_ok-passed_members-in-123.field-0.now c.in_ok-first.first.now c.args.depth c.in_ok-first.ensures.cases.0 c.in-123.is (λ e. omega arith) c.in_ok-passed_members-in-123.ensures
 
-pub passes_items-items-preserved : goal.passes_items-items-preserved
-passes_items-items-preserved t c =
-    let p = value c.args.depth in
-    let l = c.items in
-    let n = l.invariant.0 in
-    let going : (after_end_array l.reader ≡ None) × (c.take_end_array.new.self ≡ l.reader) = c.items-test.ensures in
-    let done = c.passes_value.ensures.reads c.if-not-passes_value.false in
-    let r = c.passes_value.new.reader in
-    let less : length r < length l.reader = subst (λ (ts : List Token). length r < length ts) going.1 (c.passes_value.ensures.shorter c.if-not-passes_value.false) in
-    let one : p l.reader ≡ Some (done.from, r) = subst (λ (ts : List Token). p ts ≡ Some (done.from, r)) going.1 done.reads in
-    let more = items_more p n l.reader r done.from (omega (arith, l.invariant.1)) going.0 one in (
-      n - 1,
-      omega (arith, l.invariant.1),
-      λ js ds rest e f. l.invariant.2 (json.item done.from js) (item done.to ds) rest (more ∙ ap (parse_map (json.item done.from)) e) (item_converts done.from js done.to ds done.is f),
-      omega (arith, l.invariant.3),
-    )
+pub passed_value-returns-in_ok-passed_items-in-91 : goal.passed_value-returns-in_ok-passed_items-in-91
+passed_value-returns-in_ok-passed_items-in-91 t c =
+    array_passed c.args.text.now c.in_ok-first.rest.now c.in_ok-passed_items-in-91.field-0.now c.in_ok-first.first.now c.args.depth c.in_ok-first.ensures.cases.0 c.in-91.is (λ e. omega arith) c.in_ok-passed_items-in-91.ensures
 
-pub passes_items-returns-clause-reads : goal.passes_items-returns-clause-reads
-passes_items-returns-clause-reads t c _ =
-    let l = c.items in
-    l.invariant.2 json.no_items no_items c.take_end_array.new.self (items_end (value c.args.depth) l.invariant.0 l.reader c.take_end_array.new.self l.invariant.1 c.items-test.ensures) refl
+pub passed_value-returns-in_ok-after_word-in-116 : goal.passed_value-returns-in_ok-after_word-in-116
+passed_value-returns-in_ok-after_word-in-116 t c =
+    word_passed (boolean true) c.args.text.now c.in_ok-first.rest.now c.in_ok-after_word-in-116.field-0.now c.in_ok-first.first.now c.args.depth tt (omega arith) c.in_ok-first.ensures.cases.0
+    (ap (λ (b : ℕ). b ∷ c.in_ok-first.rest.now) c.in-116.is ∙ ap (λ (s : List ℕ). 116 ∷ s) c.in_ok-after_word-in-116.ensures)
 
-pub passes_members-members-init : goal.passes_members-members-init
-passes_members-members-init t c = (length c.args.reader.now, no_members, omega arith, λ ms all rest e f. record { from = ms; to = all; reads = e; is = f }, omega arith)
+pub passed_value-returns-in_ok-after_word-in-102 : goal.passed_value-returns-in_ok-after_word-in-102
+passed_value-returns-in_ok-after_word-in-102 t c =
+    word_passed (boolean false) c.args.text.now c.in_ok-first.rest.now c.in_ok-after_word-in-102.field-0.now c.in_ok-first.first.now c.args.depth tt (omega arith) c.in_ok-first.ensures.cases.0
+    (ap (λ (b : ℕ). b ∷ c.in_ok-first.rest.now) c.in-102.is ∙ ap (λ (s : List ℕ). 102 ∷ s) c.in_ok-after_word-in-102.ensures)
 
-pub passes_members-members-preserved : goal.passes_members-members-preserved
-passes_members-members-preserved t c =
-    let p = value c.args.depth in
-    let l = c.members in
-    let n = l.invariant.0 in
-    let found = l.invariant.1 in
-    let k = c.in-Ok-Some.field-0-0.now in
-    let s = c.next_key.new.self in
-    let named : read_key l.reader ≡ Some (Some k, s) = grind arith in
-    let done = c.passes_value.ensures.reads c.if-not-passes_value.false in
-    let r = c.passes_value.new.reader in
-    let less = read_key-shorter l.reader (Some k) s named in
-    let lesser = c.passes_value.ensures.shorter c.if-not-passes_value.false in
-    let more = members_more p n k l.reader s r done.from (omega (arith, l.invariant.2)) named done.reads in (
-      n - 1,
-      put k done.to found,
-      omega (arith, l.invariant.2),
-      λ ms all rest e f. l.invariant.3 (json.member k done.from ms) all rest (more ∙ ap (parse_map (json.member k done.from)) e) (member_converts k done.from ms done.to found all done.is f),
-      omega (arith, l.invariant.4),
-    )
+pub passed_value-returns-in_ok-after_word-in-110 : goal.passed_value-returns-in_ok-after_word-in-110
+passed_value-returns-in_ok-after_word-in-110 t c =
+    word_passed null c.args.text.now c.in_ok-first.rest.now c.in_ok-after_word-in-110.field-0.now c.in_ok-first.first.now c.args.depth tt (omega arith) c.in_ok-first.ensures.cases.0
+    (ap (λ (b : ℕ). b ∷ c.in_ok-first.rest.now) c.in-110.is ∙ ap (λ (s : List ℕ). 110 ∷ s) c.in_ok-after_word-in-110.ensures)
 
-pub passes_members-returns-in-Ok-None-clause-reads : goal.passes_members-returns-in-Ok-None-clause-reads
-passes_members-returns-in-Ok-None-clause-reads t c _ =
-    let l = c.members in
-    let named : read_key l.reader ≡ Some (None, c.next_key.new.self) = grind arith in
-    l.invariant.3 json.no_members l.invariant.1 c.next_key.new.self (members_end (value c.args.depth) l.invariant.0 l.reader c.next_key.new.self l.invariant.2 named) refl
+pub passed_value-returns-in_ok-passed_number-in_default : goal.passed_value-returns-in_ok-passed_number-in_default
+passed_value-returns-in_ok-passed_number-in_default t c =
+    let p = c.in_ok-passed_number-in_default.ensures in
+    record { value = number (unsigned p.0); written = p.1; shallow = omega arith; is = p.2 }

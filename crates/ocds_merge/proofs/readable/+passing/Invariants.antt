@@ -1,37 +1,22 @@
-use Rattle.std.proofs.Common.{◌≡◌, ℕ, ◌+◌, ◌*◌, ◌≤◌, List, Some, length}
-use Rattle.json.specs.Token.{Token}
-use Rattle.json.specs.Json as json
-use Rattle.json.specs.Json.{items, members, value}
-use Rattle.serde_json.specs.Data.{Items, Members, no_members}
-use Rattle.serde_json.specs.Read.{of_items, of_members}
-use Rattle.ocds_merge.specs.Inside.Readable.{Converts}
+use Rattle.std.proofs.Common.{◌≡◌, ◌++◌, ◌*◌, ◌+◌, ◌≤◌, ℕ, List}
+use Rattle.serde_json.specs.Data.{Items, Members, items_depth, members_depth}
+use Rattle.serde_json.specs.Written.{items_text, members_text}
+use Rattle.ocds_merge.specs.Inside.Readable.{AreItemsWritten, AreMembersWritten, PassedItems, PassedMembers}
 use Rattle.ocds_merge.proofs.readable.+passing.Given as goal
 
-abbrev pub decreases-passes_value : goal.decreases-passes_value
-decreases-passes_value l = 2 * l.depth
+abbrev pub decreases-passed_value : goal.decreases-passed_value
+decreases-passed_value l = 2 * l.depth
 
-abbrev pub decreases-passes_items : goal.decreases-passes_items
-decreases-passes_items l = 2 * l.depth + 1
+abbrev pub decreases-passed_items : goal.decreases-passed_items
+decreases-passed_items l = 2 * l.depth + 1
 
-abbrev pub decreases-passes_members : goal.decreases-passes_members
-decreases-passes_members l = 2 * l.depth + 1
+abbrev pub decreases-passed_members : goal.decreases-passed_members
+decreases-passed_members l = 2 * l.depth + 1
 
-abbrev pub invariant-passes_items-items : goal.invariant-passes_items-items
-invariant-passes_items-items l =
-    (n : ℕ) × (length l.reader ≤ n)
-    × ((js : json.Items) (ds : Items) (rest : List Token) → items (value l.depth) n l.reader ≡ Some (js, rest) → of_items js ≡ Some ds
-    → Converts of_items (items (value l.depth) (length l.initial.reader) l.initial.reader) rest)
-    × (length l.reader ≤ length l.initial.reader)
+abbrev pub invariant-passed_items-loop-turn : goal.invariant-passed_items-loop-turn
+invariant-passed_items-loop-turn l =
+    (ds : Items) (rest : List ℕ) → AreItemsWritten ds → items_depth ds ≤ l.depth → l.left ≡ items_text l.later ds ++ rest → PassedItems l.text rest l.depth
 
-abbrev pub decreases-passes_items-items : goal.decreases-passes_items-items
-decreases-passes_items-items l = length l.reader
-
-abbrev pub invariant-passes_members-members : goal.invariant-passes_members-members
-invariant-passes_members-members l =
-    (n : ℕ) × (found : Members) × (length l.reader ≤ n)
-    × ((ms : json.Members) (all : Members) (rest : List Token) → members (value l.depth) n l.reader ≡ Some (ms, rest) → of_members ms found ≡ Some all
-    → Converts (λ ms. of_members ms no_members) (members (value l.depth) (length l.initial.reader) l.initial.reader) rest)
-    × (length l.reader ≤ length l.initial.reader)
-
-abbrev pub decreases-passes_members-members : goal.decreases-passes_members-members
-decreases-passes_members-members l = length l.reader
+abbrev pub invariant-passed_members-loop-turn : goal.invariant-passed_members-loop-turn
+invariant-passed_members-loop-turn l =
+    (ms : Members) (rest : List ℕ) → AreMembersWritten ms → members_depth ms ≤ l.depth → l.left ≡ members_text l.later ms ++ rest → PassedMembers l.text rest l.depth

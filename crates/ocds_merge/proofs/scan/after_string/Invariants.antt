@@ -1,10 +1,10 @@
-use Rattle.std.proofs.Common.{◌≡◌, ◌≤◌, ℕ, length, cond}
-use Rattle.ocds_merge.specs.Inside.Scan.{scan, in_string, escaped}
+use Rattle.std.proofs.Common.{◌≡◌, ◌≤◌, ℕ, length}
+use Rattle.ocds_merge.specs.Inside.Scan.{scan, in_string}
 use Rattle.ocds_merge.proofs.scan.after_string.Given as goal
 
 abbrev pub invariant-loop-first : goal.invariant-loop-first
 invariant-loop-first l = record {
-  scans : (n : ℕ) → scan n (cond l.escaped escaped in_string) l.left ≡ scan n in_string l.text;
+  scans : (n : ℕ) → scan n in_string l.left ≡ scan n in_string l.text;
   shorter : length l.left ≤ length l.text;
 }
 
