@@ -97,7 +97,10 @@ fn measure<H: Lookups>(alloc: Global, shelf: &mut H, notice: &Id) -> Result<Exte
     };
     'places: for place in 0..RELEASES {
         match get_release(shelf, notice, place)? {
-            Some(release) => extent = with_readable(alloc, extent, &release)?,
+            Some(release) => {
+                let with = with_readable(alloc, extent, &release)?;
+                extent = with;
+            }
             None => return Ok(extent),
         }
     }
