@@ -2,17 +2,23 @@
 ghost use Rattle.std.specs.Prelude.{◌≡◌, ◌≢◌, ℕ, List, ◌≤◌, ◌∷◌, ◌++◌, length, MatchOption, MatchBool, ⊤};
 ghost use Rattle.ocds_merge.specs.Inside.Scan.{scan, between, in_string, escaped, IsPlain, StandsForItself, AllStandForThemselves};
 
-/// Whether a byte stands for itself in a string.
+/// Whether a byte stands for itself in a string. Letters come first, since most bytes are.
 fn is_plain(byte: u8) -> bool
     ensures { MatchBool result (StandsForItself byte) ⊤ }
 {
-    if byte < b' ' {
+    if byte > b'\\' {
+        return true;
+    }
+    if byte == b'\\' {
         return false;
+    }
+    if byte > b'"' {
+        return true;
     }
     if byte == b'"' {
         return false;
     }
-    byte != b'\\'
+    byte >= b' '
 }
 
 /// The rest of a string, from the first byte on that doesn't stand for itself.
