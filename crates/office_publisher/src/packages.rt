@@ -97,10 +97,7 @@ fn measure<H: Lookups>(alloc: Global, shelf: &mut H, notice: &Id) -> Result<Exte
     };
     'places: for place in 0..RELEASES {
         match get_release(shelf, notice, place)? {
-            Some(release) => {
-                let with = with_readable(alloc, extent, &release)?;
-                extent = with;
-            }
+            Some(release) => extent = with_readable(alloc, extent, &release)?,
             None => return Ok(extent),
         }
     }

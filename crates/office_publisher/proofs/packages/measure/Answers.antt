@@ -11,7 +11,7 @@ places-preserved g c =
     let step = c.in_ok-release.ensures in
     let place = c.places.place in
     let release = c.in-Some.release in
-    let with_it = c.in_ok-with.ensures in (
+    let with_it = c.in_ok-extent-in-Some.ensures in (
       c.looks_follow.ensures _ _ _ before.0 step.0,
       λ honest s held sequence.
           let mid = step.0.before honest in
