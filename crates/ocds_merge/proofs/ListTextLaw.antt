@@ -1,16 +1,16 @@
 -- The items of a list in its text, and their ids.
-use Rattle.std.proofs.Common.{◌≡◌, ◌≢◌, ℕ, ◌<◌, ◌^◌, suc, pos, negsuc, List, [], ◌∷◌, ◌++◌, Bool, true, false, Option, Some, None, option_and_then, refl, sym, ap, ◌∙◌, subst, append_assoc, arith, codes, decimal, length, ◌⊎◌, inl, inr}
+use Rattle.std.proofs.Common.{◌≡◌, ◌≢◌, ℕ, ◌<◌, suc, pos, negsuc, List, [], ◌∷◌, ◌++◌, Bool, true, false, Some, option_and_then, refl, sym, ap, ◌∙◌, subst, append_assoc, arith, codes, decimal, length, ◌⊎◌, inl, inr}
 use Rattle.std.proofs.lemmas.Fmt.{decimal_is_IsNumeral, decimal_nonempty}
 use Rattle.std.proofs.lemmas.Bool.{ne_eqb}
 use Rattle.std.specs.Str.Parse.{AllDigits}
 use Rattle.std.specs.Char.{digit_value}
-use Rattle.json.specs.Print.{escape, quoted}
+use Rattle.json.specs.Print.{escape}
 use Rattle.serde_json.specs.Data.{Num, unsigned, negative, float, Data, null, boolean, number, string, array, object, Items, no_items, item, Members, no_members, member}
 use Rattle.serde_json.specs.Find.{get_member, as_str}
 use Rattle.serde_json.specs.Written.{compact_text, items_text, members_text, number_text}
 use Rattle.ocds_merge.specs.Identified.{text_id}
 use Rattle.ocds_merge.specs.Inside.Scan.{scan, between, IsPlain}
-use Rattle.ocds_merge.specs.Inside.Splice.{IsInRange, IsKept, AreItemsKept, AreMembersKept, IsOrdered, EndsBefore, no_comma, StandAt, Searched, FoundAt}
+use Rattle.ocds_merge.specs.Inside.Splice.{IsInRange, IsKept, AreItemsKept, EndsBefore, no_comma, StandAt, Searched, FoundAt}
 use Rattle.ocds_merge.proofs.MemberLemmas.{here, skips}
 use Rattle.ocds_merge.proofs.SpliceLaw.{heads, tails, plain_name, no_member_here, member_here, after_member, no_comma_members, scan-members}
 

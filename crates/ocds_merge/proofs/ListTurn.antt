@@ -1,5 +1,5 @@
 -- An old item's turn in the text of an id list, and an object or a list onto one of its kind.
-use Rattle.std.proofs.Common.{◌≡◌, ◌≢◌, ℕ, ◌<◌, List, [], ◌∷◌, ◌++◌, Bool, true, false, cond, Option, Some, None, is_some, map, set, get_or, length, replicate, refl, sym, ap, ◌∙◌, subst, append_assoc, unwrap_or, arith, bytes_eq}
+use Rattle.std.proofs.Common.{◌≡◌, ℕ, ◌<◌, List, [], ◌∷◌, ◌++◌, Bool, true, false, Option, Some, is_some, map, set, get_or, length, refl, sym, ap, ◌∙◌, subst, append_assoc, unwrap_or, arith, bytes_eq}
 use Rattle.std.proofs.lemmas.Slice.Eq.{bytes_eq-Decides}
 use Rattle.serde_json.specs.Data.{Data, null, array, object, Items, no_items, item, Members}
 use Rattle.serde_json.specs.View.{view, items_of, items_view}
@@ -11,7 +11,7 @@ use Rattle.ocds_merge.specs.Inside.Pending.{HaveDistinctIds, alone, pending, ste
 use Rattle.ocds_merge.specs.Inside.Splice.{IsKept, AreItemsKept, EndsBefore, no_comma, SameItems, ItemsMerged}
 use Rattle.ocds_merge.proofs.SpliceLaw.{heads, tails}
 use Rattle.ocds_merge.proofs.ListTextLaw.{led, opens_well, item_first, no_comma_items, ends_before_items}
-use Rattle.ocds_merge.proofs.PendingLaw.{KeepIds, keep_ids, keep_pending, distinct_pending, lacks_pending, stays, meets, merged_with, all_new, step_items-list, none_pending, old_list}
+use Rattle.ocds_merge.proofs.PendingLaw.{KeepIds, keep_ids, keep_pending, distinct_pending, lacks_pending, stays, meets, merged_with, all_new, step_items-list, old_list}
 
 -- ---- one item
 

@@ -1,14 +1,13 @@
 -- A member's turn in the text of an object.
-use Rattle.std.proofs.Common.{◌≡◌, ◌≢◌, ℕ, List, [], ◌∷◌, ◌++◌, Bool, true, false, cond, Option, Some, None, Greater, refl, sym, ap, ◌∙◌, subst, append_assoc, unwrap_or, arith}
+use Rattle.std.proofs.Common.{◌≡◌, ℕ, List, [], ◌∷◌, ◌++◌, Bool, true, false, cond, Option, Some, None, refl, sym, ap, ◌∙◌, subst, append_assoc, unwrap_or, arith}
 use Rattle.json.specs.Print.{quoted}
-use Rattle.serde_json.specs.Data.{Data, null, boolean, number, string, array, object, Items, Members, no_members, member}
+use Rattle.serde_json.specs.Data.{Data, null, boolean, number, string, array, object, Members, no_members, member}
 use Rattle.serde_json.specs.View.{items_of}
 use Rattle.serde_json.specs.Written.{compact_text, members_text, comma_if}
 use Rattle.ocds_merge.specs.Identified.{is_id_list}
 use Rattle.ocds_merge.specs.Inside.Scan.{scan, between, IsPlain}
 use Rattle.ocds_merge.specs.Inside.Step.{step, step_members, step_items, id_list_of}
 use Rattle.ocds_merge.specs.Inside.Splice.{IsKept, AreMembersKept, IsOrdered, AllAbove, EndsBefore, no_comma, StandAt, StartsFrom, StartsWith, SameText, Passed, Merged}
-use Rattle.ocds_merge.proofs.MemberLemmas.{bytes_cmp}
 use Rattle.ocds_merge.proofs.SpliceLaw.{no_member_here, member_here, no_comma_members, after_member, above_from, with_member, turn_found, turn_absent, heads}
 
 -- ---- which member comes next

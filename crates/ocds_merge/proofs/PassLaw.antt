@@ -1,7 +1,7 @@
 -- A value that a text begins with, by its first byte.
-use Rattle.std.proofs.Common.{◌≡◌, ℕ, ◌-◌, ◌≤◌, suc, List, [], ◌∷◌, ◌++◌, Bool, true, false, refl, sym, ap, ◌∙◌, arith, append_assoc}
+use Rattle.std.proofs.Common.{◌≡◌, ℕ, ◌-◌, ◌≤◌, suc, List, [], ◌∷◌, ◌++◌, Bool, true, sym, ap, ◌∙◌, arith, append_assoc}
 use Rattle.json.specs.Print.{escape, quoted}
-use Rattle.serde_json.specs.Data.{Data, null, boolean, string, array, object, Items, no_items, item, Members, no_members, member, depth, items_depth, members_depth}
+use Rattle.serde_json.specs.Data.{Data, string, array, object, Items, item, Members, member, depth, items_depth, members_depth}
 use Rattle.serde_json.specs.Written.{compact_text, items_text, members_text, comma_if}
 use Rattle.ocds_merge.specs.Inside.Readable.{IsWritten, Passed, PassedItems, PassedMembers}
 use Rattle.ocds_merge.proofs.SpliceLaw.{group_member}

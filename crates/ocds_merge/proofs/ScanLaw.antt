@@ -1,9 +1,9 @@
 -- A scan passes over the compact text of a value.
-use Rattle.std.proofs.Common.{◌≡◌, ◌≢◌, ℕ, zero, suc, ◌<◌, ◌≤◌, List, [], ◌∷◌, ◌++◌, refl, sym, ap, ◌∙◌, Bool, true, false, cond, ◌==◌, ◌⊎◌, inl, inr, subst, arith, append_assoc}
-use Rattle.std.proofs.lemmas.Bool.{cases_eq, cases_lt, ne_eqb, le-ltb}
-use Rattle.json.specs.Print.{escape_byte, escape, quoted}
+use Rattle.std.proofs.Common.{◌≡◌, ◌≢◌, ℕ, zero, suc, ◌<◌, ◌≤◌, List, [], ◌∷◌, ◌++◌, refl, sym, ap, ◌∙◌, ◌⊎◌, inl, inr, subst, arith, append_assoc}
+use Rattle.std.proofs.lemmas.Bool.{cases_eq, cases_lt, ne_eqb}
+use Rattle.json.specs.Print.{escape_byte, escape}
 use Rattle.json.proofs.Printed.Strings.{escape_byte_plain}
-use Rattle.ocds_merge.specs.Inside.Scan.{Mode, between, in_string, escaped, scan, IsPlain}
+use Rattle.ocds_merge.specs.Inside.Scan.{between, in_string, scan, IsPlain}
 
 pub plain_push : (s : List ℕ) (c : ℕ) → IsPlain s → c ≢ 34 → c ≢ 92 → IsPlain (s ++ c ∷ [])
 plain_push [] c h q b = (q, b, tt)

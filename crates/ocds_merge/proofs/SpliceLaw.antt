@@ -1,6 +1,6 @@
 -- The members and items of a merge, in the order in which a text is gone through.
-use Rattle.std.proofs.Common.{◌≡◌, ◌≢◌, ℕ, ◌+◌, ◌-◌, ◌^◌, ◌<◌, List, [], ◌∷◌, ◌++◌, Bool, true, false, Option, Some, None, Less, Equal, Greater, refl, sym, ap, ◌∙◌, subst, append_assoc, decimal, arith, length, cond, ◌==◌, pos, negsuc, suc, zero, ◌⊎◌, inl, inr, ◌≤◌, Ordering, MatchOption, unwrap_or}
-use Rattle.std.specs.Ordering.{match_ordering, ordering_reverse}
+use Rattle.std.proofs.Common.{◌≡◌, ◌≢◌, ℕ, ◌+◌, ◌-◌, ◌<◌, List, [], ◌∷◌, ◌++◌, Bool, true, false, Option, Some, None, Less, Equal, Greater, refl, sym, ap, ◌∙◌, subst, append_assoc, decimal, arith, length, cond, ◌==◌, pos, negsuc, suc, ◌⊎◌, inl, inr, ◌≤◌, Ordering, MatchOption, unwrap_or}
+use Rattle.std.specs.Ordering.{ordering_reverse}
 use Rattle.std.proofs.lemmas.List.{length-append}
 use Rattle.std.proofs.lemmas.Cmp.{nat_list_cmp_total, tied_itself}
 use Rattle.std.proofs.lemmas.Map.Lookups.{exact_bytes}
@@ -15,7 +15,7 @@ use Rattle.serde_json.specs.Written.{compact_text, items_text, members_text, num
 use Rattle.json.proofs.Printed.Strings.{escape_byte_plain}
 use Rattle.ocds_merge.specs.Merge.{put_present}
 use Rattle.ocds_merge.specs.Compile.{without}
-use Rattle.ocds_merge.specs.Inside.Scan.{scan, between, in_string, escaped, IsPlain}
+use Rattle.ocds_merge.specs.Inside.Scan.{scan, between, in_string, IsPlain}
 use Rattle.ocds_merge.specs.Inside.Step.{step, step_members}
 use Rattle.ocds_merge.specs.Inside.Splice.{IsInRange, AllAbove, IsOrdered, IsKept, AreItemsKept, AreMembersKept, EndsBefore, no_comma, StandAt, StartsFrom, SameText, Passed}
 use Rattle.ocds_merge.proofs.MemberLemmas.{bytes_cmp, here}

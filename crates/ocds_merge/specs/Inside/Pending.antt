@@ -1,5 +1,5 @@
 -- The items of an id list while they are merged into old ones, whose text is gone through once. No public clause rests on this file.
-use Rattle.std.specs.Prelude.{◌≡◌, List, [], ◌∷◌, Bool, true, false, cond, None, unwrap_or}
+use Rattle.std.specs.Prelude.{List, [], ◌∷◌, Bool, cond, None, unwrap_or}
 use Rattle.serde_json.specs.Data.{Data, null, Items, item}
 use Rattle.ocds_merge.specs.Identified.{id_of}
 use Rattle.ocds_merge.specs.Inside.Step.{step, find_item, set_item, Lacks}

@@ -1,5 +1,5 @@
 -- Texts that are the compact text of some value, whatever the order of its members. No public clause rests on this file.
-use Rattle.std.specs.Prelude.{◌≡◌, ◌≤◌, ℕ, List, ◌++◌, true, false, ⊤}
+use Rattle.std.specs.Prelude.{◌≡◌, ◌≤◌, ℕ, List, ◌++◌, false, ⊤}
 use Rattle.serde_json.specs.Data.{Data, null, boolean, number, string, array, object, Items, no_items, item, Members, no_members, member, depth, items_depth, members_depth}
 use Rattle.serde_json.specs.Written.{compact_text, items_text, members_text}
 use Rattle.ocds_merge.specs.Inside.Splice.{IsInRange}

@@ -1,5 +1,5 @@
 -- Where values end in a JSON text, a byte at a time. No public clause rests on this file.
-use Rattle.std.specs.Prelude.{◌≡◌, ◌≢◌, ℕ, ◌+◌, ◌-◌, List, [], ◌∷◌, ◌||◌, ◌&&◌, ◌==◌, ◌≤◌, cond, ⊤}
+use Rattle.std.specs.Prelude.{◌≢◌, ℕ, ◌+◌, ◌-◌, List, [], ◌∷◌, ◌||◌, ◌&&◌, ◌==◌, ◌≤◌, cond, ⊤}
 
 -- outside strings, inside one, and after a backslash there
 pub data Mode : Type 0 where

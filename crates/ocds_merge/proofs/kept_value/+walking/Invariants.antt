@@ -1,7 +1,6 @@
-use Rattle.std.proofs.Common.{drop, take}
-use Rattle.serde_json.specs.Data.{array, object}
+use Rattle.std.proofs.Common.{drop}
 use Rattle.serde_json.specs.View.{items_view, members_view}
-use Rattle.ocds_merge.specs.Inside.Splice.{IsKept, AreItemsKept, AreMembersKept}
+use Rattle.ocds_merge.specs.Inside.Splice.{AreItemsKept, AreMembersKept}
 use Rattle.ocds_merge.proofs.kept_value.+walking.Given as goal
 
 abbrev pub invariant-are_items_kept-loop-item : goal.invariant-are_items_kept-loop-item

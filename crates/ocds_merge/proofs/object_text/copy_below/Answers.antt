@@ -1,8 +1,3 @@
-use Rattle.std.proofs.Common.{rules, ◌≡◌, ◌≢◌, ℕ, List, [], ◌∷◌, ◌++◌, Bool, true, false, length, MatchOption, Greater, ◌<◌, ap, sym, subst, ◌∙◌, arith}
-use Rattle.serde_json.specs.Data.{Data, Members}
-use Rattle.ocds_merge.specs.Inside.Scan.{IsPlain}
-use Rattle.ocds_merge.specs.Inside.Splice.{no_comma, StandAt, AllAbove, StartsFrom, Passed}
-use Rattle.ocds_merge.proofs.MemberLemmas.{bytes_cmp}
 use Rattle.ocds_merge.proofs.SpliceLaw.{pass_one, none_left, not_below, some_case, none_case, after_shorter}
 use Rattle.ocds_merge.proofs.object_text.copy_below.Goals as goal
 

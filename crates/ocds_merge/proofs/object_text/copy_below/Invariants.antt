@@ -1,4 +1,4 @@
-use Rattle.std.proofs.Common.{◌≡◌, List, ℕ, length}
+use Rattle.std.proofs.Common.{List, ℕ, length}
 use Rattle.serde_json.specs.Data.{Data, Members}
 use Rattle.ocds_merge.specs.Inside.Splice.{StandAt, AllAbove, Passed}
 use Rattle.ocds_merge.proofs.object_text.copy_below.Given as goal

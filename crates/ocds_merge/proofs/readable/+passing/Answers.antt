@@ -1,8 +1,5 @@
-use Rattle.std.proofs.Common.{◌≡◌, ◌≤◌, ◌∙◌, ◌++◌, ◌∷◌, [], ℕ, suc, max, List, true, false, ap, sym, arith, append_assoc}
-use Rattle.json.specs.Print.{escape, quoted}
-use Rattle.serde_json.specs.Data.{Data, null, boolean, number, string, array, object, unsigned, Items, no_items, item, Members, no_members, member, depth, items_depth, members_depth}
-use Rattle.serde_json.specs.Written.{compact_text, items_text, members_text, comma_if}
-use Rattle.ocds_merge.specs.Inside.Readable.{Passed, PassedItems, PassedMembers}
+use Rattle.std.proofs.Common.{◌≤◌, ◌∙◌, ◌∷◌, ℕ, List, true, false, ap, arith}
+use Rattle.serde_json.specs.Data.{null, boolean, number, unsigned, no_items, item, no_members, member, items_depth, members_depth}
 use Rattle.ocds_merge.proofs.PassLaw.{string_passed, word_passed, array_passed, object_passed, item_before, member_before}
 use Rattle.ocds_merge.proofs.readable.+passing.Goals as goal
 

@@ -1,4 +1,4 @@
-use Rattle.std.proofs.Common.{◌≡◌, ◌+◌, ◌≤◌, ℕ, length}
+use Rattle.std.proofs.Common.{◌≡◌, ◌+◌, ◌≤◌, length}
 use Rattle.ocds_merge.specs.Inside.Scan.{scan, between}
 use Rattle.ocds_merge.proofs.scan.after_value.Given as goal
 

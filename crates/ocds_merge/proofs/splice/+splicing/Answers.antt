@@ -1,17 +1,17 @@
-use Rattle.std.proofs.Common.{◌≡◌, ◌<◌, ◌∙◌, ◌++◌, ◌∷◌, [], ℕ, List, Bool, true, false, Some, None, sym, subst, ap, map, take, get_or, is_some, length, bytes_eq, arith, unwrap_or, refl}
+use Rattle.std.proofs.Common.{◌≡◌, ◌<◌, ◌∙◌, ◌++◌, ◌∷◌, [], ℕ, List, true, false, sym, subst, ap, map, take, get_or, is_some, length, bytes_eq, arith, refl}
 use Rattle.std.proofs.lemmas.List.{get_or-map, length-map}
 use Rattle.std.proofs.lemmas.Result.{IfOk-weaker}
-use Rattle.serde_json.specs.Data.{Data, null, Members, member, Items, object, array}
+use Rattle.serde_json.specs.Data.{null, Members, member, object, array}
 use Rattle.serde_json.specs.View.{view, items_view, members_view}
 use Rattle.serde_json.specs.Written.{compact_text}
 use Rattle.serde_json.specs.declared.value.Value.{Value}
 use Rattle.serde_json.proofs.Views.{Entry, view-Array, view-Object}
 use Rattle.ocds_merge.specs.Identified.{id_of, is_id_list}
 use Rattle.ocds_merge.specs.Inside.Step.{Lacks}
-use Rattle.ocds_merge.specs.Inside.Splice.{IsKept, AreItemsKept, Merged}
+use Rattle.ocds_merge.specs.Inside.Splice.{IsKept, Merged}
 use Rattle.ocds_merge.specs.Inside.Pending.{HaveDistinctIds, pending}
 use Rattle.ocds_merge.proofs.SpliceLaw.{some_case, none_case, ends_before_members}
-use Rattle.ocds_merge.proofs.MemberTurn.{others_above, old_kept, past_old, old_passed, null_found, null_absent, some_found, some_absent, merged_none, merged_one, merged_all}
+use Rattle.ocds_merge.proofs.MemberTurn.{old_kept, past_old, old_passed, null_found, null_absent, some_found, some_absent, merged_none, merged_one, merged_all}
 use Rattle.ocds_merge.proofs.ListTextLaw.{opened, opened_list}
 use Rattle.ocds_merge.proofs.PendingLaw.{keep_ids, item_kept, none_pending}
 use Rattle.ocds_merge.proofs.ListTurn.{item_copied, item_met, items_none, items_one, items_end, closed_at, list_merged, object_merged, array_merged}
