@@ -162,6 +162,10 @@ notice due criteria lots = record { title = codes "Road repair"; deadline = due;
 abbrev pub lenient : ℕ → Criteria → List NewLot → NewNotice
 lenient due criteria lots = record (notice due criteria lots) { late_withdrawal = Forfeits }
 
+-- the same, which asks for a performance security of 70
+abbrev pub demanding : ℕ → Criteria → List NewLot → NewNotice
+demanding due criteria lots = record (notice due criteria lots) { performance = 70 }
+
 -- a row of a budget file
 abbrev pub row : List ℕ → BudgetKind → (amount : ℕ) → 1 ≤ amount → BudgetRow
 row line kind amount some = record { line = line; kind = kind; amount = amount; title = codes "Roads"; some = some }
@@ -219,7 +223,7 @@ awards moment = by_clerk moment (Award n1 l1)
 
 -- the contract of an award is signed, or its winner doesn't sign
 abbrev pub signs : ℕ → ℕ → Request
-signs moment award = by_clerk moment (Sign award)
+signs moment award = by_clerk moment (Sign award None)
 
 abbrev pub fails : ℕ → ℕ → Request
 fails moment award = by_clerk moment (Fail award)
