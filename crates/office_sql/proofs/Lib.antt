@@ -36,7 +36,8 @@ mod CreateFacts
 mod Makes
 mod Founds
 mod MakingSteps
-pub mod Earlier
+mod Emptied
+pub mod First
 mod Told
 mod Versions
 mod Failing

@@ -7,6 +7,6 @@ pub mod Standing
 pub mod Steps
 pub mod Failing
 pub mod Making
-pub mod Earlier
+pub mod First
 pub mod Laws
 pub mod Version
