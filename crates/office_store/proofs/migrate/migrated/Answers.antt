@@ -1,0 +1,47 @@
+use Rattle.std.proofs.Common.{rules, arith, ◌≡◌, map, IsTrue}
+use Rattle.sqlite.specs.Held.{state}
+use Rattle.sqlite.specs.State.{HasCleanDisk}
+use Rattle.sqlite.proofs.StateLemmas.{survives_then}
+use Rattle.office_rows.specs.declared.stored.FormerNotice.{FormerNotice}
+use Rattle.office_sql.specs.First.{has_late}
+use Rattle.office_store.specs.Founding.{LeavesMigrated}
+use Rattle.office_store.proofs.Founding.{refused_on}
+use Rattle.office_store.proofs.Migrating.{from_told, told_leaves, late_committed}
+use Rattle.office_store.proofs.migrate.migrated.Goals as goal
+
+pub returns-in-Ok-clause-migrated : goal.returns-in-Ok-clause-migrated
+returns-in-Ok-clause-migrated g c clean =
+    let held = c.args.conn.now in
+    let old = state g.S.Store held in
+    let mid = state g.S.Store c.former.new.conn in
+    let new = state g.S.Store c.migrate.new.conn in
+    let early : HasCleanDisk mid = omega (arith, clean, c.migrate.ensures.survives.clean) in
+    let settled : IsTrue old.is_open → old.now ≡ old.committed = search rules in
+    let b : has_late held.schema ≡ c.has_late.result = search rules in
+    let stood = c.in_ok-stood.value in
+    from_told c.has_late.result stood.clock (map (λ (r : FormerNotice). r.row) stood.notices.items) old mid (c.former.ensures.kept early)
+    (λ open_now. late_committed g.S.Store held settled c.has_late.result b open_now)
+    (λ t shows. (c.in_ok-stood.ensures.got early t shows).0) (λ t shows. (c.in_ok-stood.ensures.got early t shows).1) new (c.in-Ok.ensures.migrates clean)
+
+pub returns-in-Err-clause-kept : goal.returns-in-Err-clause-kept
+returns-in-Err-clause-kept g c clean =
+    let mid = state g.S.Store c.former.new.conn in
+    let early : HasCleanDisk mid = omega (arith, clean, c.migrate.ensures.survives.clean) in
+    refused_on (state g.S.Store c.args.conn.now) mid (state g.S.Store c.migrate.new.conn) (c.former.ensures.kept early) (c.in-Err.ensures.refused clean)
+
+pub returns-clause-survives : goal.returns-clause-survives
+returns-clause-survives g c =
+    let held = c.args.conn.now in
+    let old = state g.S.Store held in
+    let mid = state g.S.Store c.former.new.conn in
+    let new = state g.S.Store c.migrate.new.conn in
+    let settled : IsTrue old.is_open → old.now ≡ old.committed = search rules in
+    let b : has_late held.schema ≡ c.has_late.result = search rules in
+    let stood = c.in_ok-stood.value in
+    survives_then old mid new _ _ (LeavesMigrated old) (λ _ db none. absurd none)
+    (λ clean db leaves.
+    let early : HasCleanDisk mid = omega (arith, c.migrate.ensures.survives.clean) in
+    told_leaves c.has_late.result stood.clock (map (λ (r : FormerNotice). r.row) stood.notices.items) old mid (c.former.ensures.kept early)
+    (λ open_now. late_committed g.S.Store held settled c.has_late.result b open_now)
+    (λ t shows. (c.in_ok-stood.ensures.got early t shows).0) (λ t shows. (c.in_ok-stood.ensures.got early t shows).1) db leaves)
+    c.former.ensures.survives c.migrate.ensures.survives
