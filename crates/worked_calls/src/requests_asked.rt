@@ -76,7 +76,7 @@ fn asks_for_each(alloc: Global, caller: &Caller, rows: &[(&str, &[u8], Endpoint)
 
 const PUBLICATION: &[u8] = br#"{
     "title": "Road repair", "deadline": "2026-03-01T12:00:00Z", "validity_days": 90, "standstill_days": 10,
-    "criteria": "points", "price_weight": 60, "late_withdrawal": "forfeits",
+    "criteria": "points", "price_weight": 60, "late_withdrawal": "forfeits", "performance": 70,
     "lots": [{
         "id": "L1", "title": "North", "line": "1000", "estimate": 600, "security": 50,
         "items": [{"id": "I1", "title": "Paving", "quantity": 3}]
@@ -162,6 +162,11 @@ const OF_CLERKS: [(&str, &[u8], Endpoint); 20] = [
     ),
     ("GET /notices/N1/record", b"", Queries(QueryKind::Record)),
     ("GET /securities/17", b"", Queries(QueryKind::Security)),
+    (
+        "GET /contracts/17/security",
+        b"",
+        Queries(QueryKind::Performance),
+    ),
 ];
 
 // The routes of tenderers alone.
