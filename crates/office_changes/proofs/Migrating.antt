@@ -18,7 +18,7 @@ use Rattle.office_sql.specs.First.{Begins}
 use Rattle.office_sql.specs.Standing.{Holds}
 use Rattle.office_sql.specs.Steps.{Puts}
 use Rattle.office_sql.proofs.First.{first_sorted}
-use Rattle.office_changes.specs.Migration.{StandsFirst, Becomes, Migrates, LeavesSecond}
+use Rattle.office_changes.specs.Migration.{HoldsThese, Becomes, Migrates, LeavesSecond}
 use Rattle.office_changes.proofs.Steps.{goes_then}
 
 -- ---- a row above all others goes to the end
@@ -65,8 +65,8 @@ module _ (late : Bool) (clock : ClockRow) (notices : List FormerNotice) where
   }
 
   module _ (old mid : State) (settled : IsTrue old.is_open → old.now ≡ old.committed) (it : Becomes late clock (map row_of notices) (record old { in_transaction = true }) mid) where
-    from_commit : (t : Tables) → StandsFirst late clock (map row_of notices) old.committed t → StandsFirst late clock (map row_of notices) old.now t
-    from_commit t = subst (λ d. StandsFirst late clock (map row_of notices) d t) (sym (settled it.goes.was_open))
+    from_commit : (t : Tables) → HoldsThese late clock (map row_of notices) old.committed t → HoldsThese late clock (map row_of notices) old.now t
+    from_commit t = subst (λ d. HoldsThese late clock (map row_of notices) d t) (sym (settled it.goes.was_open))
 
     pub migrates : (new : State) → Shows mid new mid.now mid.now false → (IsTrue new.is_open → (db : Trees) → new.may_leave db → db ≡ new.committed.trees)
         → Migrates late clock (map row_of notices) old new

@@ -11,7 +11,7 @@ use Rattle.office_sql.specs.Standing.{Holds}
 use Rattle.office_sql.specs.Steps.{Goes, Leaves}
 
 -- an office of version 1 stands there, with the table of late withdrawals or without it, and this is its content, with this clock and these notices
-pub record StandsFirst (late : Bool) (clock : ClockRow) (notices : List NoticeRow) (db : Database) (t : Tables) : Type 0 where
+pub record HoldsThese (late : Bool) (clock : ClockRow) (notices : List NoticeRow) (db : Database) (t : Tables) : Type 0 where
   pub held : HoldsFirst db t
   pub late_is : has_late db.schema ≡ late
   pub clock_is : t.clock ≡ clock
@@ -20,16 +20,16 @@ pub record StandsFirst (late : Bool) (clock : ClockRow) (notices : List NoticeRo
 -- the transaction goes on, nothing is committed, and of such an office there is one of version 2, with its content
 pub record Becomes (late : Bool) (clock : ClockRow) (notices : List NoticeRow) (old new : State) : Type 0 where
   pub goes : Goes old new
-  pub tables : (t : Tables) → StandsFirst late clock notices old.now t → Holds new.now t
+  pub tables : (t : Tables) → HoldsThese late clock notices old.now t → Holds new.now t
 
 -- it was committed: of such an office there is one of version 2, with its content
 pub record Migrates (late : Bool) (clock : ClockRow) (notices : List NoticeRow) (old new : State) : Type 0 where
   pub was_open : IsTrue old.is_open
   pub is_open : IsTrue new.is_open
-  pub tables : (t : Tables) → StandsFirst late clock notices old.committed t → Holds new.committed t
+  pub tables : (t : Tables) → HoldsThese late clock notices old.committed t → Holds new.committed t
   -- a stop leaves it and nothing else
   pub only : (db : Trees) → new.may_leave db → db ≡ new.committed.trees
 
 -- what its commit leaves
 abbrev pub LeavesSecond : Bool → ClockRow → List NoticeRow → State → Trees → Type 0
-LeavesSecond late clock notices old trees = IsTrue old.is_open × ((t : Tables) → StandsFirst late clock notices old.committed t → Leaves t trees)
+LeavesSecond late clock notices old trees = IsTrue old.is_open × ((t : Tables) → HoldsThese late clock notices old.committed t → Leaves t trees)

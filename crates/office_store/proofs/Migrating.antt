@@ -14,7 +14,7 @@ use Rattle.office_sql.specs.First.{has_late, HoldsFirst, ShowsFirst, ShowsOffice
 use Rattle.office_sql.specs.Steps.{IsAsked, Refused, ShowsTables}
 use Rattle.office_sql.specs.Version.{get_version, one_version, ShowsVersion}
 use Rattle.office_sql.proofs.First.{first_version, second_version}
-use Rattle.office_changes.specs.Migration.{StandsFirst, Migrates, LeavesSecond}
+use Rattle.office_changes.specs.Migration.{HoldsThese, Migrates, LeavesSecond}
 use Rattle.office_store.specs.Founding.{Migrated, LeavesMigrated, LeavesReadied, LeavesOffice, Readied, Enters, is_version_one, is_version_two, is_other_version}
 use Rattle.office_store.proofs.Founding.{refused_on}
 use Rattle.office_store.proofs.Shelves.{still_shows}
@@ -50,7 +50,7 @@ leaves_readied_before g old mid rows db asked kept it = inr ((rows, asked, it.0)
 
 module _ (b : Bool) (clock : ClockRow) (notices : List NoticeRow) (old mid : State) (kept : Refused old mid) (there : IsTrue old.is_open → has_late old.committed.schema ≡ b)
     (clock_is : (t : Tables) → ShowsFirst old t → clock ≡ t.clock) (notices_are : (t : Tables) → ShowsFirst old t → notices ≡ t.notices) where
-  as_told : IsTrue mid.is_open → (t : Tables) → HoldsFirst old.committed t → StandsFirst b clock notices mid.committed t
+  as_told : IsTrue mid.is_open → (t : Tables) → HoldsFirst old.committed t → HoldsThese b clock notices mid.committed t
   as_told open_now t was = record {
     held = first_after old mid t kept open_now was;
     late_is = subst (λ (d : Database). has_late d.schema ≡ b) (sym (kept.committed open_now)) (there (kept.was_open open_now));
