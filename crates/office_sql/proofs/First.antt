@@ -1,6 +1,7 @@
 -- An office of version 1: its version, which tables it has, and the first half of its migration.
 use Rattle.std.proofs.Common.{◌≡◌, ◌⊎◌, inl, inr, ℕ, Bool, List, [], ◌∷◌, Option, None, Some, append-nil, true, false, refl, ap, sym, subst, ◌∙◌, true≢false}
 use Rattle.std.specs.Prelude.{option_map, codes}
+use Rattle.std.specs.List.{AllByRecursion}
 use Rattle.std.specs.declared.cmp.Ordering.{Ordering}
 use Rattle.sqlite_value.specs.declared.value.Value.{Value}
 use Rattle.sqlite_value.specs.Order.{Row}
@@ -21,15 +22,18 @@ use Rattle.office_values.specs.Ids.{id_cmp}
 use Rattle.office_base.specs.Rows.{row_put, IsInOrder}
 use Rattle.office_base.specs.Tables.{Tables, notice_key}
 use Rattle.office_base.proofs.ExactKeys.{ids_exact}
+use Rattle.office_base.proofs.RowLaws.{all-put}
 use Rattle.office_base.specs.declared.records.ClockRow.{ClockRow}
+use Rattle.office_base.specs.declared.records.NoticeRow.{NoticeRow}
 use Rattle.office_rows.specs.Laws.{ComesBack}
 use Rattle.office_rows.specs.Notices.{former_row, former_in}
 use Rattle.office_rows.specs.Releases.{clock_row, clock_row_of, clock_read, clock_in}
 use Rattle.office_rows.specs.declared.stored.FormerClock.{FormerClock}
 use Rattle.office_sql.specs.Clock.{clock_key, clock_cmp}
 use Rattle.office_sql.specs.First.{lacking, has_table, has_late, drop_notices, drop_version, StandForFirst, IsNothing, StandsFirst, HoldsFirst, Renews, Begins}
-use Rattle.office_sql.specs.Kept.{behind, by_rowid, read_by_rowid}
+use Rattle.office_sql.specs.Kept.{table_of as records_of, behind, by_rowid, read_by_rowid}
 use Rattle.office_sql.specs.Known.{IsIn, Places, HasTables, at_tree}
+use Rattle.office_sql.specs.Laws.{KnowsNoPerformances}
 use Rattle.office_sql.specs.Making.{AreMade, KeepsOffice, Makes}
 use Rattle.office_sql.specs.Schema.{OfficeTable, table_of, former_notices, office}
 use Rattle.office_sql.specs.Schema.OfficeTable.{Notices, LateRules, FormerNotices, Performances, Office}
@@ -69,6 +73,24 @@ pub first_sorted : (db : Database) (t : Tables) → HoldsFirst db t → IsInOrde
 first_sorted db t was =
     let stand = (former_there db t (was.places FormerNotices) (was.each FormerNotices)).1 in
     subst (IsInOrder id_cmp notice_key) stand.is (in_order-table_of id_cmp nat_list_cmp_total ids_exact notice_key (behind former_row) former_in (db.trees (was.places FormerNotices)))
+
+-- and ask for no performance securities, of which there are none
+asks_none : (rows : List Row) → AllByRecursion (λ (n : NoticeRow). n.performance ≡ 0) (records_of id_cmp notice_key (behind former_row) former_in rows)
+asks_none [] = tt
+asks_none (r ∷ rows) =
+    all-put nat_list_cmp_total notice_key (λ (n : NoticeRow). n.performance ≡ 0) (records_of id_cmp notice_key (behind former_row) former_in rows) (former_in r) refl (asks_none rows)
+
+has_no_performances : (db : Database) (t : Tables) (n : ℕ) → StandsFirst db t Performances n → t.performances ≡ []
+has_no_performances db t n (inl it) = absurd it.1
+has_no_performances db t n (inr it) = it.1
+
+pub no_performances : (db : Database) (t : Tables) → HoldsFirst db t → KnowsNoPerformances t
+no_performances db t was =
+    let stand = (former_there db t (was.places FormerNotices) (was.each FormerNotices)).1 in
+    record {
+      notices = subst (AllByRecursion (λ (n : NoticeRow). n.performance ≡ 0)) stand.is (asks_none (db.trees (was.places FormerNotices)));
+      securities = has_no_performances db t (was.places Performances) (was.each Performances);
+    }
 
 -- the clock of the row that was found
 abbrev pub former_clock_in : Row → FormerClock

@@ -34,13 +34,13 @@ use Rattle.office_rows.specs.Readings.{reading_word, stated_of, corrected_of, co
 use Rattle.office_base.proofs.ExactKeys.{ids_exact, lots_exact}
 use Rattle.office_base.proofs.Orders.{lots_total, entries_total, releases_total}
 use Rattle.office_rows.specs.Budget.{line_row, batch_row}
-use Rattle.office_rows.specs.Notices.{tenderer_row, notice_row, former_row, late_row, lot_row}
+use Rattle.office_rows.specs.Notices.{tenderer_row, notice_row, late_row, lot_row}
 use Rattle.office_rows.specs.Tenders.{envelope_row, seal_row, security_row}
 use Rattle.office_rows.specs.Awards.{award_row, contract_row, entry_row, performance_row}
 use Rattle.office_rows.specs.Releases.{release_row, compiled_row, clock_row}
 use Rattle.office_sql.specs.Clock.{clock_key, clock_cmp}
 use Rattle.office_sql.specs.Kept.{behind, by_rowid}
-use Rattle.office_sql.specs.Schema.{OfficeTable, table_of, lines, batches, tenderers, notices, lots, envelopes, seals, securities, awards, contracts, entries, releases, compiled, office, late_rules, former_notices, performance}
+use Rattle.office_sql.specs.Schema.{OfficeTable, table_of, lines, batches, tenderers, notices, lots, envelopes, seals, securities, awards, contracts, entries, releases, compiled, office, late_rules, performance}
 use Rattle.office_sql.specs.Schema.OfficeTable.{Lines, Batches, Tenderers, Notices, Lots, Envelopes, Seals, Securities, Awards, Contracts, Entries, Releases, Compiled, Office, LateRules, FormerNotices, Performances}
 use Rattle.office_sql.proofs.Cells.{cast_null, cast_int, cast_perhaps, cast_words, texts_equal, equal_texts, numbers_equal, equal_numbers, both_true, one_true, first_true, only_true}
 use Rattle.office_sql.proofs.Keyed.{keyed}
@@ -543,38 +543,6 @@ late_stored = record {
   met = late_met;
   finds = λ x id more. refl;
   updates = λ n x y v more e. refl;
-}
-
--- ---- notices of earlier programs
-
-former_meets : (u v : Value) (x y : NoticeRow) → notice_key x ≡ notice_key y → agree plain former_notices.primary (u ∷ former_row x) former_notices.primary (v ∷ former_row y) ≡ true
-unfolding first_key
-former_meets u v x y e = one_true _ (texts_equal x.notice y.notice e)
-
-former_met : (u v : Value) (x y : NoticeRow) → agree plain former_notices.primary (u ∷ former_row x) former_notices.primary (v ∷ former_row y) ≡ true → notice_key x ≡ notice_key y
-unfolding first_key
-former_met u v x y h = equal_texts x.notice y.notice (only_true _ h)
-
-abbrev pub former_terms : List Term
-former_terms = lit Null ∷ col 0 0 ∷ col 0 1 ∷ col 0 2 ∷ col 0 3 ∷ col 0 4 ∷ col 0 5 ∷ col 0 6 ∷ col 0 7 ∷ col 0 8 ∷ col 0 9 ∷ col 0 10 ∷ []
-
-abbrev pub former_cells : List Term
-former_cells = col 1 1 ∷ col 0 1 ∷ col 0 2 ∷ col 0 3 ∷ col 0 4 ∷ col 0 5 ∷ col 0 6 ∷ col 0 7 ∷ col 0 8 ∷ col 0 9 ∷ col 0 10 ∷ []
-
-pub former_stored : IsStored FormerNotices id_cmp notice_key former_row (behind former_row) 11 former_terms former_cells
-former_stored = record {
-  total = nat_list_cmp_total;
-  exact = ids_exact;
-  given = λ n x. refl;
-  chosen = λ rows x. refl;
-  tries = λ n x. rw (cast_null, cast_int (pos x.published), cast_int (pos x.deadline), cast_int (pos x.validity), cast_int (pos x.standstill), cast_int (pos x.weight), cast_perhaps x.opened, cast_int (pos x.amendments), cast_int (pos x.releases));
-  stores = λ n m x. rw (cast_int m, cast_int (pos x.published), cast_int (pos x.deadline), cast_int (pos x.validity), cast_int (pos x.standstill), cast_int (pos x.weight), cast_perhaps x.opened, cast_int (pos x.amendments), cast_int (pos x.releases));
-  numbered = λ m x. refl;
-  kept = λ m x. refl;
-  meets = former_meets;
-  met = former_met;
-  finds = λ x id more. refl;
-  updates = λ n x y v more e. ap (λ q. v ∷ v ∷ Text q ∷ drop 1 (former_row x)) e;
 }
 
 -- ---- performance securities
