@@ -17,11 +17,11 @@ returns-in-Ok-clause-migrated g c clean =
     let new = state g.S.Store c.migrate.new.conn in
     let early : HasCleanDisk mid = omega (arith, clean, c.migrate.ensures.survives.clean) in
     let settled : IsTrue old.is_open → old.now ≡ old.committed = search rules in
-    let b : has_late held.schema ≡ c.has_late.result = search rules in
-    let stood = c.in_ok-stood.value in
-    from_told c.has_late.result stood.clock (map (λ (r : FormerNotice). r.row) stood.notices.items) old mid (c.former.ensures.kept early)
-    (λ open_now. late_committed g.S.Store held settled c.has_late.result b open_now)
-    (λ t shows. (c.in_ok-stood.ensures.got early t shows).0) (λ t shows. (c.in_ok-stood.ensures.got early t shows).1) new (c.in-Ok.ensures.migrates clean)
+    let there = c.has_late-has_table.result in
+    let b : has_late held.schema ≡ there = search rules in
+    let stood = c.in_ok-stood.stood in
+    from_told there stood.clock (map (λ (r : FormerNotice). r.row) stood.notices.items) old mid (c.former.ensures.kept early) (late_committed g.S.Store held settled there b)
+    (λ t shows. (c.in_ok-stood.ensures.got early t shows).0) (λ t shows. (c.in_ok-stood.ensures.got early t shows).1) new (rw c.as_slice.ensures.value at (c.in-Ok.ensures.migrates clean))
 
 pub returns-in-Err-clause-kept : goal.returns-in-Err-clause-kept
 returns-in-Err-clause-kept g c clean =
@@ -36,12 +36,13 @@ returns-clause-survives g c =
     let mid = state g.S.Store c.former.new.conn in
     let new = state g.S.Store c.migrate.new.conn in
     let settled : IsTrue old.is_open → old.now ≡ old.committed = search rules in
-    let b : has_late held.schema ≡ c.has_late.result = search rules in
-    let stood = c.in_ok-stood.value in
+    let there = c.has_late-has_table.result in
+    let b : has_late held.schema ≡ there = search rules in
+    let stood = c.in_ok-stood.stood in
+    let stops = rw c.as_slice.ensures.value at c.migrate.ensures.survives in
     survives_then old mid new _ _ (LeavesMigrated old) (λ _ db none. absurd none)
     (λ clean db leaves.
-    let early : HasCleanDisk mid = omega (arith, c.migrate.ensures.survives.clean) in
-    told_leaves c.has_late.result stood.clock (map (λ (r : FormerNotice). r.row) stood.notices.items) old mid (c.former.ensures.kept early)
-    (λ open_now. late_committed g.S.Store held settled c.has_late.result b open_now)
+    let early : HasCleanDisk mid = omega (arith, clean, stops.clean) in
+    told_leaves there stood.clock (map (λ (r : FormerNotice). r.row) stood.notices.items) old mid (c.former.ensures.kept early) (late_committed g.S.Store held settled there b)
     (λ t shows. (c.in_ok-stood.ensures.got early t shows).0) (λ t shows. (c.in_ok-stood.ensures.got early t shows).1) db leaves)
-    c.former.ensures.survives c.migrate.ensures.survives
+    c.former.ensures.survives stops
