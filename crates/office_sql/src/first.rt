@@ -1,5 +1,5 @@
 //! Offices of version 1: what stands in them that version 2 keeps otherwise, and the first half of their migration.
-ghost use Rattle.std.specs.Prelude.{◌≡◌, ℕ, [], Some, Ok, IfOk, IsTrue, OnOk, OnErr, map, option_map};
+ghost use Rattle.std.specs.Prelude.{◌≡◌, ℕ, [], ◌∷◌, Some, Ok, IfOk, IsTrue, OnOk, OnErr, map, option_map};
 ghost use Rattle.sqlite.specs.Held.{state};
 ghost use Rattle.sqlite.specs.State.{HasCleanDisk, Survives, ExecutesInside};
 ghost use Rattle.office_rows.specs.Releases.{clock_row};
@@ -7,6 +7,7 @@ ghost use Rattle.office_rows.specs.declared.stored.FormerClock.{FormerClock};
 ghost use Rattle.office_rows.specs.declared.stored.FormerNotice.{FormerNotice};
 ghost use Rattle.office_sql.specs.First.{TellsFirst, Begins, Renews, drop_notices, drop_version, has_late, lacking};
 ghost use Rattle.office_sql.specs.Making.{Makes};
+ghost use Rattle.office_sql.specs.Schema.OfficeTable.{Notices, LateRules, Performances};
 ghost use Rattle.office_sql.specs.Schema.{put_office};
 ghost use Rattle.office_sql.specs.Steps.{Refused};
 
@@ -76,21 +77,31 @@ pub fn former_clock<S: Alter>(
     }
 }
 
-// The tables that it lacks.
-fn make_lacking<S: Alter>(tx: &mut Transaction<'_, S>, has_late: bool) -> Result<(), Error>
+// The table of late withdrawals and those of version 2.
+fn make_late_and_second<S: Alter>(tx: &mut Transaction<'_, S>) -> Result<(), Error>
     ensures same_reference { tx.new.conn.ghost_name ≡ tx.old.conn.ghost_name }
-    ensures made { HasCleanDisk (state S.Store tx.new.conn.now) → IsTrue (state S.Store tx.old.conn.now).in_transaction → OnOk result (Makes (state S.Store tx.old.conn.now) (state S.Store tx.new.conn.now) (lacking has_late)) }
+    ensures made { HasCleanDisk (state S.Store tx.new.conn.now) → IsTrue (state S.Store tx.old.conn.now).in_transaction → OnOk result (Makes (state S.Store tx.old.conn.now) (state S.Store tx.new.conn.now) (Performances ∷ Notices ∷ LateRules ∷ [])) }
     ensures refused { HasCleanDisk (state S.Store tx.new.conn.now) → IsTrue (state S.Store tx.old.conn.now).in_transaction → OnErr result (Refused (state S.Store tx.old.conn.now) (state S.Store tx.new.conn.now)) }
     ensures survives { Survives (state S.Store tx.old.conn.now) (state S.Store tx.new.conn.now) (λ _. ⊥) }
 {
-    if has_late {
-        return make_second(tx);
-    }
     make_late(tx)?;
     make_second(tx)
 }
 
-// Drops what its notices and its version were.
+// The tables that it lacks.
+fn make_lacking<S: Alter>(tx: &mut Transaction<'_, S>, knows_late: bool) -> Result<(), Error>
+    ensures same_reference { tx.new.conn.ghost_name ≡ tx.old.conn.ghost_name }
+    ensures made { HasCleanDisk (state S.Store tx.new.conn.now) → IsTrue (state S.Store tx.old.conn.now).in_transaction → OnOk result (Makes (state S.Store tx.old.conn.now) (state S.Store tx.new.conn.now) (lacking knows_late)) }
+    ensures refused { HasCleanDisk (state S.Store tx.new.conn.now) → IsTrue (state S.Store tx.old.conn.now).in_transaction → OnErr result (Refused (state S.Store tx.old.conn.now) (state S.Store tx.new.conn.now)) }
+    ensures survives { Survives (state S.Store tx.old.conn.now) (state S.Store tx.new.conn.now) (λ _. ⊥) }
+{
+    if knows_late {
+        return make_second(tx);
+    }
+    make_late_and_second(tx)
+}
+
+// Drops its notices.
 fn drop_notices<S: Alter>(tx: &mut Transaction<'_, S>) -> Result<(), Error>
     ensures same_reference { tx.new.conn.ghost_name ≡ tx.old.conn.ghost_name }
     ensures ran { HasCleanDisk (state S.Store tx.new.conn.now) → IsTrue (state S.Store tx.old.conn.now).in_transaction → OnOk result ((count : ℕ) × ExecutesInside 0 drop_notices [] (state S.Store tx.old.conn.now) (state S.Store tx.new.conn.now) (Ok count)) }
@@ -100,6 +111,7 @@ fn drop_notices<S: Alter>(tx: &mut Transaction<'_, S>) -> Result<(), Error>
     execute_one(tx, "DELETE FROM notices", &[])
 }
 
+// Drops its version, and its clock with it.
 fn drop_version<S: Alter>(tx: &mut Transaction<'_, S>) -> Result<(), Error>
     ensures same_reference { tx.new.conn.ghost_name ≡ tx.old.conn.ghost_name }
     ensures ran { HasCleanDisk (state S.Store tx.new.conn.now) → IsTrue (state S.Store tx.old.conn.now).in_transaction → OnOk result ((count : ℕ) × ExecutesInside 0 drop_version [] (state S.Store tx.old.conn.now) (state S.Store tx.new.conn.now) (Ok count)) }
@@ -123,6 +135,7 @@ fn put_version<S: Alter>(tx: &mut Transaction<'_, S>, clock: &ClockRow) -> Resul
     )
 }
 
+// Its notices and its version are dropped, and version 2 is put with its clock.
 fn renew<S: Alter>(tx: &mut Transaction<'_, S>, clock: &ClockRow) -> Result<(), Error>
     ensures same_reference { tx.new.conn.ghost_name ≡ tx.old.conn.ghost_name }
     ensures renewed { HasCleanDisk (state S.Store tx.new.conn.now) → IsTrue (state S.Store tx.old.conn.now).in_transaction → OnOk result (Renews clock.now (state S.Store tx.old.conn.now) (state S.Store tx.new.conn.now)) }
@@ -139,14 +152,14 @@ fn renew<S: Alter>(tx: &mut Transaction<'_, S>, clock: &ClockRow) -> Result<(), 
 pub fn begin_second<S: Alter>(
     tx: &mut Transaction<'_, S>,
     clock: &ClockRow,
-    has_late: bool,
+    knows_late: bool,
 ) -> Result<(), Error>
     ensures same_reference { tx.new.conn.ghost_name ≡ tx.old.conn.ghost_name }
-    ensures begins { HasCleanDisk (state S.Store tx.new.conn.now) → IsTrue (state S.Store tx.old.conn.now).in_transaction → OnOk result (Begins has_late clock.now (state S.Store tx.old.conn.now) (state S.Store tx.new.conn.now)) }
+    ensures begins { HasCleanDisk (state S.Store tx.new.conn.now) → IsTrue (state S.Store tx.old.conn.now).in_transaction → OnOk result (Begins knows_late clock.now (state S.Store tx.old.conn.now) (state S.Store tx.new.conn.now)) }
     ensures refused { HasCleanDisk (state S.Store tx.new.conn.now) → IsTrue (state S.Store tx.old.conn.now).in_transaction → OnErr result (Refused (state S.Store tx.old.conn.now) (state S.Store tx.new.conn.now)) }
     ensures survives { Survives (state S.Store tx.old.conn.now) (state S.Store tx.new.conn.now) (λ _. ⊥) }
 {
     clock_comes_back();
-    make_lacking(tx, has_late)?;
+    make_lacking(tx, knows_late)?;
     renew(tx, clock)
 }
