@@ -217,7 +217,8 @@ def awards_go_to_the_best(office):
             "SELECT award, a.notice, lot, receipt, price, weight FROM awards AS a JOIN notices AS n ON n.notice = a.notice ORDER BY award"):
         offers = office.rows("""SELECT corrected, receipt, coalesce(quality, 0) FROM offers WHERE notice = ? AND lot = ? AND receipt NOT IN
             (SELECT receipt FROM awards WHERE notice = offers.notice AND award < ? AND state = 'failed')
-            AND NOT (failed AND receipt NOT IN (SELECT receipt FROM awards WHERE notice = offers.notice))""", notice, lot, award)
+            AND NOT (failed AND notice IN (SELECT notice FROM late_rules) AND receipt NOT IN (SELECT receipt FROM awards WHERE notice = offers.notice))""",
+            notice, lot, award)
         best = best_of(offers, weight)
         if best is None or best[:2] != (price, receipt):
             yield f"awards {award}", f"went to tender {receipt} at {price}, and the best " + (f"is {best[1]} at {best[0]}" if best else "isn't there")

@@ -7,6 +7,6 @@ trap 'rm -rf "$work"' EXIT
 mkdir -p "$work/crates/program/src"
 cp -r "$root/crates/ocds_merge" "$work/crates/ocds_merge"
 cp "$here/$1" "$work/crates/program/src/main.rt"
-printf 'ocds_merge: serde_json thiserror\nprogram: ocds_merge serde_json anyhow\n' > "$work/crates.txt"
+printf 'ocds_merge: serde_json json thiserror\nprogram: ocds_merge serde_json anyhow\n' > "$work/crates.txt"
 printf 'Handles allowed: none.\n' > "$work/HANDLES"
 cd "$work/crates/program"

@@ -160,7 +160,7 @@ names_plain : (M : List Data → Option Data) (run : List Members) (ks : List (L
 names_plain M run [] h = refl
 names_plain M run (k ∷ ks) h = put_some_plain k (M (column_at k run)) (merge_names M run ks) (h k) (names_plain M run ks h)
 
-or_null_plain : (o : Option Data) → OptPlain o → has_float (unwrap_or o null) ≡ false
+pub or_null_plain : (o : Option Data) → OptPlain o → has_float (unwrap_or o null) ≡ false
 or_null_plain None h = refl
 or_null_plain (Some d) h = h
 

@@ -1,12 +1,19 @@
-ghost use Rattle.std.specs.Prelude.{◌≡◌, List, [], ◌∷◌, ◌++◌, Some, None, Err, string_bytes, IfOk, IfErr, IsErr, All};
-ghost use Rattle.serde_json.specs.Data.{Data};
+ghost use Rattle.std.specs.Prelude.{◌≡◌, List, [], ◌∷◌, ◌++◌, Some, None, Err, string_bytes, IsTrue, ◌↔◌, IfOk, OnOk, IfErr, IsErr, All, unwrap_or};
+ghost use Rattle.serde_json.specs.Data.{Data, Members, null, object};
 ghost use Rattle.serde_json.specs.Read.{read};
 ghost use Rattle.serde_json.specs.View.{view};
+ghost use Rattle.serde_json.specs.Written.{compact_text};
 ghost use Rattle.ocds_merge.specs.Merge.{merge_or_null};
 ghost use Rattle.ocds_merge.specs.Stored.{KeepsMerge, IsStorable};
+ghost use Rattle.ocds_merge.specs.Inside.Step.{step};
+ghost use Rattle.ocds_merge.specs.Inside.Splice.{IsKept};
 ghost use Rattle.ocds_merge.specs.declared.stored.StoredFault.TheVariants.{NoMemory as no_memory};
 
+use crate::kept_value::is_kept;
 use crate::merging::{NoMemory, carried_on};
+use crate::readable::{is_plain_json, is_plain_object};
+use crate::splice::splice_value;
+use crate::unspliced::Unspliced;
 use serde_json::Value;
 use std::alloc::Global;
 
@@ -56,9 +63,42 @@ pub fn merge_from_text(alloc: Global, stored: &str) -> Result<Value, StoredFault
     }
 }
 
+/// Whether a text is a JSON object of at most 127 levels, so that it can be merged. No tree is made of it where its numbers are digits alone.
+pub fn is_object(alloc: Global, text: &str) -> Result<bool, NoMemory>
+    ensures { IfOk result (λ is. IsTrue is ↔ ((members : Members) × (read text.now ≡ Some (object members)))) }
+{
+    if is_plain_object(text.as_bytes()) {
+        return Ok(true);
+    }
+    match merge_from_text(alloc, text) {
+        Ok(Value::Object(_)) => Ok(true),
+        Ok(_) | Err(StoredFault::Unreadable) => Ok(false),
+        Err(StoredFault::NoMemory) => Err(NoMemory),
+    }
+}
+
 /// The text that keeps the merge of some values, after one value more. A text that is no JSON keeps
 /// no merge, not even that of no values, which is `null`.
+///
+/// What the value doesn't touch is copied as it stands, and no tree is made of it.
 pub fn merge_into_text(alloc: Global, stored: &str, value: &Value) -> Result<String, StoredFault>
+    ensures keeps { IfOk result (λ text. (vs : List Data) → KeepsMerge stored.now vs
+        → All IsStorable (vs ++ view value.now ∷ [])
+        → KeepsMerge (string_bytes text) (vs ++ view value.now ∷ [])) }
+    ensures memory { IfErr result (λ fault. (merge : Data) → read stored.now ≡ Some merge
+        → fault ≡ StoredFault.NoMemory) }
+    ensures unreadable { read stored.now ≡ None → IsErr result }
+    ensures empty { stored.now ≡ [] → result ≡ Err StoredFault.Unreadable }
+{
+    match spliced(alloc, stored, value) {
+        Ok(text) => Ok(text),
+        Err(Unspliced::NoMemory) => Err(StoredFault::NoMemory),
+        Err(Unspliced::Unfit) => merged_anew(alloc, stored, value),
+    }
+}
+
+/// The same by a tree of the stored merge, whatever the form of its text.
+fn merged_anew(alloc: Global, stored: &str, value: &Value) -> Result<String, StoredFault>
     ensures keeps { IfOk result (λ text. (vs : List Data) → KeepsMerge stored.now vs
         → All IsStorable (vs ++ view value.now ∷ [])
         → KeepsMerge (string_bytes text) (vs ++ view value.now ∷ [])) }
@@ -70,4 +110,39 @@ pub fn merge_into_text(alloc: Global, stored: &str, value: &Value) -> Result<Str
     let before = merge_from_text(alloc, stored)?;
     let after = carried_on(alloc, before, value)?;
     Ok(merge_to_text(alloc, &after)?)
+}
+
+/// The same by the stored text itself.
+fn spliced(alloc: Global, stored: &str, value: &Value) -> Result<String, Unspliced>
+    ensures keeps { IfOk result (λ text. (vs : List Data) → KeepsMerge stored.now vs
+        → All IsStorable (vs ++ view value.now ∷ [])
+        → KeepsMerge (string_bytes text) (vs ++ view value.now ∷ [])) }
+    ensures readable { OnOk result ((merge : Data) × (read stored.now ≡ Some merge)) }
+    ensures empty { stored.now ≡ [] → result ≡ Err Unspliced.Unfit }
+{
+    if !is_kept(value) {
+        return Err(Unspliced::Unfit);
+    }
+    let bytes = stored.as_bytes();
+    if !is_plain_json(bytes) {
+        return Err(Unspliced::Unfit);
+    }
+    let text = spliced_bytes(alloc, bytes, value)?;
+    match String::from_utf8(text) {
+        Ok(text) => Ok(text),
+        Err(_) => Err(Unspliced::Unfit),
+    }
+}
+
+/// The bytes of that text.
+fn spliced_bytes(alloc: Global, stored: &[u8], value: &Value) -> Result<Vec<u8>, Unspliced>
+    ensures { IfOk result (λ bytes. IsKept (view value.now) → (merge : Data) → IsKept merge → stored.now ≡ compact_text merge
+        → bytes.items ≡ compact_text (unwrap_or (step (Some merge) (view value.now)) null)) }
+{
+    let mut out: Vec<u8> = Vec::with_capacity(alloc, stored.len())?;
+    let rest = splice_value(alloc, value, stored, &mut out)?;
+    if !rest.is_empty() {
+        return Err(Unspliced::Unfit);
+    }
+    Ok(out)
 }

@@ -6,7 +6,7 @@ use Rattle.std.proofs.lemmas.List.Elements.{All-from_recursion}
 use Rattle.ocds_release.specs.Opened.{moment_of, moment_of_last}
 use Rattle.office_base.specs.declared.records.ReleaseRow.{ReleaseRow}
 use Rattle.office_publications.specs.Told.{IsInRange}
-use Rattle.office_publisher.specs.Extent.{IsExtentOf}
+use Rattle.office_publisher.specs.Extent.{IsExtentOf, ReadsAsObject}
 use Rattle.office_publisher.specs.declared.packages.Extent.{Extent}
 
 from_place : (rows : List ReleaseRow) (k : ℕ) (r : ReleaseRow) → slice_get rows k ≡ Some r → drop k rows ≡ r ∷ drop (suc k) rows
@@ -32,12 +32,13 @@ last_after last (r ∷ rows) = last_after (Some r.moment) rows
 pub record Measures (last : Option ℕ) (rest all : List ReleaseRow) : Type 0 where
   pub moment : last_after last rest ≡ last_after None all
   pub range : AllByRecursion IsInRange rest → AllByRecursion IsInRange all
+  pub read : AllByRecursion ReadsAsObject rest → AllByRecursion ReadsAsObject all
 
-pub measures_next : (last : Option ℕ) (rows : List ReleaseRow) (k : ℕ) (r : ReleaseRow) → slice_get rows k ≡ Some r → IsInRange r
+pub measures_next : (last : Option ℕ) (rows : List ReleaseRow) (k : ℕ) (r : ReleaseRow) → slice_get rows k ≡ Some r → IsInRange r → ReadsAsObject r
     → Measures last (drop k rows) rows → Measures (Some r.moment) (drop (k + 1) rows) rows
-measures_next last rows k r is range so_far =
+measures_next last rows k r is range reads so_far =
     let here : Measures last (r ∷ drop (k + 1) rows) rows = subst (λ (l : List ReleaseRow). Measures last l rows) (next_is rows k r is) so_far in
-    record { moment = here.moment; range = λ rest. here.range (range, rest) }
+    record { moment = here.moment; range = λ rest. here.range (range, rest); read = λ rest. here.read (reads, rest) }
 
 last_of : (last : Option ℕ) (r : ReleaseRow) (rows : List ReleaseRow) → last_after last (r ∷ rows) ≡ Some (moment_of_last (r ∷ rows))
 last_of last r [] = refl
@@ -61,4 +62,5 @@ measured extent rows rest none so_far =
     record {
       last = subst (λ (o : Option ℕ). IfSome o (λ moment. (0 < length rows) × (moment_of_last rows ≡ moment))) (sym all.moment) (ends rows);
       range = All-from_recursion IsInRange rows (all.range tt);
+      read = All-from_recursion ReadsAsObject rows (all.read tt);
     }

@@ -1,6 +1,6 @@
 //! The texts of the packages of a notice's releases and of its record, from what is kept. Each release is looked up by its number, measured
-//! first and then put into the text, so that no list of them stands beside it.
-ghost use Rattle.std.specs.Prelude.{◌≡◌, ◌<◌, ◌∷◌, ◌++◌, [], IfOk, IfErr, OnOk, List, Some, slice_get, string_bytes};
+//! first and then put into the text, so that no list of them stands beside it. What can't be merged isn't shown.
+ghost use Rattle.std.specs.Prelude.{◌≡◌, ◌<◌, ◌∷◌, ◌++◌, [], All, IfOk, IfErr, OnOk, List, Some, slice_get, string_bytes};
 ghost use Rattle.serde_json.specs.View.{view};
 ghost use Rattle.ocds_merge.specs.Compile.{with_head};
 ghost use Rattle.ocds_merge.specs.Merge.{merge_or_null};
@@ -14,11 +14,11 @@ ghost use Rattle.office_publications.specs.Merges.{bodies};
 ghost use Rattle.office_publications.specs.Packages.{packages};
 ghost use Rattle.office_publications.specs.Standing.{Stands};
 ghost use Rattle.office_publications.specs.Told.{AreInSequence, IsInRange};
-ghost use Rattle.office_publisher.specs.Extent.{IsExtentOf};
+ghost use Rattle.office_publisher.specs.Extent.{IsExtentOf, ReadsAsObject};
 ghost use Rattle.office_values.specs.Moments.{moment_text};
 ghost use Rattle.office_values.specs.declared.refusal.Refusal.TheVariants.{Unavailable};
 
-use ocds_merge::with_compiled_head;
+use ocds_merge::{is_object, with_compiled_head};
 use ocds_release::package_texts::{PackageText, open_record, open_releases};
 use office_base::counts::Sequence;
 use office_base::laws::looks_follow;
@@ -56,6 +56,19 @@ fn with_release(extent: Extent, release: &ReleaseRow) -> Extent
     }
 }
 
+// The same, where the text of that release is a JSON object.
+fn with_readable(alloc: Global, extent: Extent, release: &ReleaseRow) -> Result<Extent, Refusal>
+    ensures last { IfOk result (λ with. with.last ≡ Some release.now.moment) }
+    ensures range { OnOk result (IsInRange release.now) }
+    ensures reads { OnOk result (ReadsAsObject release.now) }
+    ensures none { IfErr result (λ why. why ≡ Unavailable) }
+{
+    match is_object(alloc, release.text.as_str()) {
+        Ok(true) => Ok(with_release(extent, release)),
+        Ok(false) | Err(_) => Err(Refusal::Unavailable),
+    }
+}
+
 // The release that stands at this place in the sequence of a notice's releases.
 fn get_release<H: Lookups>(
     shelf: &mut H,
@@ -72,9 +85,10 @@ fn get_release<H: Lookups>(
     }
 }
 
-// What the releases of a notice come to.
-fn measure<H: Lookups>(shelf: &mut H, notice: &Id) -> Result<Extent, ShelfFault>
-    ensures { Looks H.meaning shelf.old shelf.new (λ s. IfOk result (λ extent. AreInSequence notice.now s → IsExtentOf extent (releases_of_notice notice.now s))) }
+// What the releases of a notice come to, where each of their texts is a JSON object.
+fn measure<H: Lookups>(alloc: Global, shelf: &mut H, notice: &Id) -> Result<Extent, Refusal>
+    ensures looks { Looks H.meaning shelf.old shelf.new (λ s. IfOk result (λ extent. AreInSequence notice.now s → IsExtentOf extent (releases_of_notice notice.now s))) }
+    ensures none { IfErr result (λ why. why ≡ Unavailable) }
 {
     looks_follow::<H>();
     let mut extent = Extent {
@@ -83,7 +97,7 @@ fn measure<H: Lookups>(shelf: &mut H, notice: &Id) -> Result<Extent, ShelfFault>
     };
     'places: for place in 0..RELEASES {
         match get_release(shelf, notice, place)? {
-            Some(release) => extent = with_release(extent, &release),
+            Some(release) => extent = with_readable(alloc, extent, &release)?,
             None => return Ok(extent),
         }
     }
@@ -158,8 +172,9 @@ fn releases_package(
     }
 }
 
-/// The package of a notice's releases, from their texts as they are kept: none is read or written again, and one of them is held at a time
-/// beside the text. `Unavailable` also where the notice has no release, as of no notice that commands lead to.
+/// The package of a notice's releases, from their texts as they are kept: of none a tree is made, none is written again, and one of them is held
+/// at a time beside the text. `Unavailable` also where a text is no JSON object of at most 127 levels, so that it can't be merged, and where the
+/// notice has no release: none of this is so of an office that commands lead to.
 pub fn releases_text<H: Lookups>(
     alloc: Global,
     shelf: &mut H,
@@ -168,11 +183,12 @@ pub fn releases_text<H: Lookups>(
 ) -> Result<Vec<u8>, Refusal>
     ensures looks { Looks H.meaning shelf.old shelf.new (λ s. Stands settings.now s
         → IfOk result (λ text. text.items ≡ packages settings.now (queries.Releases notice.now) s)) }
+    ensures read { Looks H.meaning shelf.old shelf.new (λ s. AreInSequence notice.now s → OnOk result (All ReadsAsObject (releases_of_notice notice.now s))) }
     ensures none { IfErr result (λ why. why ≡ Unavailable) }
 {
     told();
     looks_follow::<H>();
-    let extent = measure(shelf, notice)?;
+    let extent = measure(alloc, shelf, notice)?;
     let opened = releases_package(alloc, settings, notice, extent)?;
     whole_text(shelf, notice, opened)
 }
@@ -223,6 +239,9 @@ fn load_compiled<H: Lookups>(
 {
     let kept = load_kept(shelf, notice)?;
     let merge = merge_kept(alloc, &kept)?;
+    if !merge.is_object() {
+        return Err(Refusal::Unavailable);
+    }
     compiled(alloc, settings, notice, last, merge)
 }
 
@@ -259,11 +278,12 @@ pub fn record_text<H: Lookups>(
 ) -> Result<Vec<u8>, Refusal>
     ensures looks { Looks H.meaning shelf.old shelf.new (λ s. Stands settings.now s
         → IfOk result (λ text. text.items ≡ packages settings.now (queries.Record notice.now) s)) }
+    ensures read { Looks H.meaning shelf.old shelf.new (λ s. AreInSequence notice.now s → OnOk result (All ReadsAsObject (releases_of_notice notice.now s))) }
     ensures none { IfErr result (λ why. why ≡ Unavailable) }
 {
     told();
     looks_follow::<H>();
-    let extent = measure(shelf, notice)?;
+    let extent = measure(alloc, shelf, notice)?;
     let opened = record_package(alloc, shelf, settings, notice, extent)?;
     whole_text(shelf, notice, opened)
 }

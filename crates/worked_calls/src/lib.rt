@@ -5,6 +5,8 @@
 #[cfg(test)]
 mod budget_files;
 #[cfg(test)]
+mod merged_texts;
+#[cfg(test)]
 mod merges;
 #[cfg(test)]
 mod moments;

@@ -1,7 +1,7 @@
 //! Merges of releases, and compiled releases.
 use ocds_merge::{
-    StoredFault, compile, merge_all, merge_from_text, merge_into, merge_into_text, merge_to_text,
-    with_compiled_head, without_head,
+    StoredFault, compile, is_object, merge_all, merge_from_text, merge_into, merge_into_text,
+    merge_to_text, with_compiled_head, without_head,
 };
 use serde_json::Value;
 use std::alloc::Global;
@@ -131,7 +131,8 @@ fn merges_to(alloc: Global, texts: &[&str], want: &str) -> bool {
     }
 }
 
-fn merges_each(alloc: Global, rows: &[(&[&str], &str)]) -> bool {
+/// Whether each column merges to what it should: at once, one by one, and as text.
+pub(crate) fn merges_each(alloc: Global, rows: &[(&[&str], &str)]) -> bool {
     for (texts, want) in rows {
         if !merges_to(alloc, texts, want) {
             return false;
@@ -309,10 +310,10 @@ fn takes_heads_off_and_puts_them_on(rt: HostRuntime) {
     assert!(rt; changes_head(rt.alloc(), release, r#"{"n":1}"#, compiled));
 }
 
-/// Whether a kept text is read as a merge that is kept as the same text.
+/// Whether a kept text is told to be an object, and read as a merge that is kept as the same text.
 fn is_read_back(alloc: Global, kept: &str) -> bool {
     match merge_from_text(alloc, kept) {
-        Ok(merge) => is_kept(alloc, &merge, kept),
+        Ok(merge) => { matches!(is_object(alloc, kept), Ok(true)) && is_kept(alloc, &merge, kept) }
         Err(_) => false,
     }
 }
@@ -320,10 +321,18 @@ fn is_read_back(alloc: Global, kept: &str) -> bool {
 #[test]
 fn reads_stored_merges(rt: HostRuntime) {
     assert!(rt; is_read_back(rt.alloc(), r#"{"a":[{"id":"x"}]}"#));
+    assert!(rt; is_read_back(rt.alloc(), r#"{"a":-1,"b":"\u0001","c":"\n"}"#));
 }
 
-/// Texts that are no JSON.
-const NO_JSON: [&str; 7] = [
+#[test]
+fn tells_objects_from_other_values(rt: HostRuntime) {
+    for text in ["null", "1", "[{}]", r#""{}""#] {
+        assert!(rt; matches!(is_object(rt.alloc(), text), Ok(false)));
+    }
+}
+
+/// Texts that are no JSON, some of them in parts that the value doesn't touch.
+const NO_JSON: [&str; 16] = [
     "",
     " ",
     "{",
@@ -331,10 +340,20 @@ const NO_JSON: [&str; 7] = [
     "nullnull",
     r#"{"a":1} {"a":2}"#,
     "[1,]",
+    r#"{"a":1,"b":[1,],"c":2}"#,
+    r#"{"a":1,"b":{"c":tru}}"#,
+    r#"{"a":1,"b":"\x"}"#,
+    r#"{"a":1,"b":{"c":1}"#,
+    r#"{"a":1,"b":01}"#,
+    r#"{"a":1,"b":1e999}"#,
+    r#"{"a":1,,"b":1}"#,
+    r#"{"a":1 "b":1}"#,
+    r#"{"a":[{"id":"1"},],"b":1}"#,
 ];
 
 fn keeps_none(alloc: Global, text: &str, value: &Value) -> bool {
-    matches!(merge_from_text(alloc, text), Err(StoredFault::Unreadable))
+    matches!(is_object(alloc, text), Ok(false))
+        && matches!(merge_from_text(alloc, text), Err(StoredFault::Unreadable))
         && matches!(
             merge_into_text(alloc, text, value),
             Err(StoredFault::Unreadable)

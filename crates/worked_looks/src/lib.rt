@@ -7,3 +7,5 @@ mod kept_merges;
 mod ledger_rows;
 #[cfg(test)]
 mod showing;
+#[cfg(test)]
+mod unreadable_texts;

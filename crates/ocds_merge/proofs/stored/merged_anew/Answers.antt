@@ -1,6 +1,6 @@
 use Rattle.std.proofs.Common.{ap, sym, ◌∙◌, unwrap_or, Option}
 use Rattle.serde_json.specs.Data.{Data, null}
-use Rattle.ocds_merge.proofs.stored.merge_into_text.Goals as goal
+use Rattle.ocds_merge.proofs.stored.merged_anew.Goals as goal
 
 pub returns-clause-keeps : goal.returns-clause-keeps
 returns-clause-keeps c vs kept storable =

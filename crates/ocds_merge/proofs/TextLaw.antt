@@ -1,0 +1,51 @@
+-- The text that comes of a stored one.
+use Rattle.std.proofs.Common.{◌≡◌, List, ℕ, [], ◌∷◌, ◌++◌, Option, Some, None, refl, sym, ap, ◌∙◌, subst, unwrap_or, All, arith}
+use Rattle.std.proofs.lemmas.List.{get_or_append_left, length-append}
+use Rattle.serde_json.specs.Data.{Data, null, boolean, number, string, array, object}
+use Rattle.serde_json.specs.Read.{read}
+use Rattle.serde_json.specs.Written.{compact_text}
+use Rattle.ocds_merge.specs.Merge.{merge_or_null}
+use Rattle.ocds_merge.specs.Stored.{KeepsMerge, IsStorable}
+use Rattle.ocds_merge.specs.Inside.Step.{step, not_null}
+use Rattle.ocds_merge.specs.Inside.Splice.{IsKept}
+use Rattle.ocds_merge.proofs.MergeLaw.{merged_law, merged_not_null}
+use Rattle.ocds_merge.proofs.StorableLaw.{merge_shallow, merge_no_float}
+use Rattle.ocds_merge.proofs.KeptLaw.{kept_proper}
+use Rattle.ocds_merge.proofs.KeptStep.{step_kept, or_null_kept}
+use Rattle.ocds_merge.proofs.ReadKept.{read_kept, kept_reads}
+
+-- onto `null` a value merges as onto nothing
+onto_null : (v : Data) → step (Some null) v ≡ step None v
+onto_null null = refl
+onto_null (boolean b) = refl
+onto_null (number n) = refl
+onto_null (string s) = refl
+onto_null (array ds) = refl
+onto_null (object ms) = refl
+
+onto : (d v : Data) → step (Some d) v ≡ step (not_null d) v
+onto null v = onto_null v
+onto (boolean b) v = refl
+onto (number n) v = refl
+onto (string s) v = refl
+onto (array ds) v = refl
+onto (object ms) v = refl
+
+one_more : (vs : List Data) (v : Data) → IsKept v → unwrap_or (step (Some (merge_or_null vs)) v) null ≡ merge_or_null (vs ++ v ∷ [])
+one_more vs v kept =
+    ap (λ (o : Option Data). unwrap_or o null)
+    (onto (merge_or_null vs) v ∙ ap (λ (o : Option Data). step o v) (merged_not_null vs) ∙ sym (merged_law vs v (kept_proper v kept)))
+
+all_before : (vs : List Data) (v : Data) → All IsStorable (vs ++ v ∷ []) → All IsStorable vs
+all_before vs v h = λ k d low. subst IsStorable (get_or_append_left vs (v ∷ []) d k low) (h k d (omega (arith, length-append vs (v ∷ []))))
+
+pub merge_kept : (text : List ℕ) (vs : List Data) (v : Data) → KeepsMerge text vs → All IsStorable (vs ++ v ∷ []) → IsKept (merge_or_null vs)
+merge_kept text vs v k storable = read_kept text (merge_or_null vs) k.reads (merge_no_float vs (all_before vs v storable))
+
+pub keeps_more : (text new : List ℕ) (vs : List Data) (v : Data) → KeepsMerge text vs → All IsStorable (vs ++ v ∷ []) → IsKept v
+    → new ≡ compact_text (unwrap_or (step (Some (merge_or_null vs)) v) null) → KeepsMerge new (vs ++ v ∷ [])
+keeps_more text new vs v k storable kept is =
+    let more = one_more vs v kept in
+    let merged : IsKept (merge_or_null (vs ++ v ∷ [])) = subst IsKept more (or_null_kept _ (step_kept (Some (merge_or_null vs)) v (merge_kept text vs v k storable) kept)) in
+    let whole : new ≡ compact_text (merge_or_null (vs ++ v ∷ [])) = is ∙ ap compact_text more in
+    record { is = whole; reads = ap read whole ∙ kept_reads (merge_or_null (vs ++ v ∷ [])) merged (merge_shallow (vs ++ v ∷ []) storable) }

@@ -1,0 +1,7 @@
+use Rattle.std.proofs.Common.{map, take}
+use Rattle.serde_json.specs.View.{view}
+use Rattle.ocds_merge.specs.Inside.Pending.{HaveDistinctIds}
+use Rattle.ocds_merge.proofs.list_text.distinct_places.Given as goal
+
+abbrev pub invariant-loop-place : goal.invariant-loop-place
+invariant-loop-place l = HaveDistinctIds (take l.place (map view l.items))

@@ -1,0 +1,13 @@
+use Rattle.std.proofs.Common.{◌≡◌, ◌+◌, ◌≤◌, length}
+use Rattle.ocds_merge.specs.Inside.Scan.{scan, between}
+use Rattle.ocds_merge.proofs.scan.after_value.Given as goal
+
+abbrev pub invariant-loop-first : goal.invariant-loop-first
+invariant-loop-first l = record {
+  scans : scan l.depth between l.left ≡ scan l.inside between l.text;
+  shorter : length l.left ≤ length l.text;
+  deep : l.depth + length l.left ≤ l.inside + length l.text;
+}
+
+abbrev pub decreases-loop-first : goal.decreases-loop-first
+decreases-loop-first l = length l.left

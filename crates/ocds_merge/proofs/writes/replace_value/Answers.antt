@@ -1,0 +1,8 @@
+use Rattle.std.proofs.Common.{ap, ◌∙◌}
+use Rattle.ocds_merge.specs.Inside.Scan.{scan, between}
+use Rattle.ocds_merge.proofs.SpliceLaw.{scan-value}
+use Rattle.ocds_merge.proofs.writes.replace_value.Goals as goal
+
+pub returns : goal.returns
+returns c kept d rest old_kept ends is =
+    (c.after_value.ensures.scans ∙ ap (scan 0 between) is ∙ scan-value 0 d rest old_kept ∙ ends, c.in_ok-write_new.ensures kept)

@@ -1,0 +1,34 @@
+-- Where values end in a JSON text, a byte at a time. No public clause rests on this file.
+use Rattle.std.specs.Prelude.{◌≢◌, ℕ, ◌+◌, ◌-◌, List, [], ◌∷◌, ◌||◌, ◌&&◌, ◌==◌, ◌≤◌, cond, ⊤}
+
+-- outside strings, inside one, and after a backslash there
+pub data Mode : Type 0 where
+  between : Mode
+  in_string : Mode
+  escaped : Mode
+
+-- What is left at the comma or the closing bracket after a value, from inside n arrays and objects of it.
+abbrev pub scan : ℕ → Mode → List ℕ → List ℕ
+scan n between [] = []
+scan n between (c ∷ r) =
+    cond (c == 34) (scan n in_string r)
+    (cond ((c == 123) || (c == 91)) (scan (n + 1) between r)
+    (cond ((c == 125) || (c == 93)) (cond (n == 0) (c ∷ r) (scan (n - 1) between r))
+    (cond ((c == 44) && (n == 0)) (c ∷ r) (scan n between r))))
+scan n in_string [] = []
+scan n in_string (c ∷ r) = cond (c == 92) (scan n escaped r) (cond (c == 34) (scan n between r) (scan n in_string r))
+scan n escaped [] = []
+scan n escaped (c ∷ r) = scan n in_string r
+
+-- neither a quote nor a backslash
+abbrev pub IsPlain : List ℕ → Type 0
+IsPlain [] = ⊤
+IsPlain (c ∷ r) = (c ≢ 34) × (c ≢ 92) × IsPlain r
+
+-- a byte of a string that needs no escape
+abbrev pub StandsForItself : ℕ → Type 0
+StandsForItself c = (32 ≤ c) × (c ≢ 34) × (c ≢ 92)
+
+abbrev pub AllStandForThemselves : List ℕ → Type 0
+AllStandForThemselves [] = ⊤
+AllStandForThemselves (c ∷ r) = StandsForItself c × AllStandForThemselves r

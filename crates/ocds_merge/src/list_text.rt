@@ -1,0 +1,194 @@
+//! The items of an id list, in turn, in the list's text.
+ghost use Rattle.std.specs.Prelude.{◌≡◌, ◌<◌, ℕ, List, [], ◌∷◌, ◌++◌, codes, true, false, length, map, take, set, get_or, replicate, MatchOption, IfOk, OnOk, IsTrue, Some};
+ghost use Rattle.serde_json.specs.Data.{Data, Items, Members};
+ghost use Rattle.serde_json.specs.Find.{get_member};
+ghost use Rattle.serde_json.specs.View.{view, items_of, items_view};
+ghost use Rattle.serde_json.specs.Written.{compact_text, items_text, members_text};
+ghost use Rattle.ocds_merge.specs.Identified.{text_id};
+ghost use Rattle.ocds_merge.specs.Inside.Scan.{scan, between};
+ghost use Rattle.ocds_merge.specs.Inside.Step.{Lacks};
+ghost use Rattle.ocds_merge.specs.Inside.Places.{Serves, IsPlaceOf};
+ghost use Rattle.ocds_merge.specs.Inside.Splice.{IsKept, AreItemsKept, EndsBefore, no_comma, StandAt, FoundAt};
+ghost use Rattle.ocds_merge.specs.Inside.Pending.{HaveDistinctIds, alone, unless, pending};
+
+use crate::identified::id_of;
+use crate::object_text::{after_comma, next_member};
+use crate::places::Places;
+use crate::scan::{after_byte, after_value, plain_string};
+use crate::unspliced::Unspliced;
+use crate::writes::{write_byte, write_comma, write_new};
+use serde_json::Value;
+use std::alloc::{AllocError, Global};
+
+/// The next item of an array of objects, `None` at the array's end.
+pub(crate) fn next_item(text: &[u8]) -> Result<Option<&[u8]>, Unspliced>
+    ensures { IfOk result (λ found. MatchOption found ((rest : List ℕ) × (no_comma text.now ≡ 93 ∷ rest))
+        (λ item. (no_comma text.now ≡ item.now) × (rest : List ℕ) × (item.now ≡ 123 ∷ rest))) }
+{
+    let whole = after_comma(text);
+    match whole.first() {
+        Some(b']') => Ok(None),
+        Some(b'{') => Ok(Some(whole)),
+        _ => Err(Unspliced::Unfit),
+    }
+}
+
+/// What comes after an array, from before its closing bracket.
+fn after_list(text: &[u8]) -> Result<&[u8], Unspliced>
+    ensures { IfOk result (λ rest. no_comma text.now ≡ 93 ∷ rest.now) }
+{
+    match after_byte(after_comma(text), b']') {
+        Some(rest) => Ok(rest),
+        None => Err(Unspliced::Unfit),
+    }
+}
+
+/// The value of the member `id`, from where it begins, among the members of an object.
+fn id_value(text: &[u8]) -> Result<&[u8], Unspliced>
+    ensures { IfOk result (λ value. (ts : Members) (rest : List ℕ) → StandAt text.now ts rest
+        → FoundAt (codes "id") ts rest value.now) }
+{
+    let mut left = text;
+    while let Some(member) = next_member(left)? {
+        if member.name == b"id".as_slice() {
+            return Ok(member.value);
+        }
+        left = after_value(member.value, 0);
+    }
+    Err(Unspliced::Unfit)
+}
+
+/// The text id of the object that begins a text, and what comes after the id, inside the object.
+pub(crate) fn id_in(text: &[u8]) -> Result<(&[u8], &[u8]), Unspliced>
+    ensures { IfOk result (λ p. (d : Data) (rest : List ℕ) → IsKept d → EndsBefore rest → text.now ≡ compact_text d ++ rest
+        → (text_id d ≡ Some p.0.now) × (scan 1 between p.1.now ≡ rest)) }
+{
+    let Some(inside) = after_byte(text, b'{') else {
+        return Err(Unspliced::Unfit);
+    };
+    let Some(quoted) = after_byte(id_value(inside)?, b'"') else {
+        return Err(Unspliced::Unfit);
+    };
+    match plain_string(quoted) {
+        Some(found) => Ok(found),
+        None => Err(Unspliced::Unfit),
+    }
+}
+
+/// Whether no item before this place has this id.
+fn is_new(places: &Places, items: &[Value], id: &str, place: usize) -> bool
+    requires { Serves places.now.by_id (map view items.now) }
+    ensures { IsTrue result → Lacks id.now (take place (map view items.now)) }
+{
+    match places.find(items, id) {
+        Some(first) => first == place,
+        None => true,
+    }
+}
+
+/// Where the items stand by id, of which no two may have one id.
+pub(crate) fn distinct_places(alloc: Global, items: &[Value]) -> Result<Places, Unspliced>
+    ensures serves { IfOk result (λ places. Serves places.by_id (map view items.now)) }
+    ensures distinct { OnOk result (HaveDistinctIds (map view items.now)) }
+{
+    let places = Places::new(alloc, items, items.len())?;
+    for (place, item) in items.iter().enumerate() {
+        if !is_new(&places, items, id_of(item), place) {
+            return Err(Unspliced::Unfit);
+        }
+    }
+    Ok(places)
+}
+
+/// The item with an id that stands in a text.
+pub(crate) fn place_in(
+    places: &Places,
+    items: &[Value],
+    id: &[u8],
+) -> Result<Option<usize>, Unspliced>
+    requires { Serves places.now.by_id (map view items.now) }
+    ensures { IfOk result (λ found. IsPlaceOf found id.now (map view items.now)) }
+{
+    match std::str::from_utf8(id) {
+        Ok(id) => Ok(places.find(items, id)),
+        Err(_) => Err(Unspliced::Unfit),
+    }
+}
+
+/// For each item, whether it is merged into an old one: none is yet.
+pub(crate) fn none_done(alloc: Global, count: usize) -> Result<Vec<bool>, AllocError>
+    ensures { IfOk result (λ done. done.items ≡ replicate count false) }
+{
+    vec![in alloc; false; count]
+}
+
+/// Notes that an item is merged into an old one, which must be the first.
+pub(crate) fn note_done(done: &mut Vec<bool>, place: usize) -> Result<(), Unspliced>
+    requires { place < length done.old.items }
+    ensures was { OnOk result (get_or done.old.items place true ≡ false) }
+    ensures is { OnOk result (done.new.items ≡ set done.old.items place true) }
+{
+    if done[place] {
+        return Err(Unspliced::Unfit);
+    }
+    done[place] = true;
+    Ok(())
+}
+
+/// Writes an item's merge alone, unless it is done; whether anything stands before what follows.
+fn write_unless(
+    alloc: Global,
+    item: &Value,
+    is_done: bool,
+    later: bool,
+    out: &mut Vec<u8>,
+) -> Result<bool, AllocError>
+    ensures { IfOk result (λ more. IsKept (view item.now) → (ds : Items)
+        → out.new.items ++ items_text more ds ≡ out.old.items ++ items_text later (unless is_done (alone (view item.now)) ds)) }
+{
+    if is_done {
+        return Ok(later);
+    }
+    write_comma(later, out)?;
+    write_new(alloc, item, out)?;
+    Ok(true)
+}
+
+/// Writes the items that are merged into no old one, and closes the array.
+fn write_pending(
+    alloc: Global,
+    items: &[Value],
+    done: &[bool],
+    later: bool,
+    out: &mut Vec<u8>,
+) -> Result<(), AllocError>
+    requires { length done.now ≡ length items.now }
+    ensures { OnOk result (AreItemsKept (items_view items.now)
+        → out.new.items ≡ out.old.items ++ items_text later (items_of (map alone (pending (map view items.now) done.now)))) }
+{
+    let mut later = later;
+    for (place, item) in items.iter().enumerate() {
+        later = write_unless(alloc, item, done[place], later, out)?;
+    }
+    write_byte(b']', out)?;
+    Ok(())
+}
+
+/// The same, where the old items end: what comes after them.
+pub(crate) fn close_list<'a>(
+    alloc: Global,
+    items: &[Value],
+    done: &[bool],
+    text: &'a [u8],
+    later: bool,
+    out: &mut Vec<u8>,
+) -> Result<&'a [u8], Unspliced>
+    requires { length done.now ≡ length items.now }
+    ensures { IfOk result (λ rest. AreItemsKept (items_view items.now)
+        → (no_comma text.now ≡ 93 ∷ rest.now)
+        × (out.new.items ≡ out.old.items ++ items_text later (items_of (map alone (pending (map view items.now) done.now))))) }
+{
+    write_pending(alloc, items, done, later, out)?;
+    let rest = after_list(text)?;
+    Ok(rest)
+}

@@ -1,0 +1,226 @@
+//! Whether a text is the compact text of a value, without a tree of it.
+ghost use Rattle.std.specs.Prelude.{◌≡◌, ◌≤◌, ◌<◌, ◌^◌, ℕ, List, ◌∷◌, ◌++◌, [], length, take, slice_index, decimal, IsTrue, MatchBool, MatchOption, Some, ⊤};
+ghost use Rattle.std.specs.Char.{digit_value};
+ghost use Rattle.std.specs.Str.Parse.{AllDigits};
+ghost use Rattle.json.specs.Print.{escape, escape_byte, quoted};
+ghost use Rattle.serde_json.specs.Data.{Data, Members, object};
+ghost use Rattle.serde_json.specs.Read.{read};
+ghost use Rattle.serde_json.specs.Written.{comma_if};
+ghost use Rattle.ocds_merge.specs.Inside.Readable.{Passed, PassedItems, PassedMembers};
+
+use crate::scan::{after_byte, after_plain};
+
+/// How deep a text may nest, in levels: no deeper than `Value::from_str` reads.
+const MAX_DEPTH: usize = 127;
+
+/// The most digits that surely fit 64 bits.
+const MAX_DIGITS: usize = 19;
+
+/// Whether a backslash and this byte are how a byte is written.
+fn is_escape(letter: u8) -> bool
+    ensures { IsTrue result → (x : ℕ) × (escape_byte x ≡ 92 ∷ letter ∷ []) }
+{
+    match letter {
+        b'"' => true,
+        b'\\' => true,
+        b'b' => true,
+        b'f' => true,
+        b'n' => true,
+        b'r' => true,
+        b't' => true,
+        _ => false,
+    }
+}
+
+/// What comes after a string without code points by number; the text begins after the opening quote.
+fn passed_string(text: &[u8]) -> Option<&[u8]>
+    ensures { MatchOption result ⊤ (λ rest. (s : List ℕ) × (text.now ≡ escape s ++ 34 ∷ rest.now)) }
+{
+    let mut left = after_plain(text);
+    while let Some((first, rest)) = left.split_first() {
+        if *first == b'"' {
+            return Some(rest);
+        }
+        if *first != b'\\' {
+            return None;
+        }
+        let (letter, rest) = rest.split_first()?;
+        if !is_escape(*letter) {
+            return None;
+        }
+        left = after_plain(rest);
+    }
+    None
+}
+
+fn is_digit(byte: u8) -> bool
+    ensures { MatchBool result (digit_value byte < 10) ⊤ }
+{
+    if byte < b'0' {
+        return false;
+    }
+    byte <= b'9'
+}
+
+/// How many digits a text begins with.
+fn digit_count(text: &[u8]) -> usize
+    ensures within { result ≤ length text.now }
+    ensures digits { AllDigits 10 (take result text.now) }
+{
+    for (at, byte) in text.iter().enumerate() {
+        if !is_digit(*byte) {
+            return at;
+        }
+    }
+    text.len()
+}
+
+/// Whether a numeral of so many digits begins with a zero before others.
+fn has_leading_zero(text: &[u8], count: usize) -> bool
+    requires some { 0 < count }
+    requires within { count ≤ length text.now }
+    ensures { MatchBool result ⊤ (slice_index text.now 0 ≡ 48 → count ≡ 1) }
+{
+    if text[0] != b'0' {
+        return false;
+    }
+    count > 1
+}
+
+/// What comes after an integer that surely fits 64 bits, with no zero before its other digits.
+fn passed_number(text: &[u8]) -> Option<&[u8]>
+    ensures { MatchOption result ⊤ (λ rest. (n : ℕ) × (n < 2 ^ 64) × (text.now ≡ decimal n ++ rest.now)) }
+{
+    let count = digit_count(text);
+    if count == 0 {
+        return None;
+    }
+    if count > MAX_DIGITS {
+        return None;
+    }
+    if has_leading_zero(text, count) {
+        return None;
+    }
+    Some(&text[count..])
+}
+
+fn after_word<'a>(text: &'a [u8], word: &str) -> Option<&'a [u8]>
+    ensures { MatchOption result ⊤ (λ rest. text.now ≡ word.now ++ rest.now) }
+{
+    let rest = text.strip_prefix(word.as_bytes())?;
+    Some(rest)
+}
+
+/// What comes after a value; arrays and objects may nest `depth` deep.
+#[cycle(passing)]
+fn passed_value(text: &[u8], depth: usize) -> Option<&[u8]>
+    ensures { MatchOption result ⊤ (λ rest. Passed text.now rest.now depth) }
+{
+    let (first, rest) = text.split_first()?;
+    match *first {
+        b'"' => Some(passed_string(rest)?),
+        b'{' => {
+            if depth == 0 {
+                return None;
+            }
+            Some(passed_members(rest, depth - 1)?)
+        }
+        b'[' => {
+            if depth == 0 {
+                return None;
+            }
+            Some(passed_items(rest, depth - 1)?)
+        }
+        b't' => Some(after_word(rest, "rue")?),
+        b'f' => Some(after_word(rest, "alse")?),
+        b'n' => Some(after_word(rest, "ull")?),
+        _ => Some(passed_number(text)?),
+    }
+}
+
+/// What comes after an array, from after its opening bracket.
+#[cycle(passing)]
+fn passed_items(text: &[u8], depth: usize) -> Option<&[u8]>
+    ensures { MatchOption result ⊤ (λ rest. PassedItems text.now rest.now depth) }
+{
+    let mut left = text;
+    let mut later = false;
+    // An array has no more items than bytes.
+    for _turn in 0..text.len() {
+        if let Some(rest) = after_byte(left, b']') {
+            return Some(rest);
+        }
+        let item = after_comma_if(later, left)?;
+        left = passed_value(item, depth)?;
+        later = true;
+    }
+    None
+}
+
+/// What comes after an object, from after its opening bracket.
+#[cycle(passing)]
+fn passed_members(text: &[u8], depth: usize) -> Option<&[u8]>
+    ensures { MatchOption result ⊤ (λ rest. PassedMembers text.now rest.now depth) }
+{
+    let mut left = text;
+    let mut later = false;
+    // An object has no more members than bytes.
+    for _turn in 0..text.len() {
+        if let Some(rest) = after_byte(left, b'}') {
+            return Some(rest);
+        }
+        let value = passed_name(after_comma_if(later, left)?)?;
+        left = passed_value(value, depth)?;
+        later = true;
+    }
+    None
+}
+
+/// The text after a comma, which stands where something is before it.
+fn after_comma_if(later: bool, text: &[u8]) -> Option<&[u8]>
+    ensures { MatchOption result ⊤ (λ rest. text.now ≡ comma_if later ++ rest.now) }
+{
+    if later {
+        after_byte(text, b',')
+    } else {
+        Some(text)
+    }
+}
+
+/// What comes after a name and its colon.
+fn passed_name(text: &[u8]) -> Option<&[u8]>
+    ensures { MatchOption result ⊤ (λ rest. (k : List ℕ) × (text.now ≡ quoted k ++ 58 ∷ rest.now)) }
+{
+    let inside = after_byte(text, b'"')?;
+    let rest = passed_string(inside)?;
+    after_byte(rest, b':')
+}
+
+fn is_end(text: &[u8]) -> bool
+    ensures { IsTrue result → text.now ≡ [] }
+{
+    text.is_empty()
+}
+
+/// Whether a text is the compact text of a value with natural numbers alone: where it isn't it may still be JSON.
+pub(crate) fn is_plain_json(text: &[u8]) -> bool
+    ensures { IsTrue result → (d : Data) × (read text.now ≡ Some d) }
+{
+    match passed_value(text, MAX_DEPTH) {
+        Some(rest) => is_end(rest),
+        None => false,
+    }
+}
+
+/// Whether a text is the compact text of an object with natural numbers alone: where it isn't it may still be one.
+pub(crate) fn is_plain_object(text: &[u8]) -> bool
+    ensures { IsTrue result → (members : Members) × (read text.now ≡ Some (object members)) }
+{
+    let Some(inside) = after_byte(text, b'{') else {
+        return false;
+    };
+    match passed_members(inside, MAX_DEPTH - 1) {
+        Some(rest) => is_end(rest),
+        None => false,
+    }
+}

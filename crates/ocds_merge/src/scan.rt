@@ -1,0 +1,129 @@
+//! Where values end in a JSON text.
+ghost use Rattle.std.specs.Prelude.{◌≡◌, ◌≢◌, ℕ, List, ◌≤◌, ◌∷◌, ◌++◌, length, MatchOption, MatchBool, ⊤};
+ghost use Rattle.ocds_merge.specs.Inside.Scan.{scan, between, in_string, escaped, IsPlain, StandsForItself, AllStandForThemselves};
+
+/// Whether a byte stands for itself in a string. Letters come first, since most bytes are.
+fn is_plain(byte: u8) -> bool
+    ensures { MatchBool result (StandsForItself byte) ⊤ }
+{
+    if byte > b'\\' {
+        return true;
+    }
+    if byte == b'\\' {
+        return false;
+    }
+    if byte > b'"' {
+        return true;
+    }
+    if byte == b'"' {
+        return false;
+    }
+    byte >= b' '
+}
+
+/// The rest of a string, from the first byte on that doesn't stand for itself.
+pub(crate) fn after_plain(text: &[u8]) -> &[u8]
+    ensures passes { (s : List ℕ) × (text.now ≡ s ++ result.now) × AllStandForThemselves s }
+    ensures shorter { length result.now ≤ length text.now }
+{
+    for (at, byte) in text.iter().enumerate() {
+        if !is_plain(*byte) {
+            return &text[at..];
+        }
+    }
+    &text[text.len()..]
+}
+
+/// The text without its first byte.
+fn after_one(text: &[u8]) -> &[u8]
+    ensures passes { (n : ℕ) → scan n escaped text.now ≡ scan n in_string result.now }
+    ensures shorter { length result.now ≤ length text.now }
+{
+    match text.split_first() {
+        Some((_, rest)) => rest,
+        None => text,
+    }
+}
+
+/// What comes after a byte that doesn't stand for itself, and the byte that a backslash takes with it.
+fn after_stop(stop: u8, rest: &[u8]) -> &[u8]
+    ensures passes { stop ≢ 34 → (n : ℕ) → scan n in_string (stop ∷ rest.now) ≡ scan n in_string result.now }
+    ensures shorter { length result.now ≤ length rest.now }
+{
+    if stop == b'\\' { after_one(rest) } else { rest }
+}
+
+/// What comes after a string; the text begins after the opening quote.
+pub(crate) fn after_string(text: &[u8]) -> &[u8]
+    ensures scans { (n : ℕ) → scan n in_string text.now ≡ scan n between result.now }
+    ensures shorter { length result.now ≤ length text.now }
+{
+    let mut left = after_plain(text);
+    while let Some((first, rest)) = left.split_first() {
+        if *first == b'"' {
+            return rest;
+        }
+        left = after_plain(after_stop(*first, rest));
+    }
+    left
+}
+
+/// What comes after a value, from inside so many arrays and objects of it: the next comma or closing bracket.
+pub(crate) fn after_value(text: &[u8], inside: usize) -> &[u8]
+    requires { inside ≤ 1 }
+    ensures scans { result.now ≡ scan inside between text.now }
+    ensures shorter { length result.now ≤ length text.now }
+{
+    let mut depth = inside;
+    let mut left = text;
+    while let Some((first, rest)) = left.split_first() {
+        match *first {
+            b'"' => left = after_string(rest),
+            b'{' | b'[' => {
+                depth += 1;
+                left = rest;
+            }
+            b'}' | b']' => {
+                if depth == 0 {
+                    return left;
+                }
+                depth -= 1;
+                left = rest;
+            }
+            b',' => {
+                if depth == 0 {
+                    return left;
+                }
+                left = rest;
+            }
+            _ => left = rest,
+        }
+    }
+    left
+}
+
+/// A string without escapes, and what comes after it; the text begins after the opening quote.
+pub(crate) fn plain_string(text: &[u8]) -> Option<(&[u8], &[u8])>
+    ensures { MatchOption result ⊤ (λ p. (text.now ≡ p.0.now ++ 34 ∷ p.1.now) × IsPlain p.0.now) }
+{
+    for (at, byte) in text.iter().enumerate() {
+        if *byte == b'\\' {
+            return None;
+        }
+        if *byte == b'"' {
+            return Some((&text[..at], &text[at + 1..]));
+        }
+    }
+    None
+}
+
+/// What comes after this byte, where a text begins with it.
+pub(crate) fn after_byte(text: &[u8], byte: u8) -> Option<&[u8]>
+    ensures { MatchOption result ((rest : List ℕ) → text.now ≡ byte ∷ rest → ⊥)
+        (λ rest. text.now ≡ byte ∷ rest.now) }
+{
+    match text.split_first() {
+        Some((first, rest)) => { if *first == byte { Some(rest) } else { None } }
+        None => None,
+    }
+}

@@ -1,0 +1,206 @@
+//! The merge of a text and one more value: what the value doesn't touch is copied as it stands.
+ghost use Rattle.std.specs.Prelude.{◌≡◌, ◌<◌, ℕ, List, [], ◌∷◌, ◌++◌, Bool, true, false, length, map, is_some, MatchBool, IfOk, OnOk, unwrap_or, Some};
+ghost use Rattle.serde_json.specs.Data.{Data, null, Members, member, Items, array, object};
+ghost use Rattle.serde_json.specs.View.{view, items_of, items_view, members_view};
+ghost use Rattle.serde_json.specs.Written.{compact_text, members_text, items_text};
+ghost use Rattle.ocds_merge.specs.Identified.{all_have_id, text_id};
+ghost use Rattle.ocds_merge.specs.Inside.Step.{step, step_members, step_items, id_list_of, items_list};
+ghost use Rattle.ocds_merge.specs.Inside.Places.{Serves};
+ghost use Rattle.ocds_merge.specs.Inside.Splice.{IsKept, AreItemsKept, EndsBefore, no_comma, StandAt, AllAbove, StartsFrom, SameText, SameItems};
+ghost use Rattle.ocds_merge.specs.Inside.Pending.{HaveDistinctIds, step_list, pending};
+
+use crate::identified::is_id_list;
+use crate::list_text::{
+    close_list, distinct_places, id_in, next_item, none_done, note_done, place_in,
+};
+use crate::object_text::{copy_below, copy_rest, old_value};
+use crate::places::Places;
+use crate::scan::{after_byte, after_value};
+use crate::unspliced::Unspliced;
+use crate::writes::{copy_span, replace_value, write_byte, write_comma, write_name, write_new};
+use serde_json::{Map, Value};
+use std::alloc::Global;
+
+fn is_null(value: &Value) -> bool
+    ensures { MatchBool result (view value.now ≡ null) (view value.now ≡ null → ⊥) }
+{
+    match value {
+        Value::Null => true,
+        _ => false,
+    }
+}
+
+/// Writes the merge of the value that begins a text and one more, which isn't null; the text after the old value.
+#[cycle(splicing)]
+pub(crate) fn splice_value<'a>(
+    alloc: Global,
+    value: &Value,
+    text: &'a [u8],
+    out: &mut Vec<u8>,
+) -> Result<&'a [u8], Unspliced>
+    ensures splices { IfOk result (λ left. IsKept (view value.now) → (d : Data) (rest : List ℕ) → IsKept d → EndsBefore rest
+        → text.now ≡ compact_text d ++ rest
+        → (left.now ≡ rest) × (out.new.items ≡ out.old.items ++ compact_text (unwrap_or (step (Some d) (view value.now)) null))) }
+{
+    match value {
+        Value::Object(members) => match after_byte(text, b'{') {
+            Some(inside) => splice_members(alloc, members, inside, out),
+            None => Ok(replace_value(alloc, value, text, out)?),
+        },
+        Value::Array(items) => {
+            if !is_id_list(items) {
+                return Ok(replace_value(alloc, value, text, out)?);
+            }
+            match after_byte(text, b'[') {
+                Some(inside) => splice_items(alloc, items, inside, out),
+                None => Ok(replace_value(alloc, value, text, out)?),
+            }
+        }
+        _ => Ok(replace_value(alloc, value, text, out)?),
+    }
+}
+
+/// Writes the merge of an object, whose text begins after its opening bracket, and one more.
+#[cycle(splicing)]
+fn splice_members<'a>(
+    alloc: Global,
+    members: &Map<String, Value>,
+    text: &'a [u8],
+    out: &mut Vec<u8>,
+) -> Result<&'a [u8], Unspliced>
+    ensures splices { IfOk result (λ left. IsKept (object (members_view members.now.entries)) → (ts : Members) (rest : List ℕ)
+        → IsKept (object ts) → EndsBefore rest → text.now ≡ members_text false ts ++ rest
+        → (left.now ≡ rest) × (out.new.items ≡ out.old.items ++ 123 ∷ members_text false (step_members ts (members_view members.now.entries)))) }
+{
+    write_byte(b'{', out)?;
+    let mut left = text;
+    let mut later = false;
+    for (name, value) in members.iter() {
+        let name = name.as_str();
+        (left, later) = copy_below(name, left, later, out)?;
+        (left, later) = splice_member(alloc, name, value, left, later, out)?;
+    }
+    copy_rest(left, later, out)
+}
+
+/// Merges this member into the rest of an object, which has no names below its own.
+#[cycle(splicing)]
+fn splice_member<'a>(
+    alloc: Global,
+    name: &str,
+    value: &Value,
+    text: &'a [u8],
+    later: bool,
+    out: &mut Vec<u8>,
+) -> Result<(&'a [u8], bool), Unspliced>
+    ensures splices { IfOk result (λ p. IsKept (view value.now) → (ms ts : Members) (rest : List ℕ)
+        → StandAt text.now ts rest → StartsFrom name.now ts → AllAbove name.now ms
+        → (others : Members) × StandAt p.0.now others rest
+        × SameText out.old.items later (step_members ts (member name.now (view value.now) ms)) out.new.items p.1 (step_members others ms)) }
+{
+    let old = old_value(text, name)?;
+    if is_null(value) {
+        return match old {
+            Some(old) => Ok((after_value(old, 0), later)),
+            None => Ok((text, later)),
+        };
+    }
+    write_name(alloc, name, later, out)?;
+    match old {
+        Some(old) => Ok((splice_value(alloc, value, old, out)?, true)),
+        None => {
+            write_new(alloc, value, out)?;
+            Ok((text, true))
+        }
+    }
+}
+
+/// Writes the merge of an id list, whose text begins after its opening bracket, and one more.
+#[cycle(splicing)]
+fn splice_items<'a>(
+    alloc: Global,
+    items: &Vec<Value>,
+    text: &'a [u8],
+    out: &mut Vec<u8>,
+) -> Result<&'a [u8], Unspliced>
+    requires { all_have_id (items_view items.now.items) ≡ true }
+    ensures splices { IfOk result (λ left. AreItemsKept (items_view items.now.items) → (ds : Items) (rest : List ℕ)
+        → AreItemsKept ds → EndsBefore rest → text.now ≡ items_text false ds ++ rest
+        → (left.now ≡ rest) × (out.new.items ≡ out.old.items
+        ++ 91 ∷ items_text false (items_of (step_items (id_list_of (Some (array ds))) (items_view items.now.items))))) }
+{
+    let places = distinct_places(alloc, items)?;
+    let mut done = none_done(alloc, items.len())?;
+    write_byte(b'[', out)?;
+    let (left, later) = splice_old_items(alloc, items, &places, &mut done, text, out)?;
+    drop(places);
+    close_list(alloc, items, &done, left, later, out)
+}
+
+/// Goes through the old items, and notes which of the new ones are merged into them: what is left at the closing bracket, and whether anything stands before it.
+#[cycle(splicing)]
+fn splice_old_items<'a>(
+    alloc: Global,
+    items: &Vec<Value>,
+    places: &Places,
+    done: &mut Vec<bool>,
+    text: &'a [u8],
+    out: &mut Vec<u8>,
+) -> Result<(&'a [u8], bool), Unspliced>
+    requires ids { all_have_id (items_view items.now.items) ≡ true }
+    requires serves { Serves places.now.by_id (map view items.now.items) }
+    requires distinct { HaveDistinctIds (map view items.now.items) }
+    requires marks { length done.old.items ≡ length items.now.items }
+    ensures marks { OnOk result (length done.new.items ≡ length items.now.items) }
+    ensures splices { IfOk result (λ p. AreItemsKept (items_view items.now.items) → (ds : Items) (rest : List ℕ)
+        → AreItemsKept ds → text.now ≡ items_text false ds ++ rest
+        → (no_comma p.0.now ≡ 93 ∷ rest) × (all_have_id ds ≡ true)
+        × SameItems out.old.items false (step_list (items_list ds) (pending (map view items.now.items) done.old.items))
+        out.new.items p.1 (step_list [] (pending (map view items.now.items) done.new.items))) }
+{
+    let mut left = text;
+    let mut later = false;
+    // A list has no more items than bytes.
+    for _turn in 0..text.len() {
+        let Some(item) = next_item(left)? else {
+            return Ok((left, later));
+        };
+        left = splice_item(alloc, items, places, done, item, later, out)?;
+        later = true;
+    }
+    Err(Unspliced::Unfit)
+}
+
+/// Merges an old item, which begins a text, with the new one of its id, or copies it; the text after it.
+#[cycle(splicing)]
+fn splice_item<'a>(
+    alloc: Global,
+    items: &Vec<Value>,
+    places: &Places,
+    done: &mut Vec<bool>,
+    text: &'a [u8],
+    later: bool,
+    out: &mut Vec<u8>,
+) -> Result<&'a [u8], Unspliced>
+    requires ids { all_have_id (items_view items.now.items) ≡ true }
+    requires serves { Serves places.now.by_id (map view items.now.items) }
+    requires distinct { HaveDistinctIds (map view items.now.items) }
+    requires marks { length done.old.items ≡ length items.now.items }
+    ensures marks { OnOk result (length done.new.items ≡ length items.now.items) }
+    ensures splices { IfOk result (λ left. AreItemsKept (items_view items.now.items) → (t : Data) (rest : List ℕ)
+        → IsKept t → EndsBefore rest → text.now ≡ compact_text t ++ rest
+        → (left.now ≡ rest) × (is_some (text_id t) ≡ true) × ((ts : List Data)
+        → SameItems out.old.items later (step_list (t ∷ ts) (pending (map view items.now.items) done.old.items))
+        out.new.items true (step_list ts (pending (map view items.now.items) done.new.items)))) }
+{
+    let (id, inside) = id_in(text)?;
+    let Some(place) = place_in(places, items, id)? else {
+        let left = after_value(inside, 1);
+        copy_span(text, left, later, out)?;
+        return Ok(left);
+    };
+    note_done(done, place)?;
+    write_comma(later, out)?;
+    let left = splice_value(alloc, &items[place], text, out)?;
+    Ok(left)
+}

@@ -1,0 +1,69 @@
+//! A stored release whose text isn't a JSON object can't be merged: it is a fault of the store wherever it would be shown.
+use office_base::counts::Sequence;
+use office_base::json_text::JsonText;
+use office_base::puts::Put;
+use office_base::records::ReleaseRow;
+use office_base::shelf::Shelf;
+use office_memory::memory::MemoryShelf;
+use office_values::id::Id;
+use std::alloc::Global;
+use transcripts::session::{Wrong, played};
+use transcripts::setup::{MONEY, NOTICE, TENDERERS};
+
+// Neither package of the notice is shown.
+static NOT_SHOWN: &str = r#"
+at 2026-02-01T09:00:00Z public GET /notices/N1/releases
+= 503 {"name":"Unavailable","refusal":32}
+
+at 2026-02-01T09:00:00Z public GET /notices/N1/record
+= 503 {"name":"Unavailable","refusal":32}
+"#;
+
+// Puts the release with this text in the place of its own.
+fn put_text<H: Shelf>(
+    alloc: Global,
+    shelf: &mut H,
+    row: ReleaseRow,
+    text: &str,
+) -> Result<(), Wrong> {
+    let text = JsonText::from_string(String::from_str(alloc, text)?);
+    let mut puts = Vec::new(alloc);
+    puts.push(Put::Release(ReleaseRow { text, ..row }))?;
+    match shelf.apply(puts) {
+        Ok(()) => Ok(()),
+        Err(_) => Err(Wrong::NoMemory),
+    }
+}
+
+// Gives the notice's first release this text.
+fn change_text<H: Shelf>(alloc: Global, shelf: &mut H, text: &str) -> Result<(), Wrong> {
+    let (Some(notice), Some(first)) = (Id::read(b"N1"), Sequence::read(1)) else {
+        return Err(Wrong::NoMemory);
+    };
+    match shelf.get_release(&notice, first) {
+        Ok(Some(row)) => put_text(alloc, shelf, row, text),
+        _ => Err(Wrong::NoMemory),
+    }
+}
+
+// Whether neither package of a notice is shown whose release has this text.
+fn isnt_shown<H: Shelf + Drop>(alloc: Global, shelf: H, text: &str) -> Result<bool, Wrong> {
+    let mut shelf = played(alloc, shelf, 0, &[MONEY, TENDERERS, NOTICE])?;
+    change_text(alloc, &mut shelf, text)?;
+    drop(played(alloc, shelf, 0, &[NOT_SHOWN])?);
+    Ok(true)
+}
+
+// At a second try where the first isn't right: one allocation of a test may be refused.
+fn is_right(alloc: Global, text: &str) -> bool {
+    matches!(isnt_shown(alloc, MemoryShelf::new(alloc), text), Ok(true))
+        || matches!(isnt_shown(alloc, MemoryShelf::new(alloc), text), Ok(true))
+}
+
+#[test]
+fn texts_that_are_no_objects_are_not_shown(rt: HostRuntime) {
+    let alloc = rt.alloc();
+    for text in ["", "1", "[]", "{\"a\":1", "{} {}", "{\"a\":1e999}"] {
+        assert!(rt; is_right(alloc, text));
+    }
+}
