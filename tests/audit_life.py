@@ -39,6 +39,11 @@ class Life:
     def tenderer(self, name, target, body=""):
         return self.ask((name.encode(), b"key of " + name.encode()), target, body)
 
+    def register(self, *tenderers):
+        for name in tenderers:
+            key = hashlib.sha256(b"key of " + name.encode()).hexdigest()
+            self.clerk(f"/tenderers/{name}", {"name": f"Firm {name}", "address": f"{name} Street", "key": key})
+
     def publish(self, notice, deadline, *lots, **criteria):
         terms = {"title": f"Notice {notice} <b>Straße</b>", "deadline": text_of(deadline), "validity_days": 90, "standstill_days": 0}
         self.clerk(f"/notices/{notice}", {**terms, **(criteria or {"criteria": "price"}), "lots": lots})
@@ -62,13 +67,24 @@ class Life:
     def sign(self, award, security=None):
         return self.clerk(f"/awards/{award}/sign", {"security": f"P{award}", "amount": security} if security else None)["contract"]
 
+    def wait(self):
+        """Until the deadline is over."""
+        if time.time() >= self.deadline:
+            fail("the deadline came before all tenders were in: the machine is too busy")
+        time.sleep(self.deadline + 1.05 - time.time())
+
     def before_the_deadline(self):
         """The budget, the tenderers, eight notices and their tenders; N3 is cancelled, N5 goes on receiving, and tenders for N8 may be withdrawn late."""
         self.clerk("/budget/B1", "line,kind,amount,title\n1000,add,100000,Roads\n2000,add,100000,Schools\n2000,cut,5000,Schools\n3000,add,0007,Parks\n")
+<<<<<<< HEAD
         for name in TENDERERS:
             key = hashlib.sha256(b"key of " + name.encode()).hexdigest()
             self.clerk(f"/tenderers/{name}", {"name": f"Firm {name}", "address": f"{name} Street", "key": key})
         self.publish("N1", self.deadline - 1, lot("L1", "1000", 600, 50), lot("L2", "2000", 300, 0), criteria="price", performance=30)
+=======
+        self.register(*TENDERERS)
+        self.publish("N1", self.deadline - 1, lot("L1", "1000", 600, 50), lot("L2", "2000", 300, 0))
+>>>>>>> m/land
         self.clerk("/notices/N1/amend", {"deadline": text_of(self.deadline), "rationale": "More time"})
         self.publish("N2", self.deadline, lot("L1", "2000", 240, 0), criteria="points", price_weight=60, performance=15)
         self.publish("N3", self.deadline, lot("L1", "1000", 700, 10))
@@ -102,9 +118,7 @@ class Life:
 
     def after_the_deadline(self):
         """Late tenders, the openings, and how each notice goes on."""
-        if time.time() >= self.deadline:
-            fail("the deadline came before all tenders were in: the machine is too busy")
-        time.sleep(self.deadline + 1.05 - time.time())
+        self.wait()
         self.present("late", "T5", "N1", "L1", tender(1, 1), 50)
         for notice in ("N1", "N2", "N4", "N6", "N7", "N8"):
             self.clerk(f"/notices/{notice}/open")

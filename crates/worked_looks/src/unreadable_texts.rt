@@ -6,6 +6,7 @@ use office_base::records::ReleaseRow;
 use office_base::shelf::Shelf;
 use office_memory::memory::MemoryShelf;
 use office_values::id::Id;
+use office_values::refusal::Refusal;
 use std::alloc::Global;
 use transcripts::session::{Wrong, played};
 use transcripts::setup::{MONEY, NOTICE, TENDERERS};
@@ -19,37 +20,27 @@ at 2026-02-01T09:00:00Z public GET /notices/N1/record
 = 503 {"name":"Unavailable","refusal":32}
 "#;
 
-// Puts the release with this text in the place of its own.
-fn put_text<H: Shelf>(
-    alloc: Global,
-    shelf: &mut H,
-    row: ReleaseRow,
-    text: &str,
-) -> Result<(), Wrong> {
+// Gives the notice's first release this text; nothing where it has none.
+fn change_text<H: Shelf>(alloc: Global, shelf: &mut H, text: &str) -> Result<(), Refusal> {
+    let (Some(notice), Some(first)) = (Id::read(b"N1"), Sequence::read(1)) else {
+        return Ok(());
+    };
+    let Some(row) = shelf.get_release(&notice, first)? else {
+        return Ok(());
+    };
     let text = JsonText::from_string(String::from_str(alloc, text)?);
     let mut puts = Vec::new(alloc);
     puts.push(Put::Release(ReleaseRow { text, ..row }))?;
-    match shelf.apply(puts) {
-        Ok(()) => Ok(()),
-        Err(_) => Err(Wrong::NoMemory),
-    }
-}
-
-// Gives the notice's first release this text.
-fn change_text<H: Shelf>(alloc: Global, shelf: &mut H, text: &str) -> Result<(), Wrong> {
-    let (Some(notice), Some(first)) = (Id::read(b"N1"), Sequence::read(1)) else {
-        return Err(Wrong::NoMemory);
-    };
-    match shelf.get_release(&notice, first) {
-        Ok(Some(row)) => put_text(alloc, shelf, row, text),
-        _ => Err(Wrong::NoMemory),
-    }
+    shelf.apply(puts)?;
+    Ok(())
 }
 
 // Whether neither package of a notice is shown whose release has this text.
 fn isnt_shown<H: Shelf + Drop>(alloc: Global, shelf: H, text: &str) -> Result<bool, Wrong> {
     let mut shelf = played(alloc, shelf, 0, &[MONEY, TENDERERS, NOTICE])?;
-    change_text(alloc, &mut shelf, text)?;
+    if change_text(alloc, &mut shelf, text).is_err() {
+        return Err(Wrong::NoMemory);
+    }
     drop(played(alloc, shelf, 0, &[NOT_SHOWN])?);
     Ok(true)
 }
