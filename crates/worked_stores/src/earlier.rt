@@ -1,5 +1,8 @@
 //! Files of version 1, with the table of late withdrawals or before it: opened, they are the same office in version 2, wherever a stop comes.
 use crate::earlier_file::{EARLIER_LEDGER, EARLIER_LOTS, EARLIER_ROWS, EARLIER_TABLES};
+use crate::first_files::{
+    FIRST_TABLES, RUNNING_LEDGER, RUNNING_LOTS, RUNNING_ROWS, TEN_LEDGER, TEN_LOTS, TEN_ROWS,
+};
 use crate::stores::{LATER, SECOND, answers_in, ledger_in, reopened};
 use office_on_disks::database::Database;
 use office_on_disks::disks::Disks;
@@ -13,9 +16,45 @@ static FIRST: [&str; 2] = [
     "SELECT notice, title, published, deadline, validity, standstill, weight, state, opened, amendments, releases, 0 FROM notices ORDER BY notice",
 ];
 
-// What the program made that knew late withdrawals, with one notice that lets them.
-const LATE_RULES: &str =
-    "CREATE TABLE late_rules (notice TEXT NOT NULL PRIMARY KEY CHECK (length(notice) BETWEEN 1 AND 32)) STRICT; INSERT INTO late_rules VALUES ('N2')";
+// What an earlier program left: what makes its tables, its rows, the ledger that it showed, and whether it knew late withdrawals.
+#[derive(Clone, Copy)]
+struct Former {
+    tables: &'static str,
+    rows: &'static str,
+    lots: &'static str,
+    ledger: &'static str,
+    is_late: bool,
+}
+
+fn before_late_rules() -> Former {
+    Former {
+        tables: EARLIER_TABLES,
+        rows: EARLIER_ROWS,
+        lots: EARLIER_LOTS,
+        ledger: EARLIER_LEDGER,
+        is_late: false,
+    }
+}
+
+fn running() -> Former {
+    Former {
+        tables: FIRST_TABLES,
+        rows: RUNNING_ROWS,
+        lots: RUNNING_LOTS,
+        ledger: RUNNING_LEDGER,
+        is_late: true,
+    }
+}
+
+fn ten_notices() -> Former {
+    Former {
+        tables: FIRST_TABLES,
+        rows: TEN_ROWS,
+        lots: TEN_LOTS,
+        ledger: TEN_LEDGER,
+        is_late: true,
+    }
+}
 
 // The tables that came later of which an earlier program's file has one: none, or that of late withdrawals.
 fn later(is_late: bool) -> &'static [&'static str] {
@@ -23,11 +62,11 @@ fn later(is_late: bool) -> &'static [&'static str] {
 }
 
 // The files that it left, with what these statements add.
-fn earlier(alloc: Global, statements: &str) -> Result<Disks, Wrong> {
+fn left(alloc: Global, file: Former, statements: &str) -> Result<Disks, Wrong> {
     let mut database = Database::open(alloc, Disks::blank(alloc)).ok_or(Wrong::Unopened)?;
-    if database.changes(EARLIER_TABLES)
-        && database.changes(EARLIER_ROWS)
-        && database.changes(EARLIER_LOTS)
+    if database.changes(file.tables)
+        && database.changes(file.rows)
+        && database.changes(file.lots)
         && database.changes(statements)
     {
         database.close().ok_or(Wrong::Unopened)
@@ -55,9 +94,9 @@ fn is_complete(alloc: Global, disks: &Disks, rows: &[u8]) -> Result<bool, Wrong>
 }
 
 // Whether the office is the same once it was opened, and again.
-fn is_migrated(alloc: Global, statements: &str, is_late: bool) -> Result<bool, Wrong> {
-    let disks = earlier(alloc, statements)?;
-    let rows = rows_wanted(alloc, &disks, is_late)?;
+fn is_migrated(alloc: Global, file: Former) -> Result<bool, Wrong> {
+    let disks = left(alloc, file, "")?;
+    let rows = rows_wanted(alloc, &disks, file.is_late)?;
     let once = reopened(alloc, disks)?;
     let is_once = is_complete(alloc, &once, &rows)?;
     let twice = reopened(alloc, once)?;
@@ -68,33 +107,34 @@ fn is_migrated(alloc: Global, statements: &str, is_late: bool) -> Result<bool, W
 #[test]
 fn a_file_of_version_one_becomes_one_of_version_two(rt: HostRuntime) {
     let alloc = rt.alloc();
-    assert!(rt;
-        matches!(is_migrated(alloc, "", false), Ok(true))
-            || matches!(is_migrated(alloc, "", false), Ok(true))
-    );
-    assert!(rt;
-        matches!(is_migrated(alloc, LATE_RULES, true), Ok(true))
-            || matches!(is_migrated(alloc, LATE_RULES, true), Ok(true))
-    );
+    for file in [before_late_rules(), running(), ten_notices()] {
+        assert!(rt;
+            matches!(is_migrated(alloc, file), Ok(true))
+                || matches!(is_migrated(alloc, file), Ok(true))
+        );
+    }
 }
 
 // Whether what it shows is what the earlier program showed of it.
-fn has_its_ledger(alloc: Global) -> Result<bool, Wrong> {
-    let text = ledger_in(alloc, earlier(alloc, "")?)?;
-    Ok(text.as_slice() == EARLIER_LEDGER.as_bytes())
+fn has_its_ledger(alloc: Global, file: Former) -> Result<bool, Wrong> {
+    let text = ledger_in(alloc, left(alloc, file, "")?)?;
+    Ok(text.as_slice() == file.ledger.as_bytes())
 }
 
 #[test]
 fn its_ledger_stays(rt: HostRuntime) {
     let alloc = rt.alloc();
-    assert!(rt;
-        matches!(has_its_ledger(alloc), Ok(true)) || matches!(has_its_ledger(alloc), Ok(true))
-    );
+    for file in [before_late_rules(), running(), ten_notices()] {
+        assert!(rt;
+            matches!(has_its_ledger(alloc, file), Ok(true))
+                || matches!(has_its_ledger(alloc, file), Ok(true))
+        );
+    }
 }
 
 // Whether files of that program to which this was added can't be used, and stay as they were.
 fn is_unusable(alloc: Global, statements: &str) -> Result<bool, Wrong> {
-    let disks = earlier(alloc, statements)?;
+    let disks = left(alloc, before_late_rules(), statements)?;
     let rows = rows_wanted(alloc, &disks, false)?;
     match OfficeOnDisks::open(alloc, disks) {
         Err(Unopened::Unusable(disks)) => Ok(rows_wanted(alloc, &disks, false)? == rows),
@@ -118,9 +158,10 @@ fn a_name_is_taken(rt: HostRuntime) {
     }
 }
 
-// What was found of stops: how many left an office of version 1, and how many one of version 2.
+// What was found of stops: how many left an office of version 1, with the table of late withdrawals or without, and how many one of version 2.
 #[derive(Clone, Copy)]
 struct Found {
+    is_late: bool,
     first: u64,
     second: u64,
 }
@@ -138,7 +179,7 @@ impl Found {
         let is_whole = match version(alloc, &disks)? {
             Some(1) => {
                 self.first = self.first.saturating_add(1);
-                rows_wanted(alloc, &disks, false)?.as_slice() == rows
+                rows_wanted(alloc, &disks, self.is_late)?.as_slice() == rows
             }
             _ => {
                 self.second = self.second.saturating_add(1);
@@ -178,9 +219,10 @@ fn is_whole(
 }
 
 // Opens the files on disks of which one takes ever more calls, until none is stopped.
-fn stops(alloc: Global, disks: &Disks, of_log: bool) -> Result<Found, Wrong> {
-    let rows = rows_wanted(alloc, disks, false)?;
+fn stops(alloc: Global, disks: &Disks, is_late: bool, of_log: bool) -> Result<Found, Wrong> {
+    let rows = rows_wanted(alloc, disks, is_late)?;
     let mut found = Found {
+        is_late,
         first: 0,
         second: 0,
     };
@@ -198,15 +240,27 @@ fn stops(alloc: Global, disks: &Disks, of_log: bool) -> Result<Found, Wrong> {
 }
 
 // Stops of the log's disk are to leave the office in version 1 and in version 2, those of the database file in version 2.
-fn is_stopped(alloc: Global) -> Result<bool, Wrong> {
-    let disks = earlier(alloc, "")?;
-    let log = stops(alloc, &disks, true)?;
-    let db = stops(alloc, &disks, false)?;
+fn is_stopped(alloc: Global, file: Former) -> Result<bool, Wrong> {
+    let disks = left(alloc, file, "")?;
+    let log = stops(alloc, &disks, file.is_late, true)?;
+    let db = stops(alloc, &disks, file.is_late, false)?;
     Ok(log.first > 0 && log.second > 0 && db.second > 0)
 }
 
 #[test]
 fn its_opening_is_stopped(rt: HostRuntime) {
     let alloc = rt.alloc();
-    assert!(rt; matches!(is_stopped(alloc), Ok(true)) || matches!(is_stopped(alloc), Ok(true)));
+    let file = before_late_rules();
+    assert!(rt;
+        matches!(is_stopped(alloc, file), Ok(true)) || matches!(is_stopped(alloc, file), Ok(true))
+    );
+}
+
+#[test]
+fn its_opening_with_late_rules_is_stopped(rt: HostRuntime) {
+    let alloc = rt.alloc();
+    let file = running();
+    assert!(rt;
+        matches!(is_stopped(alloc, file), Ok(true)) || matches!(is_stopped(alloc, file), Ok(true))
+    );
 }
