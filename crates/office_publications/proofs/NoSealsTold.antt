@@ -183,3 +183,4 @@ packages_tell_no_seals settings (queries.Releases notice) s es' ss' all = refl
 packages_tell_no_seals settings (queries.Record notice) s es' ss' all = refl
 packages_tell_no_seals settings (queries.Tender receipt) s es' ss' all = refl
 packages_tell_no_seals settings (queries.Security security) s es' ss' all = refl
+packages_tell_no_seals settings (queries.Performance contract) s es' ss' all = refl

@@ -7,7 +7,7 @@ use award_core::end::{EndRows, decide_end};
 use award_core::pay::{PayRows, decide_pay};
 use office_acts::amounts::EntryAmount;
 use office_acts::contract::{ChangeKind, How};
-use office_base::records::{EntryKind, EntryRow, NoticeRow, NoticeState};
+use office_base::records::{EntryKind, EntryRow, NoticeRow, NoticeState, SecurityState};
 use office_base::rows::Rows;
 use std::alloc::Global;
 

@@ -156,7 +156,7 @@ lot id estimate = record { id = id; title = codes "North"; line = roads; estimat
 
 -- road repair; tenders are in effect for 90 days, and contracts wait for 10
 abbrev pub notice : ℕ → Criteria → List NewLot → NewNotice
-notice due criteria lots = record { title = codes "Road repair"; deadline = due; validity = 90; standstill = 10; criteria = criteria; late_withdrawal = Refused; lots = lots }
+notice due criteria lots = record { title = codes "Road repair"; deadline = due; validity = 90; standstill = 10; criteria = criteria; late_withdrawal = Refused; performance = 0; lots = lots }
 
 -- the same, whose tenders can be withdrawn after the deadline at the price of their securities
 abbrev pub lenient : ℕ → Criteria → List NewLot → NewNotice
