@@ -94,8 +94,8 @@ module _ {S : Type 0} (g : Ghosts S) (old : Held S) (rows : List Row) (one : (n 
   ]
 
 two_left : (a b : Bool) → a ≡ false → (not a && not b) ≡ false → b ≡ true
-two_left a true no both = refl
-two_left a false no both = absurd (true≢false (ap (λ x. not x && true) (sym no) ∙ both))
+two_left a true apart both = refl
+two_left a false apart both = absurd (true≢false (ap (λ x. not x && true) (sym apart) ∙ both))
 
 -- what answered was one of the two
 pub readied_enters : {S : Type 0} (g : Ghosts S) (old new : Held S) (rows : List Row) → IsAsked g get_version [] old rows → is_other_version rows ≡ false
