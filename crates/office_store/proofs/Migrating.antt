@@ -13,7 +13,7 @@ use Rattle.office_base.specs.declared.records.NoticeRow.{NoticeRow}
 use Rattle.office_sql.specs.First.{has_late, HoldsFirst, ShowsFirst, ShowsOffice}
 use Rattle.office_sql.specs.Steps.{IsAsked, Refused, ShowsTables}
 use Rattle.office_sql.specs.Version.{get_version, one_version, ShowsVersion}
-use Rattle.office_sql.proofs.First.{first_version, second_version}
+use Rattle.office_sql.proofs.FirstVersion.{first_version, second_version}
 use Rattle.office_changes.specs.Migration.{HoldsThese, Migrates, LeavesSecond}
 use Rattle.office_store.specs.Founding.{Migrated, LeavesMigrated, LeavesReadied, LeavesOffice, Readied, Enters, is_version_one, is_version_two, is_other_version}
 use Rattle.office_store.proofs.Founding.{refused_on}

@@ -1,7 +1,7 @@
 use Rattle.std.proofs.Common.{arith}
 use Rattle.sqlite.specs.Held.{state}
 use Rattle.sqlite.specs.State.{HasCleanDisk}
-use Rattle.office_sql.proofs.First.{begins}
+use Rattle.office_sql.proofs.FirstVersion.{begins}
 use Rattle.office_sql.proofs.MakingSteps.{goes_refused}
 use Rattle.office_sql.proofs.Stepping.{on_ok_with, on_err_with}
 use Rattle.office_sql.proofs.first.begin_second.Goals as goal

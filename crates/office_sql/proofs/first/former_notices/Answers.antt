@@ -6,7 +6,7 @@ use Rattle.office_rows.specs.Notices.{former_read}
 use Rattle.office_rows.specs.declared.stored.FormerNotice.{FormerNotice}
 use Rattle.office_sql.specs.First.{HoldsFirst}
 use Rattle.office_sql.specs.Schema.OfficeTable.{FormerNotices}
-use Rattle.office_sql.proofs.First.{former_there}
+use Rattle.office_sql.proofs.FirstVersion.{former_there}
 use Rattle.office_sql.proofs.SelectTexts.{list_former as text}
 use Rattle.office_sql.proofs.Selects.{select_list_former}
 use Rattle.office_sql.proofs.Asked.{told_of}
