@@ -1,5 +1,5 @@
 -- An office of version 1: its version, which tables it has, and the first half of its migration.
-use Rattle.std.proofs.Common.{◌≡◌, ◌⊎◌, inl, inr, ℕ, Bool, List, [], ◌∷◌, Option, None, Some, append-nil, true, false, refl, ap, sym, subst, ◌∙◌, true≢false}
+use Rattle.std.proofs.Common.{◌≡◌, ◌⊎◌, inl, inr, ℕ, Bool, List, [], ◌∷◌, Option, None, Some, map, append-nil, true, false, refl, ap, sym, subst, ◌∙◌, true≢false}
 use Rattle.std.specs.Prelude.{option_map, codes}
 use Rattle.std.specs.List.{AllByRecursion}
 use Rattle.std.specs.declared.cmp.Ordering.{Ordering}
@@ -28,9 +28,10 @@ use Rattle.office_base.proofs.RowLaws.{all-put}
 use Rattle.office_base.specs.declared.records.ClockRow.{ClockRow}
 use Rattle.office_base.specs.declared.records.NoticeRow.{NoticeRow}
 use Rattle.office_rows.specs.Laws.{ComesBack}
-use Rattle.office_rows.specs.Notices.{former_row, former_in}
+use Rattle.office_rows.specs.Notices.{former_row, former_read, former_in}
 use Rattle.office_rows.specs.Releases.{clock_row, clock_row_of, clock_read, clock_in}
 use Rattle.office_rows.specs.declared.stored.FormerClock.{FormerClock}
+use Rattle.office_rows.specs.declared.stored.FormerNotice.{FormerNotice}
 use Rattle.office_sql.specs.Clock.{clock_key, clock_cmp}
 use Rattle.office_sql.specs.First.{lacking, has_table, has_late, drop_notices, drop_version, StandForFirst, IsNothing, StandsFirst, HoldsFirst, Renews, Begins}
 use Rattle.office_sql.specs.Kept.{table_of as records_of, behind, by_rowid, read_by_rowid}
@@ -101,6 +102,14 @@ former_clock_in r = record { row = clock_read r }
 pub clock_found : (o : Option Row) → option_map (λ (c : FormerClock). c.row) (option_map former_clock_in o) ≡ option_map clock_read o
 clock_found None = refl
 clock_found (Some r) = refl
+
+-- the notices of the rows
+abbrev pub former_notice_in : Row → FormerNotice
+former_notice_in r = record { row = former_read r }
+
+pub notices_read : (rows : List Row) → map (λ (n : FormerNotice). n.row) (map former_notice_in rows) ≡ map former_read rows
+notices_read [] = refl
+notices_read (r ∷ rows) = ap (λ l. former_read r ∷ l) (notices_read rows)
 
 -- ---- the tables that it lacks are made
 

@@ -1,4 +1,4 @@
-use Rattle.std.proofs.Common.{◌∙◌, sym, ap, subst}
+use Rattle.std.proofs.Common.{true, ◌∙◌, sym, ap, subst}
 use Rattle.std.specs.Prelude.{option_map, slice_get}
 use Rattle.sqlite.specs.Held.{state}
 use Rattle.office_rows.specs.Releases.{clock_read}
