@@ -17,7 +17,7 @@ use Rattle.office_rows.specs.declared.stored.FormerNotice.{FormerNotice}
 use Rattle.office_sql.specs.First.{Begins}
 use Rattle.office_sql.specs.Standing.{Holds}
 use Rattle.office_sql.specs.Steps.{Puts}
-use Rattle.office_sql.proofs.First.{first_sorted}
+use Rattle.office_sql.proofs.FirstVersion.{first_sorted}
 use Rattle.office_changes.specs.Migration.{HoldsThese, Becomes, Migrates, LeavesSecond}
 use Rattle.office_changes.proofs.Steps.{goes_then}
 

@@ -37,7 +37,7 @@ mod Makes
 mod Founds
 mod MakingSteps
 mod Emptied
-pub mod First
+pub mod FirstVersion
 mod Told
 mod Versions
 mod Failing

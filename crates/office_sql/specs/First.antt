@@ -82,12 +82,12 @@ abbrev pub drop_version : List ℕ
 drop_version = codes "DELETE FROM office"
 
 -- in a transaction the notices and the version were dropped, and version 2 was put with this clock
-pub record Renews (clock : ClockRow) (old new : State) : Type 0 where
-  pub first : State
-  pub second : State
-  pub dropped : (count : ℕ) × ExecutesInside 0 drop_notices [] old first (Ok count)
-  pub freed : (count : ℕ) × ExecutesInside 0 drop_version [] first second (Ok count)
-  pub put : (count : ℕ) × ExecutesInside 0 put_office (clock_row clock) second new (Ok count)
+pub record Renews {S : Type 0} (g : Ghosts S) (clock : ClockRow) (old new : Held S) : Type 0 where
+  pub first : Held S
+  pub second : Held S
+  pub dropped : (count : ℕ) × ExecutesInside 0 drop_notices [] (state g old) (state g first) (Ok count)
+  pub freed : (count : ℕ) × ExecutesInside 0 drop_version [] (state g first) (state g second) (Ok count)
+  pub put : (count : ℕ) × ExecutesInside 0 put_office (clock_row clock) (state g second) (state g new) (Ok count)
 
 -- the transaction goes on, nothing is committed, and of an office of version 1 with this clock there is one of version 2, whose notices are still to come
 pub record Begins (late : Bool) (clock : ClockRow) (old new : State) : Type 0 where

@@ -138,7 +138,7 @@ fn put_version<S: Alter>(tx: &mut Transaction<'_, S>, clock: &ClockRow) -> Resul
 // Its notices and its version are dropped, and version 2 is put with its clock.
 fn renew<S: Alter>(tx: &mut Transaction<'_, S>, clock: &ClockRow) -> Result<(), Error>
     ensures same_reference { tx.new.conn.ghost_name ≡ tx.old.conn.ghost_name }
-    ensures renewed { HasCleanDisk (state S.Store tx.new.conn.now) → IsTrue (state S.Store tx.old.conn.now).in_transaction → OnOk result (Renews clock.now (state S.Store tx.old.conn.now) (state S.Store tx.new.conn.now)) }
+    ensures renewed { HasCleanDisk (state S.Store tx.new.conn.now) → IsTrue (state S.Store tx.old.conn.now).in_transaction → OnOk result (Renews S.Store clock.now tx.old.conn.now tx.new.conn.now) }
     ensures refused { HasCleanDisk (state S.Store tx.new.conn.now) → IsTrue (state S.Store tx.old.conn.now).in_transaction → OnErr result (Refused (state S.Store tx.old.conn.now) (state S.Store tx.new.conn.now)) }
     ensures survives { Survives (state S.Store tx.old.conn.now) (state S.Store tx.new.conn.now) (λ _. ⊥) }
 {

@@ -13,7 +13,7 @@ use Rattle.office_base.specs.declared.records.NoticeRow.{NoticeRow}
 use Rattle.office_sql.specs.First.{has_late, HoldsFirst, ShowsFirst, ShowsOffice}
 use Rattle.office_sql.specs.Steps.{IsAsked, Refused, ShowsTables}
 use Rattle.office_sql.specs.Version.{get_version, one_version, ShowsVersion}
-use Rattle.office_sql.proofs.First.{first_version, second_version}
+use Rattle.office_sql.proofs.FirstVersion.{first_version, second_version}
 use Rattle.office_changes.specs.Migration.{HoldsThese, Migrates, LeavesSecond}
 use Rattle.office_store.specs.Founding.{Migrated, LeavesMigrated, LeavesReadied, LeavesOffice, Readied, Enters, is_version_one, is_version_two, is_other_version}
 use Rattle.office_store.proofs.Founding.{refused_on}
@@ -94,8 +94,8 @@ module _ {S : Type 0} (g : Ghosts S) (old : Held S) (rows : List Row) (one : (n 
   ]
 
 two_left : (a b : Bool) → a ≡ false → (not a && not b) ≡ false → b ≡ true
-two_left a true no both = refl
-two_left a false no both = absurd (true≢false (ap (λ x. not x && true) (sym no) ∙ both))
+two_left a true apart both = refl
+two_left a false apart both = absurd (true≢false (ap (λ x. not x && true) (sym apart) ∙ both))
 
 -- what answered was one of the two
 pub readied_enters : {S : Type 0} (g : Ghosts S) (old new : Held S) (rows : List Row) → IsAsked g get_version [] old rows → is_other_version rows ≡ false

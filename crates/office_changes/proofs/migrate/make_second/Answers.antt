@@ -1,9 +1,8 @@
 use Rattle.std.proofs.Common.{arith}
 use Rattle.sqlite.specs.Held.{state}
 use Rattle.sqlite.specs.State.{HasCleanDisk}
-use Rattle.office_sql.proofs.Stepping.{on_ok_with, on_err_with}
 use Rattle.office_changes.proofs.Migrating.{becomes}
-use Rattle.office_changes.proofs.Steps.{goes_refused}
+use Rattle.office_changes.proofs.Steps.{goes_refused, on_ok_with, on_err_with}
 use Rattle.office_changes.proofs.migrate.make_second.Goals as goal
 
 pub returns-clause-becomes : goal.returns-clause-becomes

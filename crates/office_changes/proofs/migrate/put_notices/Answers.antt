@@ -1,11 +1,12 @@
-use Rattle.std.proofs.Common.{rules, arith, ◌≡◌, [], ◌∷◌, ◌++◌, ◌+◌, take, map, ap, ◌∙◌}
-use Rattle.std.proofs.lemmas.List.{take_more, map-append}
+use Rattle.std.proofs.Common.{rules, arith, ◌≡◌, [], ◌∷◌, ◌++◌, ◌+◌, take, map, ap, subst, ◌∙◌}
+use Rattle.std.proofs.lemmas.List.{take_more, take_all, map-append}
 use Rattle.sqlite.specs.Held.{state}
 use Rattle.sqlite.specs.State.{HasCleanDisk}
 use Rattle.sqlite.proofs.StateLemmas.{survives_then}
 use Rattle.office_base.specs.declared.puts.Put.{Put}
 use Rattle.office_base.specs.declared.puts.Put.TheVariants as puts
 use Rattle.office_rows.specs.declared.stored.FormerNotice.{FormerNotice}
+use Rattle.office_sql.specs.Steps.{Puts}
 use Rattle.office_changes.proofs.Steps.{puts_push, refused_then, on_err}
 use Rattle.office_changes.proofs.migrate.put_notices.Goals as goal
 
@@ -38,3 +39,8 @@ returns-in_err-put_notice-clause-refused g c clean inside =
     let early : HasCleanDisk mid = omega (arith, c.put_notice.ensures.survives.clean) in
     let first = c.notices.invariant.2 early inside in
     on_err _ _ (refused_then old mid new _ first (c.in_err-put_notice.ensures.refused late first.goes.mode))
+
+pub returns-clause-puts : goal.returns-clause-puts
+returns-clause-puts g c clean inside =
+    let all : take c.notices.notice-index c.args.notices.now ≡ c.args.notices.now = take_all c.notices.notice-index c.args.notices.now (omega arith) in
+    subst (λ l. Puts (state g.S.Store c.args.tx.now.conn.now) (state g.S.Store c.notices.tx.conn.now) (map put_of l)) all (c.notices.invariant.2 clean inside)

@@ -1,10 +1,10 @@
-use Rattle.std.proofs.Common.{◌∙◌, sym, ap, subst}
+use Rattle.std.proofs.Common.{true, ◌∙◌, sym, ap, subst}
 use Rattle.std.specs.Prelude.{option_map, slice_get}
 use Rattle.sqlite.specs.Held.{state}
 use Rattle.office_rows.specs.Releases.{clock_read}
 use Rattle.office_rows.specs.declared.stored.FormerClock.{FormerClock}
 use Rattle.office_sql.specs.Version.{HasVersion}
-use Rattle.office_sql.proofs.First.{first_version, clock_found}
+use Rattle.office_sql.proofs.FirstVersion.{first_version, clock_found}
 use Rattle.office_sql.proofs.Selects.{select_clock}
 use Rattle.office_sql.proofs.Asked.{only_one, same_found}
 use Rattle.office_sql.proofs.first.former_clock.Goals as goal

@@ -15,7 +15,7 @@ returns-clause-renewed g c clean inside =
     let clean_1 : HasCleanDisk first = omega (arith, clean_2, c.drop_version.ensures.survives.clean) in
     let dropped = c.in_ok-drop_notices.ensures.ran clean_1 inside in
     let freed = c.in_ok-drop_version.ensures.ran clean_2 (goes_on old first dropped.1.1).mode in
-    on_ok_with c.put_version.result _ _ (c.put_version.ensures.ran clean (goes_on first second freed.1.1).mode) (λ h. record { first = first; second = second; dropped = dropped; freed = freed; put = h })
+    on_ok_with c.put_version.result _ _ (c.put_version.ensures.ran clean (goes_on first second freed.1.1).mode) (λ h. record { first = c.drop_notices.new.tx.conn.now; second = c.drop_version.new.tx.conn.now; dropped = dropped; freed = freed; put = h })
 
 pub returns-in_err-drop_version-clause-refused : goal.returns-in_err-drop_version-clause-refused
 returns-in_err-drop_version-clause-refused g c clean inside =

@@ -1,5 +1,5 @@
 -- An office of version 1: its version, which tables it has, and the first half of its migration.
-use Rattle.std.proofs.Common.{◌≡◌, ◌⊎◌, inl, inr, ℕ, Bool, List, [], ◌∷◌, Option, None, Some, append-nil, true, false, refl, ap, sym, subst, ◌∙◌, true≢false}
+use Rattle.std.proofs.Common.{◌≡◌, ◌⊎◌, inl, inr, ℕ, Bool, List, [], ◌∷◌, Option, None, Some, map, append-nil, true, false, refl, ap, sym, subst, ◌∙◌, true≢false}
 use Rattle.std.specs.Prelude.{option_map, codes}
 use Rattle.std.specs.List.{AllByRecursion}
 use Rattle.std.specs.declared.cmp.Ordering.{Ordering}
@@ -10,12 +10,14 @@ use Rattle.sqlite_trees.specs.View.{is_int}
 use Rattle.sqlite_schema.specs.Names.{same_name}
 use Rattle.sqlite_schema.specs.declared.schema.Schema.{Schema}
 use Rattle.sqlite_schema.specs.declared.command.Command.TheVariants.{Delete}
-use Rattle.sqlite_resolve.specs.Compile.{first}
+use Rattle.sqlite_resolve.specs.Compile.{first as parsed}
 use Rattle.sqlite_resolve.specs.Lowering.{nothing, max_budget}
 use Rattle.sqlite_rules.specs.Lists.{Has}
 use Rattle.sqlite_rules.proofs.ListLemmas.{all_has}
 use Rattle.sqlite_tied.specs.Compute.{everything}
+use Rattle.sqlite_trees.specs.declared.store.Store.{Ghosts}
 use Rattle.sqlite.specs.Effect.{Database, IsDatabase}
+use Rattle.sqlite.specs.Held.{Held, state}
 use Rattle.sqlite.specs.State.{State}
 use Rattle.std.specs.Cmp.Lexicographic.{nat_list_cmp_total}
 use Rattle.office_values.specs.Ids.{id_cmp}
@@ -26,9 +28,10 @@ use Rattle.office_base.proofs.RowLaws.{all-put}
 use Rattle.office_base.specs.declared.records.ClockRow.{ClockRow}
 use Rattle.office_base.specs.declared.records.NoticeRow.{NoticeRow}
 use Rattle.office_rows.specs.Laws.{ComesBack}
-use Rattle.office_rows.specs.Notices.{former_row, former_in}
+use Rattle.office_rows.specs.Notices.{former_row, former_read, former_in}
 use Rattle.office_rows.specs.Releases.{clock_row, clock_row_of, clock_read, clock_in}
 use Rattle.office_rows.specs.declared.stored.FormerClock.{FormerClock}
+use Rattle.office_rows.specs.declared.stored.FormerNotice.{FormerNotice}
 use Rattle.office_sql.specs.Clock.{clock_key, clock_cmp}
 use Rattle.office_sql.specs.First.{lacking, has_table, has_late, drop_notices, drop_version, StandForFirst, IsNothing, StandsFirst, HoldsFirst, Renews, Begins}
 use Rattle.office_sql.specs.Kept.{table_of as records_of, behind, by_rowid, read_by_rowid}
@@ -100,6 +103,14 @@ pub clock_found : (o : Option Row) → option_map (λ (c : FormerClock). c.row) 
 clock_found None = refl
 clock_found (Some r) = refl
 
+-- the notices of the rows
+abbrev pub former_notice_in : Row → FormerNotice
+former_notice_in r = record { row = former_read r }
+
+pub notices_read : (rows : List Row) → map (λ (n : FormerNotice). n.row) (map former_notice_in rows) ≡ map former_read rows
+notices_read [] = refl
+notices_read (r ∷ rows) = ap (λ l. former_read r ∷ l) (notices_read rows)
+
 -- ---- the tables that it lacks are made
 
 -- the rows of a table of version 1 stand as they stood; or it was made, has no rows, and the content has nothing of it
@@ -145,7 +156,7 @@ clock_stands rows t (inr it) = absurd it.1
 
 -- ---- what stood in two of them is dropped
 
-drop_notices_read : IsDelete drop_notices (codes "notices") None (parsed_in (first drop_notices))
+drop_notices_read : IsDelete drop_notices (codes "notices") None (parsed_in (parsed drop_notices))
 unfolding everything parsed_in
 drop_notices_read = record { is = refl; statement = refl; formats = refl }
 
@@ -155,7 +166,7 @@ drop_notices_means schema n it =
     delete_means schema former_notices n it refl drop_notices None _ drop_notices_read [] _ _ (no_test schema it.place (at_tree former_notices n) it.found former_notices.name [] max_budget nothing)
     (rw (it.stored, found_by_tree schema former_notices n it))
 
-drop_version_read : IsDelete drop_version (codes "office") None (parsed_in (first drop_version))
+drop_version_read : IsDelete drop_version (codes "office") None (parsed_in (parsed drop_version))
 unfolding everything parsed_in
 drop_version_read = record { is = refl; statement = refl; formats = refl }
 
@@ -197,23 +208,35 @@ renewed_stands rows changed t stood clock k = elim (stood k) [
   | inr it ↦ absurd it.1
 ]
 
-module _ (late : Bool) (clock : ClockRow) (old mid new : State) (back : ComesBack clock_row clock_read clock_in) (made : Makes old mid (lacking late)) (it : Renews clock mid new) where
+module _ {S : Type 0} (g : Ghosts S) (late : Bool) (clock : ClockRow) (old : State) (from to : Held S) (back : ComesBack clock_row clock_read clock_in) (made : Makes old (state g from) (lacking late)) (it : Renews g clock from to) where
+  abbrev mid : State
+  mid = state g from
+
+  abbrev first : State
+  first = state g it.first
+
+  abbrev second : State
+  second = state g it.second
+
+  abbrev new : State
+  new = state g to
+
   holds : (t : Tables) → HoldsFirst old.now t → has_late old.now.schema ≡ late → t.clock ≡ clock → Holds new.now (record t { notices = [] })
   unfolding row_put
   holds t was there_late same =
       let there = ready late old.now mid.now t (subst (λ l. AreMade l mid.now) (append-nil (lacking late)) (made.made [] (record { sound = was.sound; each = tt }))) made.stays there_late was in
       let p = there.places in
-      let one = empties FormerNotices bare mid it.first p there.tables drop_notices it.dropped.0 (drop_notices_means mid.now.schema (p FormerNotices) (there.tables FormerNotices))
+      let one = empties FormerNotices bare mid first p there.tables drop_notices it.dropped.0 (drop_notices_means mid.now.schema (p FormerNotices) (there.tables FormerNotices))
       (numbered (former_stands (mid.now.trees (p FormerNotices)) t (there.stands FormerNotices))) it.dropped.1.0 in
-      let tables_1 : HasTables it.first.now.schema p = subst (λ s. HasTables s p) (sym one.schema) there.tables in
-      let clock_at : it.first.now.trees (p Office) ≡ mid.now.trees (p Office) = ap (λ (f : OfficeTable → List Row). f Office) one.rows in
-      let two = empties Office bare it.first it.second p tables_1 drop_version it.freed.0 (drop_version_means it.first.now.schema (p Office) (tables_1 Office))
-      (numbered (clock_stands (it.first.now.trees (p Office)) t (subst (λ rows. StandsOrMade Office rows t) (sym clock_at) (there.stands Office)))) it.freed.1.0 in
-      let tables_2 : HasTables it.second.now.schema p = subst (λ s. HasTables s p) (sym two.schema) tables_1 in
-      let empty : it.second.now.trees (p Office) ≡ [] = ap (λ (f : OfficeTable → List Row). f Office) two.rows in
-      let none : Stand clock_cmp clock_key (by_rowid clock_row) (read_by_rowid clock_read) (it.second.now.trees (p Office)) [] = no_rows empty in
-      let done = puts_row Office bare clock_cmp clock_key clock_row (by_rowid clock_row) (read_by_rowid clock_read) 4 clock_terms clock_cells clock_stored it.second new p tables_2 put_office clock it.put.0 []
-      (put_office_means it.second.now.schema (p Office) (tables_2 Office)) (λ v. back.row clock) none it.put.1.0 in
+      let tables_1 : HasTables first.now.schema p = subst (λ s. HasTables s p) (sym one.schema) there.tables in
+      let clock_at : first.now.trees (p Office) ≡ mid.now.trees (p Office) = ap (λ (f : OfficeTable → List Row). f Office) one.rows in
+      let two = empties Office bare first second p tables_1 drop_version it.freed.0 (drop_version_means first.now.schema (p Office) (tables_1 Office))
+      (numbered (clock_stands (first.now.trees (p Office)) t (subst (λ rows. StandsOrMade Office rows t) (sym clock_at) (there.stands Office)))) it.freed.1.0 in
+      let tables_2 : HasTables second.now.schema p = subst (λ s. HasTables s p) (sym two.schema) tables_1 in
+      let empty : second.now.trees (p Office) ≡ [] = ap (λ (f : OfficeTable → List Row). f Office) two.rows in
+      let none : Stand clock_cmp clock_key (by_rowid clock_row) (read_by_rowid clock_read) (second.now.trees (p Office)) [] = no_rows empty in
+      let done = puts_row Office bare clock_cmp clock_key clock_row (by_rowid clock_row) (read_by_rowid clock_read) 4 clock_terms clock_cells clock_stored second new p tables_2 put_office clock it.put.0 []
+      (put_office_means second.now.schema (p Office) (tables_2 Office)) (λ v. back.row clock) none it.put.1.0 in
       let rows : (λ j. new.now.trees (p j)) ≡ with_rows (with_rows (with_rows (λ j. mid.now.trees (p j)) FormerNotices []) Office []) Office (new.now.trees (p Office)) =
       done.rows ∙ ap (λ r. with_rows r Office (new.now.trees (p Office))) (two.rows ∙ ap (λ r. with_rows r Office []) one.rows) in
       record {
@@ -225,8 +248,11 @@ module _ (late : Bool) (clock : ClockRow) (old mid new : State) (back : ComesBac
             (subst (λ c. StandFor Office (new.now.trees (p Office)) (record t { clock = c })) (sym same) done.stand));
       }
 
-pub begins : (late : Bool) (clock : ClockRow) (old mid new : State) → ComesBack clock_row clock_read clock_in → Makes old mid (lacking late) → Renews clock mid new → Begins late clock old new
-begins late clock old mid new back made it = record {
-  goes = goes_then old mid new made.goes (goes_then mid it.first new (goes_on mid it.first it.dropped.1.1) (goes_then it.first it.second new (goes_on it.first it.second it.freed.1.1) (goes_on it.second new it.put.1.1)));
-  tables = holds late clock old mid new back made it;
+pub begins : {S : Type 0} (g : Ghosts S) (late : Bool) (clock : ClockRow) (old : State) (from to : Held S) → ComesBack clock_row clock_read clock_in → Makes old (state g from) (lacking late) → Renews g clock from to
+    → Begins late clock old (state g to)
+begins g late clock old from to back made it = record {
+  goes = goes_then old (state g from) (state g to) made.goes
+      (goes_then (state g from) (state g it.first) (state g to) (goes_on (state g from) (state g it.first) it.dropped.1.1)
+      (goes_then (state g it.first) (state g it.second) (state g to) (goes_on (state g it.first) (state g it.second) it.freed.1.1) (goes_on (state g it.second) (state g to) it.put.1.1)));
+  tables = holds g late clock old from to back made it;
 }
