@@ -19,20 +19,20 @@ use std::alloc::Global;
 
 // What version 2 keeps otherwise.
 #[derive(Drop)]
-struct Former {
+struct FirstContent {
     clock: ClockRow,
     notices: Vec<FormerNotice>,
 }
 
 // Its clock and its notices, all at once.
-fn former<S: Alter>(alloc: Global, conn: &mut Connection<S>) -> Result<Former, ShelfFault>
+fn former<S: Alter>(alloc: Global, conn: &mut Connection<S>) -> Result<FirstContent, ShelfFault>
     ensures got { TellsFirst S.Store conn.old conn.new result (λ t stood. (stood.clock ≡ t.clock) × (map (λ (r : FormerNotice). r.row) stood.notices.items ≡ t.notices)) }
     ensures kept { HasCleanDisk (state S.Store conn.new) → Refused (state S.Store conn.old) (state S.Store conn.new) }
     ensures survives { Survives (state S.Store conn.old) (state S.Store conn.new) (λ _. ⊥) }
 {
     let clock = former_clock(alloc, conn)?;
     let notices = former_notices(alloc, conn)?;
-    Ok(Former { clock, notices })
+    Ok(FirstContent { clock, notices })
 }
 
 // Of an office of version 1 makes one of version 2, with its content, in one transaction. A name of a table that it lacks, taken by something else,
