@@ -15,4 +15,4 @@ returns-in_err-released g c =
 pub returns : goal.returns
 returns g c =
     planned_released _ c.looks_follow.ensures c.args.settings.now c.args.asking.now (Sign c.args.award c.args.security) _ _ _ _ _ _ c.with_release.result
-    c.in_ok-planned.ensures c.in_ok-released.ensures.looks c.with_release.ensures
+    c.in_ok-planned.ensures (c.in_ok-released.ensures.looks.0, λ honest s held. c.in_ok-released.ensures.looks.1 honest s held c.args.security) c.with_release.ensures
