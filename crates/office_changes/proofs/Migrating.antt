@@ -1,10 +1,14 @@
--- The notices of an office of version 1, put one after another, are those that it had.
-use Rattle.std.proofs.Common.{◌≡◌, Bool, true, false, List, [], ◌∷◌, ◌++◌, map, append-nil, refl, sym, ap, subst, ◌∙◌, IsTrue, Ordering, Less, Greater}
+-- The notices of an office of version 1, put one after another, are those that it had; what others have beside them stays.
+use Rattle.std.proofs.Common.{◌≡◌, inl, inr, ℕ, Option, Bool, true, false, List, [], ◌∷◌, ◌++◌, map, append-nil, refl, sym, ap, subst, subst₂, ◌∙◌, IsTrue, Ordering, Less, Greater}
 use Rattle.std.proofs.lemmas.List.{append_assoc}
 use Rattle.std.specs.Cmp.{IsTotalOrder}
 use Rattle.std.specs.Cmp.Lexicographic.{nat_list_cmp_total}
 use Rattle.std.specs.Ordering.{ordering_reverse}
+use Rattle.sqlite_schema.specs.declared.schema.Schema.{Schema}
+use Rattle.sqlite_schema.specs.declared.schema.Table.{Table}
+use Rattle.sqlite_rules.specs.Lists.{Has}
 use Rattle.sqlite_trees.specs.Tree.{Trees}
+use Rattle.sqlite.specs.Effect.{Database}
 use Rattle.sqlite.specs.State.{State, Shows}
 use Rattle.office_values.specs.Ids.{id_cmp}
 use Rattle.office_base.specs.Rows.{by_order, row_put, StartsAbove, IsInOrder}
@@ -14,10 +18,16 @@ use Rattle.office_base.specs.declared.puts.Put.TheVariants as puts
 use Rattle.office_base.specs.declared.records.ClockRow.{ClockRow}
 use Rattle.office_base.specs.declared.records.NoticeRow.{NoticeRow}
 use Rattle.office_rows.specs.declared.stored.FormerNotice.{FormerNotice}
-use Rattle.office_sql.specs.First.{Begins}
+use Rattle.office_sql.specs.Apart.{LeadsInside}
+use Rattle.office_sql.specs.First.{AreApart, IsMigrated, Begins}
+use Rattle.office_sql.specs.Known.{IsIn}
+use Rattle.office_sql.specs.Schema.{notices as version_two}
+use Rattle.office_sql.specs.Schema.OfficeTable.{Notices}
 use Rattle.office_sql.specs.Standing.{Holds}
-use Rattle.office_sql.specs.Steps.{Puts}
+use Rattle.office_sql.specs.Steps.{MakeAll, Puts}
+use Rattle.office_sql.proofs.Childless.{SparesMarked}
 use Rattle.office_sql.proofs.FirstVersion.{first_sorted}
+use Rattle.office_sql.proofs.PutsApart.{notice_apart}
 use Rattle.office_changes.specs.Migration.{HoldsThese, Becomes, Migrates, LeavesSecond}
 use Rattle.office_changes.proofs.Steps.{goes_then}
 
@@ -52,6 +62,23 @@ refilled done (x ∷ more) t h =
     ∙ refilled (done ++ x.row ∷ []) more t (subst (IsInOrder id_cmp notice_key) (sym moved) h)
     ∙ ap (λ l. record t { notices = l }) moved
 
+-- ---- tables apart keep their rows
+
+puts_apart : (limit : Option ℕ) (notices : List FormerNotice) (first last : Database) (n : ℕ) → IsIn first.schema version_two n → MakeAll limit (map put_of notices) first last
+    → (last.schema ≡ first.schema) × SparesMarked first.schema n first.trees last.trees
+puts_apart limit [] first last n at same = (
+  ap (λ (d : Database). d.schema) same,
+  λ marked inside out t there is_marked. ap (λ (d : Database). d.trees t.tree) same,
+)
+puts_apart limit (x ∷ more) first last n at (second, made, rest) =
+    let one = notice_apart limit x.row first second n at made in
+    let others = puts_apart limit more second last n (subst (λ s. IsIn s version_two n) (sym one.0) at) rest in (
+      others.0 ∙ one.0,
+      λ marked inside out t there is_marked.
+          others.1 marked (subst (λ s. LeadsInside s marked) (sym one.0) inside) out t (subst (λ (s : Schema). Has s.tables t) (sym one.0) there) is_marked
+          ∙ one.1 marked inside out t there is_marked,
+    )
+
 -- ---- the whole transaction
 
 module _ (late : Bool) (clock : ClockRow) (notices : List FormerNotice) where
@@ -60,8 +87,21 @@ module _ (late : Bool) (clock : ClockRow) (notices : List FormerNotice) where
     goes = goes_then old first mid begun.goes put.goes;
     tables = λ t was.
         let blank = begun.tables t was.held was.late_is was.clock_is in
+        let start = record t { notices = [] } in
         let sorted = subst (IsInOrder id_cmp notice_key) was.notices_are (first_sorted old.now t was.held) in
-        subst (Holds mid.now) (refilled [] notices t sorted ∙ ap (λ l. record t { notices = l }) (sym was.notices_are)) (put.tables (record t { notices = [] }) blank);
+        let at = blank.held.tables Notices in
+        let n = blank.held.places Notices in
+        let kept = puts_apart first.step_limit notices first.now mid.now n at (put.made start blank.held) in
+        record {
+          held = subst (Holds mid.now) (refilled [] notices t sorted ∙ ap (λ l. record t { notices = l }) (sym was.notices_are)) (put.tables start blank.held);
+          others = λ u stood.
+              let one = blank.others u stood in (
+                subst (λ (s : Schema). Has s.tables u) (sym kept.0) one.0,
+                λ marked apart is_marked.
+                    let before : AreApart first.now.schema marked = subst (λ s. AreApart s marked) kept.0 apart in
+                    kept.1 marked before.inside (before.others Notices (inr (inr (inl refl))) n at) u one.0 is_marked ∙ one.1 marked before is_marked,
+              );
+        };
   }
 
   module _ (old mid : State) (settled : IsTrue old.is_open → old.now ≡ old.committed) (it : Becomes late clock (map row_of notices) (record old { in_transaction = true }) mid) where
@@ -73,9 +113,9 @@ module _ (late : Bool) (clock : ClockRow) (notices : List FormerNotice) where
     migrates new shows only = record {
       was_open = it.goes.was_open;
       is_open = shows.is_open;
-      tables = λ t was. subst (λ d. Holds d t) (sym shows.committed_is) (it.tables t (from_commit t was));
+      tables = λ t was. subst₂ (IsMigrated t) (settled it.goes.was_open) (sym shows.committed_is) (it.tables t (from_commit t was));
       only = only shows.is_open;
     }
 
     pub migrate_leaves : (db : Trees) → db ≡ mid.now.trees → LeavesSecond late clock (map row_of notices) old db
-    migrate_leaves db is = (it.goes.was_open, λ t was. (mid.now, is, it.tables t (from_commit t was)))
+    migrate_leaves db is = (it.goes.was_open, λ t was. (mid.now, is, subst (λ d. IsMigrated t d mid.now) (settled it.goes.was_open) (it.tables t (from_commit t was))))

@@ -1,5 +1,5 @@
 -- DELETE of all rows of one table of the office.
-use Rattle.std.proofs.Common.{◌≡◌, inl, Bool, true, false, List, [], ◌∷◌, map, Ok, None, refl, sym, ap, subst, ◌∙◌, ℕ, true≢false}
+use Rattle.std.proofs.Common.{◌≡◌, inl, Bool, true, List, [], ◌∷◌, map, Ok, None, refl, sym, ap, subst, ◌∙◌, ℕ, true≢false}
 use Rattle.std.specs.List.Sorted.{IsPermutation}
 use Rattle.std.proofs.lemmas.List.Sorted.{IsPermutation-sym}
 use Rattle.sqlite_value.specs.declared.value.Value.TheVariants.{Null}
@@ -24,7 +24,7 @@ use Rattle.sqlite.proofs.Callers.{runs_as}
 use Rattle.office_sql.specs.Schema.{OfficeTable, table_of}
 use Rattle.office_sql.specs.Known.{at_tree, Places, HasTables}
 use Rattle.office_sql.proofs.Asking.{overlaid}
-use Rattle.office_sql.proofs.Childless.{IsOwn, writes}
+use Rattle.office_sql.proofs.Childless.{IsOwn, SparesMarked, writes, spared_own}
 use Rattle.office_sql.proofs.Meanings.{Means}
 use Rattle.office_sql.proofs.RowsDropped.{has_picked}
 use Rattle.office_sql.proofs.RowsPut.{left_from, at_itself}
@@ -56,11 +56,12 @@ module _ (rows : List Row) (numbered : (r : Row) → Has rows r → is_int (rowi
       let l = left_from (ids_of answer) rows r h in
       true≢false (sym (at_itself r (numbered r l.0)) ∙ l.1 (id_in (rowid r)) (mapped_has (λ y. id_in (rowid y)) answer (rowid r ∷ []) (listed r l.0))))
 
--- the table has no rows any more, and the others are as they were
+-- the table has no rows any more, and the office's others and those apart are as they were
 pub record IsEmptied (k : OfficeTable) (old new : Database) (p : Places) : Type 0 where
   pub schema : new.schema ≡ old.schema
   pub sound : IsDatabase new
   pub rows : (λ j. new.trees (p j)) ≡ with_rows (λ j. old.trees (p j)) k []
+  pub apart : SparesMarked old.schema (p k) old.trees new.trees
 
 module _ (k : OfficeTable) (bare : (j : OfficeTable) → IsBare (table_of j)) (old new : State) (p : Places) (tables : HasTables old.now.schema p) where
   abbrev own : Table
@@ -101,6 +102,8 @@ module _ (k : OfficeTable) (bare : (j : OfficeTable) → IsBare (table_of j)) (o
       record {
         schema = ap (λ (d : Database). d.schema) w.2;
         sound = w.3;
-        rows = changed old.now.schema p tables db new.now.trees k (λ j other. ap (λ (d : Database). d.trees (p j)) w.2 ∙ ap (λ (t : Trees). t (p j)) trees ∙ done.others (p j) (is_own j) other)
+        rows = changed old.now.schema p tables db new.now.trees k (λ j other. ap (λ (d : Database). d.trees (p j)) w.2 ∙ ap (λ (t : Trees). t (p j)) trees ∙ spared_own old.now.schema (p k) (p j) db edited.0 done.apart (is_own j) other)
             ∙ ap (with_rows (λ j. db (p j)) k) none;
+        apart = λ marked inside out t there is_marked.
+            ap (λ (d : Database). d.trees t.tree) w.2 ∙ ap (λ (them : Trees). them t.tree) trees ∙ done.apart marked inside out t there is_marked;
       }

@@ -33,7 +33,8 @@ use Rattle.office_rows.specs.Releases.{clock_row, clock_row_of, clock_read, cloc
 use Rattle.office_rows.specs.declared.stored.FormerClock.{FormerClock}
 use Rattle.office_rows.specs.declared.stored.FormerNotice.{FormerNotice}
 use Rattle.office_sql.specs.Clock.{clock_key, clock_cmp}
-use Rattle.office_sql.specs.First.{lacking, has_table, has_late, drop_notices, drop_version, StandForFirst, IsNothing, StandsFirst, HoldsFirst, Renews, Begins}
+use Rattle.office_sql.specs.Apart.{LeadsInside}
+use Rattle.office_sql.specs.First.{lacking, has_table, has_late, drop_notices, drop_version, StandForFirst, IsNothing, StandsFirst, HoldsFirst, IsMigrated, Renews, Begins}
 use Rattle.office_sql.specs.Kept.{table_of as records_of, behind, by_rowid, read_by_rowid}
 use Rattle.office_sql.specs.Known.{IsIn, Places, HasTables, at_tree}
 use Rattle.office_sql.specs.Laws.{KnowsNoPerformances}
@@ -47,9 +48,11 @@ use Rattle.office_sql.proofs.Emptied.{empties}
 use Rattle.office_sql.proofs.Founds.{nothing as no_rows}
 use Rattle.office_sql.proofs.Held.{goes_on}
 use Rattle.office_sql.proofs.KeptRows.{in_order-table_of}
+use Rattle.office_sql.proofs.Made.{made_of}
 use Rattle.office_sql.proofs.MakingSteps.{goes_then}
 use Rattle.office_sql.proofs.Meanings.{Means, parsed_in}
 use Rattle.office_sql.proofs.PutTexts.{put_office, put_office_means}
+use Rattle.office_sql.proofs.PutsApart.{clock_apart}
 use Rattle.office_sql.proofs.Selecting.{select, found_by_tree}
 use Rattle.office_sql.proofs.Simple.{no_test}
 use Rattle.office_sql.proofs.Stored.{bare, clock_terms, clock_cells, clock_stored}
@@ -221,9 +224,9 @@ module _ {S : Type 0} (g : Ghosts S) (late : Bool) (clock : ClockRow) (old : Sta
   abbrev new : State
   new = state g to
 
-  holds : (t : Tables) → HoldsFirst old.now t → has_late old.now.schema ≡ late → t.clock ≡ clock → Holds new.now (record t { notices = [] })
+  migrated : (t : Tables) → HoldsFirst old.now t → has_late old.now.schema ≡ late → t.clock ≡ clock → IsMigrated (record t { notices = [] }) old.now new.now
   unfolding row_put
-  holds t was there_late same =
+  migrated t was there_late same =
       let there = ready late old.now mid.now t (subst (λ l. AreMade l mid.now) (append-nil (lacking late)) (made.made [] (record { sound = was.sound; each = tt }))) made.stays there_late was in
       let p = there.places in
       let one = empties FormerNotices bare mid first p there.tables drop_notices it.dropped.0 (drop_notices_means mid.now.schema (p FormerNotices) (there.tables FormerNotices))
@@ -239,13 +242,32 @@ module _ {S : Type 0} (g : Ghosts S) (late : Bool) (clock : ClockRow) (old : Sta
       (put_office_means second.now.schema (p Office) (tables_2 Office)) (λ v. back.row clock) none it.put.1.0 in
       let rows : (λ j. new.now.trees (p j)) ≡ with_rows (with_rows (with_rows (λ j. mid.now.trees (p j)) FormerNotices []) Office []) Office (new.now.trees (p Office)) =
       done.rows ∙ ap (λ r. with_rows r Office (new.now.trees (p Office))) (two.rows ∙ ap (λ r. with_rows r Office []) one.rows) in
+      let kept = clock_apart second.step_limit clock second.now new.now (p Office) (tables_2 Office)
+      (made_of put_office (clock_row clock) second new _ (put_office_means second.now.schema (p Office) (tables_2 Office)) refl refl it.put.0 it.put.1.0) in
+      let schema_2 : second.now.schema ≡ mid.now.schema = two.schema ∙ one.schema in
+      let tables_3 : HasTables new.now.schema p = subst (λ s. HasTables s p) (sym done.schema) tables_2 in
       record {
-        sound = done.sound;
-        places = p;
-        tables = subst (λ s. HasTables s p) (sym done.schema) tables_2;
-        stands = subst (λ r. Stands r (record t { notices = [] })) (sym rows)
-            (renewed_stands (λ j. mid.now.trees (p j)) (new.now.trees (p Office)) t there.stands
-            (subst (λ c. StandFor Office (new.now.trees (p Office)) (record t { clock = c })) (sym same) done.stand));
+        held = record {
+          sound = done.sound;
+          places = p;
+          tables = tables_3;
+          stands = subst (λ r. Stands r (record t { notices = [] })) (sym rows)
+              (renewed_stands (λ j. mid.now.trees (p j)) (new.now.trees (p Office)) t there.stands
+              (subst (λ c. StandFor Office (new.now.trees (p Office)) (record t { clock = c })) (sym same) done.stand));
+        };
+        others = λ u stood.
+            let first_kept = made.others u stood in
+            let here : Has second.now.schema.tables u = subst (λ (s : Schema). Has s.tables u) (sym schema_2) first_kept.0 in (
+              subst (λ (s : Schema). Has s.tables u) (sym done.schema) here,
+              λ marked apart is_marked.
+                  let inside_2 : LeadsInside second.now.schema marked = subst (λ s. LeadsInside s marked) done.schema apart.inside in
+                  let inside_1 : LeadsInside first.now.schema marked = subst (λ s. LeadsInside s marked) two.schema inside_2 in
+                  let inside : LeadsInside mid.now.schema marked = subst (λ s. LeadsInside s marked) one.schema inside_1 in
+                  kept.1 marked inside_2 (apart.others Office (inr (inl refl)) (p Office) (tables_3 Office)) u here is_marked
+                  ∙ two.apart marked inside_1 (apart.others Office (inr (inl refl)) (p Office) (tables_3 Office)) u (subst (λ (s : Schema). Has s.tables u) (sym one.schema) first_kept.0) is_marked
+                  ∙ one.apart marked inside (apart.others FormerNotices (inl refl) (p FormerNotices) (tables_3 FormerNotices)) u first_kept.0 is_marked
+                  ∙ first_kept.1,
+            );
       }
 
 pub begins : {S : Type 0} (g : Ghosts S) (late : Bool) (clock : ClockRow) (old : State) (from to : Held S) → ComesBack clock_row clock_read clock_in → Makes old (state g from) (lacking late) → Renews g clock from to
@@ -254,5 +276,5 @@ begins g late clock old from to back made it = record {
   goes = goes_then old (state g from) (state g to) made.goes
       (goes_then (state g from) (state g it.first) (state g to) (goes_on (state g from) (state g it.first) it.dropped.1.1)
       (goes_then (state g it.first) (state g it.second) (state g to) (goes_on (state g it.first) (state g it.second) it.freed.1.1) (goes_on (state g it.second) (state g to) it.put.1.1)));
-  tables = holds g late clock old from to back made it;
+  tables = migrated g late clock old from to back made it;
 }

@@ -1,6 +1,6 @@
 mod Sorted
 mod KeptRows
-mod Childless
+pub mod Childless
 mod Upserted
 mod RowsPut
 mod Selected
@@ -27,6 +27,7 @@ mod Keys
 mod Stored
 mod Held
 mod PutTexts
+pub mod PutsApart
 mod PutStatements
 mod DropStatements
 mod Stepping

@@ -2,6 +2,8 @@
 use Rattle.std.specs.Prelude.{◌≡◌, ◌⊎◌, ⊤, ℕ, Bool, true, false, IsTrue, is_some, Result, Ok, IfOk, List, [], ◌∷◌, codes}
 use Rattle.sqlite_value.specs.Order.{Row}
 use Rattle.sqlite_schema.specs.declared.schema.Schema.{Schema}
+use Rattle.sqlite_schema.specs.declared.schema.Table.{Table}
+use Rattle.sqlite_rules.specs.Lists.{Has}
 use Rattle.sqlite_schema.specs.Names.{table_named}
 use Rattle.sqlite_trees.specs.declared.store.Store.{Ghosts}
 use Rattle.sqlite.specs.Effect.{Database, IsDatabase}
@@ -12,6 +14,7 @@ use Rattle.office_base.specs.Tables.{Tables, notice_key}
 use Rattle.office_base.specs.declared.records.ClockRow.{ClockRow}
 use Rattle.office_rows.specs.Notices.{former_row, former_in}
 use Rattle.office_rows.specs.Releases.{clock_row, clock_row_of, clock_read}
+use Rattle.office_sql.specs.Apart.{LeadsInside}
 use Rattle.office_sql.specs.Clock.{clock_key, clock_cmp}
 use Rattle.office_sql.specs.Kept.{behind, by_rowid, read_by_rowid}
 use Rattle.office_sql.specs.Schema.{OfficeTable, table_of, late_rules, put_office}
@@ -74,6 +77,25 @@ ShowsOffice s t = IsTrue s.is_open → HoldsOffice s.committed t
 abbrev pub TellsFirst : {S T E : Type 0} → Ghosts S → Held S → Held S → Result T E → (Tables → T → Type 0) → Type 0
 TellsFirst g old new result right = HasCleanDisk (state g new) → (t : Tables) → ShowsFirst (state g old) t → IfOk result (right t)
 
+-- the tables whose rows are others then
+abbrev pub migrated_tables : List OfficeTable
+migrated_tables = FormerNotices ∷ Office ∷ Notices ∷ []
+
+-- marked trees, those of such tables not among them, from which foreign keys lead to marked trees alone
+pub record AreApart (schema : Schema) (marked : ℕ → Bool) : Type 0 where
+  pub inside : LeadsInside schema marked
+  pub others : (k : OfficeTable) → Has migrated_tables k → (n : ℕ) → IsIn schema (table_of k) n → marked n ≡ false
+
+-- each table that was there is there; and with its rows, if it is one of some whose foreign keys lead to none of those three tables: one without foreign keys, say
+abbrev pub KeepsApart : Database → Database → Type 0
+KeepsApart old new =
+    (t : Table) → Has old.schema.tables t → Has new.schema.tables t × ((marked : ℕ → Bool) → AreApart new.schema marked → marked t.tree ≡ true → new.trees t.tree ≡ old.trees t.tree)
+
+-- an office of version 2 with this content stands where one of version 1 stood, beside what others had there
+pub record IsMigrated (t : Tables) (old new : Database) : Type 0 where
+  pub held : Holds new t
+  pub others : KeepsApart old new
+
 -- the texts that drop what stood in the two tables that version 2 uses otherwise
 abbrev pub drop_notices : List ℕ
 drop_notices = codes "DELETE FROM notices"
@@ -92,4 +114,4 @@ pub record Renews {S : Type 0} (g : Ghosts S) (clock : ClockRow) (old new : Held
 -- the transaction goes on, nothing is committed, and of an office of version 1 with this clock there is one of version 2, whose notices are still to come
 pub record Begins (late : Bool) (clock : ClockRow) (old new : State) : Type 0 where
   pub goes : Goes old new
-  pub tables : (t : Tables) → HoldsFirst old.now t → has_late old.now.schema ≡ late → t.clock ≡ clock → Holds new.now (record t { notices = [] })
+  pub tables : (t : Tables) → HoldsFirst old.now t → has_late old.now.schema ≡ late → t.clock ≡ clock → IsMigrated (record t { notices = [] }) old.now new.now

@@ -1,4 +1,5 @@
 pub mod Kept
+pub mod Apart
 pub mod Clock
 pub mod Schema
 pub mod Statements

@@ -8,11 +8,11 @@ use Rattle.sqlite_trees.specs.declared.store.Store.{Ghosts}
 use Rattle.sqlite_schema.specs.declared.schema.Schema.{Schema}
 use Rattle.sqlite_schema.specs.Names.{same_name, is_key}
 use Rattle.sqlite_catalog.specs.Change.{is_used}
-use Rattle.sqlite.specs.Effect.{IsDatabase}
+use Rattle.sqlite.specs.Effect.{Database, IsDatabase}
 use Rattle.sqlite.specs.Held.{Held, state}
 use Rattle.sqlite.specs.State.{State}
 use Rattle.office_base.specs.Tables.{Tables, no_tables}
-use Rattle.office_sql.specs.First.{HoldsFirst}
+use Rattle.office_sql.specs.First.{HoldsFirst, IsMigrated}
 use Rattle.office_sql.specs.Making.{KeepsOthers}
 use Rattle.office_sql.specs.Standing.{Holds}
 use Rattle.office_sql.specs.Steps.{Leaves, Refused, IsAsked}
@@ -68,17 +68,17 @@ IsSoundOpen s = IsTrue s.is_open → IsDatabase s.committed
 abbrev pub LeavesNew : State → Trees → Type 0
 LeavesNew old trees = IsTrue old.is_open × (IsDatabase old.committed → Leaves no_tables trees)
 
--- an office of version 1 became one of version 2, with its content
+-- an office of version 1 became one of version 2, with its content, beside what others had there
 pub record Migrated (old new : State) : Type 0 where
   pub was_open : IsTrue old.is_open
   pub is_open : IsTrue new.is_open
-  pub tables : (t : Tables) → HoldsFirst old.committed t → Holds new.committed t
+  pub tables : (t : Tables) → HoldsFirst old.committed t → IsMigrated t old.committed new.committed
   -- a stop leaves this and nothing else
   pub only : (db : Trees) → new.may_leave db → db ≡ new.committed.trees
 
--- what the commit of a migration leaves: the whole of an office of version 2, with the content that stood there
+-- what the commit of a migration leaves: the whole of an office of version 2, with the content that stood there, beside what others had
 abbrev pub LeavesMigrated : State → Trees → Type 0
-LeavesMigrated old trees = IsTrue old.is_open × ((t : Tables) → HoldsFirst old.committed t → Leaves t trees)
+LeavesMigrated old trees = IsTrue old.is_open × ((t : Tables) → HoldsFirst old.committed t → (db : Database) × (trees ≡ db.trees) × IsMigrated t old.committed db)
 
 -- an office of version 1 was migrated; of one of version 2 the last commit is as it was
 abbrev pub Readied : Bool → State → State → Type 0
