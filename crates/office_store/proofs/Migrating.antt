@@ -10,7 +10,7 @@ use Rattle.sqlite.specs.State.{State}
 use Rattle.office_base.specs.Tables.{Tables}
 use Rattle.office_base.specs.declared.records.ClockRow.{ClockRow}
 use Rattle.office_base.specs.declared.records.NoticeRow.{NoticeRow}
-use Rattle.office_sql.specs.First.{has_late, HoldsFirst, ShowsFirst, ShowsOffice}
+use Rattle.office_sql.specs.First.{has_late, HoldsFirst, ShowsFirst, ShowsOffice, IsMigrated}
 use Rattle.office_sql.specs.Steps.{IsAsked, Refused, ShowsTables}
 use Rattle.office_sql.specs.Version.{get_version, one_version, ShowsVersion}
 use Rattle.office_sql.proofs.FirstVersion.{first_version, second_version}
@@ -24,6 +24,10 @@ use Rattle.office_store.proofs.Shelves.{still_shows}
 first_after : (old mid : State) (t : Tables) → Refused old mid → IsTrue mid.is_open → HoldsFirst old.committed t → HoldsFirst mid.committed t
 first_after old mid t kept open_now = subst (λ (d : Database). HoldsFirst d t) (sym (kept.committed open_now))
 
+-- what came of it came of what stood before the look
+moved_after : (old mid : State) (t : Tables) (new : Database) → Refused old mid → IsTrue mid.is_open → IsMigrated t mid.committed new → IsMigrated t old.committed new
+moved_after old mid t new kept open_now = subst (λ (d : Database). IsMigrated t d new) (kept.committed open_now)
+
 pub first_on : (old mid : State) (t : Tables) → Refused old mid → ShowsFirst old t → ShowsFirst mid t
 first_on old mid t kept shows open_now = first_after old mid t kept open_now (shows (kept.was_open open_now))
 
@@ -31,7 +35,7 @@ migrated_after : (old mid new : State) → Refused old mid → Migrated mid new 
 migrated_after old mid new kept it = record {
   was_open = kept.was_open it.was_open;
   is_open = it.is_open;
-  tables = λ t was. it.tables t (first_after old mid t kept it.was_open was);
+  tables = λ t was. moved_after old mid t new.committed kept it.was_open (it.tables t (first_after old mid t kept it.was_open was));
   only = it.only;
 }
 
@@ -40,7 +44,10 @@ readied_after true old mid new kept it = migrated_after old mid new kept it
 readied_after false old mid new kept it = refused_on old mid new kept it
 
 leaves_migrated_before : (old mid : State) (db : Trees) → Refused old mid → LeavesMigrated mid db → LeavesMigrated old db
-leaves_migrated_before old mid db kept it = (kept.was_open it.0, λ t was. it.1 t (first_after old mid t kept it.0 was))
+leaves_migrated_before old mid db kept it = (
+  kept.was_open it.0,
+  λ t was. let left = it.1 t (first_after old mid t kept it.0 was) in (left.0, left.1, moved_after old mid t left.0 kept it.0 left.2),
+)
 
 pub leaves_readied_before : {S : Type 0} (g : Ghosts S) (old mid : Held S) (rows : List Row) (db : Trees) → IsAsked g get_version [] old rows → Refused (state g old) (state g mid)
     → LeavesReadied (is_version_one rows) (state g mid) db → LeavesOffice g old db
@@ -62,12 +69,15 @@ module _ (b : Bool) (clock : ClockRow) (notices : List NoticeRow) (old mid : Sta
   from_told new it = record {
     was_open = kept.was_open it.was_open;
     is_open = it.is_open;
-    tables = λ t was. it.tables t (as_told it.was_open t was);
+    tables = λ t was. moved_after old mid t new.committed kept it.was_open (it.tables t (as_told it.was_open t was));
     only = it.only;
   }
 
   pub told_leaves : (db : Trees) → LeavesSecond b clock notices mid db → LeavesMigrated old db
-  told_leaves db it = (kept.was_open it.0, λ t was. it.1 t (as_told it.0 t was))
+  told_leaves db it = (
+    kept.was_open it.0,
+    λ t was. let left = it.1 t (as_told it.0 t was) in (left.0, left.1, moved_after old mid t left.0 kept it.0 left.2),
+  )
 
 -- what the schema says of the table of late withdrawals is what the last commit's says
 pub late_committed : {S : Type 0} (g : Ghosts S) (old : Held S) → (IsTrue (state g old).is_open → (state g old).now ≡ (state g old).committed) → (b : Bool) → has_late old.schema ≡ b
@@ -90,7 +100,7 @@ module _ {S : Type 0} (g : Ghosts S) (old : Held S) (rows : List Row) (one : (n 
     | inl was ↦ still_shows (state g old) new t (subst (λ b. Readied b (state g old) new) (ap is_version_one (one 2 t.clock (λ _. second_version (state g old).committed t was))) it) (λ _. was)
     | inr was ↦ (
         let moved : Migrated (state g old) new = subst (λ b. Readied b (state g old) new) (ap is_version_one (one 1 t.clock (λ _. first_version (state g old).committed t was))) it in
-        λ _. moved.tables t was)
+        λ _. (moved.tables t was).held)
   ]
 
 two_left : (a b : Bool) → a ≡ false → (not a && not b) ≡ false → b ≡ true

@@ -53,8 +53,9 @@ impl SqlShelf<MemStore> {
 
 impl<D: Disk + Drop> SqlShelf<FileStore<D>> {
     /// The office in two files, or a new one where no name of the office's tables is taken there. Other tables stay. An office of version 1
-    /// becomes one of version 2, with its content. Where it shows the tables of an office, a stop leaves one. A refusal comes with what is left of
-    /// the files: they are closed, or, where they can't be, it is their store.
+    /// becomes one of version 2, with its content; then rows of others stay but for such as their foreign keys tie to `notices` or `office`.
+    /// Where it shows the tables of an office, a stop leaves one. A refusal comes with what is left of the files: they are closed, or, where
+    /// they can't be, it is their store.
     pub fn open_files(
         alloc: Global,
         files: Files<D>,
