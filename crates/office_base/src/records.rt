@@ -224,7 +224,7 @@ pub struct LateRow {
     pub notice: Id,
 }
 
-/// The performance security of a contract (Model Law, article 11): it goes by the contract's number.
+/// The performance security of a contract (Model Law, article 22): it goes by the contract's number.
 #[derive(Clone, Drop)]
 pub struct PerformanceRow {
     pub contract: GivenNumber,
