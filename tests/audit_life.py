@@ -76,15 +76,8 @@ class Life:
     def before_the_deadline(self):
         """The budget, the tenderers, eight notices and their tenders; N3 is cancelled, N5 goes on receiving, and tenders for N8 may be withdrawn late."""
         self.clerk("/budget/B1", "line,kind,amount,title\n1000,add,100000,Roads\n2000,add,100000,Schools\n2000,cut,5000,Schools\n3000,add,0007,Parks\n")
-<<<<<<< HEAD
-        for name in TENDERERS:
-            key = hashlib.sha256(b"key of " + name.encode()).hexdigest()
-            self.clerk(f"/tenderers/{name}", {"name": f"Firm {name}", "address": f"{name} Street", "key": key})
-        self.publish("N1", self.deadline - 1, lot("L1", "1000", 600, 50), lot("L2", "2000", 300, 0), criteria="price", performance=30)
-=======
         self.register(*TENDERERS)
-        self.publish("N1", self.deadline - 1, lot("L1", "1000", 600, 50), lot("L2", "2000", 300, 0))
->>>>>>> m/land
+        self.publish("N1", self.deadline - 1, lot("L1", "1000", 600, 50), lot("L2", "2000", 300, 0), criteria="price", performance=30)
         self.clerk("/notices/N1/amend", {"deadline": text_of(self.deadline), "rationale": "More time"})
         self.publish("N2", self.deadline, lot("L1", "2000", 240, 0), criteria="points", price_weight=60, performance=15)
         self.publish("N3", self.deadline, lot("L1", "1000", 700, 10))

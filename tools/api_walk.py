@@ -2,9 +2,9 @@
 those that it makes from schemas. `want` is the refusal that is asked for, else the command is accepted. Examples are those of docs/openapi.yaml; in a notice
 the deadline is another, and the standstill where a contract is to be signed.
 
-Seven notices: N1 is that of the examples, from its publication to the end of its contract. N2 has ten days of standstill, N3 asks for no security, N4 is
-cancelled unopened, N5 has a winner who is passed over and a contract, N6 points, N7 too little money. Their deadline is SECONDS ahead; all that comes before it
-must be sent by then.
+Eight notices: N1 is that of the examples, from its publication to the end of its contract. N2 has ten days of standstill, N3 asks for no security, N4 is
+cancelled unopened, N5 has a winner who is passed over and a contract with a performance security, N6 points, N7 too little money, N8 a tender that is withdrawn
+late. Their deadline is SECONDS ahead; all that comes before it must be sent by then.
 """
 import time
 
@@ -219,7 +219,7 @@ def pay(asker, contract):
 def look(asker, receipts):
     """All that can be looked at, of each notice, by each who may."""
     ask = asker.ask
-    for number in range(1, 8):
+    for number in range(1, 9):
         for name in ("releases", "record"):
             ask(name, "public", f"N{number}")
         ask("tenderRegister", "clerk", f"N{number}")

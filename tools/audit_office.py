@@ -151,7 +151,8 @@ class Office:
                 self.base.execute(made)
         if not self.columns("notices") >= set(" ".join(TABLES["notices"]).split()) - {"performance"}:
             raise Unreadable(f"{self.path}: it is no office: the table notices isn't there, or lacks a column")
-        self.base.execute("INSERT INTO notices_2 SELECT notice, title, published, deadline, validity, standstill, weight, state, opened, amendments, releases, 0 FROM notices")
+        self.base.executescript("INSERT INTO notices_2 SELECT notice, title, published, deadline, validity, standstill, weight, state, opened, amendments, releases, 0 "
+                                "FROM notices; DELETE FROM notices; UPDATE office SET version = 2")
 
     def rows(self, sql, *values):
         return self.base.execute(sql, values).fetchall()

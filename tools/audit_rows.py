@@ -48,7 +48,13 @@ def tables_are_as_made(office):
         elif not hashlib.sha256(sql.encode("utf-8", "surrogateescape")).hexdigest().startswith(MADE[name]):
             yield f"{kind} {name}", "is made otherwise"
     for name in sorted(set(MADE) - {name for name, _, _ in there}):
-        yield f"index {name}", "isn't there"
+        yield f"{'table' if name in (*TABLES, *ON_DISK.values()) else 'index'} {name}", "isn't there"
+
+
+@rule("file")
+def notices_stand_in_one_table(office):
+    """No notice stands in the table of version 1, which version 2 keeps empty."""
+    yield from office.find("notices", "SELECT notice, 'stands in the table of version 1' FROM main.notices ORDER BY notice")
 
 
 @rule("file")
