@@ -30,9 +30,10 @@ def offer(unit):
     return f"item,quantity,unit,total\nI1,3,{unit},{3 * unit}\nTOTAL,,,{3 * unit}\n"
 
 
-def notice(line, security):
+def notice(line, security, performance=0):
     lot = {"id": "L1", "title": "North", "line": line, "estimate": 600, "security": security, "items": [{"id": "I1", "title": "Paving", "quantity": 3}]}
-    return {"title": "Road repair", "deadline": "2026-02-28T12:00:00Z", "validity_days": 90, "standstill_days": 0, "criteria": "price", "lots": [lot]}
+    terms = {"title": "Road repair", "deadline": "2026-02-28T12:00:00Z", "validity_days": 90, "standstill_days": 0, "criteria": "price"}
+    return {**terms, "performance": performance, "lots": [lot]}
 
 
 def life():
@@ -43,7 +44,7 @@ def life():
         ("an import", import_of(b"B1", [b"1000,add,100000,Roads", b"2000,add,5000,Schools"])),
         ("a registration", clerk("/tenderers/T1", registered)),
         ("a registration", clerk("/tenderers/T2", registered)),
-        ("a publication", clerk("/notices/N1", notice("1000", 50))),
+        ("a publication", clerk("/notices/N1", notice("1000", 50, 40))),
         ("a tender", tenderer("T1", "/notices/N1/lots/L1/tenders" + security, offer(150))),
         ("a tender", tenderer("T2", "/notices/N1/lots/L1/tenders" + security, offer(140))),
         ("an amended notice", clerk("/notices/N1/amend", {"deadline": "2026-03-01T12:00:00Z", "rationale": "More time"})),
@@ -63,7 +64,7 @@ def life():
         ("an award", clerk("/notices/N1/lots/L1/award")),
         ("a failed award", clerk("/awards/1/fail")),
         ("an award", clerk("/notices/N1/lots/L1/award")),
-        ("a signature", clerk("/awards/2/sign")),
+        ("a signature", clerk("/awards/2/sign", {"security": "P1", "amount": 40})),
         ("an amended contract", clerk("/contracts/2/amend", {"id": "A1", "kind": "raise", "amount": 60, "rationale": "Kerbs"})),
         ("a payment", clerk("/contracts/2/pay", {"id": "P1", "amount": 300})),
         ("a payment", clerk("/contracts/2/pay", {"id": "P2", "amount": 50})),
@@ -72,7 +73,8 @@ def life():
     steps = [Step(name, BEGUN + STEP * at, text) for at, (name, text) in enumerate(before)]
     steps += [Step(name, DEADLINE + STEP * (at + 1), text) for at, (name, text) in enumerate(behind)]
     looks = [look(b"/ledger")] + [look(b"/notices/%s/%s" % (number, what)) for number in (b"N1", b"N2") for what in (b"record", b"releases", b"minutes")]
-    return Play("a life", steps, looks + [request(b"GET", b"/notices/N1/register", caller=CLERK)])
+    looks += [request(b"GET", target, caller=CLERK) for target in (b"/notices/N1/register", b"/contracts/2/security")]
+    return Play("a life", steps, looks)
 
 
 def turn(number):

@@ -64,8 +64,8 @@ class Life:
     def award(self, notice, lot_name):
         return self.clerk(f"/notices/{notice}/lots/{lot_name}/award")["award"]
 
-    def sign(self, award):
-        return self.clerk(f"/awards/{award}/sign")["contract"]
+    def sign(self, award, security=None):
+        return self.clerk(f"/awards/{award}/sign", {"security": f"P{award}", "amount": security} if security else None)["contract"]
 
     def wait(self):
         """Until the deadline is over."""
@@ -77,15 +77,15 @@ class Life:
         """The budget, the tenderers, eight notices and their tenders; N3 is cancelled, N5 goes on receiving, and tenders for N8 may be withdrawn late."""
         self.clerk("/budget/B1", "line,kind,amount,title\n1000,add,100000,Roads\n2000,add,100000,Schools\n2000,cut,5000,Schools\n3000,add,0007,Parks\n")
         self.register(*TENDERERS)
-        self.publish("N1", self.deadline - 1, lot("L1", "1000", 600, 50), lot("L2", "2000", 300, 0))
+        self.publish("N1", self.deadline - 1, lot("L1", "1000", 600, 50), lot("L2", "2000", 300, 0), criteria="price", performance=30)
         self.clerk("/notices/N1/amend", {"deadline": text_of(self.deadline), "rationale": "More time"})
-        self.publish("N2", self.deadline, lot("L1", "2000", 240, 0), criteria="points", price_weight=60)
+        self.publish("N2", self.deadline, lot("L1", "2000", 240, 0), criteria="points", price_weight=60, performance=15)
         self.publish("N3", self.deadline, lot("L1", "1000", 700, 10))
         self.publish("N4", self.deadline, lot("L1", "1000", 800, 10), lot("L2", "2000", 400, 0))
         self.publish("N5", self.deadline + 86400, lot("L1", "1000", 900, 10))
         self.publish("N6", self.deadline, lot("L1", "2000", 100, 0), lot("L2", "2000", 200, 10))
         self.publish("N7", self.deadline, lot("L1", "1000", 100, 0))
-        self.publish("N8", self.deadline, lot("L1", "1000", 100, 10), criteria="price", late_withdrawal="forfeits")
+        self.publish("N8", self.deadline, lot("L1", "1000", 100, 10), criteria="price", late_withdrawal="forfeits", performance=5)
         self.present("dear", "T1", "N1", "L1", tender(90, 30, wrong=20), 50)
         self.present("first", "T2", "N1", "L1", tender(100, 30), 60)
         self.present("taken", "T3", "N1", "L1", tender(80, 20), 50)
@@ -120,7 +120,7 @@ class Life:
         for name, quality in (("low", 10), ("high", 40)):
             self.examine(name, quality=quality)
         self.examine("unfit", responsive=False)
-        self.running = self.sign(self.award("N2", "L1"))
+        self.running = self.sign(self.award("N2", "L1"), 15)
         self.clerk(f"/contracts/{self.running}/pay", {"id": "P1", "amount": 100})
         for name in ("ended", "kept", "active", "open"):
             self.examine(name)
@@ -131,7 +131,8 @@ class Life:
         self.award("N7", "L1")
         self.withdraw("T1", "regretted")
         self.examine("steady")
-        self.sign(self.award("N8", "L1"))
+        self.broken = self.sign(self.award("N8", "L1"), 5)
+        self.clerk(f"/contracts/{self.broken}/end", {"how": "default"})
 
     def first_notice(self):
         """N1: its winner fails to sign, the next one signs; the contract is raised, cut, paid and ended. Nobody wins its other lot."""
@@ -139,7 +140,7 @@ class Life:
         self.examine("cheap")
         self.failed = self.award("N1", "L1")
         self.clerk(f"/awards/{self.failed}/fail")
-        self.contract = self.sign(self.award("N1", "L1"))
+        self.contract = self.sign(self.award("N1", "L1"), 40)
         contract = f"/contracts/{self.contract}"
         for entry, kind, amount in (("A1", "raise", 60), ("A2", "cut", 20)):
             self.clerk(contract + "/amend", {"id": entry, "kind": kind, "amount": amount, "rationale": "Kerbs"})

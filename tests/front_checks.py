@@ -35,7 +35,7 @@ def routes():
     """The rows of the table of docs/API.md: a method, a path, and who may ask it."""
     with open(os.path.join(ROOT, "docs", "API.md")) as file:
         rows = re.findall(r"^\| \[`(GET|POST) (/[^`]*)`\]\([^)]*\) \| ([^|]*) \|", file.read(), re.M)
-    check(f"docs/API.md has {len(rows)} routes, and not 24", len(rows) == 24)
+    check(f"docs/API.md has {len(rows)} routes, and not 25", len(rows) == 25)
     return [(method, re.sub(r"\{(\w+)\}", lambda name: PLACES[name[1]], path), who) for method, path, who in rows]
 
 

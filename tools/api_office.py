@@ -37,7 +37,9 @@ class Operation:
         parameters = [document.resolved(part) for part in item.get("parameters", [])]
         self.places = [part["schema"] for part in parameters if part["in"] == "path"]
         self.responses = {status: document.resolved(part) for status, part in node["responses"].items()}
-        self.media, self.body = next(iter(node.get("requestBody", {"content": {}})["content"].items()), (None, None))
+        asked = node.get("requestBody", {"content": {}})
+        self.media, self.body = next(iter(asked["content"].items()), (None, None))
+        self.needs_body = asked.get("required", False)
 
     def target(self, place, query=""):
         """The target of a request for these things."""

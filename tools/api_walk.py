@@ -2,9 +2,9 @@
 those that it makes from schemas. `want` is the refusal that is asked for, else the command is accepted. Examples are those of docs/openapi.yaml; in a notice
 the deadline is another, and the standstill where a contract is to be signed.
 
-Seven notices: N1 is that of the examples, from its publication to the end of its contract. N2 has ten days of standstill, N3 asks for no security, N4 is
-cancelled unopened, N5 has a winner who is passed over and a contract, N6 points, N7 too little money. Their deadline is SECONDS ahead; all that comes before it
-must be sent by then.
+Eight notices: N1 is that of the examples, from its publication to the end of its contract. N2 has ten days of standstill, N3 asks for no security, N4 is
+cancelled unopened, N5 has a winner who is passed over and a contract with a performance security, N6 points, N7 too little money, N8 a tender that is withdrawn
+late. Their deadline is SECONDS ahead; all that comes before it must be sent by then.
 """
 import time
 
@@ -68,9 +68,10 @@ def publish(asker, now, deadline):
     body = sent("publish", "twoLots", deadline=moment(now + 3), standstill_days=0)
     ask("publish", "clerk", "N1", body=body, like="twoLots")
     ask("amendNotice", "clerk", "N1", body=sent("amendNotice", "later", deadline=deadline), like="later")
-    for name, standstill, lot in (("N2", 10, {}), ("N3", 0, {"security": 0}), ("N4", 0, {}), ("N5", 0, {}), ("N7", 0, {"line": "3000"})):
+    for name, standstill, lot in (("N2", 10, {}), ("N3", 0, {"security": 0}), ("N4", 0, {}), ("N7", 0, {"line": "3000"})):
         ask("publish", "clerk", name, body=notice(deadline, standstill, **lot))
     ask("publish", "clerk", "N6", body=sent("publish", "byPoints", deadline=deadline, standstill_days=0))
+    ask("publish", "clerk", "N5", body={**notice(deadline), "performance": 70})
     ask("publish", "clerk", "N8", body={**notice(deadline), "late_withdrawal": "forfeits"})
     items = [{"id": f"I{number}", "title": "Paving", "quantity": 1} for number in range(51)]
     lots = [{**LOT, "id": f"L{number}", "estimate": 1} for number in range(21)]
@@ -78,7 +79,8 @@ def publish(asker, now, deadline):
             ("Exists", ["N1"], body), ("NoSuch line", ["N9"], notice(deadline, line="9")), ("DeadlinePassed", ["N9"], notice(moment(now - 1))),
             ("InsufficientFunds", ["N9"], notice(deadline, line="3000", estimate=1)), ("LimitReached", ["N9"], notice(deadline, items=items)),
             ("LimitReached", ["N9"], {**notice(deadline), "lots": lots}),
-            ("BadBody late_withdrawal", ["N9"], {**notice(deadline), "late_withdrawal": "returns", "lots": []}), ("BadBody lots", ["N9"], {**notice(deadline), "lots": [LOT, LOT]}))
+            ("BadBody late_withdrawal", ["N9"], {**notice(deadline), "late_withdrawal": "returns", "lots": []}),
+            ("BadBody performance", ["N9"], {**notice(deadline), "performance": -1, "lots": []}), ("BadBody lots", ["N9"], {**notice(deadline), "lots": [LOT, LOT]}))
 
 
 def present(asker):
@@ -157,6 +159,7 @@ def decide_first(asker):
     ask("examine", "clerk", 3, body=sent("examine", "responsive"))
     ask("award", "clerk", "N1", "L1", like="won")
     ask("award", "clerk", "N1", "L2", like="unsuccessful")
+    refused(asker, "sign", "clerk", ("SecurityNotAsked", [1], sent("sign", "secured")))
     ask("sign", "clerk", 1, like="signed")
     for name, example in (("amendContract", "raise"), ("amendContract", "cut"), ("pay", "first"), ("pay", "second"), ("end", "regular")):
         ask(name, "clerk", 1, body=sent(name, example), like=example)
@@ -179,9 +182,13 @@ def decide(asker, receipts):
     failing = ask("award", "clerk", "N5", "L1")["award"]
     ask("fail", "clerk", failing)
     contract = ask("award", "clerk", "N5", "L1")["award"]
-    ask("sign", "clerk", contract)
-    for name in ("fail", "sign"):
-        refused(asker, name, "clerk", ("NoSuch award", [9999]), ("AlreadyDecided", [failing]), ("Standstill", [waiting]))
+    secured = sent("sign", "secured")
+    refused(asker, "sign", "clerk", ("SecurityMissing", [contract]), ("SecurityTooSmall", [contract], {**secured, "amount": 69}), ("BadBody body", [contract], b" "),
+            ("BadBody security", [contract], {"amount": 70}), ("BadBody amount", [contract], {"security": "P1"}))
+    ask("sign", "clerk", contract, body=secured)
+    ask("performanceSecurity", "clerk", contract)
+    for name, body in (("fail", b""), ("sign", secured)):
+        refused(asker, name, "clerk", ("NoSuch award", [9999], body), ("AlreadyDecided", [failing], body), ("Standstill", [waiting]))
     ask("award", "clerk", "N6", "L1")
     ask("cancel", "clerk", "N2", body=sent("cancel", "noNeed"))
     return contract
@@ -202,13 +209,17 @@ def pay(asker, contract):
     refused(asker, "pay", "clerk", ("LimitReached", [contract], {"id": "P9", "amount": 1}))
     refused(asker, "amendContract", "clerk", ("LimitReached", [contract], {**cutting, "id": "E9", "amount": 1}))
     ask("end", "clerk", contract, body=sent("end", "default"))
+    lost = ask("performanceSecurity", "T2", contract)
+    if lost["state"] != "forfeited":
+        asker.note(f"the performance security of a contract that ended by default is {lost['state']}")
+    refused(asker, "performanceSecurity", "T1", ("NoSuch contract", [9999]), ("NoSuch security", [1]), ("NotYourTender", [contract]))
     refused(asker, "end", "clerk", ("NoSuch contract", [9999], sent("end", "regular")), ("ContractEnded", [contract], sent("end", "regular")))
 
 
 def look(asker, receipts):
     """All that can be looked at, of each notice, by each who may."""
     ask = asker.ask
-    for number in range(1, 8):
+    for number in range(1, 9):
         for name in ("releases", "record"):
             ask(name, "public", f"N{number}")
         ask("tenderRegister", "clerk", f"N{number}")

@@ -6,7 +6,7 @@ TABLES = {
     "lines": ("line", "title appropriation free"),
     "batches": ("batch", "moment rows"),
     "tenderers": ("tenderer", "name address key"),
-    "notices": ("notice", "title published deadline validity standstill weight state opened amendments releases"),
+    "notices": ("notice", "title published deadline validity standstill weight state opened amendments releases performance"),
     "lots": ("notice lot", "title line estimate security items state reserved"),
     "envelopes": ("receipt", "notice lot tenderer moment length digest security state reading stated corrected corrections responsive quality failed"),
     "seals": ("receipt", "bytes"),
@@ -18,17 +18,26 @@ TABLES = {
     "compiled": ("notice", "text"),
     "office": ("version", "moment receipts awards"),
     "late_rules": ("notice", ""),
+    "performance": ("contract", "reference amount state"),
 }
 
-# What makes the tables that an office of an earlier program lacks until it is opened again: the copy gets them.
-LATER = {"late_rules": "CREATE TABLE late_rules (notice TEXT NOT NULL PRIMARY KEY CHECK (length(notice) BETWEEN 1 AND 32)) STRICT"}
+# Version 2 keeps notices under another name, and their table of version 1 empty. Here they are `notices`, whatever the version.
+ON_DISK = {"notices": "notices_2"}
 
-# Each table and index of version 1, with the first digits of the SHA-256 of the SQL that makes it.
+# What makes the tables that an office of version 1 lacks until it is opened: the copy gets them.
+LATER = {name: f"CREATE TABLE {name} ({columns}) STRICT" for name, columns in (
+    ("late_rules", "notice TEXT NOT NULL PRIMARY KEY CHECK (length(notice) BETWEEN 1 AND 32)"),
+    ("notices_2", "notice TEXT NOT NULL PRIMARY KEY CHECK (length(notice) BETWEEN 1 AND 32), title TEXT NOT NULL CHECK (length(title) BETWEEN 1 AND 200), published INTEGER NOT NULL CHECK (published BETWEEN 0 AND 4102444799), deadline INTEGER NOT NULL CHECK (deadline BETWEEN 0 AND 4102444799), validity INTEGER NOT NULL CHECK (validity BETWEEN 1 AND 365), standstill INTEGER NOT NULL CHECK (standstill BETWEEN 0 AND 90), weight INTEGER NOT NULL CHECK (weight BETWEEN 0 AND 100), state TEXT NOT NULL CHECK (state IN ('receiving', 'opened', 'cancelled')), opened INTEGER CHECK (opened BETWEEN 0 AND 4102444799), amendments INTEGER NOT NULL CHECK (amendments BETWEEN 0 AND 50), releases INTEGER NOT NULL CHECK (releases BETWEEN 0 AND 9999), performance INTEGER NOT NULL CHECK (performance BETWEEN 0 AND 1000000000000)"),
+    ("performance", "contract INTEGER NOT NULL PRIMARY KEY CHECK (contract BETWEEN 1 AND 1000000000), reference TEXT NOT NULL CHECK (length(reference) BETWEEN 1 AND 32), amount INTEGER NOT NULL CHECK (amount BETWEEN 1 AND 1000000000000), state TEXT NOT NULL CHECK (state IN ('held', 'returned', 'forfeited'))"),
+)}
+
+# Each table and index of version 2, with the first digits of the SHA-256 of the SQL that makes it.
 MADE = dict(it.split(":") for it in (
     "lines:e4f278d6871f batches:f823b56fb3f0 tenderers:e429681bbc78 notices:d1f8ce1fb5a8 lots:72143f3de381 envelopes:a50cdf08cdcf "
     "seals:8e885df67690 securities:b17f4e600e34 awards:6048d7d19a7d contracts:f9925bd6b77a entries:8a6a7428858f releases:0a28d41b2c20 "
     "compiled:f27d2fca5cdd office:a457f3144f8d lots_of_line:37f74644bf24 envelopes_of_notice:a88cd83d7304 securities_of_notice:b04554dff328 "
-    "awards_of_notice:daec4a3a20b9 contracts_of_notice:e57713968ea5 late_rules:224904b111b7").split())
+    "awards_of_notice:daec4a3a20b9 contracts_of_notice:e57713968ea5 late_rules:224904b111b7 "
+    "notices_2:24e2ae802807 performance:0e99717dfa8c").split())
 
 # What each contract gained and lost; the four pots of each line, summed from joined rows; the tenders that may win.
 SUMS = """
@@ -116,16 +125,34 @@ class Office:
         self.base.text_factory = lambda text: text.decode("utf-8", "surrogateescape")
         self.base.create_function("sha256", 1, lambda data: hashlib.sha256(data).digest() if isinstance(data, bytes) else b"", deterministic=True)
         self.base.create_function("text_of", 1, text_of, deterministic=True)
-        for table, (key, others) in TABLES.items():
-            there = {row[1] for row in self.rows(f"PRAGMA table_info({table})")}
-            if not there and table in LATER:
-                self.base.execute(LATER[table])
-                continue
-            if not there >= set((key + " " + others).split()):
-                raise Unreadable(f"{path}: it is no office: the table {table} isn't there, or lacks a column")
-        if self.rows("SELECT version FROM office") != [(1,)]:
-            raise Unreadable(f"{path}: it is no office of version 1")
-        self.base.executescript(SUMS + "PRAGMA query_only = ON")
+        self.complete("office")
+        version = self.rows("SELECT version FROM office")
+        if version not in ([(1,)], [(2,)]):
+            raise Unreadable(f"{path}: it is no office of version 1 or 2")
+        if version == [(1,)]:
+            self.migrate()
+        for table in TABLES:
+            self.complete(table)
+        self.base.executescript("CREATE TEMP VIEW notices AS SELECT * FROM notices_2;" + SUMS + "PRAGMA query_only = ON")
+
+    def columns(self, table):
+        return {row[1] for row in self.rows(f"PRAGMA table_info({table})")}
+
+    def complete(self, table):
+        """Sees to it that the table is there with its columns."""
+        name = ON_DISK.get(table, table)
+        if not self.columns(name) >= set(" ".join(TABLES[table]).split()):
+            raise Unreadable(f"{self.path}: it is no office: the table {name} isn't there, or lacks a column")
+
+    def migrate(self):
+        """Makes of the copy what the program makes of an office of version 1 when it opens it."""
+        for table, made in LATER.items():
+            if not self.columns(table):
+                self.base.execute(made)
+        if not self.columns("notices") >= set(" ".join(TABLES["notices"]).split()) - {"performance"}:
+            raise Unreadable(f"{self.path}: it is no office: the table notices isn't there, or lacks a column")
+        self.base.executescript("INSERT INTO notices_2 SELECT notice, title, published, deadline, validity, standstill, weight, state, opened, amendments, releases, 0 "
+                                "FROM notices; DELETE FROM notices; UPDATE office SET version = 2")
 
     def rows(self, sql, *values):
         return self.base.execute(sql, values).fetchall()

@@ -1,7 +1,7 @@
 """The rules of `tools/audit` that hold the rows of an office's file against one another. Each is named for what must hold, and says it in a sentence."""
 import hashlib, re
 
-from audit_office import MADE, TABLES, rule
+from audit_office import MADE, ON_DISK, TABLES, rule
 
 WORDS = {
     "notices state": "receiving opened cancelled",
@@ -10,13 +10,14 @@ WORDS = {
     "envelopes reading": "unreadable nonconforming priced",
     "securities state": "held returned forfeited",
     "awards state": "active failed cancelled signed",
+    "performance state": "held returned forfeited",
     "contracts how": "regular default",
     "entries kind": "raise cut payment",
 }
 PARENTS = (
     "lots notice notices, lots line lines, envelopes notice|lot lots, envelopes tenderer tenderers, envelopes security securities, seals receipt envelopes, "
     "securities notice|lot lots, securities tenderer tenderers, awards notice|lot lots, awards receipt envelopes, contracts notice|lot lots, "
-    "contracts tenderer tenderers, entries contract contracts, releases notice notices, compiled notice notices, late_rules notice notices")
+    "contracts tenderer tenderers, entries contract contracts, releases notice notices, compiled notice notices, late_rules notice notices, performance contract contracts")
 MOMENTS = ("batches moment, notices published, notices opened, envelopes moment, awards moment, contracts moment, contracts ended, entries moment, "
            "releases moment")
 
@@ -40,14 +41,20 @@ def file_is_sound(office):
 def tables_are_as_made(office):
     """The tables of an office and their indexes are made by the office's SQL, and have no other column, index or trigger. (Other tables may be beside them.)"""
     there = office.rows("SELECT name, type, sql, lower(tbl_name) FROM sqlite_master WHERE name NOT LIKE 'sqlite!_%' ESCAPE '!' ORDER BY name")
-    there = [(name, kind, sql) for name, kind, sql, table in there if table in TABLES]
+    there = [(name, kind, sql) for name, kind, sql, table in there if table in TABLES or table in ON_DISK.values()]
     for name, kind, sql in there:
         if name not in MADE:
             yield f"{kind} {name}", "no office has it"
         elif not hashlib.sha256(sql.encode("utf-8", "surrogateescape")).hexdigest().startswith(MADE[name]):
             yield f"{kind} {name}", "is made otherwise"
     for name in sorted(set(MADE) - {name for name, _, _ in there}):
-        yield f"index {name}", "isn't there"
+        yield f"{'table' if name in (*TABLES, *ON_DISK.values()) else 'index'} {name}", "isn't there"
+
+
+@rule("file")
+def notices_stand_in_one_table(office):
+    """No notice stands in the table of version 1, which version 2 keeps empty."""
+    yield from office.find("notices", "SELECT notice, 'stands in the table of version 1' FROM main.notices ORDER BY notice")
 
 
 @rule("file")
@@ -379,3 +386,20 @@ def securities_have_their_fate(office):
                 AND l.state IN ('undecided', 'awarded')) THEN 'held' ELSE 'returned' END AS due
                 FROM last JOIN envelopes AS e ON e.receipt = last.receipt JOIN lots AS l ON l.notice = e.notice AND l.lot = e.lot)
         SELECT security, printf('is %s in place of %s', state, due) FROM securities JOIN fate USING (security) WHERE state <> due""")
+
+
+@rule("file")
+def performances_are_as_asked(office):
+    """A contract has a performance security of at least what its notice asks for, and none where that asks for none."""
+    yield from office.find("contracts", """
+        SELECT contract, printf('its notice asks for a performance security of %d, and it has one of %d', n.performance, coalesce(amount, 0)) FROM contracts AS c
+        JOIN notices AS n ON n.notice = c.notice LEFT JOIN performance AS p USING (contract)
+        WHERE coalesce(amount, 0) < n.performance OR (n.performance = 0 AND amount IS NOT NULL)""")
+
+
+@rule("file")
+def performances_have_their_fate(office):
+    """A performance security is held while its contract runs, forfeited where that ended by default, and else returned."""
+    yield from office.find("performance", """
+        WITH fate AS (SELECT contract, CASE WHEN ended IS NULL THEN 'held' WHEN how = 'default' THEN 'forfeited' ELSE 'returned' END AS due FROM contracts)
+        SELECT contract, printf('is %s in place of %s', state, due) FROM performance JOIN fate USING (contract) WHERE state <> due""")

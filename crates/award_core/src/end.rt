@@ -1,29 +1,58 @@
 //! The decision on the end of a contract.
-ghost use Rattle.std.specs.Prelude.{◌≡◌, IfSome};
+ghost use Rattle.std.specs.Prelude.{◌≡◌, ◌++◌, IfSome, OnOk};
 ghost use Rattle.office_base.specs.Deciding.{Decides};
+ghost use Rattle.office_base.specs.RuleParts.{performance_settled, put_if};
 ghost use Rattle.office_base.specs.Rules.{first_of};
-ghost use Rattle.award_core.specs.Rules.End.{end_tests, end_puts, ended_contract};
+ghost use Rattle.award_core.specs.Rules.End.{end_tests, end_puts, ended_contract, ended_state};
 
 use crate::entries::outstanding;
 use crate::lines::with_free;
 use office_acts::contract::How;
-use office_base::parts::{at_moment, has_all_releases, released};
+use office_base::parts::{at_moment, has_all_releases, released, settled_performance};
 use office_base::puts::Put;
-use office_base::records::{ClockRow, ContractRow, EntryRow, LineRow, NoticeRow};
+use office_base::records::{
+    ClockRow, ContractRow, EntryRow, LineRow, NoticeRow, PerformanceRow, SecurityState,
+};
 use office_base::rows::Rows;
 use office_values::moment::Moment;
 use office_values::money::Total;
 use office_values::refusal::{Refusal, Thing};
-use std::alloc::Global;
+use std::alloc::{AllocError, Global};
 
-/// The rows that the end of a contract looks at: the contract with its entries, its notice and its lot's line, and the clock.
+/// The rows that the end of a contract looks at: the contract with its entries, its notice, its lot's line and its performance security,
+/// and the clock.
 #[derive(Drop)]
 pub struct EndRows {
     pub contract: Option<ContractRow>,
     pub entries: Rows<EntryRow>,
     pub notice: Option<NoticeRow>,
     pub line: Option<LineRow>,
+    pub performance: Option<PerformanceRow>,
     pub clock: ClockRow,
+}
+
+// What becomes of the performance security where the contract ends so.
+fn ended_state(how: How) -> SecurityState
+    ensures { result ≡ ended_state how }
+{
+    match how {
+        How::Regular => SecurityState::Returned,
+        How::ForDefault => SecurityState::Forfeited,
+    }
+}
+
+// The contract's performance security, settled.
+fn push_settled(
+    made: &mut Vec<Put>,
+    security: Option<PerformanceRow>,
+    state: SecurityState,
+) -> Result<(), AllocError>
+    ensures { OnOk result (made.new.items ≡ made.old.items ++ put_if (performance_settled state) security) }
+{
+    if let Some(row) = security {
+        made.push(Put::Performance(settled_performance(row, state)))?;
+    }
+    Ok(())
 }
 
 /// Decides the end of a contract: its refusal, or what it puts. `Unavailable` where the office lacks the notice or the line, or holds
@@ -37,6 +66,7 @@ pub fn decide_end(alloc: Global, t: Moment, rows: EndRows, how: How) -> Result<V
         entries,
         notice,
         line,
+        performance,
         clock,
     } = rows;
     let Some(contract) = contract else {
@@ -61,10 +91,11 @@ pub fn decide_end(alloc: Global, t: Moment, rows: EndRows, how: How) -> Result<V
         released: Total::of_sum(rest).ok_or(Refusal::Unavailable)?,
         ..contract
     };
-    let mut made = Vec::with_capacity(alloc, 4)?;
+    let mut made = Vec::with_capacity(alloc, 5)?;
     made.push(Put::Contract(contract))?;
     made.push(Put::Line(line))?;
     made.push(Put::Notice(notice))?;
     made.push(Put::Clock(at_moment(clock, t)))?;
+    push_settled(&mut made, performance, ended_state(how))?;
     Ok(made)
 }

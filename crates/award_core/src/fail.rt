@@ -1,11 +1,11 @@
 //! The decision on an award whose winner doesn't sign.
-ghost use Rattle.std.specs.Prelude.{◌≡◌, ◌++◌, OnOk};
+ghost use Rattle.std.specs.Prelude.{◌≡◌, ◌++◌, OnOk, Some};
 ghost use Rattle.office_base.specs.Deciding.{Decides};
 ghost use Rattle.office_base.specs.RuleParts.{passed_over, put_if, security_settled};
 ghost use Rattle.office_base.specs.Rules.{first_of};
 ghost use Rattle.office_base.specs.declared.puts.Put.TheVariants as puts;
 ghost use Rattle.office_base.specs.declared.records.SecurityState.TheVariants.{Forfeited};
-ghost use Rattle.award_core.specs.Rules.Fail.{stands_still, fail_tests, fail_puts, fail_conditions};
+ghost use Rattle.award_core.specs.Rules.Fail.{stands_still, fail_tests, fail_puts, fail_conditions, standing_conditions};
 
 use office_base::parts::{at_moment, has_all_releases, is_expired, passed_over, released, settled};
 use office_base::puts::Put;
@@ -39,17 +39,14 @@ fn stands_still(t: Moment, notice: &NoticeRow, award: &AwardRow) -> bool
     t.second() < award.moment.second() + DAY * notice.standstill.get()
 }
 
-// Why an award can neither fail nor be signed.
-pub(crate) fn refusal_of(
+// Why an award that is there can neither fail nor be signed.
+pub(crate) fn standing_refusal(
     t: Moment,
-    award: &Option<AwardRow>,
+    award: &AwardRow,
     notice: &Option<NoticeRow>,
 ) -> Option<Refusal>
-    ensures { result ≡ first_of (fail_conditions t award.now notice.now) }
+    ensures { result ≡ first_of (standing_conditions t (Some award.now) notice.now) }
 {
-    let Some(award) = award else {
-        return Some(Refusal::NoSuch(Thing::Award));
-    };
     if award.state != AwardState::Active {
         return Some(Refusal::AlreadyDecided);
     }
@@ -86,6 +83,16 @@ fn push_forfeited(made: &mut Vec<Put>, security: Option<SecurityRow>) -> Result<
         made.push(Put::Security(settled(row, SecurityState::Forfeited)))?;
     }
     Ok(())
+}
+
+// Why an award can't fail.
+fn refusal_of(t: Moment, award: &Option<AwardRow>, notice: &Option<NoticeRow>) -> Option<Refusal>
+    ensures { result ≡ first_of (fail_conditions t award.now notice.now) }
+{
+    match award {
+        Some(row) => standing_refusal(t, row, notice),
+        None => Some(Refusal::NoSuch(Thing::Award)),
+    }
 }
 
 /// Decides the failing of an award: its refusal, or what it puts. `Unavailable` where the office lacks the award's notice or lot, which

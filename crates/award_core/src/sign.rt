@@ -1,23 +1,25 @@
 //! The decision on the signing of a contract.
-ghost use Rattle.std.specs.Prelude.{◌≡◌};
+ghost use Rattle.std.specs.Prelude.{◌≡◌, ◌++◌, OnOk};
 ghost use Rattle.office_base.specs.Deciding.{Decides};
+ghost use Rattle.office_base.specs.RuleParts.{put_if};
 ghost use Rattle.office_base.specs.Rules.{first_of};
-ghost use Rattle.award_core.specs.Rules.Sign.{contract_row, sign_tests, sign_puts};
+ghost use Rattle.award_core.specs.Rules.Sign.{contract_row, is_missing, is_too_small, isnt_asked, performance_put, performance_row, sign_conditions, sign_tests, sign_puts};
 
-use crate::fail::refusal_of;
+use crate::fail::standing_refusal;
 use crate::securities::push_returned;
+use office_acts::tender::NamedSecurity;
 use office_base::parts::{at_moment, released};
 use office_base::puts::Put;
 use office_base::records::{
     AwardRow, AwardState, ClockRow, ContractRow, EnvelopeRow, LotRow, LotState, NoticeRow,
-    SecurityRow,
+    PerformanceRow, SecurityRow, SecurityState,
 };
 use office_base::rows::Rows;
 use office_values::id::Id;
 use office_values::moment::Moment;
 use office_values::money::{Amount, Total};
-use office_values::refusal::Refusal;
-use std::alloc::Global;
+use office_values::refusal::{Refusal, Thing};
+use std::alloc::{AllocError, Global};
 
 /// The rows that the signing of a contract looks at: the award with its notice, its lot, its tender and the lot's securities, and the
 /// clock.
@@ -48,11 +50,92 @@ fn contract_row(t: Moment, award: &AwardRow, tenderer: Id) -> ContractRow
     }
 }
 
+// Whether the notice asks for a performance security and none is named.
+fn is_missing(notice: &NoticeRow, security: &Option<NamedSecurity>) -> bool
+    ensures { result ≡ is_missing security.now notice.now }
+{
+    notice.performance.units() > 0 && security.is_none()
+}
+
+// Whether the one that is named is less than the notice asks.
+fn is_too_small(notice: &NoticeRow, security: &Option<NamedSecurity>) -> bool
+    ensures { result ≡ is_too_small security.now notice.now }
+{
+    match security {
+        Some(named) => named.amount.get() < notice.performance.units(),
+        None => false,
+    }
+}
+
+// Whether the notice asks for none and one is named.
+fn isnt_asked(notice: &NoticeRow, security: &Option<NamedSecurity>) -> bool
+    ensures { result ≡ isnt_asked security.now notice.now }
+{
+    notice.performance.units() == 0 && security.is_some()
+}
+
+// Why the contract of an award can't be signed with this performance security, or with none.
+fn refusal_of(
+    t: Moment,
+    award: &Option<AwardRow>,
+    notice: &Option<NoticeRow>,
+    security: &Option<NamedSecurity>,
+) -> Option<Refusal>
+    ensures { result ≡ first_of (sign_conditions t award.now notice.now security.now) }
+{
+    let Some(award) = award else {
+        return Some(Refusal::NoSuch(Thing::Award));
+    };
+    if let Some(row) = notice {
+        if is_missing(row, security) {
+            return Some(Refusal::SecurityMissing);
+        }
+        if is_too_small(row, security) {
+            return Some(Refusal::SecurityTooSmall);
+        }
+        if isnt_asked(row, security) {
+            return Some(Refusal::SecurityNotAsked);
+        }
+    }
+    standing_refusal(t, award, notice)
+}
+
+// The performance security of this award's contract, held.
+fn performance_row(award: &AwardRow, named: &NamedSecurity) -> PerformanceRow
+    ensures { result ≡ performance_row award.now named.now }
+{
+    PerformanceRow {
+        contract: award.award,
+        reference: named.reference,
+        amount: named.amount,
+        state: SecurityState::Held,
+    }
+}
+
+// The one that is named.
+fn push_performance(
+    made: &mut Vec<Put>,
+    award: &AwardRow,
+    security: &Option<NamedSecurity>,
+) -> Result<(), AllocError>
+    ensures { OnOk result (made.new.items ≡ made.old.items ++ put_if (performance_put award.now) security.now) }
+{
+    if let Some(named) = security {
+        made.push(Put::Performance(performance_row(award, named)))?;
+    }
+    Ok(())
+}
+
 /// Decides the signing of a contract: its refusal, or what it puts. `Unavailable` where the office lacks the award's notice, lot or
 /// tender, which none does that commands reach.
 #[tactic(auto, unfolding(office_base::specs::Deciding::Decides))]
-pub fn decide_sign(alloc: Global, t: Moment, rows: SignRows) -> Result<Vec<Put>, Refusal>
-    ensures { Decides result (first_of (sign_tests rows t)) (sign_puts rows t) }
+pub fn decide_sign(
+    alloc: Global,
+    t: Moment,
+    rows: SignRows,
+    security: Option<NamedSecurity>,
+) -> Result<Vec<Put>, Refusal>
+    ensures { Decides result (first_of (sign_tests rows t security)) (sign_puts rows t security) }
 {
     let SignRows {
         award,
@@ -62,7 +145,7 @@ pub fn decide_sign(alloc: Global, t: Moment, rows: SignRows) -> Result<Vec<Put>,
         securities,
         clock,
     } = rows;
-    if let Some(why) = refusal_of(t, &award, &notice) {
+    if let Some(why) = refusal_of(t, &award, &notice, &security) {
         return Err(why);
     }
     let (Some(award), Some(notice), Some(lot), Some(envelope)) = (award, notice, lot, envelope)
@@ -71,7 +154,7 @@ pub fn decide_sign(alloc: Global, t: Moment, rows: SignRows) -> Result<Vec<Put>,
     };
     let notice = released(notice).ok_or(Refusal::Unavailable)?;
     let contract = contract_row(t, &award, envelope.tenderer);
-    let mut made = Vec::with_capacity(alloc, 5)?;
+    let mut made = Vec::with_capacity(alloc, 6)?;
     made.push(Put::Award(AwardRow {
         state: AwardState::Signed,
         ..award
@@ -85,5 +168,6 @@ pub fn decide_sign(alloc: Global, t: Moment, rows: SignRows) -> Result<Vec<Put>,
     made.push(Put::Notice(notice))?;
     made.push(Put::Clock(at_moment(clock, t)))?;
     push_returned(&mut made, securities.as_slice())?;
+    push_performance(&mut made, &award, &security)?;
     Ok(made)
 }

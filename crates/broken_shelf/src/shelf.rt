@@ -8,7 +8,7 @@ use office_base::ledger::{ContractSums, LedgerRow};
 use office_base::puts::Put;
 use office_base::records::{
     AwardRow, BatchRow, ClockRow, CompiledRow, ContractRow, EntryRow, EnvelopeRow, LateRow,
-    LineRow, LotRow, NoticeRow, ReleaseRow, SealRow, SecurityRow, TendererRow,
+    LineRow, LotRow, NoticeRow, PerformanceRow, ReleaseRow, SealRow, SecurityRow, TendererRow,
 };
 use office_base::shelf::{Lookups, Shelf, ShelfFault};
 use office_memory::memory::MemoryShelf;
@@ -164,6 +164,13 @@ impl Lookups for BrokenShelf {
 
     fn get_late(&mut self, notice: &Id) -> Result<Option<LateRow>, ShelfFault> {
         passed!(self, self.shelf.get_late(notice))
+    }
+
+    fn get_performance(
+        &mut self,
+        contract: AskedNumber,
+    ) -> Result<Option<PerformanceRow>, ShelfFault> {
+        passed!(self, self.shelf.get_performance(contract))
     }
 
     fn get_clock(&mut self) -> Result<ClockRow, ShelfFault> {

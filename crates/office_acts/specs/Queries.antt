@@ -13,3 +13,4 @@ kind_of (queries.Releases notice) = kinds.Releases
 kind_of (queries.Record notice) = kinds.Record
 kind_of (queries.Tender receipt) = kinds.Tender
 kind_of (queries.Security security) = kinds.Security
+kind_of (queries.Performance contract) = kinds.Performance

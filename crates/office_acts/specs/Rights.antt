@@ -41,7 +41,7 @@ may caller commands.AmendContract = is_clerk caller
 may caller commands.Pay = is_clerk caller
 may caller commands.End = is_clerk caller
 
--- the books are open to anybody, the register of tenders to the clerk, a tender to tenderers, a security to both
+-- the books are open to anybody, the register of tenders to the clerk, a tender to tenderers, securities to both
 abbrev pub may_look : Caller → QueryKind → Bool
 may_look caller queries.Line = true
 may_look caller queries.Ledger = true
@@ -51,3 +51,4 @@ may_look caller queries.Releases = true
 may_look caller queries.Record = true
 may_look caller queries.Tender = is_tenderer caller
 may_look caller queries.Security = not (is_public caller)
+may_look caller queries.Performance = not (is_public caller)

@@ -44,6 +44,7 @@ pub enum QueryKind {
     Record,
     Tender,
     Security,
+    Performance,
 }
 
 /// Whether the caller may give a command of this kind: tenderers alone present, modify and withdraw tenders, and the
@@ -70,7 +71,7 @@ pub fn may_look(caller: &Caller, kind: QueryKind) -> bool
     match kind {
         QueryKind::Register => matches!(caller, Caller::Clerk),
         QueryKind::Tender => matches!(caller, Caller::Tenderer(_)),
-        QueryKind::Security => !matches!(caller, Caller::Public),
+        QueryKind::Security | QueryKind::Performance => !matches!(caller, Caller::Public),
         _ => true,
     }
 }

@@ -80,9 +80,10 @@ pub enum Command<'a> {
     Fail {
         award: AskedNumber,
     },
-    /// Signs the contract of an award.
+    /// Signs the contract of an award, perhaps with a performance security.
     Sign {
         award: AskedNumber,
+        security: Option<NamedSecurity>,
     },
     /// Raises or cuts what a contract is worth.
     AmendContract {

@@ -5,6 +5,7 @@ ghost use Rattle.office_acts.specs.Notices.{weight_of};
 use crate::lot::NewLots;
 use office_values::bounded::Bounded;
 use office_values::moment::Moment;
+use office_values::money::Amount;
 use office_values::text::TextLine;
 
 /// For how many days after the deadline tenders stay in effect: 1 to 365.
@@ -55,5 +56,7 @@ pub struct NewNotice {
     pub standstill: Standstill,
     pub criteria: Criteria,
     pub late_withdrawal: LateWithdrawal,
+    /// What the performance security of each of its contracts must come to; 0: none is asked.
+    pub performance: Amount,
     pub lots: NewLots,
 }

@@ -25,6 +25,8 @@ pub enum Query {
     Tender { receipt: AskedNumber },
     /// A security, for whoever named it and for the clerk.
     Security { security: AskedNumber },
+    /// The performance security of a contract, for the contract's tenderer and for the clerk.
+    Performance { contract: AskedNumber },
 }
 
 impl Query {
@@ -41,6 +43,7 @@ impl Query {
             Query::Record { .. } => QueryKind::Record,
             Query::Tender { .. } => QueryKind::Tender,
             Query::Security { .. } => QueryKind::Security,
+            Query::Performance { .. } => QueryKind::Performance,
         }
     }
 }

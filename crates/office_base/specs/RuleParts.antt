@@ -9,6 +9,7 @@ use Rattle.office_base.specs.declared.records.EnvelopeRow.{EnvelopeRow}
 use Rattle.office_base.specs.declared.records.SecurityState.{SecurityState}
 use Rattle.office_base.specs.declared.records.SecurityRow.{SecurityRow}
 use Rattle.office_base.specs.declared.records.LateRow.{LateRow}
+use Rattle.office_base.specs.declared.records.PerformanceRow.{PerformanceRow}
 use Rattle.office_base.specs.declared.records.ClockRow.{ClockRow}
 use Rattle.office_base.specs.declared.puts.Put.TheVariants as puts
 use Rattle.office_base.specs.declared.puts.Put.{Put}
@@ -71,6 +72,13 @@ security_returned s = puts.Security (returned s)
 
 abbrev pub security_settled : SecurityState → SecurityRow → Put
 security_settled state s = puts.Security (settled state s)
+
+-- the same of a performance security
+abbrev pub settled_performance : SecurityState → PerformanceRow → PerformanceRow
+settled_performance state w = record w { state = cond (is_held w.state) state w.state }
+
+abbrev pub performance_settled : SecurityState → PerformanceRow → Put
+performance_settled state w = puts.Performance (settled_performance state w)
 
 -- the held ones of these go back
 abbrev pub is_held_security : SecurityRow → Bool

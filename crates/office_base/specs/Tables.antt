@@ -18,6 +18,7 @@ use Rattle.office_base.specs.declared.records.EntryRow.{EntryRow}
 use Rattle.office_base.specs.declared.records.ReleaseRow.{ReleaseRow}
 use Rattle.office_base.specs.declared.records.CompiledRow.{CompiledRow}
 use Rattle.office_base.specs.declared.records.LateRow.{LateRow}
+use Rattle.office_base.specs.declared.records.PerformanceRow.{PerformanceRow}
 use Rattle.office_base.specs.declared.records.ClockRow.{ClockRow}
 use Rattle.office_base.specs.declared.puts.Put.{Put}
 use Rattle.office_base.specs.declared.puts.Put.TheVariants as puts
@@ -37,6 +38,7 @@ pub record Tables : Type 0 where
   pub releases : List ReleaseRow
   pub compiled : List CompiledRow
   pub late_rules : List LateRow
+  pub performances : List PerformanceRow
   pub clock : ClockRow
 
 -- the clock of an office where nothing was accepted
@@ -45,7 +47,7 @@ first_clock = record { moment = 0; receipts = 0; awards = 0 }
 
 -- the empty office
 abbrev pub no_tables : Tables
-no_tables = record { lines = []; batches = []; tenderers = []; notices = []; lots = []; envelopes = []; seals = []; securities = []; awards = []; contracts = []; entries = []; releases = []; compiled = []; late_rules = []; clock = first_clock }
+no_tables = record { lines = []; batches = []; tenderers = []; notices = []; lots = []; envelopes = []; seals = []; securities = []; awards = []; contracts = []; entries = []; releases = []; compiled = []; late_rules = []; performances = []; clock = first_clock }
 
 -- lots in the order of their notices, and in a notice in that of their own identifiers
 abbrev pub lot_cmp : List ℕ × List ℕ → List ℕ × List ℕ → Ordering
@@ -104,6 +106,9 @@ compiled_key r = r.notice
 
 abbrev pub late_key : LateRow → List ℕ
 late_key r = r.notice
+
+abbrev pub performance_key : PerformanceRow → ℕ
+performance_key r = r.contract
 
 -- the row of a key among rows, and the rows with one row put
 abbrev pub find_line : List LineRow → List ℕ → Option LineRow
@@ -190,6 +195,12 @@ find_late rows key = row_at id_cmp late_key rows key
 abbrev pub put_late : List LateRow → LateRow → List LateRow
 put_late rows row = row_put id_cmp late_key rows row
 
+abbrev pub find_performance : List PerformanceRow → ℕ → Option PerformanceRow
+find_performance rows key = row_at nat_cmp performance_key rows key
+
+abbrev pub put_performance : List PerformanceRow → PerformanceRow → List PerformanceRow
+put_performance rows row = row_put nat_cmp performance_key rows row
+
 abbrev pub drop_seal : List SealRow → ℕ → List SealRow
 drop_seal rows receipt = row_drop nat_cmp seal_key rows receipt
 
@@ -235,6 +246,9 @@ compiled_at key t = find_compiled t.compiled key
 
 abbrev pub late_at : List ℕ → Tables → Option LateRow
 late_at key t = find_late t.late_rules key
+
+abbrev pub performance_at : ℕ → Tables → Option PerformanceRow
+performance_at key t = find_performance t.performances key
 
 -- the lots of a notice, and those of a line
 abbrev pub of_notice : List ℕ → LotRow → Bool
@@ -304,6 +318,7 @@ after_put (puts.Entry r) t = record t { entries = put_entry t.entries r }
 after_put (puts.Release r) t = record t { releases = put_release t.releases r }
 after_put (puts.Compiled r) t = record t { compiled = put_compiled t.compiled r }
 after_put (puts.Late r) t = record t { late_rules = put_late t.late_rules r }
+after_put (puts.Performance r) t = record t { performances = put_performance t.performances r }
 after_put (puts.Clock r) t = record t { clock = r }
 
 -- the office after changes, one after another
@@ -327,6 +342,7 @@ pub record IsSorted (t : Tables) : Type 0 where
   pub releases : IsInOrder release_cmp release_key t.releases
   pub compiled : IsInOrder id_cmp compiled_key t.compiled
   pub late_rules : IsInOrder id_cmp late_key t.late_rules
+  pub performances : IsInOrder nat_cmp performance_key t.performances
 
 -- changes keep the tables in the order of their keys
 abbrev pub ChangesKeepOrder : Type 0

@@ -59,6 +59,7 @@ worked_office = record {
   releases = [];
   compiled = [];
   late_rules = [];
+  performances = [];
   clock = first_clock;
 }
 

@@ -3,7 +3,7 @@ ghost use Rattle.std.proofs.Common.{rules};
 
 use crate::records::{
     AwardRow, BatchRow, CompiledRow, ContractRow, EntryRow, EnvelopeRow, LateRow, LineRow, LotRow,
-    NoticeRow, ReleaseRow, SealRow, SecurityRow, TendererRow,
+    NoticeRow, PerformanceRow, ReleaseRow, SealRow, SecurityRow, TendererRow,
 };
 use crate::row::Row;
 use office_values::id::Id;
@@ -173,5 +173,17 @@ impl Row for LateRow {
 
     fn key(&self) -> Id {
         self.notice
+    }
+}
+
+impl Row for PerformanceRow {
+    type Key = u64;
+
+    ghost key_of = { λ r. r.contract };
+
+    ghost clone_same = { λ a b h. Prim.search rules };
+
+    fn key(&self) -> u64 {
+        self.contract.get()
     }
 }

@@ -1,9 +1,11 @@
 //! What the decisions on several commands share.
 ghost use Rattle.std.specs.Prelude.{◌≡◌, IfSome, IfNone, Some, true};
-ghost use Rattle.office_base.specs.RuleParts.{has_all_releases, is_expired, is_in_time, is_past_deadline, released, at_moment, returned, settled, passed_over};
+ghost use Rattle.office_base.specs.RuleParts.{has_all_releases, is_expired, is_in_time, is_past_deadline, released, at_moment, returned, settled, settled_performance, passed_over};
 
 use crate::counts::ReleaseCount;
-use crate::records::{ClockRow, EnvelopeRow, NoticeRow, NoticeState, SecurityRow, SecurityState};
+use crate::records::{
+    ClockRow, EnvelopeRow, NoticeRow, NoticeState, PerformanceRow, SecurityRow, SecurityState,
+};
 use office_values::moment::Moment;
 
 /// The seconds of a day.
@@ -75,6 +77,16 @@ pub fn settled(security: SecurityRow, state: SecurityState) -> SecurityRow
         return security;
     }
     SecurityRow { state, ..security }
+}
+
+/// The same of a performance security.
+pub fn settled_performance(security: PerformanceRow, state: SecurityState) -> PerformanceRow
+    ensures { result ≡ settled_performance state security }
+{
+    if security.state != SecurityState::Held {
+        return security;
+    }
+    PerformanceRow { state, ..security }
 }
 
 /// The tender, out of the running.

@@ -3,7 +3,7 @@ ghost use Rattle.std.specs.Prelude.{◌≡◌};
 
 use crate::records::{
     AwardRow, BatchRow, ClockRow, CompiledRow, ContractRow, EntryRow, EnvelopeRow, LateRow,
-    LineRow, LotRow, NoticeRow, ReleaseRow, SealRow, SecurityRow, TendererRow,
+    LineRow, LotRow, NoticeRow, PerformanceRow, ReleaseRow, SealRow, SecurityRow, TendererRow,
 };
 use crate::row::copy_of;
 use office_values::given::GivenNumber;
@@ -27,6 +27,7 @@ pub enum Put {
     Release(ReleaseRow),
     Compiled(CompiledRow),
     Late(LateRow),
+    Performance(PerformanceRow),
     Clock(ClockRow),
 }
 
@@ -50,6 +51,7 @@ impl Clone for Put {
             Put::Release(row) => Ok(Put::Release(copy_of(row)?)),
             Put::Compiled(row) => Ok(Put::Compiled(copy_of(row)?)),
             Put::Late(row) => Ok(Put::Late(copy_of(row)?)),
+            Put::Performance(row) => Ok(Put::Performance(copy_of(row)?)),
             Put::Clock(row) => Ok(Put::Clock(*row)),
         }
     }

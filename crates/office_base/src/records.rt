@@ -48,8 +48,8 @@ pub enum NoticeState {
     Cancelled,
 }
 
-/// A tender notice: what was published, what the price weighs in a hundred points (0: it alone decides), when its tenders were
-/// opened, and how many amendments and releases it has.
+/// A tender notice: what was published, what the price weighs in a hundred points (0: it alone decides), what the performance security of
+/// each of its contracts must come to (0: none is asked), when its tenders were opened, and how many amendments and releases it has.
 #[derive(Clone, Drop)]
 pub struct NoticeRow {
     pub notice: Id,
@@ -59,6 +59,7 @@ pub struct NoticeRow {
     pub validity: Validity,
     pub standstill: Standstill,
     pub weight: Weight,
+    pub performance: Amount,
     pub state: NoticeState,
     pub opened: Option<Moment>,
     pub amendments: AmendmentCount,
@@ -221,6 +222,15 @@ pub struct CompiledRow {
 #[derive(Clone, Drop)]
 pub struct LateRow {
     pub notice: Id,
+}
+
+/// The performance security of a contract (Model Law, article 22): it goes by the contract's number.
+#[derive(Clone, Drop)]
+pub struct PerformanceRow {
+    pub contract: GivenNumber,
+    pub reference: Id,
+    pub amount: SecurityAmount,
+    pub state: SecurityState,
 }
 
 /// The moment of the last accepted command, and the last numbers given to receipts and awards.

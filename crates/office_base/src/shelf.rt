@@ -2,7 +2,7 @@
 ghost use Rattle.std.specs.Prelude.{◌≡◌};
 ghost use Rattle.office_values.specs.declared.refusal.Refusal.TheVariants.{Unavailable};
 ghost use Rattle.office_base.specs.Tables.{Tables, IsSorted};
-ghost use Rattle.office_base.specs.Tables.{line_at, batch_at, tenderer_at, notice_at, lot_at, envelope_at, seal_at, security_at, award_at, contract_at, entry_at, release_at, compiled_at, late_at, lots_of_notice, lots_of_line, envelopes_of_notice, envelopes_of_tenderer, securities_of_notice, awards_of_notice, contracts_of_notice, entries_of_contract, releases_of_notice};
+ghost use Rattle.office_base.specs.Tables.{line_at, batch_at, tenderer_at, notice_at, lot_at, envelope_at, seal_at, security_at, award_at, contract_at, entry_at, release_at, compiled_at, late_at, performance_at, lots_of_notice, lots_of_line, envelopes_of_notice, envelopes_of_tenderer, securities_of_notice, awards_of_notice, contracts_of_notice, entries_of_contract, releases_of_notice};
 ghost use Rattle.office_base.specs.Joined.{reservations, sums_of_line, ledger_of, LinesFit};
 ghost use Rattle.office_base.specs.Shelves.{Meaning, Keeps, LooksUp, AddsUp, Changes};
 
@@ -11,7 +11,7 @@ use crate::ledger::{ContractSums, LedgerRow};
 use crate::puts::Put;
 use crate::records::{
     AwardRow, BatchRow, ClockRow, CompiledRow, ContractRow, EntryRow, EnvelopeRow, LateRow,
-    LineRow, LotRow, NoticeRow, ReleaseRow, SealRow, SecurityRow, TendererRow,
+    LineRow, LotRow, NoticeRow, PerformanceRow, ReleaseRow, SealRow, SecurityRow, TendererRow,
 };
 use office_values::given::AskedNumber;
 use office_values::id::Id;
@@ -98,6 +98,13 @@ pub trait Lookups {
     /// The row that lets tenders of this notice be withdrawn late.
     fn get_late(&mut self, notice: &Id) -> Result<Option<LateRow>, ShelfFault>
         ensures { LooksUp meaning self.old self.new result (λ t row. row ≡ late_at notice.now t) };
+
+    /// The performance security of this contract.
+    fn get_performance(
+        &mut self,
+        contract: AskedNumber,
+    ) -> Result<Option<PerformanceRow>, ShelfFault>
+        ensures { LooksUp meaning self.old self.new result (λ t row. row ≡ performance_at contract t) };
 
     /// The clock; moment 0 and no numbers where nothing was accepted yet.
     fn get_clock(&mut self) -> Result<ClockRow, ShelfFault>

@@ -21,6 +21,10 @@ pub on_ok_with : {A E : Type 0} (r : Result A E) (P Q : Type 0) → OnOk r P →
 on_ok_with (Ok a) P Q h f = f h
 on_ok_with (Err e) P Q h f = tt
 
+pub on_err_with : {A E : Type 0} (r : Result A E) (P Q : Type 0) → OnErr r P → (P → Q) → OnErr r Q
+on_err_with (Ok a) P Q h f = tt
+on_err_with (Err e) P Q h f = f h
+
 -- ---- within a transaction
 
 pub goes_then : (a b c : State) → Goes a b → Goes b c → Goes a c

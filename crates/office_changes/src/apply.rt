@@ -33,6 +33,7 @@ fn put_one<S: Alter>(alloc: Global, tx: &mut Transaction<'_, S>, put: &Put) -> R
         Put::Release(row) => puts::put_release(tx, row),
         Put::Compiled(row) => puts::put_compiled(tx, row),
         Put::Late(row) => puts::put_late(tx, row),
+        Put::Performance(row) => puts::put_performance(tx, row),
         Put::Clock(row) => puts::put_clock(tx, row),
     }
 }

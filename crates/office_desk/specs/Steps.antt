@@ -11,7 +11,7 @@ use Rattle.office_base.specs.Tables.{Tables}
 use Rattle.office_base.specs.Shelves.{Meaning}
 use Rattle.office_machine.specs.Machine.{Given, IsCommand, refusal_of, Reaches}
 use Rattle.office_machine.specs.Accounts.{AccountsHold}
-use Rattle.office_machine.specs.Fates.{TendersHaveFates, SecuritiesHaveFates}
+use Rattle.office_machine.specs.Fates.{TendersHaveFates, SecuritiesHaveFates, PerformancesHaveFates}
 use Rattle.office_machine.specs.Sights.{Packages, told}
 use Rattle.office_publications.specs.Keeping.{KeepsReleases, PublicationReadsBack, kept_next, kept_puts}
 use Rattle.office_publications.specs.Packages.{packages}
@@ -90,13 +90,14 @@ abbrev pub accepted_after : Given → Result (List ℕ) Refusal → List Given �
 accepted_after x (Ok reply) xs = x ∷ xs
 accepted_after x (Err why) xs = xs
 
--- where accepted commands lead to an office, its accounts are what they moved, and each tender and each security has the fate that
--- they gave it
+-- where accepted commands lead to an office, its accounts are what they moved, and each tender and each security, a tender's or a contract's,
+-- has the fate that they gave it
 pub record IsKept (settings : Settings) (xs : List Given) (s : Tables) : Type 0 where
   pub reaches : Reaches (publishing settings) xs s
   pub accounts : AccountsHold xs s
   pub tenders : TendersHaveFates (publishing settings) xs s
   pub securities : SecuritiesHaveFates xs s
+  pub performances : PerformancesHaveFates xs s
 
 -- the shelf holds the office after the answer, which keeps its releases; the commands accepted so far, with this one, lead to it; and so it
 -- is kept

@@ -164,6 +164,7 @@ impl<H: Shelf + Drop> Desk<H> {
         keeping();
         fates::tenders();
         fates::securities();
+        fates::performances();
         match self.carry_out(planned) {
             Ok(reply) => Ok(reply),
             Err(_) => Err(Refusal::Unavailable),
@@ -189,6 +190,7 @@ impl<H: Shelf + Drop> Desk<H> {
         keeping();
         fates::tenders();
         fates::securities();
+        fates::performances();
         let planned = self.plan(moment, caller, command)?;
         self.commit(planned)
     }

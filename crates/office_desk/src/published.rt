@@ -114,7 +114,9 @@ pub(crate) fn plan_command<H: Lookups>(
             alloc, shelf, settings, asking, notice, lot,
         ),
         Command::Fail { award } => awards::fail(alloc, shelf, settings, asking, award),
-        Command::Sign { award } => awards::sign(alloc, shelf, settings, asking, award),
+        Command::Sign { award, security } => awards::sign(
+            alloc, shelf, settings, asking, award, security,
+        ),
         Command::AmendContract {
             contract,
             entry,

@@ -9,6 +9,7 @@ mod ledger;
 mod line;
 mod minutes;
 mod packages;
+mod performance;
 mod register;
 mod security;
 mod tender;
@@ -38,6 +39,7 @@ pub(crate) fn look_at<H: Lookups>(
         Query::Register { notice } => register::look(alloc, shelf, caller, notice),
         Query::Tender { receipt } => tender::look(alloc, shelf, caller, receipt),
         Query::Security { security } => security::look(alloc, shelf, caller, security),
+        Query::Performance { contract } => performance::look(alloc, shelf, caller, contract),
         Query::Releases { notice } => packages::look_at_releases(
             alloc, shelf, settings, caller, notice,
         ),

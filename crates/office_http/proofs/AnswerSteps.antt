@@ -52,6 +52,7 @@ has_needed settings s stands (queries.Releases notice) = stands
 has_needed settings s stands (queries.Record notice) = stands
 has_needed settings s stands (queries.Tender receipt) = tt
 has_needed settings s stands (queries.Security security) = tt
+has_needed settings s stands (queries.Performance contract) = tt
 
 -- what a look of such an office says
 abbrev IsSaid : Settings → Caller → Query → Tables → Result (List ℕ) Refusal → Type 0

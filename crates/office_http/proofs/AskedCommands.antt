@@ -31,7 +31,7 @@ use Rattle.office_requests.specs.Fields.{◌>>=◌, needed, text_in, line_in, fl
 use Rattle.office_requests.specs.Forms.{id_of, digest_of, change_of}
 use Rattle.office_requests.specs.Moments.{moment_of}
 use Rattle.office_requests.specs.Parameters.{query_of, security_in}
-use Rattle.office_requests.specs.Publications.{criteria_in, late_in, distinct, lots_in, notice_in, publication_in}
+use Rattle.office_requests.specs.Publications.{criteria_in, late_in, performance_in, distinct, lots_in, notice_in, publication_in}
 use Rattle.office_requests.specs.declared.asked.Asked.{Asked}
 use Rattle.office_requests.specs.declared.asked.Asked.TheVariants.{Does, Looks}
 use Rattle.office_requests.specs.declared.route.Endpoint.{Endpoint}
@@ -117,16 +117,16 @@ lots_read body = bound AreDistinct _ _ (λ lots. distinct_lots lots)
 abbrev HasDistinct : NewNotice → Type 0
 HasDistinct content = AreDistinct content.lots
 
-abbrev with_lots : Data → List ℕ → ℕ → ℕ → ℕ → Criteria → LateWithdrawal → Result NewNotice Refusal
-with_lots body title deadline validity standstill criteria late =
+abbrev with_lots : Data → List ℕ → ℕ → ℕ → ℕ → Criteria → LateWithdrawal → ℕ → Result NewNotice Refusal
+with_lots body title deadline validity standstill criteria late performance =
     lots_in body
-    >>= λ lots. Ok (record { title = title; deadline = deadline; validity = validity; standstill = standstill; criteria = criteria; late_withdrawal = late; lots = lots })
+    >>= λ lots. Ok (record { title = title; deadline = deadline; validity = validity; standstill = standstill; criteria = criteria; late_withdrawal = late; performance = performance; lots = lots })
 
-lots_distinct : (body : Data) (title : List ℕ) (deadline validity standstill : ℕ) (criteria : Criteria) (late : LateWithdrawal)
-    → IsRead HasDistinct (with_lots body title deadline validity standstill criteria late)
-lots_distinct body title deadline validity standstill criteria late =
+lots_distinct : (body : Data) (title : List ℕ) (deadline validity standstill : ℕ) (criteria : Criteria) (late : LateWithdrawal) (performance : ℕ)
+    → IsRead HasDistinct (with_lots body title deadline validity standstill criteria late performance)
+lots_distinct body title deadline validity standstill criteria late performance =
     bound_by AreDistinct HasDistinct (lots_in body)
-    (λ lots. Ok (record { title = title; deadline = deadline; validity = validity; standstill = standstill; criteria = criteria; late_withdrawal = late; lots = lots }))
+    (λ lots. Ok (record { title = title; deadline = deadline; validity = validity; standstill = standstill; criteria = criteria; late_withdrawal = late; performance = performance; lots = lots }))
     (lots_read body) (λ lots distinct. value_read HasDistinct _ distinct)
 
 notice_read : (body : Data) → IsRead HasDistinct (notice_in body)
@@ -134,9 +134,9 @@ unfolding notice_in
 notice_read body =
     bound_five HasDistinct (line_in fields.Title body) (text_in moment_of fields.Deadline body) (number_in 1 365 fields.ValidityDays body)
     (number_in 0 90 fields.StandstillDays body) (criteria_in body)
-    (λ title deadline validity standstill criteria. late_in body >>= with_lots body title deadline validity standstill criteria)
+    (λ title deadline validity standstill criteria. late_in body >>= λ late. performance_in body >>= with_lots body title deadline validity standstill criteria late)
     (λ title deadline validity standstill criteria.
-    bound HasDistinct (late_in body) (with_lots body title deadline validity standstill criteria) (lots_distinct body title deadline validity standstill criteria))
+    bound_two HasDistinct (late_in body) (performance_in body) (with_lots body title deadline validity standstill criteria) (lots_distinct body title deadline validity standstill criteria))
 
 publication_read : (notice : List ℕ) (body : Data) → IsRead IsCommand (publication_in notice body)
 publication_read notice body = bound_by HasDistinct IsCommand _ _ (notice_read body) (λ content distinct. value_read IsCommand _ distinct)
@@ -245,7 +245,7 @@ numbered_read kinds.Withdraw number body = value_read IsCommand _ tt
 numbered_read kinds.Examine number body = bound IsCommand _ _ (λ value. examination_read number value)
 numbered_read kinds.Award number body = why_read IsCommand _
 numbered_read kinds.Fail number body = value_read IsCommand _ tt
-numbered_read kinds.Sign number body = value_read IsCommand _ tt
+numbered_read kinds.Sign number body = bound IsCommand _ _ (λ named. value_read IsCommand _ tt)
 numbered_read kinds.AmendContract number body = bound IsCommand _ _ (λ value. contract_amendment_read number value)
 numbered_read kinds.Pay number body = bound IsCommand _ _ (λ value. payment_read number value)
 numbered_read kinds.End number body = bound IsCommand _ _ (λ value. ending_read number value)

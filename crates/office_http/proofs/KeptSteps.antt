@@ -5,7 +5,7 @@ use Rattle.office_values.specs.declared.refusal.Refusal.{Refusal}
 use Rattle.office_values.specs.declared.settings.Settings.{Settings}
 use Rattle.office_base.specs.Tables.{Tables}
 use Rattle.office_machine.specs.Accounts.{AccountsAreKept}
-use Rattle.office_machine.specs.Fates.{TendersAreKept, SecuritiesAreKept}
+use Rattle.office_machine.specs.Fates.{TendersAreKept, SecuritiesAreKept, PerformancesAreKept}
 use Rattle.office_machine.specs.Machine.{CanBeGiven, Given, Reaches, refusal_of}
 use Rattle.office_machine.specs.Requests.{joined_by}
 use Rattle.office_publications.specs.Keeping.{KeptStepsReach}
@@ -28,6 +28,7 @@ pub record Laws : Type 0 where
   pub accounts : AccountsAreKept
   pub tenders : TendersAreKept
   pub securities : SecuritiesAreKept
+  pub performances : PerformancesAreKept
   pub steps : KeptStepsReach
 
 pub kept_by : Laws → (settings : Settings) (xs : List Given) (s : Tables) → Reaches (publishing settings) xs s → IsKept settings xs s
@@ -36,6 +37,7 @@ kept_by laws settings xs s reaches = record {
   accounts = laws.accounts (publishing settings) xs s reaches;
   tenders = laws.tenders (publishing settings) xs s reaches;
   securities = laws.securities (publishing settings) xs s reaches;
+  performances = laws.performances (publishing settings) xs s reaches;
 }
 
 module _ (laws : Laws) (settings : Settings) where

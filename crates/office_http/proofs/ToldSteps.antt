@@ -16,21 +16,23 @@ use Rattle.office_base.specs.declared.records.LineRow.{LineRow}
 use Rattle.office_base.specs.declared.records.LotRow.{LotRow}
 use Rattle.office_base.specs.declared.records.NoticeRow.{NoticeRow}
 use Rattle.office_base.specs.declared.records.SecurityRow.{SecurityRow}
+use Rattle.office_base.specs.declared.records.ContractRow.{ContractRow}
+use Rattle.office_base.specs.declared.records.PerformanceRow.{PerformanceRow}
 use Rattle.office_base.specs.declared.records.TendererRow.{TendererRow}
 use Rattle.office_base.specs.declared.records.EnvelopeRow.{EnvelopeRow}
 use Rattle.office_base.specs.declared.records.ClockRow.{ClockRow}
 use Rattle.office_base.specs.Parents.{notice_of_envelope}
 use Rattle.office_base.specs.Rules.{first_of}
 use Rattle.office_base.specs.States.{is_opened}
-use Rattle.office_base.specs.Tables.{Tables, envelope_at, envelopes_of_notice, line_at, lots_of_notice, notice_at, security_at}
+use Rattle.office_base.specs.Tables.{Tables, envelope_at, envelopes_of_notice, line_at, lots_of_notice, notice_at, security_at, contract_at, performance_at}
 use Rattle.tender_core.specs.Rules.Modify.{modify_conditions}
 use Rattle.office_machine.specs.Machine.{Given, done, may_give, refusal_of, reply_for, tests_for, time_of}
 use Rattle.office_machine.specs.Replies.{Reply, Refused, Imported, Enrolled, OfNotice, OpenedAll, Received, Withdrew, Examined}
 use Rattle.office_machine.specs.Replies.{Awarded, Failed, Signed, OfContract, LineSeen, LedgerSeen, Tender}
-use Rattle.office_machine.specs.Replies.{Security, Registry, Minutes, Package, modify_reply}
+use Rattle.office_machine.specs.Replies.{Security, PerformanceSeen, Registry, Minutes, Package, modify_reply}
 use Rattle.office_machine.specs.OfficeMeans.{office_readings}
 use Rattle.office_machine.specs.Readings.{Readings}
-use Rattle.office_machine.specs.Sights.{Packages, is_read_envelope, line_told, minuted, minutes_told, package_told, register_told, security_told, shown, tender_told, told}
+use Rattle.office_machine.specs.Sights.{Packages, is_read_envelope, line_told, minuted, minutes_told, package_told, register_told, security_told, performance_told, shown, tender_told, told}
 use Rattle.office_plans.specs.Effects.{accepted_reply}
 use Rattle.office_plans.specs.Replies.{reply_text, text_of}
 use Rattle.office_http.specs.Answering.{told_as, seen_as}
@@ -56,6 +58,7 @@ refused_as (LineSeen a b c) why is = absurd (cc)
 refused_as (LedgerSeen a) why is = absurd (cc)
 refused_as (Tender a b c d e f g h) why is = absurd (cc)
 refused_as (Security a b c d e) why is = absurd (cc)
+refused_as (PerformanceSeen a b c d e) why is = absurd (cc)
 refused_as (Registry a b) why is = absurd (cc)
 refused_as (Minutes a b c) why is = absurd (cc)
 refused_as (Package a) why is = absurd (cc)
@@ -85,7 +88,7 @@ as_json readings s u t caller (Withdraw receipt) allowed = refl
 as_json readings s u t caller (Examine receipt responsive quality) allowed = refl
 as_json readings s u t caller (Award notice lot) allowed = refl
 as_json readings s u t caller (Fail award) allowed = refl
-as_json readings s u t caller (Sign award) allowed = refl
+as_json readings s u t caller (Sign award named) allowed = refl
 as_json readings s u t caller (AmendContract contract entry kind amount rationale) allowed = refl
 as_json readings s u t caller (Pay contract entry amount) allowed = refl
 as_json readings s u t caller (End contract how) allowed = refl
@@ -136,6 +139,14 @@ security_seen caller (Some w) text is =
     where_may (is_clerk caller || is_by caller w.tenderer) (Security w.amount w.reference w.security w.state w.tenderer) NotYourTender (Json text) text
     (λ at. cc) is
 
+performance_seen : (caller : Caller) (c : Option ContractRow) (w : Option PerformanceRow) (text : List ℕ) → Ok text ≡ text_of (performance_told caller c w)
+    → told_as (performance_told caller c w) ≡ Json text
+performance_seen caller None w text is = absurd (cc)
+performance_seen caller (Some c) None text is = absurd (cc)
+performance_seen caller (Some c) (Some w) text is =
+    where_may (is_clerk caller || is_by caller c.tenderer) (PerformanceSeen w.amount c.contract w.reference w.state c.tenderer) NotYourTender (Json text) text
+    (λ at. cc) is
+
 shown_as : (p : Packages) (s : Tables) (caller : Caller) (query : Query) (text : List ℕ) → Ok text ≡ text_of (shown p s caller query)
     → told_as (shown p s caller query) ≡ seen_as (kind_of query) text
 shown_as p s caller (queries.Line line) text is = line_seen s (line_at line s) text is
@@ -147,6 +158,7 @@ shown_as p s caller (queries.Releases notice) text is = package_seen (notice_at 
 shown_as p s caller (queries.Record notice) text is = package_seen (notice_at notice s) (p (queries.Record notice) s) text is
 shown_as p s caller (queries.Tender receipt) text is = tender_seen caller (envelope_at receipt s) text is
 shown_as p s caller (queries.Security security) text is = security_seen caller (security_at security s) text is
+shown_as p s caller (queries.Performance contract) text is = performance_seen caller (contract_at contract s) (performance_at contract s) text is
 
 -- what is seen is told by the query's kind
 pub told_seen : (p : Packages) (s : Tables) (caller : Caller) (query : Query) (text : List ℕ) → Ok text ≡ text_of (told p s caller query)

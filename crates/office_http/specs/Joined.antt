@@ -33,7 +33,7 @@ joined_steps h (x ∷ steps) xs =
     joined_steps (office_answers.after x.busy h x.block) steps (joined_with x.busy h.tables x.block.moment (meant_in h x.block) xs)
 
 -- wherever accepted commands lead, they and the command of a request, if it is accepted, are kept: they lead to the office after it, its
--- accounts are what they moved, and each tender and each security has the fate that they gave it
+-- accounts are what they moved, and each tender and each security, a tender's or a contract's, has the fate that they gave it
 abbrev pub RequestsAreKept : Type 0
 RequestsAreKept =
     (settings : Settings) (xs : List Given) (s : Tables) → Reaches (publishing settings) xs s → (request : RequestView) (moment : ℕ) (busy : Bool)

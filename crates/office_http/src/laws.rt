@@ -8,7 +8,8 @@ use office_publications::laws::{keeping, merges_apart};
 use office_publications::sealed;
 
 /// Wherever accepted commands lead from the empty office, those that requests and whole runs accept join them: together they lead to the
-/// office after it, its accounts are what they moved, and each tender and each security has the fate that they gave it.
+/// office after it, its accounts are what they moved, and each tender and each security, a tender's or a contract's, has the fate that they
+/// gave it.
 pub fn kept()
     ensures requests { RequestsAreKept }
     ensures steps { StepsAreKept }
@@ -17,6 +18,7 @@ pub fn kept()
     keeping();
     fates::tenders();
     fates::securities();
+    fates::performances();
 }
 
 /// Two runs from one office, of requests that differ in the bytes alone that one tenderer seals for one lot, tell every other caller the

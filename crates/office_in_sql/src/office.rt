@@ -8,7 +8,7 @@ use office_base::ledger::{ContractSums, LedgerRow};
 use office_base::puts::Put;
 use office_base::records::{
     AwardRow, BatchRow, ClockRow, CompiledRow, ContractRow, EntryRow, EnvelopeRow, LateRow,
-    LineRow, LotRow, NoticeRow, ReleaseRow, SealRow, SecurityRow, TendererRow,
+    LineRow, LotRow, NoticeRow, PerformanceRow, ReleaseRow, SealRow, SecurityRow, TendererRow,
 };
 use office_base::shelf::{Lookups, Shelf, ShelfFault};
 use office_store::shelf::SqlShelf;
@@ -105,6 +105,13 @@ impl Lookups for SqlOffice {
 
     fn get_late(&mut self, notice: &Id) -> Result<Option<LateRow>, ShelfFault> {
         self.shelf.get_late(notice)
+    }
+
+    fn get_performance(
+        &mut self,
+        contract: AskedNumber,
+    ) -> Result<Option<PerformanceRow>, ShelfFault> {
+        self.shelf.get_performance(contract)
     }
 
     fn get_clock(&mut self) -> Result<ClockRow, ShelfFault> {

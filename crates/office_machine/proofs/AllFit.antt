@@ -91,7 +91,7 @@ module _ (means : Means) (xs : List Given) (s : Tables) (moment : ℕ) (caller :
   fits (Examine receipt responsive quality) = inside (Examine receipt responsive quality) (nothing_more (moves xs))
   fits (Award notice lot) = inside (Award notice lot) (of_award (winner (notice_at notice s) (envelopes_of_lot notice lot s)) (line_in (lot_at (notice, lot) s)) (held_for xs (notice, lot)) (moves xs))
   fits (Fail award) = inside (Fail award) (nothing_more (moves xs))
-  fits (Sign award) = inside (Sign award) (λ q. record { came_is = omega arith; went_is = omega arith })
+  fits (Sign award named) = inside (Sign award named) (λ q. record { came_is = omega arith; went_is = omega arith })
   fits (AmendContract contract entry kind amount rationale) = inside (AmendContract contract entry kind amount rationale) (of_change kind (line_in (lot_of_contract (contract_at contract s) s)) amount (moves xs))
   fits (Pay contract entry amount) = inside (Pay contract entry amount) (λ q. record { came_is = omega arith; went_is = omega arith })
   fits (End contract how) = inside (End contract how) (λ q. record { came_is = omega arith; went_is = omega arith })

@@ -125,14 +125,14 @@ lawful (Fail award) = record {
     reply = λ readings s u t caller. Failed award (award_release (award_at award s) s.notices) t;
   };
 }
-lawful (Sign award) = record {
-  in_order = λ s t caller. (omega arith, (omega arith, (omega arith, (omega arith, (omega arith, tt)))));
-  accounts = λ readings xs s moment caller kept order own allowed. sign_keeps readings xs s moment caller award kept order allowed;
-  fates = λ readings. sign_fates.sign_keeps readings award;
-  tail = λ readings s moment caller have. signing readings s moment caller have award;
+lawful (Sign award named) = record {
+  in_order = λ s t caller. (omega arith, (omega arith, (omega arith, (omega arith, (omega arith, (omega arith, (omega arith, (omega arith, tt))))))));
+  accounts = λ readings xs s moment caller kept order own allowed. sign_keeps readings xs s moment caller award named kept order allowed;
+  fates = λ readings. sign_fates.sign_keeps readings award named;
+  tail = λ readings s moment caller have. signing readings s moment caller have award named;
   apart = λ before after i. record {
-    tests = λ s t caller. sign_tests (sign_rows_apart before s award i) t;
-    puts = λ readings s t caller. sign_puts (sign_rows_apart before s award i) t;
+    tests = λ s t caller. sign_tests (sign_rows_apart before s award i) t named;
+    puts = λ readings s t caller. sign_puts (sign_rows_apart before s award i) t named;
     publishes = λ s. option_map notice_in_award (award_at award s);
     reply = λ readings s u t caller. Signed award (award_release (award_at award s) s.notices) t;
   };

@@ -31,6 +31,7 @@ IsAside n (puts.Entry r) = ⊥
 IsAside n (puts.Release r) = Unit {0}
 IsAside n (puts.Compiled r) = Unit {0}
 IsAside n (puts.Late r) = Unit {0}
+IsAside n (puts.Performance r) = Unit {0}
 IsAside n (puts.Clock r) = n ≤ r.awards
 
 abbrev pub AreAside : ℕ → List Put → Type 0
@@ -62,6 +63,7 @@ one_aside n (puts.Entry r) s a = absurd a
 one_aside n (puts.Release r) s a = record { lines = refl; lots = refl; awards = refl; contracts = refl; entries = refl; notices = λ k h. h; numbers = λ h. h }
 one_aside n (puts.Compiled r) s a = record { lines = refl; lots = refl; awards = refl; contracts = refl; entries = refl; notices = λ k h. h; numbers = λ h. h }
 one_aside n (puts.Late r) s a = record { lines = refl; lots = refl; awards = refl; contracts = refl; entries = refl; notices = λ k h. h; numbers = λ h. h }
+one_aside n (puts.Performance r) s a = record { lines = refl; lots = refl; awards = refl; contracts = refl; entries = refl; notices = λ k h. h; numbers = λ h. h }
 one_aside n (puts.Clock r) s a = record { lines = refl; lots = refl; awards = refl; contracts = refl; entries = refl; notices = λ k h. h; numbers = λ h. a }
 
 -- such puts leave the books

@@ -1,15 +1,15 @@
 -- An end of a contract keeps the accounts.
-use Rattle.std.proofs.Common.{◌≡◌, ℕ, ◌+◌, Bool, true, false, cond, List, [], ◌∷◌, Some, None, is_some, refl, sym, ◌∙◌, ap, subst, ◌⊎◌, inl, inr, arith}
+use Rattle.std.proofs.Common.{◌≡◌, ℕ, ◌+◌, Bool, true, false, cond, List, ◌∷◌, Some, None, is_some, refl, sym, ◌∙◌, ap, subst, ◌⊎◌, inl, inr, arith}
 use Rattle.std.specs.FinMap.{nat_cmp-IsAntisymmetric}
 use Rattle.std.specs.Cmp.{nat_cmp_total}
 use Rattle.std.specs.List.{AllByRecursion}
 use Rattle.std.specs.Ordering.{nat_cmp, eq_by_cmp}
 use Rattle.office_values.specs.Ids.{same_id}
-use Rattle.office_base.specs.Tables.{same_number, Tables, IsSorted, line_at, notice_at, lot_at, contract_at, find_line, put_line, find_contract, put_contract, entries_of_contract, after_puts}
+use Rattle.office_base.specs.Tables.{same_number, Tables, IsSorted, line_at, notice_at, lot_at, contract_at, find_line, put_line, find_contract, put_contract, entries_of_contract, after_puts, performance_at}
 use Rattle.office_acts.specs.declared.command.Caller.{Caller}
 use Rattle.office_values.specs.declared.refusal.Refusal.{Refusal}
 use Rattle.office_base.specs.Rules.{first_of}
-use Rattle.office_base.specs.RuleParts.{released, clock_put}
+use Rattle.office_base.specs.RuleParts.{released, clock_put, performance_settled, put_if}
 use Rattle.office_base.specs.declared.records.LineRow.{LineRow}
 use Rattle.office_base.specs.declared.records.NoticeRow.{NoticeRow}
 use Rattle.office_base.specs.declared.records.LotRow.{LotRow}
@@ -21,7 +21,7 @@ use Rattle.office_machine.specs.Readings.{Readings}
 use Rattle.office_machine.specs.Moves.{moves, brought, taken, owed, line_in}
 use Rattle.office_acts.specs.declared.commands.Command.TheVariants as commands
 use Rattle.office_base.specs.declared.puts.Put.TheVariants as puts
-use Rattle.office_machine.proofs.Aside.{kept_aside}
+use Rattle.office_machine.proofs.Aside.{kept_aside, aside-if}
 use Rattle.office_base.proofs.ExactKeys.{other_keys}
 use Rattle.office_machine.proofs.Keyed.{found_key, found, still_there, none_before, own_key}
 use Rattle.office_machine.proofs.Keyed as keyed
@@ -30,7 +30,7 @@ use Rattle.office_machine.proofs.Joins.{outstanding-own, over_contracts-replaced
 use Rattle.office_machine.proofs.Passed.{none_holds, not_false, witness, test_of, split}
 use Rattle.office_acts.specs.declared.contract.How.{How}
 use Rattle.award_core.specs.Rules.AmendContract.{has_ended}
-use Rattle.award_core.specs.Rules.End.{ended_contract, end_effect}
+use Rattle.award_core.specs.Rules.End.{ended_contract, end_effect, ended_state}
 
 module _ (readings : Readings) (xs : List Given) (s : Tables) (moment : ℕ) (caller : Caller) (c : ℕ) (how : How) (kept : IsKept xs s) (order : IsSorted s) where
   abbrev x : Given
@@ -139,13 +139,13 @@ module _ (readings : Readings) (xs : List Given) (s : Tables) (moment : ℕ) (ca
       no_contract = no_contract_is;
     }
 
-    effect_is : end_effect s.clock (time_of x) how (Some r) (entries_of_contract c s) (Some n) (Some w) ≡ effect readings x
+    effect_is : end_effect s.clock (time_of x) how (Some r) (entries_of_contract c s) (Some n) (Some w) (performance_at c s) ≡ effect readings x
     effect_is = λ i. end_effect s.clock (time_of x) how (sym is i) (entries_of_contract c s) (sym (ap (λ o. notice_of_contract o s) is ∙ notice) i)
-        (sym (ap (λ o. line_of_lot o s) (ap (λ o. lot_of_contract o s) is ∙ lot) ∙ line) i)
+        (sym (ap (λ o. line_of_lot o s) (ap (λ o. lot_of_contract o s) is ∙ lot) ∙ line) i) (performance_at c s)
 
     keeps : IsKept (x ∷ xs) (after_puts (effect readings x) s)
     keeps = subst (λ ps. IsKept (x ∷ xs) (after_puts ps s)) effect_is
-        (kept_aside (x ∷ xs) (puts.Notice (released n) ∷ clock_put s.clock (time_of x) ∷ []) s' (tt, (omega arith, tt)) ended_keeps)
+        (kept_aside (x ∷ xs) (puts.Notice (released n) ∷ clock_put s.clock (time_of x) ∷ put_if (performance_settled (ended_state how)) (performance_at c s)) s' (tt, (omega arith, aside-if s.clock.awards (performance_settled (ended_state how)) (performance_at c s) (λ _. tt))) ended_keeps)
 
   module _ (allowed : first_of (command_tests x) ≡ None) where
     passes : AllByRecursion (λ (test : Bool × Refusal). test.0 ≡ false) (command_tests x)

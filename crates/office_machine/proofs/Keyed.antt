@@ -12,7 +12,7 @@ use Rattle.std.proofs.lemmas.Map.Lookups.{exact_pairs}
 use Rattle.office_values.specs.Ids.{id_cmp}
 use Rattle.office_base.specs.Rows.{by_order, row_at, row_put, StartsAbove, IsInOrder}
 use Rattle.office_base.specs.Sums.{sum_over}
-use Rattle.office_base.specs.Tables.{lot_cmp, entry_cmp, release_cmp, line_key, batch_key, tenderer_key, notice_key, lot_key, envelope_key, seal_key, security_key, award_key, contract_key, entry_key, release_key, compiled_key, late_key}
+use Rattle.office_base.specs.Tables.{lot_cmp, entry_cmp, release_cmp, line_key, batch_key, tenderer_key, notice_key, lot_key, envelope_key, seal_key, security_key, award_key, contract_key, entry_key, release_key, compiled_key, late_key, performance_key}
 use Rattle.office_base.proofs.Orders.{lots_total}
 use Rattle.office_base.proofs.ExactKeys.{ids_exact, lots_exact, equal_keys}
 use Rattle.office_base.proofs.RowLaws.{row_at-row_put}
@@ -40,6 +40,9 @@ compiled = record { total = nat_list_cmp_total; exact = ids_exact }
 
 pub late_rules : IsKeyed id_cmp late_key
 late_rules = record { total = nat_list_cmp_total; exact = ids_exact }
+
+pub performances : IsKeyed nat_cmp performance_key
+performances = record { total = nat_cmp_total; exact = nat_cmp-IsAntisymmetric }
 
 pub envelopes : IsKeyed nat_cmp envelope_key
 envelopes = record { total = nat_cmp_total; exact = nat_cmp-IsAntisymmetric }

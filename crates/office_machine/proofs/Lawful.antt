@@ -14,7 +14,7 @@ use Rattle.office_machine.specs.Rule.{Rule}
 use Rattle.office_machine.specs.Rules.{rule_of}
 use Rattle.office_machine.proofs.Kept.{IsKept}
 use Rattle.office_machine.proofs.FatesHold.{Keeps}
-use Rattle.office_machine.proofs.Tail.{HasTail}
+use Rattle.office_machine.proofs.Tail.{HasTail, bond_for}
 
 abbrev pub given : Tables → ℕ → Caller → Command → Given
 given s moment caller command = record { before = s; moment = moment; caller = caller; command = command }
@@ -40,6 +40,6 @@ pub record Lawful (command : Command) : Type 0 where
   -- it puts rows of its own, its notice with one release more where it publishes, and the clock at its moment
   pub tail : (readings : Readings) (s : Tables) (moment : ℕ) (caller : Caller) → HaveParents s s
       → first_of (tests_for s (max moment s.clock.moment) caller command) ≡ None
-      → HasTail s (max moment s.clock.moment) (published_for s command) (puts_for readings s (max moment s.clock.moment) caller command)
+      → HasTail s (max moment s.clock.moment) (published_for s command) (bond_for s command) (puts_for readings s (max moment s.clock.moment) caller command)
   -- it reads no merge that stands beside the office
   pub apart : (before after : List CompiledRow) → past_merges before after (rule_of command) ≡ rule_of command

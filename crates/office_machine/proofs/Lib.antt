@@ -80,4 +80,5 @@ pub mod RepliesAlike
 pub mod SealsKept
 pub mod WholeRuns
 pub mod Outstanding
+pub mod PerformancesKept
 pub mod MergesApart

@@ -46,6 +46,7 @@ put_beside trees (puts.Entry r) s = refl
 put_beside trees (puts.Release r) s = refl
 put_beside trees (puts.Compiled r) s = refl
 put_beside trees (puts.Late r) s = refl
+put_beside trees (puts.Performance r) s = refl
 put_beside trees (puts.Clock r) s = refl
 
 puts_beside : (ps : List Put) (trees : List CompiledRow) (s : Tables)
@@ -115,6 +116,7 @@ shown_apart packages shows trees s caller (queries.Releases notice) = ap (packag
 shown_apart packages shows trees s caller (queries.Record notice) = ap (package_told (notice_at notice s)) (shows trees (queries.Record notice) s)
 shown_apart packages shows trees s caller (queries.Tender receipt) = refl
 shown_apart packages shows trees s caller (queries.Security security) = refl
+shown_apart packages shows trees s caller (queries.Performance contract) = refl
 
 pub looks_apart : LooksReadNoMerges
 looks_apart packages shows trees s caller query =

@@ -9,11 +9,12 @@ use Rattle.office_acts.specs.declared.contract.ChangeKind.{ChangeKind}
 use Rattle.office_acts.specs.declared.contract.ChangeKind.TheVariants as change_kinds
 use Rattle.office_acts.specs.declared.contract.How.{How}
 use Rattle.office_values.specs.declared.refusal.Refusal.{Refusal}
+use Rattle.office_base.specs.declared.records.PerformanceRow.{PerformanceRow}
 use Rattle.office_base.specs.EntryKinds.{is_raise, is_less}
 use Rattle.office_base.specs.Joined.{entry_sum, plus, minus, outstanding}
 use Rattle.office_base.specs.Parents.{notice_of_contract, lot_of_contract, line_of_lot}
 use Rattle.office_base.specs.Rows.{holds_of}
-use Rattle.office_base.specs.Tables.{Tables, same_number, line_at, notice_at, lot_at, contract_at, find_contract, put_contract, find_entry, put_entry, entries_of_contract, after_puts}
+use Rattle.office_base.specs.Tables.{Tables, same_number, line_at, notice_at, lot_at, contract_at, find_contract, put_contract, find_entry, put_entry, entries_of_contract, after_puts, performance_at}
 use Rattle.office_base.specs.declared.records.EntryKind.{EntryKind}
 use Rattle.office_base.specs.declared.records.LineRow.{LineRow}
 use Rattle.office_base.specs.declared.records.NoticeRow.{NoticeRow}
@@ -103,18 +104,22 @@ module _ (s : Tables) (c : ℕ) where
     left_amended change_kinds.Cut rationale (Some r) (Some n) (Some w) is =
         left_after_entry r is (change_row t r entry change_kinds.Cut amount rationale) refl new
 
-  left_ended : (t : ℕ) (how : How) (o : Option ContractRow) (n : Option NoticeRow) (w : Option LineRow) → contract_at c s ≡ o
-      → left_at c (after_puts (end_effect s.clock t how o own n w) s) ≡ left_by_end o own n w
-  left_ended t how None n w is = untouched None is
-  left_ended t how (Some r) None w is = untouched (Some r) is
-  left_ended t how (Some r) (Some n) None is = untouched (Some r) is
-  left_ended t how (Some r) (Some n) (Some w) is =
+  left_ended : (t : ℕ) (how : How) (o : Option ContractRow) (n : Option NoticeRow) (w : Option LineRow) (performance : Option PerformanceRow) → contract_at c s ≡ o
+      → left_at c (after_puts (end_effect s.clock t how o own n w performance) s) ≡ left_by_end o own n w
+  left_ended t how None n w performance is = untouched None is
+  left_ended t how (Some r) None w performance is = untouched (Some r) is
+  left_ended t how (Some r) (Some n) None performance is = untouched (Some r) is
+  left_ended t how (Some r) (Some n) (Some w) performance is = tail performance ∙ (
       let r' = ended_contract t how own r in
       let number = found_key keyed.contracts s.contracts c r is in
       let found : find_contract (put_contract s.contracts r') c ≡ Some r' =
       ap (find_contract (put_contract s.contracts r')) (sym number) ∙ found_put keyed.contracts s.contracts r' in
       let left : outstanding s.entries r' ≡ left_with own r r.released (outstanding own r) = omega (arith, same_sum r is is_raise, same_sum r is is_less) in
-      ap (λ o. left_of o s.entries) found ∙ left
+      ap (λ o. left_of o s.entries) found ∙ left)
+    where
+      tail : (p : Option PerformanceRow) → left_at c (after_puts (end_effect s.clock t how (Some r) own (Some n) (Some w) p) s) ≡ left_at c (after_puts (end_effect s.clock t how (Some r) own (Some n) (Some w) None) s)
+      tail None = refl
+      tail (Some p) = refl
 
 abbrev given : Tables → ℕ → Caller → Command → Given
 given s moment caller command = record { before = s; moment = moment; caller = caller; command = command }
@@ -138,7 +143,7 @@ known readings s moment caller (Withdraw receipt) passes = tt
 known readings s moment caller (Examine receipt responsive quality) passes = tt
 known readings s moment caller (Award notice lot) passes = tt
 known readings s moment caller (Fail award) passes = tt
-known readings s moment caller (Sign award) passes = tt
+known readings s moment caller (Sign award named) passes = tt
 known readings s moment caller (AmendContract c entry kind amount rationale) passes =
     let x = given s moment caller (AmendContract c entry kind amount rationale) in
     left_amended s c (time_of x) entry amount passes.1.0 kind rationale (contract_at c s) (notice_under c s) (line_under c s) refl
@@ -147,7 +152,7 @@ known readings s moment caller (Pay c entry amount) passes =
     left_paid s c (time_of x) entry amount passes.1.0 (contract_at c s) (notice_under c s) refl
 known readings s moment caller (End c how) passes =
     let x = given s moment caller (End c how) in
-    left_ended s c (time_of x) how (contract_at c s) (notice_under c s) (line_under c s) refl
+    left_ended s c (time_of x) how (contract_at c s) (notice_under c s) (line_under c s) (performance_at c s) refl
 
 pub left_is_known : LeftIsKnown
 left_is_known readings x allowed = known readings x.before x.moment x.caller x.command (none_holds (command_tests x) (allowed_by x allowed))
@@ -236,7 +241,7 @@ booked means xs s moment caller (Withdraw receipt) reached passes = tt
 booked means xs s moment caller (Examine receipt responsive quality) reached passes = tt
 booked means xs s moment caller (Award n l) reached passes = tt
 booked means xs s moment caller (Fail award) reached passes = tt
-booked means xs s moment caller (Sign award) reached passes = tt
+booked means xs s moment caller (Sign award named) reached passes = tt
 booked means xs s moment caller (AmendContract c entry change_kinds.Raise amount rationale) reached passes =
     booked_raise means xs s reached c (not_false _ passes.0) amount _
     (known means.readings s moment caller (AmendContract c entry change_kinds.Raise amount rationale) passes)

@@ -57,6 +57,7 @@ grows-put (puts.Entry r) t = record { lines = λ k h. h; notices = λ k h. h; lo
 grows-put (puts.Release r) t = record { lines = λ k h. h; notices = λ k h. h; lots = λ k h. h; envelopes = λ k h. h; securities = λ k h. h; contracts = λ k h. h; tenderers = λ k h. h }
 grows-put (puts.Compiled r) t = record { lines = λ k h. h; notices = λ k h. h; lots = λ k h. h; envelopes = λ k h. h; securities = λ k h. h; contracts = λ k h. h; tenderers = λ k h. h }
 grows-put (puts.Late r) t = record { lines = λ k h. h; notices = λ k h. h; lots = λ k h. h; envelopes = λ k h. h; securities = λ k h. h; contracts = λ k h. h; tenderers = λ k h. h }
+grows-put (puts.Performance r) t = record { lines = λ k h. h; notices = λ k h. h; lots = λ k h. h; envelopes = λ k h. h; securities = λ k h. h; contracts = λ k h. h; tenderers = λ k h. h }
 grows-put (puts.Clock r) t = record { lines = λ k h. h; notices = λ k h. h; lots = λ k h. h; envelopes = λ k h. h; securities = λ k h. h; contracts = λ k h. h; tenderers = λ k h. h }
 
 pub grows-puts : (ps : List Put) (t : Tables) → Grows t (after_puts ps t)
@@ -80,6 +81,7 @@ Parents u (puts.Entry r) = EntryHas u r
 Parents u (puts.Release r) = Unit {0}
 Parents u (puts.Compiled r) = Unit {0}
 Parents u (puts.Late r) = Unit {0}
+Parents u (puts.Performance r) = Unit {0}
 Parents u (puts.Clock r) = Unit {0}
 
 abbrev pub AllParents : Tables → List Put → Type 0
@@ -110,6 +112,7 @@ put_has u (puts.Entry r) t own h = record { lots = h.lots; envelopes = h.envelop
 put_has u (puts.Release r) t own h = record { lots = h.lots; envelopes = h.envelopes; securities = h.securities; awards = h.awards; contracts = h.contracts; entries = h.entries }
 put_has u (puts.Compiled r) t own h = record { lots = h.lots; envelopes = h.envelopes; securities = h.securities; awards = h.awards; contracts = h.contracts; entries = h.entries }
 put_has u (puts.Late r) t own h = record { lots = h.lots; envelopes = h.envelopes; securities = h.securities; awards = h.awards; contracts = h.contracts; entries = h.entries }
+put_has u (puts.Performance r) t own h = record { lots = h.lots; envelopes = h.envelopes; securities = h.securities; awards = h.awards; contracts = h.contracts; entries = h.entries }
 put_has u (puts.Clock r) t own h = record { lots = h.lots; envelopes = h.envelopes; securities = h.securities; awards = h.awards; contracts = h.contracts; entries = h.entries }
 
 puts_have : (u : Tables) (ps : List Put) (t : Tables) → AllParents u ps → HaveParents u t → HaveParents u (after_puts ps t)

@@ -4,6 +4,7 @@ use Rattle.std.specs.Prelude.{IsSome, option_and_then}
 use Rattle.std.specs.List.{AllByRecursion}
 use Rattle.office_acts.specs.declared.notice.LateWithdrawal.{LateWithdrawal}
 use Rattle.office_acts.specs.declared.notice.LateWithdrawal.TheVariants.{Refused, Forfeits}
+use Rattle.office_base.specs.declared.records.PerformanceRow.{PerformanceRow}
 use Rattle.office_base.specs.declared.records.SecurityState.{SecurityState}
 use Rattle.office_base.specs.declared.records.SecurityState.TheVariants.{Returned, Forfeited}
 use Rattle.office_base.specs.declared.records.LateRow.{LateRow}
@@ -28,11 +29,11 @@ use Rattle.office_base.specs.declared.records.AwardRow.{AwardRow}
 use Rattle.office_base.specs.declared.records.ContractRow.{ContractRow}
 use Rattle.office_base.specs.declared.records.EntryRow.{EntryRow}
 use Rattle.office_base.specs.declared.records.ClockRow.{ClockRow}
-use Rattle.office_base.specs.Tables.{Tables, IsSorted, no_tables, tenderer_at, notice_at, lot_at, envelope_at, security_at, award_at, contract_at, after_puts, lots_of_notice, awards_of_notice, envelopes_of_notice, envelopes_of_lot, securities_of_notice, securities_of_lot, of_notice}
+use Rattle.office_base.specs.Tables.{Tables, IsSorted, no_tables, tenderer_at, notice_at, lot_at, envelope_at, security_at, award_at, contract_at, after_puts, lots_of_notice, awards_of_notice, envelopes_of_notice, envelopes_of_lot, securities_of_notice, securities_of_lot, of_notice, performance_at}
 use Rattle.office_base.specs.declared.puts.Put.{Put}
 use Rattle.office_base.specs.declared.puts.Put.TheVariants as puts
 use Rattle.office_base.specs.Rules.{first_of}
-use Rattle.office_base.specs.RuleParts.{put_if, security_returned, settled, security_settled, passed_over, securities_returned, is_held_security, is_late}
+use Rattle.office_base.specs.RuleParts.{put_if, security_returned, settled, security_settled, passed_over, securities_returned, is_held_security, is_late, performance_settled}
 use Rattle.office_base.specs.Standings.{standings}
 use Rattle.tender_core.specs.Rules.Import.{after_rows, line_put as import_line}
 use Rattle.tender_core.specs.Rules.Publish.{line_put, lot_put, publish_parts, late_puts}
@@ -45,10 +46,10 @@ use Rattle.tender_core.specs.Rules.Withdraw.{withdraw_effect, taken_back_puts}
 use Rattle.award_core.specs.Rules.Examine.{examine_effect}
 use Rattle.award_core.specs.Rules.Award.{winner, best_of, decision_puts, award_effect}
 use Rattle.award_core.specs.Rules.Fail.{fail_effect}
-use Rattle.award_core.specs.Rules.Sign.{sign_effect, tenderer_in}
+use Rattle.award_core.specs.Rules.Sign.{sign_effect, tenderer_in, performance_put}
 use Rattle.award_core.specs.Rules.AmendContract.{amend_contract_effect}
 use Rattle.award_core.specs.Rules.Pay.{pay_effect}
-use Rattle.award_core.specs.Rules.End.{end_effect}
+use Rattle.award_core.specs.Rules.End.{end_effect, ended_state}
 use Rattle.office_base.specs.declared.records.ReleaseRow.{ReleaseRow}
 use Rattle.office_base.specs.Parents.{envelope_of_award, security_of_envelope, lot_of_award, notice_of_award, notice_of_envelope, notice_of_contract, line_of_lot, lot_of_contract, late_of_envelope}
 use Rattle.office_machine.specs.Machine.{Means, Given, IsRegistered, may_give, publication_puts, command_tests, effect, next, puts_of, publication, with_trees, time_of}
@@ -262,21 +263,21 @@ module _ (s u : Tables) (order : IsSorted s) (have : HaveParents s s) (g : Grows
   signer a None is there = absurd (let no : false ≡ true = there in cc)
   signer a (Some e) is there = (envelope_still s u g e (have.envelopes a.receipt e is)).tenderer
 
-  sign_parents : (clock : ClockRow) (t award : ℕ) (o : Option AwardRow) (n : Option NoticeRow) (l : Option LotRow) → award_at award s ≡ o → lot_of_award o s ≡ l
-      → AllParents u (sign_effect clock t o n l (envelope_of_award o s) (Rattle.office_base.specs.Parents.securities_of_award o s))
-  sign_parents clock t award (Some a) (Some n) (Some l) is lot =
+  sign_parents : (clock : ClockRow) (t award : ℕ) (named : Option NamedSecurity) (o : Option AwardRow) (n : Option NoticeRow) (l : Option LotRow) → award_at award s ≡ o → lot_of_award o s ≡ l
+      → AllParents u (sign_effect clock t o n l (envelope_of_award o s) (Rattle.office_base.specs.Parents.securities_of_award o s) named)
+  sign_parents clock t award named (Some a) (Some n) (Some l) is lot =
       let had = have.awards award a is in
       let h = award_still s u g a had in
       let k = lot_of (Some a) l lot in (
         record { notice = h.notice; lot = h.lot; envelope = h.envelope },
         (
           record { notice = k.notice; line = k.line },
-          (record { notice = h.notice; lot = h.lot; tenderer = signer a (envelope_at a.receipt s) refl had.envelope }, (tt, (tt, lot_securities a.notice a.lot))),
+          (record { notice = h.notice; lot = h.lot; tenderer = signer a (envelope_at a.receipt s) refl had.envelope }, (tt, (tt, parents-append u (Rattle.office_base.specs.RuleParts.securities_returned (Rattle.office_base.specs.Tables.securities_of_lot a.notice a.lot s)) (put_if (performance_put a) named) (lot_securities a.notice a.lot) (parents-if u (performance_put a) named (λ _ _. tt))))),
         ),
       )
-  sign_parents clock t award None n l is lot = tt
-  sign_parents clock t award (Some a) None l is lot = tt
-  sign_parents clock t award (Some a) (Some n) None is lot = tt
+  sign_parents clock t award named None n l is lot = tt
+  sign_parents clock t award named (Some a) None l is lot = tt
+  sign_parents clock t award named (Some a) (Some n) None is lot = tt
 
   entry_has : (contract : ℕ) (c : ContractRow) → contract_at contract s ≡ Some c → IsSome (contract_at c.contract u)
   entry_has contract c is = g.contracts c.contract (ap is_some (ap (λ k. contract_at k s) (found_key keyed.contracts s.contracts contract c is) ∙ is))
@@ -293,11 +294,11 @@ module _ (s u : Tables) (order : IsSorted s) (have : HaveParents s s) (g : Grows
   pay_parents clock t contract None n entry amount is = tt
   pay_parents clock t contract (Some c) None entry amount is = tt
 
-  end_parents : (clock : ClockRow) (t : ℕ) (how : Rattle.office_acts.specs.declared.contract.How.How) (contract : ℕ) (c : Option ContractRow) (entries : List EntryRow) (n : Option NoticeRow) (w : Option LineRow) → contract_at contract s ≡ c → AllParents u (end_effect clock t how c entries n w)
-  end_parents clock t how contract (Some c) entries (Some n) (Some w) is = let h = contract_still s u g c (have.contracts contract c is) in (record { notice = h.notice; lot = h.lot; tenderer = h.tenderer }, (tt, (tt, (tt, tt))))
-  end_parents clock t how contract None entries n w is = tt
-  end_parents clock t how contract (Some c) entries None w is = tt
-  end_parents clock t how contract (Some c) entries (Some n) None is = tt
+  end_parents : (clock : ClockRow) (t : ℕ) (how : Rattle.office_acts.specs.declared.contract.How.How) (contract : ℕ) (c : Option ContractRow) (entries : List EntryRow) (n : Option NoticeRow) (w : Option LineRow) (p : Option PerformanceRow) → contract_at contract s ≡ c → AllParents u (end_effect clock t how c entries n w p)
+  end_parents clock t how contract (Some c) entries (Some n) (Some w) p is = let h = contract_still s u g c (have.contracts contract c is) in (record { notice = h.notice; lot = h.lot; tenderer = h.tenderer }, (tt, (tt, (tt, parents-if u (performance_settled (ended_state how)) p (λ _ _. tt)))))
+  end_parents clock t how contract None entries n w p is = tt
+  end_parents clock t how contract (Some c) entries None w p is = tt
+  end_parents clock t how contract (Some c) entries (Some n) None p is = tt
 
 -- what a presentation puts has the security that its envelope names
 present_new : (digest : List ℕ → List ℕ) (clock : ClockRow) (t : ℕ) (caller : Caller) (notice lot : List ℕ) (security : Option NamedSecurity) (bytes : List ℕ) (in_time : Bool) (s : Tables) → is_some security ≡ true
@@ -364,10 +365,10 @@ module _ (means : Means) (s : Tables) (moment : ℕ) (caller : Caller) (order : 
   has (Examine receipt responsive quality) = λ may allowed. examine_parents s (after (Examine receipt responsive quality)) order have (grown (Examine receipt responsive quality)) s.clock _ receipt responsive quality (envelope_at receipt s) refl
   has (Award notice lot) = λ may allowed. award_parents s (after (Award notice lot)) order have (grown (Award notice lot)) s.clock _ notice lot (notice_at notice s) (lot_at (notice, lot) s) (line_of_lot (lot_at (notice, lot) s) s) refl
   has (Fail award) = λ may allowed. fail_parents s (after (Fail award)) order have (grown (Fail award)) s.clock _ award (award_at award s) (notice_of_award (award_at award s) s) (lot_of_award (award_at award s) s) refl refl
-  has (Sign award) = λ may allowed. sign_parents s (after (Sign award)) order have (grown (Sign award)) s.clock _ award (award_at award s) (notice_of_award (award_at award s) s) (lot_of_award (award_at award s) s) refl refl
+  has (Sign award named) = λ may allowed. sign_parents s (after (Sign award named)) order have (grown (Sign award named)) s.clock _ award named (award_at award s) (notice_of_award (award_at award s) s) (lot_of_award (award_at award s) s) refl refl
   has (AmendContract contract entry kind amount rationale) = λ may allowed. amend_contract_parents s (after (AmendContract contract entry kind amount rationale)) order have (grown (AmendContract contract entry kind amount rationale)) s.clock _ contract (contract_at contract s) (notice_of_contract (contract_at contract s) s) (line_of_lot (lot_of_contract (contract_at contract s) s) s) entry kind amount rationale refl
   has (Pay contract entry amount) = λ may allowed. pay_parents s (after (Pay contract entry amount)) order have (grown (Pay contract entry amount)) s.clock _ contract (contract_at contract s) (notice_of_contract (contract_at contract s) s) entry amount refl
-  has (End contract how) = λ may allowed. end_parents s (after (End contract how)) order have (grown (End contract how)) s.clock _ how contract (contract_at contract s) (Rattle.office_base.specs.Tables.entries_of_contract contract s) (notice_of_contract (contract_at contract s) s) (line_of_lot (lot_of_contract (contract_at contract s) s) s) refl
+  has (End contract how) = λ may allowed. end_parents s (after (End contract how)) order have (grown (End contract how)) s.clock _ how contract (contract_at contract s) (Rattle.office_base.specs.Tables.entries_of_contract contract s) (notice_of_contract (contract_at contract s) s) (line_of_lot (lot_of_contract (contract_at contract s) s) s) (performance_at contract s) refl
 
   publication_has : (u : Tables) (p : Option ReleaseRow) → AllParents u (publication_puts p)
   publication_has u None = tt

@@ -6,6 +6,7 @@ use Rattle.std.specs.Cmp.Lexicographic.{nat_list_cmp_total}
 use Rattle.office_acts.specs.declared.contract.ChangeKind.{ChangeKind}
 use Rattle.office_acts.specs.declared.contract.How.{How}
 use Rattle.office_acts.specs.declared.commands.Command.TheVariants.{Import, Register, AmendNotice, AmendContract, Pay, End}
+use Rattle.office_base.specs.declared.records.PerformanceRow.{PerformanceRow}
 use Rattle.office_base.specs.declared.records.LineRow.{LineRow}
 use Rattle.office_base.specs.declared.records.NoticeRow.{NoticeRow}
 use Rattle.office_base.specs.declared.records.EnvelopeRow.{EnvelopeRow}
@@ -18,7 +19,7 @@ use Rattle.office_base.specs.declared.records.EnvelopeState.TheVariants as envel
 use Rattle.office_base.specs.declared.records.SecurityState.TheVariants as security
 use Rattle.office_base.specs.declared.puts.Put.TheVariants as puts
 use Rattle.office_base.specs.declared.puts.Put.{Put}
-use Rattle.office_base.specs.Tables.{Tables, notice_key, notice_at, contract_at, envelope_at, seal_at, security_at, entries_of_contract, find_seal, after_puts}
+use Rattle.office_base.specs.Tables.{Tables, notice_key, notice_at, contract_at, envelope_at, seal_at, security_at, entries_of_contract, find_seal, after_puts, performance_at}
 use Rattle.office_base.specs.Standings.{standings}
 use Rattle.tender_core.specs.Rules.Import.{after_rows, line_put}
 use Rattle.tender_core.specs.Rules.Register.{register_effect}
@@ -117,12 +118,13 @@ module _ (V : View) (clock : ClockRow) (t : ℕ) where
   paid None _ entry amount h = tt
   paid (Some c) None entry amount h = tt
 
-  ended : (how : How) (c : Option ContractRow) (entries : List EntryRow) (n : Option NoticeRow) (r : Option LineRow) → Stands V n
-      → AllByRecursion (IsQuiet V clock.receipts) (end_effect clock t how c entries n r)
-  ended how (Some c) entries (Some n) (Some r) h = (tt, (tt, (h n refl, (refl, tt))))
-  ended how None entries _ _ h = tt
-  ended how (Some c) entries None _ h = tt
-  ended how (Some c) entries (Some n) None h = tt
+  ended : (how : How) (c : Option ContractRow) (entries : List EntryRow) (n : Option NoticeRow) (r : Option LineRow) (p : Option PerformanceRow) → Stands V n
+      → AllByRecursion (IsQuiet V clock.receipts) (end_effect clock t how c entries n r p)
+  ended how (Some c) entries (Some n) (Some r) None h = (tt, (tt, (h n refl, (refl, tt))))
+  ended how (Some c) entries (Some n) (Some r) (Some p) h = (tt, (tt, (h n refl, (refl, (tt, tt)))))
+  ended how None entries _ _ p h = tt
+  ended how (Some c) entries None _ p h = tt
+  ended how (Some c) entries (Some n) None p h = tt
 
 pub import_keeps : (readings : Readings) (batch : List ℕ) (rows : List Rattle.office_acts.specs.declared.budget.BudgetRow.BudgetRow) → Keeps readings (Import batch rows)
 import_keeps readings batch rows xs t m caller kept own allowed =
@@ -157,7 +159,7 @@ pay_keeps readings contract entry amount xs t m caller kept own allowed =
 pub end_keeps : (readings : Readings) (contract : ℕ) (how : How) → Keeps readings (End contract how)
 end_keeps readings contract how xs t m caller kept own allowed =
     kept_after readings (given t m caller (End contract how) ∷ xs) _ t
-    (ended (seen t) t.clock (max m t.clock.moment) how (contract_at contract t) (entries_of_contract contract t) (notice_of_contract (contract_at contract t) t) (line_of_lot (lot_of_contract (contract_at contract t) t) t)
+    (ended (seen t) t.clock (max m t.clock.moment) how (contract_at contract t) (entries_of_contract contract t) (notice_of_contract (contract_at contract t) t) (line_of_lot (lot_of_contract (contract_at contract t) t) t) (performance_at contract t)
     (λ n found. contract_notice t (contract_at contract t) n found))
     (one_more readings xs (given t m caller (End contract how)) t kept refl (λ r. refl) (λ s. refl))
 

@@ -130,6 +130,8 @@ module _ (th : Theirs) (W : ℕ → Bool) where
     shown_alike packages blindly rows caller (queries.Tender receipt) = tender_alike caller (envelope_at receipt s) (find_envelope es' receipt) (found receipt)
     shown_alike packages blindly rows caller (queries.Security security) =
         told_same th caller (shown packages s caller (queries.Security security)) (shown packages other caller (queries.Security security)) refl
+    shown_alike packages blindly rows caller (queries.Performance contract) =
+        told_same th caller (shown packages s caller (queries.Performance contract)) (shown packages other caller (queries.Performance contract)) refl
 
     told_if : (caller : Caller) (b : Bool) (r r' : Reply) → ToldAlike th caller r r' → ToldAlike th caller (cond b r (Refused Forbidden)) (cond b r' (Refused Forbidden))
     told_if caller true r r' a = a
@@ -175,7 +177,7 @@ module _ (th : Theirs) (W : ℕ → Bool) where
           blind-option th W (λ o. Awarded lot (option_map (winning s.clock) o) (release_of s.notices notice) t) (λ _ _. refl) (winner (notice_at notice s) (envelopes_of_lot notice lot s)) (winner (notice_at notice s) (envelopes_of_lot notice lot other))
           (pairs-winner th W (notice_at notice s) (envelopes_of_lot notice lot s) (envelopes_of_lot notice lot other) (of_lot notice lot))
       same_reply (commands.Fail award) after = refl
-      same_reply (commands.Sign award) after = refl
+      same_reply (commands.Sign award named) after = refl
       same_reply (commands.AmendContract contract entry kind amount rationale) after = left_same contract (contract_release (contract_at contract s) s.notices) (after tt)
       same_reply (commands.Pay contract entry amount) after = left_same contract (contract_release (contract_at contract s) s.notices) (after tt)
       same_reply (commands.End contract how) after = left_same contract (contract_release (contract_at contract s) s.notices) (after tt)

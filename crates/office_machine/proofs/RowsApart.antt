@@ -1,7 +1,7 @@
 -- The rows that a rule looks at are the same whatever merges stand beside the office.
 use Rattle.std.proofs.Common.{◌≡◌, ℕ, List, Option, Some, None, refl}
 use Rattle.office_base.specs.Parents.{notice_of_envelope, lot_of_envelope, late_of_envelope, security_of_envelope, line_of_lot, notice_of_award, lot_of_award, envelope_of_award, securities_of_award, notice_of_contract, lot_of_contract}
-use Rattle.office_base.specs.Tables.{Tables, award_at, contract_at, entries_of_contract, envelope_at, envelopes_of_lot, lot_at, notice_at, securities_of_lot}
+use Rattle.office_base.specs.Tables.{Tables, award_at, contract_at, entries_of_contract, envelope_at, envelopes_of_lot, lot_at, notice_at, performance_at, securities_of_lot}
 use Rattle.office_base.specs.declared.records.AwardRow.{AwardRow}
 use Rattle.office_base.specs.declared.records.CompiledRow.{CompiledRow}
 use Rattle.office_base.specs.declared.records.ContractRow.{ContractRow}
@@ -151,5 +151,6 @@ module _ (trees : List CompiledRow) (s : Tables) where
     entries = entries_of_contract contract s;
     notice = notice_of_contract_apart (contract_at contract s) i;
     line = line_of_contract_apart (contract_at contract s) i;
+    performance = performance_at contract s;
     clock = s.clock;
   }

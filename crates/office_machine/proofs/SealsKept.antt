@@ -98,7 +98,7 @@ module _ (means : Means) (packages : Packages) (publishes : PublishesBlindly mea
     published_same (commands.Examine receipt responsive quality) = refl
     published_same (commands.Award notice lot) = refl
     published_same (commands.Fail award) = refl
-    published_same (commands.Sign award) = refl
+    published_same (commands.Sign award named) = refl
     published_same (commands.AmendContract contract entry kind amount rationale) = refl
     published_same (commands.Pay contract entry amount) = refl
     published_same (commands.End contract how) = refl

@@ -76,6 +76,7 @@ IsQuiet V n (puts.Entry r) = Unit {0}
 IsQuiet V n (puts.Release r) = Unit {0}
 IsQuiet V n (puts.Compiled r) = Unit {0}
 IsQuiet V n (puts.Late r) = Unit {0}
+IsQuiet V n (puts.Performance r) = Unit {0}
 IsQuiet V n (puts.Clock r) = r.receipts ≡ n
 
 pub record Same (t u : Tables) : Type 0 where
@@ -103,6 +104,7 @@ quiet_put (puts.Entry r) t h = record { seen_is = refl; seals_are = refl; receip
 quiet_put (puts.Release r) t h = record { seen_is = refl; seals_are = refl; receipts_are = refl }
 quiet_put (puts.Compiled r) t h = record { seen_is = refl; seals_are = refl; receipts_are = refl }
 quiet_put (puts.Late r) t h = record { seen_is = refl; seals_are = refl; receipts_are = refl }
+quiet_put (puts.Performance r) t h = record { seen_is = refl; seals_are = refl; receipts_are = refl }
 quiet_put (puts.Clock r) t h = record { seen_is = refl; seals_are = refl; receipts_are = h }
 
 pub quiet_puts : (V : View) (n : ℕ) (ps : List Put) (t : Tables) → seen t ≡ V → t.clock.receipts ≡ n → AllByRecursion (IsQuiet V n) ps

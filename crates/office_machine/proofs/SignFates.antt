@@ -1,5 +1,5 @@
 -- A signing keeps the fates.
-use Rattle.std.specs.Prelude.{◌≡◌, ℕ, Bool, true, false, cond, List, [], ◌∷◌, map, filter, Option, Some, None, max}
+use Rattle.std.specs.Prelude.{◌≡◌, ℕ, Bool, true, false, cond, List, [], ◌∷◌, map, filter, Option, Some, None, max, ◌++◌}
 use Rattle.std.proofs.Common.{refl, sym, ap, ◌∙◌, subst}
 use Rattle.std.specs.List.{AllByRecursion}
 use Rattle.std.specs.Cmp.{nat_cmp_total}
@@ -8,6 +8,7 @@ use Rattle.std.specs.Ordering.{nat_cmp, eq_by_cmp}
 use Rattle.office_acts.specs.declared.command.Caller.{Caller}
 use Rattle.office_acts.specs.declared.commands.Command.TheVariants.{Sign}
 use Rattle.office_values.specs.declared.refusal.Refusal.{Refusal}
+use Rattle.office_acts.specs.declared.tender.NamedSecurity.{NamedSecurity}
 use Rattle.office_base.specs.declared.records.NoticeRow.{NoticeRow}
 use Rattle.office_base.specs.declared.records.LotRow.{LotRow}
 use Rattle.office_base.specs.declared.records.EnvelopeRow.{EnvelopeRow}
@@ -18,8 +19,8 @@ use Rattle.office_base.specs.declared.records.LotState.TheVariants as lot
 use Rattle.office_base.specs.declared.puts.Put.TheVariants as puts
 use Rattle.office_base.specs.declared.puts.Put.{Put}
 use Rattle.office_base.specs.Rules.{first_of}
-use Rattle.office_base.specs.RuleParts.{clock_put, released, is_held_security, security_returned, returned}
-use Rattle.award_core.specs.Rules.Sign.{signed_award, contracted_lot, contract_row, tenderer_in, sign_conditions, sign_effect}
+use Rattle.office_base.specs.RuleParts.{clock_put, released, is_held_security, security_returned, returned, put_if}
+use Rattle.award_core.specs.Rules.Sign.{signed_award, contracted_lot, contract_row, tenderer_in, sign_conditions, sign_effect, sign_parts, performance_put}
 use Rattle.office_base.specs.Tables.{Tables, award_key, security_key, award_at, lot_at, notice_at, envelope_at, securities_of_lot, after_puts}
 use Rattle.office_base.specs.Parents.{notice_of_award, lot_of_award, envelope_of_award, securities_of_award}
 use Rattle.office_machine.specs.Machine.{Given}
@@ -30,20 +31,20 @@ use Rattle.office_machine.proofs.RowsChanged.{rows_put, found_key, row_at-change
 use Rattle.office_machine.proofs.Views.{AwardFits}
 use Rattle.office_machine.proofs.Matched.{same_itself}
 use Rattle.office_machine.proofs.Steps.{choose, cond_keeps}
-use Rattle.office_machine.proofs.Seen.{seen, notices-same, LotFits, AreInOrder, OnLines, lines-puts, order-puts, after_securities}
+use Rattle.office_machine.proofs.Seen.{seen, notices-same, LotFits, AreInOrder, OnLines, lines-puts, order-puts, after_securities, IsQuiet, after-append}
 use Rattle.office_machine.proofs.FatesHold.{IsKept, Keeps, given}
-use Rattle.office_machine.proofs.QuietFates.{notice_stands, all_of_map}
+use Rattle.office_machine.proofs.QuietFates.{notice_stands, all_of_map, kept_after}
 use Rattle.office_machine.proofs.States.{lots_put, active_state}
 use Rattle.office_machine.proofs.FailFates.{rows_there, on_line}
 use Rattle.office_machine.proofs.LotClosed.{closing_kept, securities_go_back}
 
-module _ (readings : Readings) (number : ℕ) (xs : List Given) (t : Tables) (m : ℕ) (caller : Caller) (kept : IsKept readings xs t)
+module _ (readings : Readings) (number : ℕ) (named : Option NamedSecurity) (xs : List Given) (t : Tables) (m : ℕ) (caller : Caller) (kept : IsKept readings xs t)
     (w : AwardRow) (found : award_at number t ≡ Some w) (active : w.state ≡ award.Active) where
   abbrev T : ℕ
   T = max m t.clock.moment
 
   abbrev x : Given
-  x = given t m caller (Sign number)
+  x = given t m caller (Sign number named)
 
   abbrev fits : AwardFits (seen t) w
   fits = kept.sound.awards number w found active
@@ -66,7 +67,7 @@ module _ (readings : Readings) (number : ℕ) (xs : List Given) (t : Tables) (m 
   module _ (n : NoticeRow) (notice_found : notice_at w.notice t ≡ Some n) (l : LotRow) (lot_found : lot_at (w.notice, w.lot) t ≡ Some l)
       (e : EnvelopeRow) where
     abbrev ps : List Put
-    ps = sign_effect t.clock T (Some w) (Some n) (Some l) (Some e) (securities_of_lot w.notice w.lot t)
+    ps = sign_parts t.clock T w n l (Some e) (securities_of_lot w.notice w.lot t)
 
     abbrev first : Tables
     first =
@@ -107,27 +108,33 @@ module _ (readings : Readings) (number : ℕ) (xs : List Given) (t : Tables) (m 
         (subst (λ (u : Tables). OnLines u.lines u.lots) after_is (lines-puts ps t kept.lines fit))
         (subst (λ (u : Tables). AreInOrder u) after_is (order-puts ps t kept.order))
 
-    signed_kept : IsKept readings (x ∷ xs) (after_puts ps t)
-    signed_kept = subst (IsKept readings (x ∷ xs)) (sym after_is) after_kept
+    performance_quiet : (named : Option NamedSecurity) (u : Tables) → AllByRecursion (IsQuiet (seen u) u.clock.receipts) (put_if (performance_put w) named)
+    performance_quiet None u = tt
+    performance_quiet (Some n) u = (tt, tt)
 
-  sign_kept : IsKept readings (x ∷ xs) (after_puts (sign_effect t.clock T (Some w) (notice_at w.notice t) (lot_at (w.notice, w.lot) t) (envelope_at w.receipt t) (securities_of_lot w.notice w.lot t)) t)
+    signed_kept : IsKept readings (x ∷ xs) (after_puts (ps ++ put_if (performance_put w) named) t)
+    signed_kept =
+        subst (IsKept readings (x ∷ xs)) (sym (after-append ps (put_if (performance_put w) named) t))
+        (kept_after readings (x ∷ xs) (put_if (performance_put w) named) (after_puts ps t) (performance_quiet named (after_puts ps t)) (subst (IsKept readings (x ∷ xs)) (sym after_is) after_kept))
+
+  sign_kept : IsKept readings (x ∷ xs) (after_puts (sign_effect t.clock T (Some w) (notice_at w.notice t) (lot_at (w.notice, w.lot) t) (envelope_at w.receipt t) (securities_of_lot w.notice w.lot t) named) t)
   sign_kept =
       rows_there readings number xs t m caller kept w found active
-      (λ n l o. IsKept readings (x ∷ xs) (after_puts (sign_effect t.clock T (Some w) n l o (securities_of_lot w.notice w.lot t)) t))
+      (λ n l o. IsKept readings (x ∷ xs) (after_puts (sign_effect t.clock T (Some w) n l o (securities_of_lot w.notice w.lot t) named) t))
       (λ n n_is l l_is. signed_kept n n_is l l_is fits.tender)
 
-sign_by : (readings : Readings) (number : ℕ) (xs : List Given) (t : Tables) (m : ℕ) (caller : Caller) (kept : IsKept readings xs t) (o : Option AwardRow)
+sign_by : (readings : Readings) (number : ℕ) (named : Option NamedSecurity) (xs : List Given) (t : Tables) (m : ℕ) (caller : Caller) (kept : IsKept readings xs t) (o : Option AwardRow)
     → award_at number t ≡ o
-    → first_of (sign_conditions (max m t.clock.moment) o (notice_of_award o t)) ≡ None
-    → IsKept readings (given t m caller (Sign number) ∷ xs)
-    (after_puts (sign_effect t.clock (max m t.clock.moment) o (notice_of_award o t) (lot_of_award o t) (envelope_of_award o t) (securities_of_award o t)) t)
-sign_by readings number xs t m caller kept None found allowed =
-    let passes : AllByRecursion (λ (test : Bool × Refusal). test.0 ≡ false) (sign_conditions (max m t.clock.moment) None None) = none_holds (sign_conditions (max m t.clock.moment) None None) allowed in
+    → first_of (sign_conditions (max m t.clock.moment) o (notice_of_award o t) named) ≡ None
+    → IsKept readings (given t m caller (Sign number named) ∷ xs)
+    (after_puts (sign_effect t.clock (max m t.clock.moment) o (notice_of_award o t) (lot_of_award o t) (envelope_of_award o t) (securities_of_award o t) named) t)
+sign_by readings number named xs t m caller kept None found allowed =
+    let passes : AllByRecursion (λ (test : Bool × Refusal). test.0 ≡ false) (sign_conditions (max m t.clock.moment) None None named) = none_holds (sign_conditions (max m t.clock.moment) None None named) allowed in
     let no : true ≡ false = passes.0 in absurd cc
-sign_by readings number xs t m caller kept (Some w) found allowed =
-    let tests = sign_conditions (max m t.clock.moment) (Some w) (notice_at w.notice t) in
+sign_by readings number named xs t m caller kept (Some w) found allowed =
+    let tests = sign_conditions (max m t.clock.moment) (Some w) (notice_at w.notice t) named in
     let passes : AllByRecursion (λ (test : Bool × Refusal). test.0 ≡ false) tests = none_holds tests allowed in
-    sign_kept readings number xs t m caller kept w found (active_state w.state passes.1.0)
+    sign_kept readings number named xs t m caller kept w found (active_state w.state passes.1.1.1.1.0)
 
-pub sign_keeps : (readings : Readings) (award : ℕ) → Keeps readings (Sign award)
-sign_keeps readings number xs t m caller kept _ allowed = sign_by readings number xs t m caller kept (award_at number t) refl allowed
+pub sign_keeps : (readings : Readings) (award : ℕ) (named : Option NamedSecurity) → Keeps readings (Sign award named)
+sign_keeps readings number named xs t m caller kept _ allowed = sign_by readings number named xs t m caller kept (award_at number t) refl allowed

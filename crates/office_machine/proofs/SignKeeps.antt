@@ -1,15 +1,16 @@
 -- A signing keeps the accounts.
-use Rattle.std.proofs.Common.{◌≡◌, ℕ, ◌+◌, Bool, true, false, cond, List, ◌∷◌, Option, Some, None, refl, sym, ◌∙◌, ap, subst, ◌⊎◌, inl, inr, arith}
+use Rattle.std.proofs.Common.{◌≡◌, ℕ, ◌+◌, Bool, true, false, cond, List, ◌∷◌, Option, Some, None, refl, sym, ◌∙◌, ap, subst, ◌⊎◌, inl, inr, arith, ◌++◌}
 use Rattle.std.specs.FinMap.{nat_cmp-IsAntisymmetric}
 use Rattle.std.specs.Cmp.{nat_cmp_total}
 use Rattle.std.specs.List.{AllByRecursion}
 use Rattle.std.specs.Ordering.{nat_cmp, eq_by_cmp}
 use Rattle.office_values.specs.Ids.{same_id}
+use Rattle.office_acts.specs.declared.tender.NamedSecurity.{NamedSecurity}
 use Rattle.office_base.specs.Tables.{same_number, Tables, IsSorted, notice_at, lot_at, find_lot, find_contract, put_contract, after_puts, find_award, put_award, put_lot, award_at}
 use Rattle.office_acts.specs.declared.command.Caller.{Caller}
 use Rattle.office_values.specs.declared.refusal.Refusal.{Refusal}
 use Rattle.office_base.specs.Rules.{first_of}
-use Rattle.office_base.specs.RuleParts.{released, clock_put, securities_returned}
+use Rattle.office_base.specs.RuleParts.{released, clock_put, securities_returned, put_if}
 use Rattle.office_base.specs.declared.records.NoticeRow.{NoticeRow}
 use Rattle.office_base.specs.declared.records.LotRow.{LotRow}
 use Rattle.office_base.specs.declared.records.ContractRow.{ContractRow}
@@ -20,7 +21,7 @@ use Rattle.office_machine.specs.Readings.{Readings}
 use Rattle.office_machine.specs.Moves.{moves, held_for, line_in, lot_in_award}
 use Rattle.office_acts.specs.declared.commands.Command.TheVariants as commands
 use Rattle.office_base.specs.declared.puts.Put.TheVariants as puts
-use Rattle.office_machine.proofs.Aside.{kept_aside, aside-securities}
+use Rattle.office_machine.proofs.Aside.{kept_aside, aside-securities, aside-append, aside-if}
 use Rattle.office_base.proofs.ExactKeys.{other_keys}
 use Rattle.office_machine.proofs.Keyed.{found_key, found, found_put, still_there, none_before, own_key}
 use Rattle.office_machine.proofs.Keyed as keyed
@@ -31,7 +32,7 @@ use Rattle.office_base.specs.States.{is_open, is_active}
 use Rattle.office_base.specs.declared.records.LotState.{LotState}
 use Rattle.office_base.specs.declared.records.LotState.TheVariants as lot_states
 use Rattle.award_core.specs.Rules.Fail.{isnt_active}
-use Rattle.award_core.specs.Rules.Sign.{signed_award, contracted_lot, contract_row, tenderer_in, sign_effect}
+use Rattle.award_core.specs.Rules.Sign.{signed_award, contracted_lot, contract_row, tenderer_in, sign_effect, performance_put}
 use Rattle.office_base.specs.declared.records.AwardState.TheVariants as award_states
 use Rattle.office_machine.proofs.LotChanged.{joined, reserved_after, lots_are, awards_are, one_active, award_of}
 use Rattle.office_machine.proofs.Joins.{over_contracts-new}
@@ -43,9 +44,9 @@ open_too lot_states.Contracted e = cc
 open_too lot_states.Unsuccessful e = cc
 open_too lot_states.Cancelled e = cc
 
-module _ (readings : Readings) (xs : List Given) (s : Tables) (moment : ℕ) (caller : Caller) (a : ℕ) (kept : IsKept xs s) (order : IsSorted s) where
+module _ (readings : Readings) (xs : List Given) (s : Tables) (moment : ℕ) (caller : Caller) (a : ℕ) (named : Option NamedSecurity) (kept : IsKept xs s) (order : IsSorted s) where
   abbrev x : Given
-  x = record { before = s; moment = moment; caller = caller; command = commands.Sign a }
+  x = record { before = s; moment = moment; caller = caller; command = commands.Sign a named }
 
   module _ (w : AwardRow) (l : LotRow) (n : NoticeRow) (is : award_at a s ≡ Some w) (lot : lot_at (w.notice, w.lot) s ≡ Some l) (notice : notice_at w.notice s ≡ Some n)
       (active : is_active w.state ≡ true) where
@@ -191,12 +192,12 @@ module _ (readings : Readings) (xs : List Given) (s : Tables) (moment : ℕ) (ca
       no_contract = no_contract;
     }
 
-    effect_is : sign_effect s.clock (time_of x) (Some w) (Some n) (Some l) (envelope_of_award (award_at a s) s) (securities_of_award (award_at a s) s) ≡ effect readings x
-    effect_is = λ i. sign_effect s.clock (time_of x) (sym is i) (sym (ap (λ o. notice_of_award o s) is ∙ notice) i) (sym (ap (λ o. lot_of_award o s) is ∙ lot) i) (envelope_of_award (award_at a s) s) (securities_of_award (award_at a s) s)
+    effect_is : sign_effect s.clock (time_of x) (Some w) (Some n) (Some l) (envelope_of_award (award_at a s) s) (securities_of_award (award_at a s) s) named ≡ effect readings x
+    effect_is = λ i. sign_effect s.clock (time_of x) (sym is i) (sym (ap (λ o. notice_of_award o s) is ∙ notice) i) (sym (ap (λ o. lot_of_award o s) is ∙ lot) i) (envelope_of_award (award_at a s) s) (securities_of_award (award_at a s) s) named
 
     keeps : IsKept (x ∷ xs) (after_puts (effect readings x) s)
     keeps = subst (λ ps. IsKept (x ∷ xs) (after_puts ps s)) effect_is
-        (kept_aside (x ∷ xs) (puts.Notice (released n) ∷ clock_put s.clock (time_of x) ∷ securities_returned (securities_of_award (award_at a s) s)) s' (tt, (omega arith, aside-securities s.clock.awards (securities_of_award (award_at a s) s))) signed_keeps)
+        (kept_aside (x ∷ xs) (puts.Notice (released n) ∷ clock_put s.clock (time_of x) ∷ securities_returned (securities_of_award (award_at a s) s) ++ put_if (performance_put w) named) s' (tt, (omega arith, aside-append s.clock.awards (securities_returned (securities_of_award (award_at a s) s)) (put_if (performance_put w) named) (aside-securities s.clock.awards (securities_of_award (award_at a s) s)) (aside-if s.clock.awards (performance_put w) named (λ _. tt)))) signed_keeps)
 
   module _ (allowed : first_of (command_tests x) ≡ None) where
     passes : AllByRecursion (λ (test : Bool × Refusal). test.0 ≡ false) (command_tests x)
@@ -209,4 +210,4 @@ module _ (readings : Readings) (xs : List Given) (s : Tables) (moment : ℕ) (ca
         let is = found.1 in
         let lot = (kept.awards a w is).of_lot in
         let notice = witness _ (kept.lots (w.notice, w.lot) lot.0 lot.1).of_notice in
-        keeps w lot.0 notice.0 is lot.1 notice.1 (not_false _ (test_of isnt_active (award_at a s) w is false passes.1.0))
+        keeps w lot.0 notice.0 is lot.1 notice.1 (not_false _ (test_of isnt_active (award_at a s) w is false passes.1.1.1.1.0))

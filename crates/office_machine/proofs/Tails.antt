@@ -1,10 +1,11 @@
 -- What each accepted command puts.
+use Rattle.std.specs.Prelude.{option_and_then}
 use Rattle.std.proofs.Common.{◌≡◌, ℕ, ◌+◌, Bool, true, false, List, [], ◌∷◌, ◌++◌, map, filter, Option, Some, None, option_map, is_some, refl, sym, ◌∙◌, ap, arith}
 use Rattle.std.specs.Prelude.{max}
 use Rattle.std.specs.List.{AllByRecursion}
 use Rattle.office_base.specs.Rows.{holds_of}
 use Rattle.office_base.specs.Rules.{first_of}
-use Rattle.office_base.specs.RuleParts.{released, has_all_releases, security_returned, security_settled, passed_over, is_in_time}
+use Rattle.office_base.specs.RuleParts.{released, has_all_releases, settled_performance, security_returned, security_settled, passed_over, is_in_time}
 use Rattle.office_base.specs.Standings.{standings}
 use Rattle.office_acts.specs.declared.budget.BudgetRow.{BudgetRow}
 use Rattle.office_acts.specs.declared.contract.ChangeKind.{ChangeKind}
@@ -24,7 +25,7 @@ use Rattle.office_base.specs.declared.records.AwardRow.{AwardRow}
 use Rattle.office_base.specs.declared.records.ContractRow.{ContractRow}
 use Rattle.office_base.specs.declared.puts.Put.{Put}
 use Rattle.office_base.specs.declared.puts.Put.TheVariants as puts
-use Rattle.office_base.specs.Tables.{Tables, notice_at, award_at, contract_at, envelope_at, lots_of_notice, awards_of_notice, envelopes_of_notice, securities_of_notice, entries_of_contract}
+use Rattle.office_base.specs.Tables.{Tables, notice_at, award_at, contract_at, envelope_at, lots_of_notice, awards_of_notice, envelopes_of_notice, securities_of_notice, entries_of_contract, performance_at}
 use Rattle.office_base.specs.Parents.{envelope_of_award, security_of_envelope, securities_of_award, notice_of_contract}
 use Rattle.tender_core.specs.Rules.Import.{after_rows, line_put as import_line}
 use Rattle.tender_core.specs.Rules.Publish.{line_put, lot_put, notice_row, late_puts}
@@ -36,9 +37,9 @@ use Rattle.tender_core.specs.Rules.Modify.{modify_effect}
 use Rattle.award_core.specs.Rules.Examine.{examine_effect}
 use Rattle.office_base.specs.declared.records.SecurityState.TheVariants.{Forfeited}
 use Rattle.award_core.specs.Rules.Fail.{fail_effect}
-use Rattle.award_core.specs.Rules.Sign.{sign_effect}
+use Rattle.award_core.specs.Rules.Sign.{performance_row, sign_effect}
 use Rattle.award_core.specs.Rules.AmendContract.{amend_contract_effect}
-use Rattle.award_core.specs.Rules.End.{end_effect}
+use Rattle.award_core.specs.Rules.End.{ended_state, end_effect}
 use Rattle.office_machine.specs.Readings.{Readings}
 use Rattle.office_machine.specs.Machine.{Given, command_tests, effect}
 use Rattle.office_machine.specs.Rule.{sealed_tenders}
@@ -48,7 +49,7 @@ use Rattle.office_machine.specs.Counted.{releases_in}
 use Rattle.office_machine.proofs.Footprint.{AreOn, on-append, on-map, on-if}
 use Rattle.office_machine.proofs.Passed.{none_holds, not_false, neither, witness}
 use Rattle.office_machine.proofs.SpokenOf.{OfContract, of_award, of_contract}
-use Rattle.office_machine.proofs.Tail.{HasTail, moved, front, back, quiet, counted, loud, returned_own, is_own}
+use Rattle.office_machine.proofs.Tail.{HasTail, bond_for, moved, bound, bonded, front, back, quiet, counted, loud, returned_own, is_own}
 
 module _ (readings : Readings) (s : Tables) (moment : ℕ) (caller : Caller) (have : HaveParents s s) where
   abbrev given : Command → Given
@@ -58,7 +59,7 @@ module _ (readings : Readings) (s : Tables) (moment : ℕ) (caller : Caller) (ha
   now = max moment s.clock.moment
 
   abbrev Tail : Command → Type 0
-  Tail command = first_of (command_tests (given command)) ≡ None → HasTail s now (published_for s command) (effect readings (given command))
+  Tail command = first_of (command_tests (given command)) ≡ None → HasTail s now (published_for s command) (bond_for s command) (effect readings (given command))
 
   -- none of an accepted command's conditions holds
   passes : (command : Command) → first_of (command_tests (given command)) ≡ None → AllByRecursion (λ test. test.0 ≡ false) (command_tests (given command))
@@ -123,7 +124,7 @@ module _ (readings : Readings) (s : Tables) (moment : ℕ) (caller : Caller) (ha
   pub presenting : (notice lot : List ℕ) (security : Option NamedSecurity) (bytes : List ℕ) → Tail (Present notice lot security bytes)
   presenting notice lot security bytes allowed = by security (holds_of (is_in_time now) (notice_at notice s))
     where
-      by : (security : Option NamedSecurity) (in_time : Bool) → HasTail s now None (received_puts readings.digest s.clock now caller notice lot security bytes in_time)
+      by : (security : Option NamedSecurity) (in_time : Bool) → HasTail s now None None (received_puts readings.digest s.clock now caller notice lot security bytes in_time)
       by None true = front (puts.Envelope _ ∷ []) (refl, tt) (quiet _ (puts.Seal _ ∷ []) (refl, tt) refl)
       by None false = front (puts.Envelope _ ∷ []) (refl, tt) (quiet _ [] tt refl)
       by (Some named) true = front (puts.Envelope _ ∷ []) (refl, tt) (quiet _ (puts.Seal _ ∷ puts.Security _ ∷ []) (refl, (refl, tt)) refl)
@@ -151,19 +152,21 @@ module _ (readings : Readings) (s : Tables) (moment : ℕ) (caller : Caller) (ha
       (loud of.w.notice of.n (released of.n) _ _ of.notice_is (ap has_all_releases (of.notice_is ∙ sym of.notice) ∙ tests.1.1.1.1.0) refl refl
       (on-append is_own _ _ (on-if is_own (λ e. puts.Envelope (passed_over e)) envelope (λ _. refl)) (on-if is_own (security_settled Forfeited) security (λ _. refl))) refl))
 
-  pub signing : (award : ℕ) → Tail (Sign award)
-  signing award allowed =
-      let tests = passes (Sign award) allowed in
+  pub signing : (award : ℕ) (named : Option NamedSecurity) → Tail (Sign award named)
+  signing award named allowed =
+      let tests = passes (Sign award named) allowed in
       let of = of_award s have award (not_false _ tests.0) in
       let securities = securities_of_award (award_at award s) s in
       moved (ap (option_map (λ (a : AwardRow). a.notice)) of.is)
-      (λ i. sign_effect s.clock now (of.is i) (of.notice i) (of.lot i) (envelope_of_award (award_at award s) s) securities)
+      (λ i. sign_effect s.clock now (of.is i) (of.notice i) (of.lot i) (envelope_of_award (award_at award s) s) securities named)
+      (bound (ap (option_and_then (λ (w : AwardRow). option_map (performance_row w) named)) of.is)
+      (bonded (performance_row of.w) named
       (front (puts.Award _ ∷ puts.Lot _ ∷ puts.Contract _ ∷ []) (refl, (refl, (refl, tt)))
-      (loud of.w.notice of.n (released of.n) _ _ of.notice_is (ap has_all_releases (of.notice_is ∙ sym of.notice) ∙ tests.1.1.1.1.0) refl refl (returned_own securities) refl))
+      (loud of.w.notice of.n (released of.n) _ _ of.notice_is (ap has_all_releases (of.notice_is ∙ sym of.notice) ∙ tests.1.1.1.1.1.1.1.0) refl refl (returned_own securities) refl))))
 
   -- a command on a contract that is there
   pub on_contract : (contract : ℕ) (of : OfContract s contract) → has_all_releases (notice_of_contract (contract_at contract s) s) ≡ false
-      → HasTail s now (option_map (λ (c : ContractRow). c.notice) (contract_at contract s)) (puts.Notice (released of.n) ∷ puts.Clock (record s.clock { moment = now }) ∷ [])
+      → HasTail s now (option_map (λ (c : ContractRow). c.notice) (contract_at contract s)) None (puts.Notice (released of.n) ∷ puts.Clock (record s.clock { moment = now }) ∷ [])
   on_contract contract of full =
       moved (ap (option_map (λ (c : ContractRow). c.notice)) of.is) refl
       (loud of.c.notice of.n (released of.n) _ [] of.notice_is (ap has_all_releases (of.notice_is ∙ sym of.notice) ∙ full) refl refl tt refl)
@@ -179,5 +182,6 @@ module _ (readings : Readings) (s : Tables) (moment : ℕ) (caller : Caller) (ha
   ending_contract contract how allowed =
       let tests = passes (End contract how) allowed in
       let of = of_contract s have contract (not_false _ tests.0) in
-      moved refl (λ i. end_effect s.clock now how (of.is i) (entries_of_contract contract s) (of.notice i) (of.line i))
-      (front (puts.Contract _ ∷ puts.Line _ ∷ []) (refl, (refl, tt)) (on_contract contract of tests.1.1.0))
+      moved refl (λ i. end_effect s.clock now how (of.is i) (entries_of_contract contract s) (of.notice i) (of.line i) (performance_at contract s))
+      (bonded (settled_performance (ended_state how)) (performance_at contract s)
+      (front (puts.Contract _ ∷ puts.Line _ ∷ []) (refl, (refl, tt)) (on_contract contract of tests.1.1.0)))

@@ -35,7 +35,7 @@ pub plain-append : (ps qs : List Put) → AllByRecursion IsPlain ps → AllByRec
 plain-append [] qs a b = b
 plain-append (p ∷ ps) qs a b = (a.0, plain-append ps qs a.1 b)
 
-plain-if : {X : Type 0} (make : X → Put) (o : Option X) → ((x : X) → IsPlain (make x)) → AllByRecursion IsPlain (put_if make o)
+pub plain-if : {X : Type 0} (make : X → Put) (o : Option X) → ((x : X) → IsPlain (make x)) → AllByRecursion IsPlain (put_if make o)
 plain-if make None h = tt
 plain-if make (Some x) h = (h x, tt)
 

@@ -132,6 +132,7 @@ module _ (th : Theirs) (W : ℕ → Bool) where
   same_put (puts.Release r) s s' a plain o o' = record { but_sealed = ap (after_put (puts.Release r)) a.but_sealed; envelopes = a.envelopes; seals = a.seals }
   same_put (puts.Compiled r) s s' a plain o o' = record { but_sealed = ap (after_put (puts.Compiled r)) a.but_sealed; envelopes = a.envelopes; seals = a.seals }
   same_put (puts.Late r) s s' a plain o o' = record { but_sealed = ap (after_put (puts.Late r)) a.but_sealed; envelopes = a.envelopes; seals = a.seals }
+  same_put (puts.Performance r) s s' a plain o o' = record { but_sealed = ap (after_put (puts.Performance r)) a.but_sealed; envelopes = a.envelopes; seals = a.seals }
   same_put (puts.Clock r) s s' a plain o o' = record { but_sealed = ap (after_put (puts.Clock r)) a.but_sealed; envelopes = a.envelopes; seals = a.seals }
   same_put (puts.DropSeal k) s s' a plain o o' = record { but_sealed = ap (λ (t : Tables). record t { envelopes = s'.envelopes; seals = drop_seal s'.seals k }) a.but_sealed; envelopes = a.envelopes; seals = λ n out. seal_drop s.seals s'.seals k n o.seals o'.seals (a.seals n out) }
   same_put (puts.Envelope e) s s' a plain o o' = absurd plain

@@ -162,7 +162,7 @@ module _ (th : Theirs) (readings : Readings) (s : Tables) (es' : List EnvelopeRo
   same_command caller (commands.Examine receipt responsive quality) = quietly caller (commands.Examine receipt responsive quality) tt
   same_command caller (commands.Award notice lot) = quietly caller (commands.Award notice lot) tt
   same_command caller (commands.Fail award) = quietly caller (commands.Fail award) tt
-  same_command caller (commands.Sign award) = quietly caller (commands.Sign award) tt
+  same_command caller (commands.Sign award named) = quietly caller (commands.Sign award named) tt
   same_command caller (commands.AmendContract contract entry kind amount rationale) = quietly caller (commands.AmendContract contract entry kind amount rationale) tt
   same_command caller (commands.Pay contract entry amount) = quietly caller (commands.Pay contract entry amount) tt
   same_command caller (commands.End contract how) = quietly caller (commands.End contract how) tt

@@ -4,6 +4,8 @@ use Rattle.std.specs.List.{AllByRecursion}
 use Rattle.office_values.specs.Ids.{same_id}
 use Rattle.office_acts.specs.declared.notice.LateWithdrawal.{LateWithdrawal}
 use Rattle.office_acts.specs.declared.notice.LateWithdrawal.TheVariants.{Refused, Forfeits}
+use Rattle.office_acts.specs.declared.tender.NamedSecurity.{NamedSecurity}
+use Rattle.office_base.specs.declared.records.PerformanceRow.{PerformanceRow}
 use Rattle.office_base.specs.Rows.{holds_of}
 use Rattle.office_acts.specs.declared.item.Item.{Item}
 use Rattle.office_base.specs.declared.reading.Reading.{Reading}
@@ -19,9 +21,9 @@ use Rattle.office_base.specs.declared.records.ClockRow.{ClockRow}
 use Rattle.office_acts.specs.declared.contract.ChangeKind.{ChangeKind}
 use Rattle.office_acts.specs.declared.commands.Command.{Command}
 use Rattle.office_acts.specs.declared.commands.Command.TheVariants.{Import, Register, Publish, AmendNotice, Cancel, Open, Present, Modify, Withdraw, Examine, Award, Fail, Sign, AmendContract, Pay, End}
-use Rattle.office_base.specs.Tables.{Tables, notice_at, lot_at, envelope_at, seal_at, award_at, contract_at, find_envelope, find_seal, lots_of_notice, awards_of_notice, envelopes_of_notice, envelopes_of_lot, securities_of_notice, securities_of_lot, entries_of_contract}
+use Rattle.office_base.specs.Tables.{Tables, notice_at, lot_at, envelope_at, seal_at, award_at, contract_at, find_envelope, find_seal, lots_of_notice, awards_of_notice, envelopes_of_notice, envelopes_of_lot, securities_of_notice, securities_of_lot, entries_of_contract, performance_at}
 use Rattle.office_base.specs.declared.puts.Put.TheVariants as puts
-use Rattle.office_base.specs.RuleParts.{security_returned, is_held_security, released, clock_put, securities_returned}
+use Rattle.office_base.specs.RuleParts.{security_returned, is_held_security, released, clock_put, securities_returned, performance_settled, put_if}
 use Rattle.office_base.specs.Standings.{standings}
 use Rattle.tender_core.specs.Rules.Import.{after_rows, line_put as import_line}
 use Rattle.tender_core.specs.Rules.Publish.{line_put, lot_put, publish_parts, late_puts}
@@ -35,15 +37,15 @@ use Rattle.award_core.specs.Rules.Award.{is_admissible, isnt_examined, is_above,
 use Rattle.award_core.specs.Rules.Fail.{fail_conditions, fail_effect}
 use Rattle.award_core.specs.Rules.AmendContract.{amend_contract_conditions, amend_contract_effect}
 use Rattle.award_core.specs.Rules.Pay.{pay_conditions, pay_effect}
-use Rattle.award_core.specs.Rules.End.{end_conditions, end_effect}
-use Rattle.award_core.specs.Rules.Sign.{sign_effect, tenderer_in, signed_award, contracted_lot, contract_row}
+use Rattle.award_core.specs.Rules.End.{end_conditions, end_effect, ended_state}
+use Rattle.award_core.specs.Rules.Sign.{sign_effect, tenderer_in, signed_award, contracted_lot, contract_row, performance_put, sign_conditions}
 use Rattle.office_base.specs.Parents.{notice_of_envelope, lot_of_envelope, security_of_envelope, envelope_of_award, lot_of_award, notice_of_award, securities_of_award, notice_of_contract, lot_of_contract, line_of_lot, late_of_envelope}
 use Rattle.office_machine.specs.Readings.{Readings}
 use Rattle.office_machine.specs.Machine.{tests_for, puts_for}
 use Rattle.office_machine.specs.Rule.{sealed_tender, sealed_tenders, bytes_in, items_in}
 use Rattle.office_machine.specs.Worlds.{Theirs, Pairs}
 use Rattle.office_machine.proofs.WorldsPut.{Alike, IsPlain, PutPair, Plain, Envelopes, AlikeOptions, receipt_is, pairs-found, pairs-filter, pairs-any, blind, blind-option, plain_pairs, pairs-append}
-use Rattle.office_machine.proofs.WorldsEffects.{plain-map, plain-append, pairs-winner, withdraw_pairs, examine_pairs, fail_pairs, cancel_pairs, award_pairs}
+use Rattle.office_machine.proofs.WorldsEffects.{plain-map, plain-append, pairs-winner, withdraw_pairs, examine_pairs, fail_pairs, cancel_pairs, award_pairs, plain-if}
 
 module _ (th : Theirs) (W : ℕ → Bool) (s : Tables) (es' : List EnvelopeRow) (ss' : List SealRow) (all : Pairs (Alike th W) s.envelopes es') (seals : (n : ℕ) → W n ≡ false → seal_at n s ≡ find_seal ss' n) where
   abbrev pub s' : Tables
@@ -132,7 +134,7 @@ module _ (th : Theirs) (W : ℕ → Bool) (s : Tables) (es' : List EnvelopeRow) 
   tests_same t caller (Cancel notice rationale) = refl
   tests_same t caller (Open notice) = refl
   tests_same t caller (Fail award) = ap (fail_conditions t (award_at award s)) (award_notice (award_at award s))
-  tests_same t caller (Sign award) = ap (fail_conditions t (award_at award s)) (award_notice (award_at award s))
+  tests_same t caller (Sign award named) = ap (λ n. sign_conditions t (award_at award s) n named) (award_notice (award_at award s))
   tests_same t caller (AmendContract contract entry kind amount rationale) = λ i. amend_contract_conditions (contract_at contract s) (entries_of_contract contract s) (contract_notice (contract_at contract s) i) (contract_line (contract_at contract s) i) entry kind amount
   tests_same t caller (Pay contract entry amount) = ap (λ n. pay_conditions (contract_at contract s) (entries_of_contract contract s) n entry amount) (contract_notice (contract_at contract s))
   tests_same t caller (End contract how) = ap (end_conditions (contract_at contract s)) (contract_notice (contract_at contract s))
@@ -169,18 +171,18 @@ module _ (th : Theirs) (W : ℕ → Bool) (s : Tables) (es' : List EnvelopeRow) 
   plain_options clock t None deadline = tt
   plain_options clock t (Some n) deadline = (tt, (tt, tt))
 
-  sign_plain : (clock : ClockRow) (t : ℕ) (w : Option AwardRow) (n : Option NoticeRow) (l : Option LotRow) (o : Option EnvelopeRow) (r : List Rattle.office_base.specs.declared.records.SecurityRow.SecurityRow) → AllByRecursion IsPlain (sign_effect clock t w n l o r)
-  sign_plain clock t (Some w) (Some n) (Some l) o r = (tt, (tt, (tt, (tt, (tt, plain-map security_returned (filter is_held_security r) (λ _. tt))))))
-  sign_plain clock t None n l o r = tt
-  sign_plain clock t (Some w) None l o r = tt
-  sign_plain clock t (Some w) (Some n) None o r = tt
+  sign_plain : (clock : ClockRow) (t : ℕ) (w : Option AwardRow) (n : Option NoticeRow) (l : Option LotRow) (o : Option EnvelopeRow) (r : List Rattle.office_base.specs.declared.records.SecurityRow.SecurityRow) (named : Option NamedSecurity) → AllByRecursion IsPlain (sign_effect clock t w n l o r named)
+  sign_plain clock t (Some w) (Some n) (Some l) o r named = (tt, (tt, (tt, (tt, (tt, plain-append (map security_returned (filter is_held_security r)) (put_if (performance_put w) named) (plain-map security_returned (filter is_held_security r) (λ _. tt)) (plain-if (performance_put w) named (λ _. tt)))))))
+  sign_plain clock t None n l o r named = tt
+  sign_plain clock t (Some w) None l o r named = tt
+  sign_plain clock t (Some w) (Some n) None o r named = tt
 
-  sign_blind : (clock : ClockRow) (t : ℕ) (w : Option AwardRow) (n : Option NoticeRow) (l : Option LotRow) (o o' : Option EnvelopeRow) (r : List Rattle.office_base.specs.declared.records.SecurityRow.SecurityRow) → tenderer_in o' ≡ tenderer_in o → sign_effect clock t w n l o' r ≡ sign_effect clock t w n l o r
-  sign_blind clock t (Some w) (Some n) (Some l) o o' r e =
-      ap (λ x. puts.Award (signed_award w) ∷ puts.Lot (contracted_lot l) ∷ puts.Contract (contract_row t w x) ∷ puts.Notice (released n) ∷ clock_put clock t ∷ securities_returned r) e
-  sign_blind clock t None n l o o' r e = refl
-  sign_blind clock t (Some w) None l o o' r e = refl
-  sign_blind clock t (Some w) (Some n) None o o' r e = refl
+  sign_blind : (clock : ClockRow) (t : ℕ) (w : Option AwardRow) (n : Option NoticeRow) (l : Option LotRow) (o o' : Option EnvelopeRow) (r : List Rattle.office_base.specs.declared.records.SecurityRow.SecurityRow) (named : Option NamedSecurity) → tenderer_in o' ≡ tenderer_in o → sign_effect clock t w n l o' r named ≡ sign_effect clock t w n l o r named
+  sign_blind clock t (Some w) (Some n) (Some l) o o' r named e =
+      ap (λ x. puts.Award (signed_award w) ∷ puts.Lot (contracted_lot l) ∷ puts.Contract (contract_row t w x) ∷ puts.Notice (released n) ∷ clock_put clock t ∷ securities_returned r ++ put_if (performance_put w) named) e
+  sign_blind clock t None n l o o' r named e = refl
+  sign_blind clock t (Some w) None l o o' r named e = refl
+  sign_blind clock t (Some w) (Some n) None o o' r named e = refl
 
   amend_plain : (clock : ClockRow) (t : ℕ) (c : Option ContractRow) (n : Option NoticeRow) (w : Option Rattle.office_base.specs.declared.records.LineRow.LineRow) (entry : List ℕ) (kind : ChangeKind) (amount : ℕ) (rationale : List ℕ) → AllByRecursion IsPlain (amend_contract_effect clock t c n w entry kind amount rationale)
   amend_plain clock t (Some c) (Some n) (Some w) entry kind amount rationale = (tt, (tt, (tt, (tt, tt))))
@@ -193,11 +195,11 @@ module _ (th : Theirs) (W : ℕ → Bool) (s : Tables) (es' : List EnvelopeRow) 
   pay_plain clock t None n entry amount = tt
   pay_plain clock t (Some c) None entry amount = tt
 
-  end_plain : (clock : ClockRow) (t : ℕ) (how : Rattle.office_acts.specs.declared.contract.How.How) (c : Option ContractRow) (es : List Rattle.office_base.specs.declared.records.EntryRow.EntryRow) (n : Option NoticeRow) (w : Option Rattle.office_base.specs.declared.records.LineRow.LineRow) → AllByRecursion IsPlain (end_effect clock t how c es n w)
-  end_plain clock t how (Some c) es (Some n) (Some w) = (tt, (tt, (tt, (tt, tt))))
-  end_plain clock t how None es n w = tt
-  end_plain clock t how (Some c) es None w = tt
-  end_plain clock t how (Some c) es (Some n) None = tt
+  end_plain : (clock : ClockRow) (t : ℕ) (how : Rattle.office_acts.specs.declared.contract.How.How) (c : Option ContractRow) (es : List Rattle.office_base.specs.declared.records.EntryRow.EntryRow) (n : Option NoticeRow) (w : Option Rattle.office_base.specs.declared.records.LineRow.LineRow) (p : Option PerformanceRow) → AllByRecursion IsPlain (end_effect clock t how c es n w p)
+  end_plain clock t how (Some c) es (Some n) (Some w) p = (tt, (tt, (tt, (tt, plain-if (performance_settled (ended_state how)) p (λ _. tt)))))
+  end_plain clock t how None es n w p = tt
+  end_plain clock t how (Some c) es None w p = tt
+  end_plain clock t how (Some c) es (Some n) None p = tt
 
   envelope_of : (o : Option AwardRow) → AlikeOptions th W (envelope_of_award o s) (envelope_of_award o s')
   envelope_of None = tt
@@ -250,13 +252,13 @@ module _ (th : Theirs) (W : ℕ → Bool) (s : Tables) (es' : List EnvelopeRow) 
       subst (λ ps. Pairs (PutPair th W) (puts_for readings s t caller (Fail award)) ps)
       (λ i. fail_effect s.clock t (award_at award s) (sym (award_notice (award_at award s)) i) (sym (award_lot (award_at award s)) i) o' (security_of_envelope o' s'))
       (fail_pairs th W s.clock t (award_at award s) (notice_of_award (award_at award s) s) (lot_of_award (award_at award s) s) o o' (security_of_envelope o s) (security_of_envelope o' s') (envelope_of (award_at award s)) (envelope_security o' ∙ security_of o o' (envelope_of (award_at award s))))
-  puts_pair readings t caller (Sign award) quiet =
+  puts_pair readings t caller (Sign award named) quiet =
       let o : Option EnvelopeRow = envelope_of_award (award_at award s) s in
       let o' : Option EnvelopeRow = envelope_of_award (award_at award s) s' in
-      subst (λ ps. Pairs (PutPair th W) (puts_for readings s t caller (Sign award)) ps)
-      (sym (sign_blind s.clock t (award_at award s) (notice_of_award (award_at award s) s) (lot_of_award (award_at award s) s) o o' (securities_of_award (award_at award s) s) (blind-option th W tenderer_in (λ _ _. refl) o o' (envelope_of (award_at award s))))
-      ∙ (λ i. sign_effect s.clock t (award_at award s) (sym (award_notice (award_at award s)) i) (sym (award_lot (award_at award s)) i) o' (sym (award_securities (award_at award s)) i)))
-      (plain_pairs th W (puts_for readings s t caller (Sign award)) (sign_plain s.clock t (award_at award s) (notice_of_award (award_at award s) s) (lot_of_award (award_at award s) s) o (securities_of_award (award_at award s) s)))
+      subst (λ ps. Pairs (PutPair th W) (puts_for readings s t caller (Sign award named)) ps)
+      (sym (sign_blind s.clock t (award_at award s) (notice_of_award (award_at award s) s) (lot_of_award (award_at award s) s) o o' (securities_of_award (award_at award s) s) named (blind-option th W tenderer_in (λ _ _. refl) o o' (envelope_of (award_at award s))))
+      ∙ (λ i. sign_effect s.clock t (award_at award s) (sym (award_notice (award_at award s)) i) (sym (award_lot (award_at award s)) i) o' (sym (award_securities (award_at award s)) i) named))
+      (plain_pairs th W (puts_for readings s t caller (Sign award named)) (sign_plain s.clock t (award_at award s) (notice_of_award (award_at award s) s) (lot_of_award (award_at award s) s) o (securities_of_award (award_at award s) s) named))
   puts_pair readings t caller (AmendContract contract entry kind amount rationale) quiet =
       subst (λ ps. Pairs (PutPair th W) (puts_for readings s t caller (AmendContract contract entry kind amount rationale)) ps)
       (λ i. amend_contract_effect s.clock t (contract_at contract s) (sym (contract_notice (contract_at contract s)) i) (sym (contract_line (contract_at contract s)) i) entry kind amount rationale)
@@ -266,5 +268,5 @@ module _ (th : Theirs) (W : ℕ → Bool) (s : Tables) (es' : List EnvelopeRow) 
       (plain_pairs th W (puts_for readings s t caller (Pay contract entry amount)) (pay_plain s.clock t (contract_at contract s) (notice_of_contract (contract_at contract s) s) entry amount))
   puts_pair readings t caller (End contract how) quiet =
       subst (λ ps. Pairs (PutPair th W) (puts_for readings s t caller (End contract how)) ps)
-      (λ i. end_effect s.clock t how (contract_at contract s) (entries_of_contract contract s) (sym (contract_notice (contract_at contract s)) i) (sym (contract_line (contract_at contract s)) i))
-      (plain_pairs th W (puts_for readings s t caller (End contract how)) (end_plain s.clock t how (contract_at contract s) (entries_of_contract contract s) (notice_of_contract (contract_at contract s) s) (line_of_lot (lot_of_contract (contract_at contract s) s) s)))
+      (λ i. end_effect s.clock t how (contract_at contract s) (entries_of_contract contract s) (sym (contract_notice (contract_at contract s)) i) (sym (contract_line (contract_at contract s)) i) (performance_at contract s))
+      (plain_pairs th W (puts_for readings s t caller (End contract how)) (end_plain s.clock t how (contract_at contract s) (entries_of_contract contract s) (notice_of_contract (contract_at contract s) s) (line_of_lot (lot_of_contract (contract_at contract s) s) s) (performance_at contract s)))

@@ -3,11 +3,11 @@ use Rattle.std.specs.Prelude.{◌≡◌, ℕ, zero, suc, ◌+◌, Bool, true, fa
 use Rattle.std.specs.Ordering.{nat_cmp}
 use Rattle.std.specs.List.{list_any}
 use Rattle.office_values.specs.Ids.{same_id}
-use Rattle.office_base.specs.Tables.{same_number, Tables, envelope_key, seal_key, security_key, notice_at, envelope_at, seal_at, security_at, award_at, envelopes_of_lot}
+use Rattle.office_base.specs.Tables.{same_number, Tables, envelope_key, seal_key, security_key, notice_at, envelope_at, seal_at, security_at, award_at, performance_at, envelopes_of_lot}
 use Rattle.office_acts.specs.declared.tender.NamedSecurity.{NamedSecurity}
 use Rattle.office_acts.specs.Callers.{tenderer_of}
 use Rattle.office_acts.specs.declared.commands.Command.{Command}
-use Rattle.office_acts.specs.declared.commands.Command.TheVariants.{Cancel, Open, Present, Modify, Withdraw, Award, Fail, Sign}
+use Rattle.office_acts.specs.declared.commands.Command.TheVariants.{Cancel, Open, Present, Modify, Withdraw, Award, Fail, Sign, End}
 use Rattle.office_base.specs.Rows.{holds_of, IsInOrder}
 use Rattle.office_base.specs.declared.records.NoticeRow.{NoticeRow}
 use Rattle.office_base.specs.declared.records.EnvelopeRow.{EnvelopeRow}
@@ -20,6 +20,9 @@ use Rattle.office_base.specs.declared.records.SecurityState.TheVariants as secur
 use Rattle.office_base.specs.declared.records.SecurityState.{SecurityState}
 use Rattle.office_base.specs.RuleParts.{is_in_time}
 use Rattle.award_core.specs.Rules.Award.{is_admissible}
+use Rattle.office_acts.specs.declared.contract.How.{How}
+use Rattle.office_acts.specs.declared.contract.How.TheVariants as hows
+use Rattle.office_base.specs.declared.records.PerformanceRow.{PerformanceRow}
 use Rattle.office_machine.specs.Machine.{Given, Means, Reaches, time_of}
 
 -- what came in with a receipt: for which lot, from whom, its bytes, whether in time, the security that was named with it, and the
@@ -146,7 +149,7 @@ abbrev pub security_decided : Command → Given → (ℕ → Option Reception) �
 security_decided (Withdraw receipt) x earlier s = cond (carries s (earlier receipt)) (withdrawn_security x (earlier receipt)) security_states.Held
 security_decided (Cancel notice rationale) x earlier s = cond (is_of_notice notice (earlier s)) security_states.Returned security_states.Held
 security_decided (Award notice lot) x earlier s = cond (is_of_lot notice lot (earlier s) && is_for_nobody x notice lot) security_states.Returned security_states.Held
-security_decided (Sign award) x earlier s = cond (is_of_award (award_at award x.before) (earlier s)) security_states.Returned security_states.Held
+security_decided (Sign award named) x earlier s = cond (is_of_award (award_at award x.before) (earlier s)) security_states.Returned security_states.Held
 security_decided (Fail award) x earlier s = cond (is_award_security s earlier (award_at award x.before)) security_states.Forfeited security_states.Held
 security_decided _ x earlier s = security_states.Held
 
@@ -160,6 +163,44 @@ security_after (Some security_states.Forfeited) now decided = Some security_stat
 abbrev pub fate_of_security : List Given → ℕ → Option SecurityState
 fate_of_security [] s = None
 fate_of_security (x ∷ xs) s = security_after (fate_of_security xs s) (came (x ∷ xs) s) (security_decided x.command x (came xs) s)
+
+-- The fate of a performance security.
+
+-- what a command names for a contract
+abbrev pub named_for : Command → ℕ → Option NamedSecurity
+named_for (Sign award named) c = cond (same_number c award) named None
+named_for _ c = None
+
+-- what was named stays
+abbrev pub named_after : Option NamedSecurity → Option NamedSecurity → Option NamedSecurity
+named_after None new = new
+named_after (Some old) new = Some old
+
+-- what was named at the signing of a contract
+abbrev pub performance_named : List Given → ℕ → Option NamedSecurity
+performance_named [] c = None
+performance_named (x ∷ xs) c = named_after (performance_named xs c) (named_for x.command c)
+
+-- where its contract ends as agreed it goes back, where its contractor defaults it is forfeited
+abbrev pub ended_fate : How → SecurityState
+ended_fate hows.Regular = security_states.Returned
+ended_fate hows.ForDefault = security_states.Forfeited
+
+-- what a command decides of a held one: held is undecided
+abbrev pub performance_decided : Command → ℕ → SecurityState
+performance_decided (End contract how) c = cond (same_number c contract) (ended_fate how) security_states.Held
+performance_decided _ c = security_states.Held
+
+-- the first end of its contract decides it
+abbrev pub performance_after : Option SecurityState → Option NamedSecurity → SecurityState → Option SecurityState
+performance_after None named decided = option_map (λ (n : NamedSecurity). security_states.Held) named
+performance_after (Some security_states.Held) named decided = Some decided
+performance_after (Some security_states.Returned) named decided = Some security_states.Returned
+performance_after (Some security_states.Forfeited) named decided = Some security_states.Forfeited
+
+abbrev pub fate_of_performance : List Given → ℕ → Option SecurityState
+fate_of_performance [] c = None
+fate_of_performance (x ∷ xs) c = performance_after (fate_of_performance xs c) (performance_named (x ∷ xs) c) (performance_decided x.command c)
 
 -- What holds of the tables.
 
@@ -226,6 +267,26 @@ pub record TendersHaveFates (means : Means) (xs : List Given) (t : Tables) : Typ
 pub record SecuritiesHaveFates (xs : List Given) (t : Tables) : Type 0 where
   pub each : (s : ℕ) → HasFate s (came xs s) (fate_of_security xs s) (security_at s t)
   pub in_order : IsInOrder nat_cmp security_key t.securities
+
+-- a performance security is what was named at the signing, in the state of its fate
+pub record PerformanceIs (c : ℕ) (named : NamedSecurity) (fate : Option SecurityState) (w : PerformanceRow) : Type 0 where
+  pub contract_is : w.contract ≡ c
+  pub reference_is : w.reference ≡ named.reference
+  pub amount_is : w.amount ≡ named.amount
+  pub fate_is : fate ≡ Some w.state
+
+abbrev pub HasPerformance : ℕ → Option NamedSecurity → Option SecurityState → Option PerformanceRow → Type 0
+HasPerformance c None fate None = fate ≡ None
+HasPerformance c None fate (Some w) = ⊥
+HasPerformance c (Some named) fate None = ⊥
+HasPerformance c (Some named) fate (Some w) = PerformanceIs c named fate w
+
+-- the performance securities are those named at accepted signings, each in the state of its fate
+abbrev pub PerformancesHaveFates : List Given → Tables → Type 0
+PerformancesHaveFates xs t = (c : ℕ) → HasPerformance c (performance_named xs c) (fate_of_performance xs c) (performance_at c t)
+
+abbrev pub PerformancesAreKept : Type 0
+PerformancesAreKept = (means : Means) (xs : List Given) (t : Tables) → Reaches means xs t → PerformancesHaveFates xs t
 
 abbrev pub TendersAreKept : Type 0
 TendersAreKept = (means : Means) (xs : List Given) (t : Tables) → Reaches means xs t → TendersHaveFates means xs t

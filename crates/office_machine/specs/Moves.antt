@@ -89,7 +89,7 @@ cut_by change_kinds.Cut amount = amount
 
 -- what a command brings into contracted for a contract, with what is held for each lot before it
 abbrev pub brought_by : Tables → Command → (List ℕ × List ℕ → ℕ) → ℕ → ℕ
-brought_by s (Sign award) held contract = cond (same_number award contract) (held (lot_in_award (award_at award s))) 0
+brought_by s (Sign award named) held contract = cond (same_number award contract) (held (lot_in_award (award_at award s))) 0
 brought_by s (AmendContract changed entry kind amount rationale) held contract = cond (same_number changed contract) (raised_by kind amount) 0
 brought_by s command held contract = 0
 
@@ -144,7 +144,7 @@ moves_for s (Publish notice content) earlier = map move_of_lot content.lots
 moves_for s (Cancel notice rationale) earlier = map (move_back (held_for earlier)) (filter is_open_lot (lots_of_notice notice s))
 moves_for s (Award notice id) earlier =
     move_of_award (line_in (lot_at (notice, id) s)) (held_for earlier (notice, id)) (winner (notice_at notice s) (envelopes_of_lot notice id s)) ∷ []
-moves_for s (Sign award) earlier =
+moves_for s (Sign award named) earlier =
     record { line = line_in (lot_of_award (award_at award s) s); from = Reserved; to = Contracted; amount = held_for earlier (lot_in_award (award_at award s)) } ∷ []
 moves_for s (AmendContract contract entry kind amount rationale) earlier = move_of_change kind (line_in (lot_of_contract (contract_at contract s) s)) amount ∷ []
 moves_for s (Pay contract entry amount) earlier =

@@ -62,6 +62,7 @@ pub data Reply : Type 0 where
   LedgerSeen : (rows : List LedgerRow) → Reply
   Tender : (digest : List ℕ) → (length : ℕ) → (notice : List ℕ) → (lot : List ℕ) → (moment : ℕ) → (receipt : ℕ) → (security : Option ℕ) → (state : EnvelopeState) → Reply
   Security : (amount : ℕ) → (reference : List ℕ) → (security : ℕ) → (state : SecurityState) → (tenderer : List ℕ) → Reply
+  PerformanceSeen : (amount : ℕ) → (contract : ℕ) → (reference : List ℕ) → (state : SecurityState) → (tenderer : List ℕ) → Reply
   Registry : (notice : List ℕ) → (rows : List Registered) → Reply
   Minutes : (notice : NoticeRow) → (lots : List LotRow) → (rows : List Minuted) → Reply
   Package : (text : List ℕ) → Reply

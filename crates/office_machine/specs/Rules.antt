@@ -87,9 +87,9 @@ rule_of (Fail award) = record {
   publishes = λ s. option_map notice_in_award (award_at award s);
   reply = λ readings s u t caller. Failed award (award_release (award_at award s) s.notices) t;
 }
-rule_of (Sign award) = record {
-  tests = λ s t caller. sign_tests (sign_rows s award) t;
-  puts = λ readings s t caller. sign_puts (sign_rows s award) t;
+rule_of (Sign award named) = record {
+  tests = λ s t caller. sign_tests (sign_rows s award) t named;
+  puts = λ readings s t caller. sign_puts (sign_rows s award) t named;
   publishes = λ s. option_map notice_in_award (award_at award s);
   reply = λ readings s u t caller. Signed award (award_release (award_at award s) s.notices) t;
 }

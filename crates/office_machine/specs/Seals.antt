@@ -14,7 +14,7 @@ use Rattle.office_machine.specs.Machine.{Means, Given, Reaches, refusal_of}
 use Rattle.office_machine.specs.Fates.{Reception, came, fate_of_tender}
 use Rattle.office_machine.specs.Worlds.{Theirs, Pairs, SameBut, OpensAlike}
 use Rattle.office_acts.specs.declared.queries.Query.{Query}
-use Rattle.office_machine.specs.Replies.{Reply, Refused, Imported, Enrolled, OfNotice, OpenedAll, Received, Withdrew, Examined, Awarded, Failed, Signed, OfContract, LineSeen, LedgerSeen, Tender, Security, Registry, Minutes, Package}
+use Rattle.office_machine.specs.Replies.{Reply, Refused, Imported, Enrolled, OfNotice, OpenedAll, Received, Withdrew, Examined, Awarded, Failed, Signed, OfContract, LineSeen, LedgerSeen, Tender, Security, PerformanceSeen, Registry, Minutes, Package}
 use Rattle.office_machine.specs.Sights.{Packages}
 use Rattle.office_machine.specs.Requests.{Demand, Asks, Looks, Request, asked, reply_to, office_after, all_joined, AreRequests}
 
@@ -68,6 +68,7 @@ without_digest (Tender digest length notice lot moment receipt security state) =
 without_digest (LineSeen line title pots) = LineSeen line title pots
 without_digest (LedgerSeen rows) = LedgerSeen rows
 without_digest (Security amount reference security state tenderer) = Security amount reference security state tenderer
+without_digest (PerformanceSeen amount contract reference state tenderer) = PerformanceSeen amount contract reference state tenderer
 without_digest (Registry notice rows) = Registry notice rows
 without_digest (Minutes notice lots rows) = Minutes notice lots rows
 without_digest (Package text) = Package text

@@ -16,8 +16,10 @@ use Rattle.office_base.specs.declared.records.NoticeRow.{NoticeRow}
 use Rattle.office_base.specs.declared.records.LotRow.{LotRow}
 use Rattle.office_base.specs.declared.records.EnvelopeRow.{EnvelopeRow}
 use Rattle.office_base.specs.declared.records.SecurityRow.{SecurityRow}
-use Rattle.office_base.specs.Tables.{Tables, find_tenderer, line_at, notice_at, envelope_at, security_at, lots_of_notice, envelopes_of_notice}
-use Rattle.office_machine.specs.Replies.{Reply, Refused, LineSeen, LedgerSeen, Tender, Security, Registry, Minutes, Package, Registered, Minuted}
+use Rattle.office_base.specs.declared.records.ContractRow.{ContractRow}
+use Rattle.office_base.specs.declared.records.PerformanceRow.{PerformanceRow}
+use Rattle.office_base.specs.Tables.{Tables, find_tenderer, line_at, notice_at, envelope_at, security_at, contract_at, performance_at, lots_of_notice, envelopes_of_notice}
+use Rattle.office_machine.specs.Replies.{Reply, Refused, LineSeen, LedgerSeen, Tender, Security, PerformanceSeen, Registry, Minutes, Package, Registered, Minuted}
 
 -- the line's two columns and the sums over the rows that are joined with it
 abbrev pub line_told : Tables → Option LineRow → Reply
@@ -54,6 +56,13 @@ security_told caller None = Refused (NoSuch things.Security)
 security_told caller (Some w) =
     cond (is_clerk caller || is_by caller w.tenderer) (Security w.amount w.reference w.security w.state w.tenderer) (Refused NotYourTender)
 
+-- a performance security is shown to the contract's tenderer and to the clerk; the contract is looked for first
+abbrev pub performance_told : Caller → Option ContractRow → Option PerformanceRow → Reply
+performance_told caller None security = Refused (NoSuch things.Contract)
+performance_told caller (Some c) None = Refused (NoSuch things.Security)
+performance_told caller (Some c) (Some w) =
+    cond (is_clerk caller || is_by caller c.tenderer) (PerformanceSeen w.amount c.contract w.reference w.state c.tenderer) (Refused NotYourTender)
+
 -- the text of a package of a notice that is there
 abbrev pub package_told : Option NoticeRow → List ℕ → Reply
 package_told None text = Refused (NoSuch things.Notice)
@@ -73,6 +82,7 @@ shown packages s caller (queries.Releases notice) = package_told (notice_at noti
 shown packages s caller (queries.Record notice) = package_told (notice_at notice s) (packages (queries.Record notice) s)
 shown packages s caller (queries.Tender receipt) = tender_told caller (envelope_at receipt s)
 shown packages s caller (queries.Security security) = security_told caller (security_at security s)
+shown packages s caller (queries.Performance contract) = performance_told caller (contract_at contract s) (performance_at contract s)
 
 abbrev pub told : Packages → Tables → Caller → Query → Reply
 told packages s caller query = cond (may_look caller (kind_of query)) (shown packages s caller query) (Refused Forbidden)

@@ -22,3 +22,4 @@ pub mod Refusing
 pub mod Fates
 pub mod Seals
 pub mod WholeRun
+pub mod Performances

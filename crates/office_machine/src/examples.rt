@@ -19,6 +19,7 @@ ghost use Rattle.office_machine.specs.Worked.Rights.{RightsWorked};
 ghost use Rattle.office_machine.specs.Worked.Seals.{SealsWorked};
 ghost use Rattle.office_machine.specs.Worked.Securities.{SecuritiesWorked};
 ghost use Rattle.office_machine.specs.Worked.Withdrawing.{WithdrawingWorked};
+ghost use Rattle.office_machine.specs.Worked.Performances.{PerformancesWorked};
 ghost use Rattle.office_machine.specs.Worked.Signing.{SigningWorked};
 ghost use Rattle.office_machine.specs.Worked.WholeRun.{WholeRunWorked};
 
@@ -70,6 +71,11 @@ pub fn securities()
 /// Tenders are withdrawn after the deadline, where their notice lets them, at the price of their securities.
 pub fn withdrawing()
     ensures { WithdrawingWorked }
+{}
+
+/// Performance securities are asked for at the signing, and go back or are forfeited at the end of the contract.
+pub fn performances()
+    ensures { PerformancesWorked }
 {}
 
 /// Tenders are opened at the deadline, and the minutes tell how they read.

@@ -3,7 +3,7 @@ use Rattle.std.specs.Prelude.{List, [], ◌∷◌}
 use Rattle.std.specs.Ordering.{nat_cmp}
 use Rattle.office_values.specs.Ids.{id_cmp}
 use Rattle.office_base.specs.Tables.{Tables, lot_cmp, entry_cmp, release_cmp}
-use Rattle.office_base.specs.Tables.{line_key, batch_key, tenderer_key, notice_key, lot_key, envelope_key, seal_key, security_key, award_key, contract_key, entry_key, release_key, compiled_key, late_key}
+use Rattle.office_base.specs.Tables.{line_key, batch_key, tenderer_key, notice_key, lot_key, envelope_key, seal_key, security_key, award_key, contract_key, entry_key, release_key, compiled_key, late_key, performance_key}
 use Rattle.keyed_table.specs.Replacing.{taken_back, CanTakeBack}
 use Rattle.office_memory.specs.declared.tables.MemoryTables.{MemoryTables}
 use Rattle.office_memory.specs.declared.tables.Undo.{Undo}
@@ -26,6 +26,7 @@ tables_of m = record {
   releases = m.releases;
   compiled = m.compiled;
   late_rules = m.late_rules;
+  performances = m.performances;
   clock = m.clock;
 }
 
@@ -45,6 +46,7 @@ after_undo (undo.Entry replaced) t = record t { entries = taken_back entry_cmp e
 after_undo (undo.Release replaced) t = record t { releases = taken_back release_cmp release_key replaced t.releases }
 after_undo (undo.Compiled replaced) t = record t { compiled = taken_back id_cmp compiled_key replaced t.compiled }
 after_undo (undo.Late replaced) t = record t { late_rules = taken_back id_cmp late_key replaced t.late_rules }
+after_undo (undo.Performance replaced) t = record t { performances = taken_back nat_cmp performance_key replaced t.performances }
 after_undo (undo.Clock row) t = record t { clock = row }
 after_undo undo.Nothing t = t
 
@@ -64,6 +66,7 @@ CanUndo (undo.Entry replaced) t = CanTakeBack entry_cmp entry_key replaced t.ent
 CanUndo (undo.Release replaced) t = CanTakeBack release_cmp release_key replaced t.releases
 CanUndo (undo.Compiled replaced) t = CanTakeBack id_cmp compiled_key replaced t.compiled
 CanUndo (undo.Late replaced) t = CanTakeBack id_cmp late_key replaced t.late_rules
+CanUndo (undo.Performance replaced) t = CanTakeBack nat_cmp performance_key replaced t.performances
 CanUndo (undo.Clock row) t = Unit {0}
 CanUndo undo.Nothing t = Unit {0}
 

@@ -14,7 +14,7 @@ use office_base::ledger::{ContractSums, LedgerRow};
 use office_base::puts::Put;
 use office_base::records::{
     AwardRow, BatchRow, ClockRow, CompiledRow, ContractRow, EntryRow, EnvelopeRow, LateRow,
-    LineRow, LotRow, NoticeRow, ReleaseRow, SealRow, SecurityRow, TendererRow,
+    LineRow, LotRow, NoticeRow, PerformanceRow, ReleaseRow, SealRow, SecurityRow, TendererRow,
 };
 use office_base::shelf::{Lookups, Shelf, ShelfFault};
 use office_values::given::AskedNumber;
@@ -192,6 +192,16 @@ impl Lookups for MemoryShelf {
 
     fn get_late(&mut self, notice: &Id) -> Result<Option<LateRow>, ShelfFault> {
         match self.tables.late_rules.copy_at(notice) {
+            Ok(found) => Ok(found),
+            Err(_) => Err(self.refused()),
+        }
+    }
+
+    fn get_performance(
+        &mut self,
+        contract: AskedNumber,
+    ) -> Result<Option<PerformanceRow>, ShelfFault> {
+        match self.tables.performances.copy_at(&contract.get()) {
             Ok(found) => Ok(found),
             Err(_) => Err(self.refused()),
         }

@@ -12,7 +12,7 @@ use office_base::laws::rows_are_kept;
 use office_base::puts::Put;
 use office_base::records::{
     AwardRow, BatchRow, ClockRow, CompiledRow, ContractRow, EntryRow, EnvelopeRow, LateRow,
-    LineRow, LotRow, NoticeRow, ReleaseRow, SealRow, SecurityRow, TendererRow,
+    LineRow, LotRow, NoticeRow, PerformanceRow, ReleaseRow, SealRow, SecurityRow, TendererRow,
 };
 use office_base::row::Row;
 use office_values::given::LastNumber;
@@ -37,6 +37,7 @@ pub struct MemoryTables {
     pub releases: Table<ReleaseRow>,
     pub compiled: Table<CompiledRow>,
     pub late_rules: Table<LateRow>,
+    pub performances: Table<PerformanceRow>,
     pub clock: ClockRow,
 }
 
@@ -57,6 +58,7 @@ pub enum Undo {
     Release(Replaced<ReleaseRow>),
     Compiled(Replaced<CompiledRow>),
     Late(Replaced<LateRow>),
+    Performance(Replaced<PerformanceRow>),
     Clock(ClockRow),
     /// Nothing was changed yet.
     Nothing,
@@ -93,6 +95,7 @@ pub fn empty(alloc: Global) -> MemoryTables
         releases: Table::new(alloc),
         compiled: Table::new(alloc),
         late_rules: Table::new(alloc),
+        performances: Table::new(alloc),
         clock: first_clock(),
     }
 }
@@ -149,6 +152,7 @@ fn put_one(tables: &mut MemoryTables, drops: &mut Vec<u64>, put: Put) -> Result<
         Put::Release(row) => Ok(Undo::Release(tables.releases.put(row)?)),
         Put::Compiled(row) => Ok(Undo::Compiled(tables.compiled.put(row)?)),
         Put::Late(row) => Ok(Undo::Late(tables.late_rules.put(row)?)),
+        Put::Performance(row) => Ok(Undo::Performance(tables.performances.put(row)?)),
         Put::Clock(row) => Ok(Undo::Clock(mem::replace(&mut tables.clock, row))),
     }
 }
@@ -173,6 +177,7 @@ fn take_back(tables: &mut MemoryTables, undo: Undo)
         Undo::Release(replaced) => tables.releases.take_back(replaced),
         Undo::Compiled(replaced) => tables.compiled.take_back(replaced),
         Undo::Late(replaced) => tables.late_rules.take_back(replaced),
+        Undo::Performance(replaced) => tables.performances.take_back(replaced),
         Undo::Clock(row) => tables.clock = row,
         Undo::Nothing => {}
     }

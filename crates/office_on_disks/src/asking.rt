@@ -28,6 +28,8 @@ pub enum Question {
     Award,
     /// For contract 1.
     Contract,
+    /// For its performance security.
+    Performance,
     /// For its entry `P1`.
     Entry,
     /// For what is reserved on the line `1000`.
@@ -63,6 +65,7 @@ fn ask_for_money<H: Lookups>(
         Question::Batch => Some(is_there(shelf.get_batch(&Id::read(b"B1")?))),
         Question::Award => Some(is_there(shelf.get_award(one))),
         Question::Contract => Some(is_there(shelf.get_contract(one))),
+        Question::Performance => Some(is_there(shelf.get_performance(one))),
         Question::Entry => Some(is_there(shelf.get_entry(one, &Id::read(b"P1")?))),
         Question::Reservations => Some(are_there(shelf.list_reservations_of_line(&line))),
         Question::Ledger => Some(are_there(shelf.ledger())),

@@ -16,7 +16,7 @@ use Rattle.tender_papers.specs.Minutes.{minutes_text}
 use Rattle.tender_papers.specs.Register.{state_word}
 use Rattle.tender_papers.specs.declared.minutes.OpenedTender.{OpenedTender}
 use Rattle.office_machine.specs.Replies.{Reply, Winning, Registered, Minuted, Refused, Imported, Enrolled, OfNotice, OpenedAll, Received, Withdrew}
-use Rattle.office_machine.specs.Replies.{Examined, Awarded, Failed, Signed, OfContract, LineSeen, LedgerSeen, Tender, Security, Registry, Minutes, Package}
+use Rattle.office_machine.specs.Replies.{Examined, Awarded, Failed, Signed, OfContract, LineSeen, LedgerSeen, Tender, Security, PerformanceSeen, Registry, Minutes, Package}
 use Rattle.office_plans.specs.declared.reply.Reply as replies
 use Rattle.office_plans.specs.declared.reply.Reply.TheVariants as variants
 use Rattle.office_plans.specs.declared.reply.Winner.{Winner}
@@ -78,6 +78,9 @@ reply_entries (Tender digest length notice lot moment receipt security state) =
     ∷ number_entry (codes "receipt") receipt ∷ count_entry (codes "security") security ∷ state_entry state ∷ []
 reply_entries (Security amount reference security state tenderer) =
     number_entry (codes "amount") amount ∷ text_entry (codes "reference") reference ∷ number_entry (codes "security") security
+    ∷ text_entry (codes "state") (security_word state) ∷ text_entry (codes "tenderer") tenderer ∷ []
+reply_entries (PerformanceSeen amount contract reference state tenderer) =
+    number_entry (codes "amount") amount ∷ number_entry (codes "contract") contract ∷ text_entry (codes "reference") reference
     ∷ text_entry (codes "state") (security_word state) ∷ text_entry (codes "tenderer") tenderer ∷ []
 reply_entries _ = []
 

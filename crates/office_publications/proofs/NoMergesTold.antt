@@ -25,7 +25,7 @@ module _ (settings : Settings) (trees : List CompiledRow) (s : Tables) (moment :
   text_apart (Open notice) = refl
   text_apart (Award notice lot) = refl
   text_apart (Fail award) = refl
-  text_apart (Sign award) = refl
+  text_apart (Sign award named) = refl
   text_apart (AmendContract contract entry kind amount rationale) = refl
   text_apart (Pay contract entry amount) = refl
   text_apart (End contract how) = refl

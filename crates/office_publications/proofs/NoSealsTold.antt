@@ -143,7 +143,7 @@ module _ (s : Tables) (es' : List EnvelopeRow) (ss' : List SealRow) (all : Pairs
       (awarded_other notice lot (winner (notice_at notice s) (envelopes_of_lot notice lot other))
       ∙ by_bare (awarded_by s notice lot (notice_at notice s)) (awarded_blind s notice lot (notice_at notice s)) s.envelopes es' all)
   same_event (Fail award) = refl
-  same_event (Sign award) = refl
+  same_event (Sign award named) = refl
   same_event (AmendContract contract entry kind amount rationale) = refl
   same_event (Pay contract entry amount) = refl
   same_event (End contract how) = refl
@@ -161,7 +161,7 @@ module _ (s : Tables) (es' : List EnvelopeRow) (ss' : List SealRow) (all : Pairs
   same_notice (Examine receipt responsive quality) = refl
   same_notice (Award notice lot) = refl
   same_notice (Fail award) = refl
-  same_notice (Sign award) = refl
+  same_notice (Sign award named) = refl
   same_notice (AmendContract contract entry kind amount rationale) = refl
   same_notice (Pay contract entry amount) = refl
   same_notice (End contract how) = refl
@@ -183,3 +183,4 @@ packages_tell_no_seals settings (queries.Releases notice) s es' ss' all = refl
 packages_tell_no_seals settings (queries.Record notice) s es' ss' all = refl
 packages_tell_no_seals settings (queries.Tender receipt) s es' ss' all = refl
 packages_tell_no_seals settings (queries.Security security) s es' ss' all = refl
+packages_tell_no_seals settings (queries.Performance contract) s es' ss' all = refl

@@ -1,7 +1,8 @@
 //! What is published of awards.
-ghost use Rattle.std.specs.Prelude.{IfOk, IfErr, ◌≡◌, List, ℕ, Some, option_and_then};
+ghost use Rattle.std.specs.Prelude.{IfOk, IfErr, ◌≡◌, List, ℕ, Option, Some, option_and_then};
 ghost use Rattle.award_core.specs.Rules.Award.{weight_in};
 ghost use Rattle.office_acts.specs.declared.commands.Command.TheVariants.{Award, Fail, Sign};
+ghost use Rattle.office_acts.specs.declared.tender.NamedSecurity.{NamedSecurity};
 ghost use Rattle.office_base.specs.Shelves.{Looks, LooksUp};
 ghost use Rattle.office_base.specs.Tables.{Tables, award_at, envelopes_of_lot, envelopes_of_notice, lots_of_notice, notice_at, tenderer_at};
 ghost use Rattle.office_publisher.specs.Released.{IsReleasedAt};
@@ -145,7 +146,7 @@ pub fn failed<H: Lookups>(
     Ok(next.released(release))
 }
 
-/// The release of an award's signing. `Unavailable` also where there is no such award, or its notice has all its releases.
+/// The release of an award's signing, whatever performance security is named. `Unavailable` also where there is no such award, or its notice has all its releases.
 pub fn signed<H: Lookups>(
     alloc: Global,
     shelf: &mut H,
@@ -153,7 +154,7 @@ pub fn signed<H: Lookups>(
     moment: Moment,
     award: AskedNumber,
 ) -> Result<Released, Refusal>
-    ensures looks { Looks H.meaning shelf.old shelf.new (λ s. IfOk result (IsReleasedAt settings.now s moment (Sign award))) }
+    ensures looks { Looks H.meaning shelf.old shelf.new (λ s. IfOk result (λ released. (named : Option NamedSecurity) → IsReleasedAt settings.now s moment (Sign award named) released)) }
     ensures none { IfErr result (λ why. why ≡ Unavailable) }
 {
     looks_follow::<H>();

@@ -14,8 +14,8 @@ use Rattle.office_requests.specs.Paths.{segment}
 use Rattle.office_requests.specs.Moments.{moment_of, second_named, days_to_year, days_to_month}
 use Rattle.office_requests.specs.Forms.{id_of, line_of, within, amount_of, digest_of, change_of, ending_of, basis_of, lateness_of}
 use Rattle.office_requests.specs.Fields.{text_at, flag_at, number_at, needed, perhaps_number_in, absent_in}
-use Rattle.office_requests.specs.Bodies.{object_of, registration_in, notice_amendment_in, cancellation_in, examination_in, contract_amendment_in, payment_in, ending_in, sealed_in}
-use Rattle.office_requests.specs.Publications.{each_of, array_at, elements_at, item_of, items_of, lot_of, lots_in, criteria_with, criteria_in, late_in, notice_in}
+use Rattle.office_requests.specs.Bodies.{object_of, registration_in, notice_amendment_in, cancellation_in, examination_in, contract_amendment_in, named_in, performance_of, payment_in, ending_in, sealed_in}
+use Rattle.office_requests.specs.Publications.{each_of, array_at, elements_at, item_of, items_of, lot_of, lots_in, criteria_with, criteria_in, late_in, performance_in, notice_in}
 use Rattle.office_requests.specs.Parameters.{given_from, security_in}
 use Rattle.office_requests.specs.Asking.{named_command, lot_command, numbered_command, command_at, query_at, asked_by}
 
@@ -41,12 +41,12 @@ fields_on_literals = tt
 
 -- what a publication says
 unfoldable pub publications_on_literals : ⊤
-unfolding fields_on_literals each_of array_at elements_at item_of items_of lot_of lots_in criteria_with criteria_in late_in notice_in
+unfolding fields_on_literals each_of array_at elements_at item_of items_of lot_of lots_in criteria_with criteria_in late_in performance_in notice_in
 publications_on_literals = tt
 
 -- what another body says
 unfoldable pub bodies_on_literals : ⊤
-unfolding fields_on_literals csv_on_literals rows_from registration_in notice_amendment_in cancellation_in examination_in contract_amendment_in payment_in ending_in
+unfolding fields_on_literals csv_on_literals rows_from registration_in notice_amendment_in cancellation_in examination_in named_in performance_of contract_amendment_in payment_in ending_in
 bodies_on_literals = tt
 
 -- what a tender is

@@ -9,6 +9,7 @@ routes = record {
   imports = refl;
   registers = refl;
   publishes_with_late_withdrawals = refl;
+  publishes_with_performance = refl;
   publishes = refl;
   amends = refl;
   cancels = refl;
@@ -21,6 +22,8 @@ routes = record {
   awards = refl;
   fails = refl;
   signs = refl;
+  signs_with_nothing = refl;
+  signs_with_a_security = refl;
   amends_contracts = refl;
   pays = refl;
   ends = refl;
@@ -32,6 +35,7 @@ routes = record {
   sees_records = refl;
   sees_tenders = refl;
   sees_securities = refl;
+  sees_performance_securities = refl;
 }
 
 pub paths : PathsAreRefused
@@ -65,6 +69,11 @@ bodies = record {
   no_change = refl;
   nothing_paid = refl;
   with_a_point = refl;
+  no_amount_of_a_security = refl;
+  no_security_of_an_amount = refl;
+  wrong_amount_alone = refl;
+  null_security = refl;
+  one_space = refl;
   no_ending = refl;
 }
 
@@ -75,6 +84,7 @@ publications = record {
   weight_with_price = refl;
   another_word = refl;
   no_word = refl;
+  performance_above = refl;
   no_lots = refl;
   no_items = refl;
   wrong_item = refl;

@@ -17,7 +17,7 @@ use Rattle.office_acts.specs.declared.queries.Query.TheVariants as queries
 use Rattle.office_wire.specs.Request.{RequestView}
 use Rattle.tender_papers.specs.Budget.{budget_of}
 use Rattle.tender_papers.specs.Files.{csv_records}
-use Rattle.office_requests.specs.Bodies.{object_of, import_of, registration_in, notice_amendment_in, cancellation_in, examination_in, contract_amendment_in, payment_in, ending_in, sealed_in}
+use Rattle.office_requests.specs.Bodies.{object_of, import_of, registration_in, notice_amendment_in, cancellation_in, examination_in, contract_amendment_in, payment_in, performance_of, ending_in, sealed_in}
 use Rattle.office_requests.specs.Fields.{◌>>=◌}
 use Rattle.office_requests.specs.Parameters.{query_of, security_in}
 use Rattle.office_requests.specs.Publications.{publication_in}
@@ -59,7 +59,7 @@ numbered_command kinds.Modify receipt body = sealed_in body >>= λ sealed. Ok (c
 numbered_command kinds.Withdraw receipt body = Ok (commands.Withdraw receipt)
 numbered_command kinds.Examine receipt body = object_of body >>= examination_in receipt
 numbered_command kinds.Fail award body = Ok (commands.Fail award)
-numbered_command kinds.Sign award body = Ok (commands.Sign award)
+numbered_command kinds.Sign award body = performance_of body >>= λ named. Ok (commands.Sign award named)
 numbered_command kinds.AmendContract contract body = object_of body >>= contract_amendment_in contract
 numbered_command kinds.Pay contract body = object_of body >>= payment_in contract
 numbered_command kinds.End contract body = object_of body >>= ending_in contract
@@ -82,6 +82,7 @@ query_at looks.Releases (Named notice) = Ok (queries.Releases notice)
 query_at looks.Record (Named notice) = Ok (queries.Record notice)
 query_at looks.Tender (Numbered receipt) = Ok (queries.Tender receipt)
 query_at looks.Security (Numbered security) = Ok (queries.Security security)
+query_at looks.Performance (Numbered contract) = Ok (queries.Performance contract)
 query_at _ _ = Err NoRoute
 
 -- what a route asks with this query and this body

@@ -1,5 +1,5 @@
 -- The bodies of requests, as commands: the fields are read in their order, and the first that is missing or wrong is named.
-use Rattle.std.specs.Prelude.{ℕ, ◌^◌, List, length, if◌then◌else◌, Option, None, is_some, Result, Ok, Err}
+use Rattle.std.specs.Prelude.{ℕ, ◌^◌, ◌&&◌, not, nat_eq, List, length, if◌then◌else◌, Option, Some, None, is_some, Result, Ok, Err}
 use Rattle.std.specs.Option.{option_map_or}
 use Rattle.std.specs.Str.{is_utf8}
 use Rattle.serde_json.specs.Data.{Data}
@@ -12,9 +12,10 @@ use Rattle.office_values.specs.declared.refusal.Refusal.TheVariants.{BadBody}
 use Rattle.office_acts.specs.declared.budget.BudgetRow.{BudgetRow}
 use Rattle.office_acts.specs.declared.commands.Command.{Command}
 use Rattle.office_acts.specs.declared.commands.Command.TheVariants as commands
+use Rattle.office_acts.specs.declared.tender.NamedSecurity.{NamedSecurity}
 use Rattle.office_requests.specs.Forms.{id_of, digest_of, change_of, ending_of, is_between}
 use Rattle.office_requests.specs.Moments.{moment_of}
-use Rattle.office_requests.specs.Fields.{◌>>=◌, text_in, line_in, flag_in, number_in, perhaps_number_in}
+use Rattle.office_requests.specs.Fields.{◌>>=◌, has, text_in, line_in, flag_in, number_in, perhaps_number_in}
 
 -- the JSON value that a body is; nothing that is not UTF-8 is one
 abbrev pub json_of : List ℕ → Option Data
@@ -39,6 +40,19 @@ registration_in tenderer body = do
   address ← line_in fields.Address body
   key ← text_in digest_of fields.Key body
   Ok (commands.Register tenderer name address key)
+
+-- the performance security that is named, and its amount: both or neither
+unfoldable pub named_in : Data → Result (Option NamedSecurity) Refusal
+named_in body =
+    if not (has fields.Security body) && not (has fields.Amount body) then Ok None
+    else do
+      reference ← text_in id_of fields.Security body
+      amount ← number_in 1 (10 ^ 12) fields.Amount body
+      Ok (Some (record { reference = reference; amount = amount }))
+
+-- neither where the body is empty
+unfoldable pub performance_of : List ℕ → Result (Option NamedSecurity) Refusal
+performance_of body = if nat_eq (length body) 0 then Ok None else object_of body >>= named_in
 
 unfoldable pub notice_amendment_in : List ℕ → Data → Result Command Refusal
 notice_amendment_in notice body = do

@@ -85,6 +85,10 @@ criteria_in body = do
 unfoldable pub late_in : Data → Result LateWithdrawal Refusal
 late_in body = if has fields.LateWithdrawal body then text_in lateness_of fields.LateWithdrawal body else Ok Refused
 
+-- what the performance security of each contract must come to: nothing where nothing is said of it
+unfoldable pub performance_in : Data → Result ℕ Refusal
+performance_in body = if has fields.Performance body then number_in 0 (10 ^ 12) fields.Performance body else Ok 0
+
 unfoldable pub notice_in : Data → Result NewNotice Refusal
 notice_in body = do
   title ← line_in fields.Title body
@@ -93,8 +97,9 @@ notice_in body = do
   standstill ← number_in 0 90 fields.StandstillDays body
   criteria ← criteria_in body
   late ← late_in body
+  performance ← performance_in body
   lots ← lots_in body
-  Ok (record { title = title; deadline = deadline; validity = validity; standstill = standstill; criteria = criteria; late_withdrawal = late; lots = lots })
+  Ok (record { title = title; deadline = deadline; validity = validity; standstill = standstill; criteria = criteria; late_withdrawal = late; performance = performance; lots = lots })
 
 abbrev pub publication_in : List ℕ → Data → Result Command Refusal
 publication_in notice body = notice_in body >>= λ content. Ok (commands.Publish notice content)

@@ -52,6 +52,7 @@ route_table =
     ∷ (codes "/notices/{n}/record", (Queries queries.Record, OneId))
     ∷ (codes "/tenders/{r}", (Queries queries.Tender, Number))
     ∷ (codes "/securities/{s}", (Queries queries.Security, Number))
+    ∷ (codes "/contracts/{c}/security", (Queries queries.Performance, Number))
     ∷ []
 
 -- the rows of a router with one more pattern, if its text is one

@@ -87,6 +87,7 @@ published = record {
   standstill = 10;
   criteria = Price;
   late_withdrawal = Refused;
+  performance = 0;
   lots = record {
     id = codes "L1";
     title = codes "North";
@@ -105,6 +106,8 @@ pub record RoutesAreTaken : Type 0 where
       (commands.Register (codes "T1") (codes "Ann") (codes "Road 1") (replicate 31 0 ++ 255 ∷ []))
   pub publishes_with_late_withdrawals : ClerkDoes (codes "/notices/N1")
       (publication_with (codes "\"criteria\":\"price\",\"late_withdrawal\":\"forfeits\"") (lot_with one_item)) (commands.Publish (codes "N1") (record published { late_withdrawal = Forfeits }))
+  pub publishes_with_performance : ClerkDoes (codes "/notices/N1")
+      (publication_with (codes "\"criteria\":\"price\",\"performance\":70") (lot_with one_item)) (commands.Publish (codes "N1") (record published { performance = 70 }))
   pub publishes : ClerkDoes (codes "/notices/N1") (publication_with by_price (lot_with one_item)) (commands.Publish (codes "N1") published)
   pub amends : ClerkDoes (codes "/notices/N1/amend") (codes "{\"rationale\":\"late\",\"deadline\":\"1970-01-02T00:00:01Z\",\"more\":[1]}")
       (commands.AmendNotice (codes "N1") 86401 (codes "late"))
@@ -118,7 +121,9 @@ pub record RoutesAreTaken : Type 0 where
   pub examines : ClerkDoes (codes "/tenders/17/examine") (codes "{\"responsive\":true}") (commands.Examine 17 true None)
   pub awards : ClerkDoes (codes "/notices/N1/lots/L1/award") [] (commands.Award (codes "N1") (codes "L1"))
   pub fails : ClerkDoes (codes "/awards/17/fail") [] (commands.Fail 17)
-  pub signs : ClerkDoes (codes "/awards/17/sign") [] (commands.Sign 17)
+  pub signs : ClerkDoes (codes "/awards/17/sign") [] (commands.Sign 17 None)
+  pub signs_with_nothing : ClerkDoes (codes "/awards/17/sign") (codes "{}") (commands.Sign 17 None)
+  pub signs_with_a_security : ClerkDoes (codes "/awards/17/sign") (codes "{\"security\":\"P1\",\"amount\":70}") (commands.Sign 17 (Some (record { reference = codes "P1"; amount = 70 })))
   pub amends_contracts : ClerkDoes (codes "/contracts/17/amend") (codes "{\"id\":\"E1\",\"kind\":\"cut\",\"amount\":5,\"rationale\":\"less\"}")
       (commands.AmendContract 17 (codes "E1") Cut 5 (codes "less"))
   pub pays : ClerkDoes (codes "/contracts/17/pay") (codes "{\"id\":\"E1\",\"amount\":5}") (commands.Pay 17 (codes "E1") 5)
@@ -131,6 +136,7 @@ pub record RoutesAreTaken : Type 0 where
   pub sees_records : Sees Public (codes "/notices/N1/record") (queries.Record (codes "N1"))
   pub sees_tenders : Sees (Tenderer (codes "T1")) (codes "/tenders/9999999999") (queries.Tender 9999999999)
   pub sees_securities : Sees Clerk (codes "/securities/17") (queries.Security 17)
+  pub sees_performance_securities : Sees Clerk (codes "/contracts/17/security") (queries.Performance 17)
 
 -- no other path is one, another method is refused with the one of the path, and rights come before the body
 pub record PathsAreRefused : Type 0 where
@@ -160,6 +166,11 @@ pub record BodiesAreRefused : Type 0 where
   pub no_change : Refuses (codes "/contracts/17/amend") (codes "{\"id\":\"E1\",\"kind\":\"Cut\",\"amount\":5,\"rationale\":\"less\"}") (parts.Field fields.Kind)
   pub nothing_paid : Refuses (codes "/contracts/17/pay") (codes "{\"id\":\"E1\",\"amount\":0}") (parts.Field fields.Amount)
   pub with_a_point : Refuses (codes "/contracts/17/pay") (codes "{\"id\":\"E1\",\"amount\":5.0}") (parts.Field fields.Amount)
+  pub no_amount_of_a_security : Refuses (codes "/awards/17/sign") (codes "{\"security\":\"P1\"}") (parts.Field fields.Amount)
+  pub no_security_of_an_amount : Refuses (codes "/awards/17/sign") (codes "{\"amount\":70}") (parts.Field fields.Security)
+  pub wrong_amount_alone : Refuses (codes "/awards/17/sign") (codes "{\"amount\":0}") (parts.Field fields.Security)
+  pub null_security : Refuses (codes "/awards/17/sign") (codes "{\"security\":null}") (parts.Field fields.Security)
+  pub one_space : Refuses (codes "/awards/17/sign") (codes " ") parts.Body
   pub no_ending : Refuses (codes "/contracts/17/end") (codes "{\"how\":null}") (parts.Field fields.How)
 
 -- a publication's weight goes with points alone, what it says of late withdrawals is one of two words, and any fault inside its lots is one of
@@ -171,6 +182,8 @@ pub record PublicationsAreRefused : Type 0 where
   pub another_word : Refuses (codes "/notices/N1")
       (publication_with (codes "\"criteria\":\"price\",\"late_withdrawal\":\"returns\"") []) (parts.Field fields.LateWithdrawal)
   pub no_word : Refuses (codes "/notices/N1") (publication_with (codes "\"criteria\":\"price\",\"late_withdrawal\":null") []) (parts.Field fields.LateWithdrawal)
+  pub performance_above : Refuses (codes "/notices/N1")
+      (publication_with (codes "\"criteria\":\"price\",\"performance\":1000000000001") []) (parts.Field fields.Performance)
   pub no_lots : Refuses (codes "/notices/N1") (publication_with by_price []) (parts.Field fields.Lots)
   pub no_items : Refuses (codes "/notices/N1") (publication_with by_price (lot_with [])) (parts.Field fields.Lots)
   pub wrong_item : Refuses (codes "/notices/N1")

@@ -8,7 +8,7 @@ ghost use Rattle.office_requests.specs.Asking.{asked, asked_by, command_at, endp
 
 use crate::bodies::{
     cancellation, contract_amendment, ending, examination, import_of, notice_amendment, object_of,
-    payment, registration, sealed,
+    payment, performance_of, registration, sealed,
 };
 use crate::parameters::security;
 use crate::path::behind;
@@ -109,7 +109,10 @@ fn numbered_command<'a>(
         CommandKind::Withdraw => Ok(Command::Withdraw { receipt: number }),
         CommandKind::Examine => examination(number, &object_of(alloc, body)?),
         CommandKind::Fail => Ok(Command::Fail { award: number }),
-        CommandKind::Sign => Ok(Command::Sign { award: number }),
+        CommandKind::Sign => Ok(Command::Sign {
+            award: number,
+            security: performance_of(alloc, body)?,
+        }),
         CommandKind::AmendContract => contract_amendment(alloc, number, &object_of(alloc, body)?),
         CommandKind::Pay => payment(number, &object_of(alloc, body)?),
         CommandKind::End => ending(number, &object_of(alloc, body)?),
@@ -153,6 +156,7 @@ fn query_at(kind: QueryKind, place: Place) -> Result<Query, Refusal>
         (QueryKind::Record, Place::Named(notice)) => Ok(Query::Record { notice }),
         (QueryKind::Tender, Place::Numbered(receipt)) => Ok(Query::Tender { receipt }),
         (QueryKind::Security, Place::Numbered(security)) => Ok(Query::Security { security }),
+        (QueryKind::Performance, Place::Numbered(contract)) => Ok(Query::Performance { contract }),
         _ => Err(Refusal::NoRoute),
     }
 }

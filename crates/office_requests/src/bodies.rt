@@ -8,12 +8,13 @@ ghost use Rattle.office_acts.specs.Commands.{kind_of};
 ghost use Rattle.tender_papers.specs.Budget.{budget_of};
 ghost use Rattle.tender_papers.specs.Files.{csv_records};
 ghost use Rattle.office_requests.specs.Inside.Answers.{ReadsAs, ReadsObject};
-ghost use Rattle.office_requests.specs.Bodies.{object_of, import_of, registration_in, notice_amendment_in, cancellation_in, examination_in, contract_amendment_in, payment_in, ending_in, sealed_in};
+ghost use Rattle.office_requests.specs.Bodies.{object_of, import_of, registration_in, notice_amendment_in, cancellation_in, examination_in, contract_amendment_in, named_in, performance_of, payment_in, ending_in, sealed_in};
 
-use crate::fields::{flag, line, number, perhaps_number, text};
+use crate::fields::{flag, has, line, number, perhaps_number, text};
 use office_acts::command::CommandKind;
 use office_acts::commands::Command;
 use office_acts::sealed::Sealed;
+use office_acts::tender::NamedSecurity;
 use office_values::given::AskedNumber;
 use office_values::id::Id;
 use office_values::refusal::{BadPart, Field, Refusal};
@@ -129,6 +130,32 @@ pub fn contract_amendment<'a>(
         amount: number(body, Field::Amount)?,
         rationale: line(alloc, body, Field::Rationale)?,
     })
+}
+
+// The performance security that is named, and its amount: both or neither.
+#[tactic(auto, unfolding(crate::specs::Bodies::named_in))]
+fn named(body: &Value) -> Result<Option<NamedSecurity>, Refusal>
+    ensures { result ≡ named_in (view body.now) }
+{
+    if !has(body, Field::Security.name()) && !has(body, Field::Amount.name()) {
+        return Ok(None);
+    }
+    Ok(Some(NamedSecurity {
+        reference: text(body, Field::Security)?,
+        amount: number(body, Field::Amount)?,
+    }))
+}
+
+/// The performance security that the body of a signing names; None where it is empty, or says nothing of one.
+#[tactic(auto, unfolding(crate::specs::Bodies::performance_of))]
+pub fn performance_of(alloc: Global, body: &[u8]) -> Result<Option<NamedSecurity>, Refusal>
+    ensures { ReadsAs result (performance_of body.now) }
+{
+    if body.len() == 0 {
+        return Ok(None);
+    }
+    let value = object_of(alloc, body)?;
+    named(&value)
 }
 
 /// The payment under this contract.

@@ -4,7 +4,7 @@ ghost use Rattle.serde_json.specs.View.{view, items_view};
 ghost use Rattle.office_acts.specs.Commands.{kind_of};
 ghost use Rattle.office_requests.specs.Inside.Answers.{ReadsAs, ReadsList};
 ghost use Rattle.office_requests.specs.Publications as spec;
-ghost use Rattle.office_requests.specs.Publications.{in_lots, each_of, array_at, elements_at, item_of, items_of, lot_of, lots_in, criteria_with, criteria_in, late_in, notice_in, publication_in};
+ghost use Rattle.office_requests.specs.Publications.{in_lots, each_of, array_at, elements_at, item_of, items_of, lot_of, lots_in, criteria_with, criteria_in, late_in, performance_in, notice_in, publication_in};
 
 use crate::fields::{absent, has, line, line_at, needed, number, number_at, text, text_at};
 use office_acts::command::CommandKind;
@@ -174,6 +174,18 @@ fn late_withdrawal(body: &Value) -> Result<LateWithdrawal, Refusal>
     }
 }
 
+// What the performance security of each contract must come to: nothing where nothing is said of it.
+#[tactic(auto, unfolding(crate::specs::Publications::performance_in))]
+fn performance(body: &Value) -> Result<Amount, Refusal>
+    ensures { result ≡ performance_in (view body.now) }
+{
+    if has(body, Field::Performance.name()) {
+        Ok(amount_of(number(body, Field::Performance)?))
+    } else {
+        Ok(Amount::read(0).unwrap())
+    }
+}
+
 // What the body of a publication says.
 #[tactic(auto, unfolding(crate::specs::Publications::notice_in))]
 fn new_notice(alloc: Global, body: &Value) -> Result<NewNotice, Refusal>
@@ -186,6 +198,7 @@ fn new_notice(alloc: Global, body: &Value) -> Result<NewNotice, Refusal>
         standstill: number(body, Field::StandstillDays)?,
         criteria: criteria(body)?,
         late_withdrawal: late_withdrawal(body)?,
+        performance: performance(body)?,
         lots: lots(alloc, body)?,
     })
 }

@@ -20,7 +20,7 @@ use std::alloc::{AllocError, Global};
 #[derive(Clone, Copy)]
 struct Row(&'static str, Endpoint, Shape);
 
-const ROWS: [Row; 24] = [
+const ROWS: [Row; 25] = [
     Row("/budget/{batch}", Commands(CommandKind::Import), OneId),
     Row("/tenderers/{id}", Commands(CommandKind::Register), OneId),
     Row("/notices/{n}", Commands(CommandKind::Publish), OneId),
@@ -69,6 +69,11 @@ const ROWS: [Row; 24] = [
     Row("/notices/{n}/record", Queries(QueryKind::Record), OneId),
     Row("/tenders/{r}", Queries(QueryKind::Tender), Number),
     Row("/securities/{s}", Queries(QueryKind::Security), Number),
+    Row(
+        "/contracts/{c}/security",
+        Queries(QueryKind::Performance),
+        Number,
+    ),
 ];
 
 /// The routes of the office, made once and asked for each request.

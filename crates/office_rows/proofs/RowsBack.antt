@@ -24,13 +24,14 @@ use Rattle.office_base.specs.declared.records.SecurityRow.{SecurityRow}
 use Rattle.office_base.specs.declared.records.AwardRow.{AwardRow}
 use Rattle.office_base.specs.declared.records.ContractRow.{ContractRow}
 use Rattle.office_base.specs.declared.records.EntryRow.{EntryRow}
+use Rattle.office_base.specs.declared.records.PerformanceRow.{PerformanceRow}
 use Rattle.office_rows.specs.Values.{or_null, perhaps_in, text_or_null, perhaps_text_in, as_number, yes_in, perhaps_yes_in}
 use Rattle.office_rows.specs.Words.{notice_state_text, notice_state_in, lot_state_text, lot_state_in, envelope_state_text, envelope_state_in, security_state_text, security_state_in, award_state_text, award_state_in, how_text, how_in, entry_kind_text, entry_kind_in}
 use Rattle.office_rows.specs.Readings.{reading_word, stated_of, corrected_of, corrections_of, reading_in}
 use Rattle.office_rows.specs.ItemTexts.{items_text, items_in}
-use Rattle.office_rows.specs.Notices.{notice_row, notice_read, lot_row, lot_read}
+use Rattle.office_rows.specs.Notices.{notice_row, notice_read, former_row, former_read, asks_nothing, lot_row, lot_read}
 use Rattle.office_rows.specs.Tenders.{envelope_row, envelope_read, security_row, security_read}
-use Rattle.office_rows.specs.Awards.{award_row, award_read, contract_row, contract_read, entry_row, entry_read}
+use Rattle.office_rows.specs.Awards.{award_row, award_read, contract_row, contract_read, entry_row, entry_read, performance_row, performance_read}
 use Rattle.sqlite_value.specs.declared.value.Value.TheVariants.{Int}
 use Rattle.std.specs.Prelude.{pos}
 
@@ -99,6 +100,9 @@ entry_kind_back entry.Payment = refl
 pub notice_back : (x : NoticeRow) → notice_read (notice_row x) ≡ x
 notice_back x = λ i. record x { state = notice_state_back x.state i; opened = perhaps_back x.opened i }
 
+pub former_back : (x : NoticeRow) → former_read (former_row x) ≡ asks_nothing x
+former_back x = λ i. record x { state = notice_state_back x.state i; opened = perhaps_back x.opened i; performance = 0 }
+
 pub lot_back : (x : LotRow) → items_in (items_text x.items) ≡ x.items → lot_read (lot_row x) ≡ x
 lot_back x items = λ i. record x { items = items i; state = lot_state_back x.state i }
 
@@ -123,3 +127,6 @@ contract_back x = λ i. record x { ended = perhaps_back x.ended i; how = how_bac
 
 pub entry_back : (x : EntryRow) → entry_read (entry_row x) ≡ x
 entry_back x = λ i. record x { kind = entry_kind_back x.kind i; rationale = perhaps_text_back x.rationale i }
+
+pub performance_back : (x : PerformanceRow) → performance_read (performance_row x) ≡ x
+performance_back x = λ i. record x { state = security_state_back x.state i }

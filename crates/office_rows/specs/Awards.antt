@@ -5,8 +5,9 @@ use Rattle.sqlite_value.specs.Order.{Row, column, bytes}
 use Rattle.office_base.specs.declared.records.AwardRow.{AwardRow}
 use Rattle.office_base.specs.declared.records.ContractRow.{ContractRow}
 use Rattle.office_base.specs.declared.records.EntryRow.{EntryRow}
+use Rattle.office_base.specs.declared.records.PerformanceRow.{PerformanceRow}
 use Rattle.office_rows.specs.Values.{number_in, or_null, perhaps_in, text_or_null, perhaps_text_in, tail}
-use Rattle.office_rows.specs.Words.{award_state_text, award_state_in, how_text, how_in, entry_kind_text, entry_kind_in}
+use Rattle.office_rows.specs.Words.{award_state_text, award_state_in, how_text, how_in, entry_kind_text, entry_kind_in, security_state_text, security_state_in}
 
 -- an award: its row, what a row is read as, and what a row is read as that stands behind a rowid
 abbrev pub award_row : AwardRow → Row
@@ -66,3 +67,18 @@ entry_read r = record {
 
 abbrev pub entry_in : Row → EntryRow
 entry_in r = entry_read (tail r)
+
+-- a performance security: its row, what a row is read as, and what a row is read as that stands behind a rowid
+abbrev pub performance_row : PerformanceRow → Row
+performance_row x = Int (pos x.contract) ∷ Text x.reference ∷ Int (pos x.amount) ∷ Text (security_state_text x.state) ∷ []
+
+abbrev pub performance_read : Row → PerformanceRow
+performance_read r = record {
+  contract = number_in (column r 0);
+  reference = bytes (column r 1);
+  amount = number_in (column r 2);
+  state = security_state_in (bytes (column r 3));
+}
+
+abbrev pub performance_in : Row → PerformanceRow
+performance_in r = performance_read (tail r)

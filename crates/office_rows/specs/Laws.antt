@@ -3,13 +3,18 @@ use Rattle.std.specs.Prelude.{◌≡◌, ◌∷◌}
 use Rattle.sqlite_value.specs.declared.value.Value.{Value}
 use Rattle.sqlite_value.specs.Order.{Row}
 use Rattle.office_base.specs.declared.records.LotRow.{LotRow}
+use Rattle.office_base.specs.declared.records.NoticeRow.{NoticeRow}
 use Rattle.office_rows.specs.ItemTexts.{items_text, items_in}
-use Rattle.office_rows.specs.Notices.{lot_row, lot_read, lot_in}
+use Rattle.office_rows.specs.Notices.{former_row, former_read, asks_nothing, lot_row, lot_read, lot_in}
 
 -- each record comes back from its row, and from what a table stores of it, a rowid and its row
 pub record ComesBack {X : Type 0} (row_of : X → Row) (read : Row → X) (stored : Row → X) : Type 0 where
   pub row : (x : X) → read (row_of x) ≡ x
   pub entry : (rowid : Value) (x : X) → stored (rowid ∷ row_of x) ≡ x
+
+-- a notice of an earlier program comes back, and asks for no performance security
+abbrev pub FormerComesBack : Type 0
+FormerComesBack = (x : NoticeRow) → former_read (former_row x) ≡ asks_nothing x
 
 -- a lot comes back where its items do
 pub record LotComesBack : Type 0 where

@@ -24,7 +24,7 @@ tenderer_in r = tenderer_read (tail r)
 abbrev pub notice_row : NoticeRow → Row
 notice_row x =
     Text x.notice ∷ Text x.title ∷ Int (pos x.published) ∷ Int (pos x.deadline) ∷ Int (pos x.validity) ∷ Int (pos x.standstill) ∷ Int (pos x.weight)
-    ∷ Text (notice_state_text x.state) ∷ or_null x.opened ∷ Int (pos x.amendments) ∷ Int (pos x.releases) ∷ []
+    ∷ Text (notice_state_text x.state) ∷ or_null x.opened ∷ Int (pos x.amendments) ∷ Int (pos x.releases) ∷ Int (pos x.performance) ∷ []
 
 abbrev pub notice_read : Row → NoticeRow
 notice_read r = record {
@@ -39,10 +39,27 @@ notice_read r = record {
   opened = perhaps_in (column r 8);
   amendments = number_in (column r 9);
   releases = number_in (column r 10);
+  performance = number_in (column r 11);
 }
 
 abbrev pub notice_in : Row → NoticeRow
 notice_in r = notice_read (tail r)
+
+-- a notice of an earlier program, which knew no performance securities: none is asked
+abbrev pub former_row : NoticeRow → Row
+former_row x =
+    Text x.notice ∷ Text x.title ∷ Int (pos x.published) ∷ Int (pos x.deadline) ∷ Int (pos x.validity) ∷ Int (pos x.standstill) ∷ Int (pos x.weight)
+    ∷ Text (notice_state_text x.state) ∷ or_null x.opened ∷ Int (pos x.amendments) ∷ Int (pos x.releases) ∷ []
+
+abbrev pub former_read : Row → NoticeRow
+former_read r = record (notice_read r) { performance = 0 }
+
+-- what such a program's notice is for this one
+abbrev pub asks_nothing : NoticeRow → NoticeRow
+asks_nothing x = record x { performance = 0 }
+
+abbrev pub former_in : Row → NoticeRow
+former_in r = former_read (tail r)
 
 -- that tenders for a notice may be withdrawn late: its row, what a row is read as, and what a row is read as that stands behind a rowid
 abbrev pub late_row : LateRow → Row

@@ -22,6 +22,7 @@ use Rattle.office_base.specs.declared.records.EntryRow.{EntryRow}
 use Rattle.office_base.specs.declared.records.ReleaseRow.{ReleaseRow}
 use Rattle.office_base.specs.declared.records.CompiledRow.{CompiledRow}
 use Rattle.office_base.specs.declared.records.LateRow.{LateRow}
+use Rattle.office_base.specs.declared.records.PerformanceRow.{PerformanceRow}
 use Rattle.office_base.specs.declared.records.ClockRow.{ClockRow}
 
 -- no more is asked
@@ -54,6 +55,7 @@ abbrev pub NoticeFits : NoticeRow → Type 0
 NoticeFits x =
     IsId x.notice × IsTextLine x.title × (x.published ≤ last_moment) × (x.deadline ≤ last_moment) × IsWithin 1 365 x.validity × (x.standstill ≤ 90)
     × (x.weight ≤ 100) × IfSome x.opened (λ moment. moment ≤ last_moment) × (x.amendments ≤ 50) × (x.releases ≤ 9999)
+    × (x.performance ≤ amount_limit)
 
 abbrev pub LotFits : LotRow → Type 0
 LotFits x =
@@ -99,6 +101,9 @@ CompiledFits x = IsId x.notice × IsUtf8 x.text
 
 abbrev pub LateFits : LateRow → Type 0
 LateFits x = IsId x.notice
+
+abbrev pub PerformanceFits : PerformanceRow → Type 0
+PerformanceFits x = IsGiven x.contract × IsId x.reference × IsSum x.amount
 
 abbrev pub ClockFits : ClockRow → Type 0
 ClockFits x = (x.moment ≤ last_moment) × (x.receipts ≤ 10 ^ 9) × (x.awards ≤ 10 ^ 9)

@@ -1,5 +1,5 @@
 -- Releases, the merge of a notice's releases, and the clock as rows of SQL: the key, then the other fields.
-use Rattle.std.specs.Prelude.{pos, [], ◌∷◌}
+use Rattle.std.specs.Prelude.{ℕ, pos, [], ◌∷◌}
 use Rattle.sqlite_value.specs.declared.value.Value.TheVariants.{Int, Text}
 use Rattle.sqlite_value.specs.Order.{Row, column, bytes}
 use Rattle.office_base.specs.declared.records.ReleaseRow.{ReleaseRow}
@@ -27,9 +27,12 @@ compiled_read r = record { notice = bytes (column r 0); text = bytes (column r 1
 abbrev pub compiled_in : Row → CompiledRow
 compiled_in r = compiled_read (tail r)
 
--- the clock stands in the office's one row, behind the version of its tables, which is 1
+-- the clock stands in the office's one row, behind the version of its tables, which is 2
+abbrev pub clock_row_of : ℕ → ClockRow → Row
+clock_row_of version x = Int (pos version) ∷ Int (pos x.moment) ∷ Int (pos x.receipts) ∷ Int (pos x.awards) ∷ []
+
 abbrev pub clock_row : ClockRow → Row
-clock_row x = Int (pos 1) ∷ Int (pos x.moment) ∷ Int (pos x.receipts) ∷ Int (pos x.awards) ∷ []
+clock_row x = clock_row_of 2 x
 
 abbrev pub clock_read : Row → ClockRow
 clock_read r = record { moment = number_in (column r 1); receipts = number_in (column r 2); awards = number_in (column r 3) }

@@ -265,14 +265,15 @@ pub(crate) fn perhaps_bounded_at<const LOW: u64, const HIGH: u64>(
     }
 }
 
-// Nothing where the version of the office's tables stands there, which is 1.
-pub(crate) fn version_at(row: &Row, at: usize) -> Result<(), ShelfFault>
-    ensures exact { IfOk result (λ _. whole 1 ≡ column row.now at) }
-    ensures cause { IfErr result (IsFaultOf (IsUnwritten whole (λ version. version ≡ 1) (column row.now at))) }
+// Nothing where this version of the office's tables stands there.
+pub(crate) fn version_at(row: &Row, at: usize, version: u64) -> Result<(), ShelfFault>
+    ensures exact { IfOk result (λ _. whole version ≡ column row.now at) }
+    ensures cause { IfErr result (IsFaultOf (IsUnwritten whole (λ n. n ≡ version) (column row.now at))) }
 {
-    match number_at(row, at)? {
-        1 => Ok(()),
-        _ => Err(ShelfFault::Store),
+    if number_at(row, at)? == version {
+        Ok(())
+    } else {
+        Err(ShelfFault::Store)
     }
 }
 

@@ -6,9 +6,9 @@ ghost use Rattle.office_rows.specs.ItemTexts.{items_text, items_in, ItemFits};
 ghost use Rattle.office_rows.specs.Budget.{line_row, line_read, line_in, batch_row, batch_read, batch_in};
 ghost use Rattle.office_rows.specs.Notices.{tenderer_row, tenderer_read, tenderer_in, notice_row, notice_read, notice_in, late_row, late_read, late_in};
 ghost use Rattle.office_rows.specs.Tenders.{envelope_row, envelope_read, envelope_in, seal_row, seal_read, seal_in, security_row, security_read, security_in};
-ghost use Rattle.office_rows.specs.Awards.{award_row, award_read, award_in, contract_row, contract_read, contract_in, entry_row, entry_read, entry_in};
+ghost use Rattle.office_rows.specs.Awards.{award_row, award_read, award_in, contract_row, contract_read, contract_in, entry_row, entry_read, entry_in, performance_row, performance_read, performance_in};
 ghost use Rattle.office_rows.specs.Releases.{release_row, release_read, release_in, compiled_row, compiled_read, compiled_in, clock_row, clock_read, clock_in};
-ghost use Rattle.office_rows.specs.Laws.{ComesBack, LotComesBack};
+ghost use Rattle.office_rows.specs.Laws.{ComesBack, FormerComesBack, LotComesBack};
 
 /// A law: items come back from their text.
 pub fn items_come_back()
@@ -83,6 +83,16 @@ pub fn compiled_comes_back()
 /// A law: that tenders for a notice may be withdrawn late comes back from its row.
 pub fn late_rules_come_back()
     ensures { ComesBack late_row late_read late_in }
+{}
+
+/// A law: performance securities come back from their rows.
+pub fn performances_come_back()
+    ensures { ComesBack performance_row performance_read performance_in }
+{}
+
+/// A law: notices of an earlier program come back from their rows, and ask for no performance security.
+pub fn former_notices_come_back()
+    ensures { FormerComesBack }
 {}
 
 /// A law: the clock comes back from its row.

@@ -7,11 +7,11 @@ ghost use Rattle.office_rows.specs.Values.{whole, number_in};
 ghost use Rattle.office_base.specs.Faults.{IsFaultOf};
 ghost use Rattle.office_rows.specs.Unwritten.{IsUnwritten};
 ghost use Rattle.office_rows.specs.Budget.{line_row, line_read, batch_row, batch_read};
-ghost use Rattle.office_rows.specs.Notices.{tenderer_row, tenderer_read, notice_row, notice_read, late_row, late_read, lot_row, lot_read};
+ghost use Rattle.office_rows.specs.Notices.{tenderer_row, tenderer_read, notice_row, notice_read, former_row, former_read, late_row, late_read, lot_row, lot_read};
 ghost use Rattle.office_rows.specs.Tenders.{envelope_row, envelope_read, seal_row, seal_read, security_row, security_read};
-ghost use Rattle.office_rows.specs.Awards.{award_row, award_read, contract_row, contract_read, entry_row, entry_read};
-ghost use Rattle.office_rows.specs.Releases.{release_row, release_read, compiled_row, compiled_read, clock_row, clock_read};
-ghost use Rattle.office_rows.specs.Ranges.{LineFits, BatchFits, TendererFits, NoticeFits, IsLot, EnvelopeFits, SealFits, SecurityFits, AwardFits, ContractFits, EntryFits, ReleaseFits, CompiledFits, LateFits, ClockFits};
+ghost use Rattle.office_rows.specs.Awards.{award_row, award_read, contract_row, contract_read, entry_row, entry_read, performance_row, performance_read};
+ghost use Rattle.office_rows.specs.Releases.{release_row, release_read, compiled_row, compiled_read, clock_row, clock_row_of, clock_read};
+ghost use Rattle.office_rows.specs.Ranges.{LineFits, BatchFits, TendererFits, NoticeFits, IsLot, EnvelopeFits, SealFits, SecurityFits, AwardFits, ContractFits, EntryFits, ReleaseFits, CompiledFits, LateFits, PerformanceFits, ClockFits};
 
 use crate::columns::{
     amount_at, bounded_at, digest_at, has_columns, id_at, json_at, line_at, moment_at,
@@ -26,7 +26,7 @@ use crate::words::{
 };
 use office_base::records::{
     AwardRow, BatchRow, ClockRow, CompiledRow, ContractRow, EntryRow, EnvelopeRow, LateRow,
-    LineRow, LotRow, NoticeRow, ReleaseRow, SealRow, SecurityRow, TendererRow,
+    LineRow, LotRow, NoticeRow, PerformanceRow, ReleaseRow, SealRow, SecurityRow, TendererRow,
 };
 use office_base::shelf::ShelfFault;
 use office_values::money::Amount;
@@ -109,7 +109,7 @@ impl Stored for NoticeRow {
     ghost fits = { NoticeFits };
 
     fn from_row(alloc: Global, row: &Row) -> Result<NoticeRow, ShelfFault> {
-        has_columns(row, 11)?;
+        has_columns(row, 12)?;
         Ok(NoticeRow {
             notice: id_at(row, 0)?,
             title: line_at(alloc, row, 1)?,
@@ -122,6 +122,41 @@ impl Stored for NoticeRow {
             opened: perhaps_moment_at(row, 8)?,
             amendments: bounded_at(row, 9)?,
             releases: bounded_at(row, 10)?,
+            performance: amount_at(row, 11)?,
+        })
+    }
+}
+
+/// A notice as an earlier program kept it, which knew no performance securities: none is asked.
+#[derive(Drop)]
+pub struct FormerNotice {
+    pub row: NoticeRow,
+}
+
+impl Stored for FormerNotice {
+    ghost read = { λ r. record { row = former_read r } };
+
+    ghost row_of = { λ x. former_row x.row };
+
+    ghost fits = { λ x. NoticeFits x.row };
+
+    fn from_row(alloc: Global, row: &Row) -> Result<FormerNotice, ShelfFault> {
+        has_columns(row, 11)?;
+        Ok(FormerNotice {
+            row: NoticeRow {
+                notice: id_at(row, 0)?,
+                title: line_at(alloc, row, 1)?,
+                published: moment_at(row, 2)?,
+                deadline: moment_at(row, 3)?,
+                validity: bounded_at(row, 4)?,
+                standstill: bounded_at(row, 5)?,
+                weight: bounded_at(row, 6)?,
+                performance: Amount::read(0).unwrap(),
+                state: notice_state_at(row, 7)?,
+                opened: perhaps_moment_at(row, 8)?,
+                amendments: bounded_at(row, 9)?,
+                releases: bounded_at(row, 10)?,
+            },
         })
     }
 }
@@ -326,6 +361,24 @@ impl Stored for LateRow {
     }
 }
 
+impl Stored for PerformanceRow {
+    ghost read = { performance_read };
+
+    ghost row_of = { performance_row };
+
+    ghost fits = { PerformanceFits };
+
+    fn from_row(_alloc: Global, row: &Row) -> Result<PerformanceRow, ShelfFault> {
+        has_columns(row, 4)?;
+        Ok(PerformanceRow {
+            contract: bounded_at(row, 0)?,
+            reference: id_at(row, 1)?,
+            amount: bounded_at(row, 2)?,
+            state: security_state_at(row, 3)?,
+        })
+    }
+}
+
 impl Stored for ClockRow {
     ghost read = { clock_read };
 
@@ -335,11 +388,37 @@ impl Stored for ClockRow {
 
     fn from_row(_alloc: Global, row: &Row) -> Result<ClockRow, ShelfFault> {
         has_columns(row, 4)?;
-        version_at(row, 0)?;
+        version_at(row, 0, 2)?;
         Ok(ClockRow {
             moment: moment_at(row, 1)?,
             receipts: bounded_at(row, 2)?,
             awards: bounded_at(row, 3)?,
+        })
+    }
+}
+
+/// The clock as an earlier program kept it, behind version 1.
+#[derive(Clone, Copy)]
+pub struct FormerClock {
+    pub row: ClockRow,
+}
+
+impl Stored for FormerClock {
+    ghost read = { λ r. record { row = clock_read r } };
+
+    ghost row_of = { λ x. clock_row_of 1 x.row };
+
+    ghost fits = { λ x. ClockFits x.row };
+
+    fn from_row(_alloc: Global, row: &Row) -> Result<FormerClock, ShelfFault> {
+        has_columns(row, 4)?;
+        version_at(row, 0, 1)?;
+        Ok(FormerClock {
+            row: ClockRow {
+                moment: moment_at(row, 1)?,
+                receipts: bounded_at(row, 2)?,
+                awards: bounded_at(row, 3)?,
+            },
         })
     }
 }

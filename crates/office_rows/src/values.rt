@@ -11,9 +11,9 @@ ghost use Rattle.office_rows.specs.ItemTexts.{items_text};
 ghost use Rattle.office_rows.specs.Budget.{line_row, batch_row};
 ghost use Rattle.office_rows.specs.Notices.{tenderer_row, notice_row, late_row, lot_row};
 ghost use Rattle.office_rows.specs.Tenders.{envelope_row, seal_row, security_row};
-ghost use Rattle.office_rows.specs.Awards.{award_row, contract_row, entry_row};
+ghost use Rattle.office_rows.specs.Awards.{award_row, contract_row, entry_row, performance_row};
 ghost use Rattle.office_rows.specs.Releases.{release_row, compiled_row, clock_row};
-ghost use Rattle.office_rows.specs.Ranges.{IsGiven, LineFits, BatchFits, TendererFits, NoticeFits, LotFits, EnvelopeFits, SealFits, SecurityFits, AwardFits, ContractFits, EntryFits, ReleaseFits, CompiledFits, LateFits, ClockFits};
+ghost use Rattle.office_rows.specs.Ranges.{IsGiven, LineFits, BatchFits, TendererFits, NoticeFits, LotFits, EnvelopeFits, SealFits, SecurityFits, AwardFits, ContractFits, EntryFits, ReleaseFits, CompiledFits, LateFits, PerformanceFits, ClockFits};
 
 use crate::readings::{corrected_value, corrections_value, stated_value, word_value};
 use crate::words::{
@@ -24,7 +24,7 @@ use office_acts::contract::How;
 use office_acts::tender::Quality;
 use office_base::records::{
     AwardRow, BatchRow, ClockRow, CompiledRow, ContractRow, EntryRow, EnvelopeRow, LateRow,
-    LineRow, LotRow, NoticeRow, ReleaseRow, SealRow, SecurityRow, TendererRow,
+    LineRow, LotRow, NoticeRow, PerformanceRow, ReleaseRow, SealRow, SecurityRow, TendererRow,
 };
 use office_values::given::GivenNumber;
 use office_values::moment::Moment;
@@ -143,7 +143,7 @@ pub fn tenderer_values(row: &TendererRow) -> [ValueRef<'_>; 4]
 }
 
 /// The values of a notice.
-pub fn notice_values(row: &NoticeRow) -> [ValueRef<'_>; 11]
+pub fn notice_values(row: &NoticeRow) -> [ValueRef<'_>; 12]
     ensures row { bound result ≡ notice_row row.now }
     ensures fits { NoticeFits row.now }
 {
@@ -159,6 +159,7 @@ pub fn notice_values(row: &NoticeRow) -> [ValueRef<'_>; 11]
         moment_or_null(row.opened),
         ValueRef::Int(signed(row.amendments.get())),
         ValueRef::Int(signed(row.releases.get())),
+        ValueRef::Int(signed(row.performance.units())),
     ]
 }
 
@@ -314,13 +315,26 @@ pub fn late_values(row: &LateRow) -> [ValueRef<'_>; 1]
     [ValueRef::Text(row.notice.as_bytes())]
 }
 
-/// The values of the office's one row: the version of its tables, which is 1, and the clock.
+/// The values of a performance security.
+pub fn performance_values(row: &PerformanceRow) -> [ValueRef<'_>; 4]
+    ensures row { bound result ≡ performance_row row.now }
+    ensures fits { PerformanceFits row.now }
+{
+    [
+        ValueRef::Int(signed(row.contract.get())),
+        ValueRef::Text(row.reference.as_bytes()),
+        ValueRef::Int(signed(row.amount.get())),
+        ValueRef::Text(security_state_text(row.state)),
+    ]
+}
+
+/// The values of the office's one row: the version of its tables, which is 2, and the clock.
 pub fn clock_values(row: &ClockRow) -> [ValueRef<'static>; 4]
     ensures row { bound result ≡ clock_row row.now }
     ensures fits { ClockFits row.now }
 {
     [
-        ValueRef::Int(1),
+        ValueRef::Int(2),
         ValueRef::Int(signed(row.moment.second())),
         ValueRef::Int(signed(row.receipts.get())),
         ValueRef::Int(signed(row.awards.get())),

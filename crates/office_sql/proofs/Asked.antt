@@ -3,6 +3,7 @@ use Rattle.std.proofs.Common.{◌≡◌, ◌⊎◌, inl, inr, ℕ, List, [], ◌
 use Rattle.std.specs.Prelude.{IfOk, IfErr, OnOk, option_map}
 use Rattle.sqlite_value.specs.Order.{Row}
 use Rattle.sqlite_trees.specs.declared.store.Store.{Ghosts}
+use Rattle.sqlite.specs.Effect.{Database}
 use Rattle.sqlite.specs.Held.{Held, state}
 use Rattle.sqlite.specs.declared.error.Error.{Error}
 use Rattle.sqlite.specs.State.{State, Shown, FailsToQuery, IsTooLate}
@@ -59,3 +60,11 @@ pub rows_unread : {S A : Type 0} (g : Ghosts S) (sql : List ℕ) (params : Row) 
     → IsAsked g sql params old rows → IfErr r (IsFaultOf (unwritten rows)) → IfErr r (IsUnread g sql params old unwritten)
 rows_unread g sql params old rows (Ok a) unwritten h why = tt
 rows_unread g sql params old rows (Err e) unwritten h why = inr (rows, h, why)
+
+-- the same of what else the last commit holds
+pub told_of : {S A E : Type 0} (P : Database → Type 0) (g : Ghosts S) (sql : List ℕ) (params : Row) (old : Held S) (r : Result A E) (From : A → List Row → Type 0) (Right : A → Type 0)
+    → IfOk r (λ a. (rows : List Row) × IsAsked g sql params old rows × From a rows) → (IsTrue (state g old).is_open → P (state g old).committed)
+    → ((before after : State) (rows : List Row) (a : A) → P before.now → Shown sql params before after rows → From a rows → Right a) → IfOk r Right
+told_of P g sql params old (Ok a) From Right h shows right =
+    right (state g (record old { in_transaction = true })) (state g h.1.after) h.0 a (subst P (sym h.1.settled) (shows h.1.was_open)) h.1.shown h.2
+told_of P g sql params old (Err e) From Right h shows right = tt

@@ -3,7 +3,7 @@ use Rattle.std.proofs.Common.{refl}
 use Rattle.sqlite_resolve.specs.Compile.{first}
 use Rattle.sqlite_tied.specs.Compute.{everything}
 use Rattle.sqlite.specs.Listing.{listing_schema}
-use Rattle.office_sql.specs.Schema.{lines, create_lines, batches, create_batches, tenderers, create_tenderers, notices, create_notices, lots, create_lots, envelopes, create_envelopes, seals, create_seals, securities, create_securities, awards, create_awards, contracts, create_contracts, entries, create_entries, releases, create_releases, compiled, create_compiled, office, create_office, late_rules, create_late_rules, lots_of_line, create_lots_of_line, envelopes_of_notice, create_envelopes_of_notice, securities_of_notice, create_securities_of_notice, awards_of_notice, create_awards_of_notice, contracts_of_notice, create_contracts_of_notice}
+use Rattle.office_sql.specs.Schema.{lines, create_lines, batches, create_batches, tenderers, create_tenderers, notices, create_notices, lots, create_lots, envelopes, create_envelopes, seals, create_seals, securities, create_securities, awards, create_awards, contracts, create_contracts, entries, create_entries, releases, create_releases, compiled, create_compiled, office, create_office, late_rules, create_late_rules, former_notices, create_former_notices, performance, create_performance, lots_of_line, create_lots_of_line, envelopes_of_notice, create_envelopes_of_notice, securities_of_notice, create_securities_of_notice, awards_of_notice, create_awards_of_notice, contracts_of_notice, create_contracts_of_notice}
 use Rattle.office_sql.specs.Making.{IsCreate, IsIndexing}
 use Rattle.office_sql.proofs.Meanings.{parsed_in}
 use Rattle.office_sql.proofs.CreateTexts.{ReadsTable, ReadsIndex, creates_it, indexes_it}
@@ -112,6 +112,20 @@ late_rules_read = record { def = _; is = refl; statement = refl; formats = refl;
 
 pub creates_late_rules : IsCreate create_late_rules late_rules
 creates_late_rules = creates_it create_late_rules late_rules (parsed_in (first create_late_rules)) late_rules_read
+
+former_notices_read : ReadsTable create_former_notices former_notices (parsed_in (first create_former_notices))
+unfolding everything parsed_in
+former_notices_read = record { def = _; is = refl; statement = refl; formats = refl; plainly = refl; defined = refl; whole = refl; covers = refl }
+
+pub creates_former_notices : IsCreate create_former_notices former_notices
+creates_former_notices = creates_it create_former_notices former_notices (parsed_in (first create_former_notices)) former_notices_read
+
+performance_read : ReadsTable create_performance performance (parsed_in (first create_performance))
+unfolding everything parsed_in
+performance_read = record { def = _; is = refl; statement = refl; formats = refl; plainly = refl; defined = refl; whole = refl; covers = refl }
+
+pub creates_performance : IsCreate create_performance performance
+creates_performance = creates_it create_performance performance (parsed_in (first create_performance)) performance_read
 
 lots_of_line_read : ReadsIndex create_lots_of_line lots lots_of_line (parsed_in (first create_lots_of_line))
 unfolding everything parsed_in listing_schema

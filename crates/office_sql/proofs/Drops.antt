@@ -27,7 +27,7 @@ use Rattle.office_sql.specs.Kept.{key_of}
 use Rattle.office_sql.specs.Schema.{OfficeTable, table_of}
 use Rattle.office_sql.specs.Known.{at_tree, Places, HasTables}
 use Rattle.office_sql.specs.Standing.{Stand}
-use Rattle.office_sql.proofs.Childless.{IsOwn, writes}
+use Rattle.office_sql.proofs.Childless.{IsOwn, writes, spared_own}
 use Rattle.office_sql.proofs.Upserted.{went, same_value}
 use Rattle.office_sql.proofs.RowsDropped as drop
 use Rattle.office_sql.proofs.Selected.{picked, passes_query}
@@ -79,6 +79,6 @@ module _ (k : OfficeTable) (bare : (j : OfficeTable) → IsBare (table_of j)) {K
       record {
         schema = ap (λ (d : Database). d.schema) w.2;
         sound = w.3;
-        rows = changed old.now.schema p tables db new.now.trees k (λ j other. ap (λ (d : Database). d.trees (p j)) w.2 ∙ ap (λ (t : Trees). t (p j)) trees ∙ done.others (p j) (is_own j) other);
+        rows = changed old.now.schema p tables db new.now.trees k (λ j other. ap (λ (d : Database). d.trees (p j)) w.2 ∙ ap (λ (t : Trees). t (p j)) trees ∙ spared_own old.now.schema (p k) (p j) db edited.0 done.apart (is_own j) other);
         stand = subst (λ rs. Stand R key form decode rs (row_drop R key xs q)) (sym (after ∙ ap (λ l. without_all rows (ids_of l)) here.shown)) stand;
       }

@@ -14,10 +14,10 @@ use Rattle.sqlite.specs.State.{State, Fails, IsNotRun, IsNoStatement, IsStatemen
 use Rattle.sqlite.proofs.Callers.{IsPlain, command_of}
 use Rattle.office_base.specs.Tables.{Tables}
 use Rattle.office_base.specs.declared.puts.Put.{Put}
-use Rattle.office_base.specs.declared.puts.Put.TheVariants.{Line, Batch, Tenderer, Notice, Lot, Envelope, Seal, DropSeal, Security, Award, Contract, Entry, Release, Compiled as CompiledOne, Late, Clock}
+use Rattle.office_base.specs.declared.puts.Put.TheVariants.{Line, Batch, Tenderer, Notice, Lot, Envelope, Seal, DropSeal, Security, Award, Contract, Entry, Release, Compiled as CompiledOne, Late, Performance, Clock}
 use Rattle.office_sql.specs.Failing.{IsExcused, DiskFails, Declines, StoreFails}
 use Rattle.office_sql.specs.Known.{Places, HasTables}
-use Rattle.office_sql.specs.Schema.OfficeTable.{Lines, Batches, Tenderers, Notices, Lots, Envelopes, Seals, Securities, Awards, Contracts, Entries, Releases, Compiled as CompiledTable, Office, LateRules}
+use Rattle.office_sql.specs.Schema.OfficeTable.{Lines, Batches, Tenderers, Notices, Lots, Envelopes, Seals, Securities, Awards, Contracts, Entries, Releases, Compiled as CompiledTable, Office, LateRules, Performances}
 use Rattle.office_sql.specs.Standing.{Holds}
 use Rattle.office_sql.specs.Statements.{statement_of, values_of}
 use Rattle.office_sql.specs.Version.{get_version}
@@ -25,7 +25,7 @@ use Rattle.office_sql.proofs.Made.{is_change, shows, quiet}
 use Rattle.office_sql.proofs.Meanings.{Means, IsOne, from_text}
 use Rattle.office_sql.proofs.DropStatements.{drop_seal_means, drop_seal_one}
 use Rattle.office_sql.proofs.SelectTexts.{get_version_means, get_version_one}
-use Rattle.office_sql.proofs.PutTexts.{put_lines_means, put_lines_one, put_batches_means, put_batches_one, put_tenderers_means, put_tenderers_one, put_notices_means, put_notices_one, put_lots_means, put_lots_one, put_envelopes_means, put_envelopes_one, put_seals_means, put_seals_one, put_securities_means, put_securities_one, put_awards_means, put_awards_one, put_contracts_means, put_contracts_one, put_entries_means, put_entries_one, put_releases_means, put_releases_one, put_compiled_means, put_compiled_one, put_office_means, put_office_one, put_late_rules_means, put_late_rules_one}
+use Rattle.office_sql.proofs.PutTexts.{put_lines_means, put_lines_one, put_batches_means, put_batches_one, put_tenderers_means, put_tenderers_one, put_notices_means, put_notices_one, put_lots_means, put_lots_one, put_envelopes_means, put_envelopes_one, put_seals_means, put_seals_one, put_securities_means, put_securities_one, put_awards_means, put_awards_one, put_contracts_means, put_contracts_one, put_entries_means, put_entries_one, put_releases_means, put_releases_one, put_compiled_means, put_compiled_one, put_office_means, put_office_one, put_late_rules_means, put_late_rules_one, put_performance_means, put_performance_one}
 
 pub if_err_with : {A E : Type 0} (r : Result A E) (P Q : E → Type 0) → IfErr r P → ((e : E) → P e → Q e) → IfErr r Q
 if_err_with (Ok a) P Q h f = tt
@@ -127,6 +127,7 @@ known old p tables (Entry row) = record { command = _; means = put_entries_means
 known old p tables (Release row) = record { command = _; means = put_releases_means old.now.schema (p Releases) (tables Releases); one = put_releases_one; change = refl; silent = refl }
 known old p tables (CompiledOne row) = record { command = _; means = put_compiled_means old.now.schema (p CompiledTable) (tables CompiledTable); one = put_compiled_one; change = refl; silent = refl }
 known old p tables (Late row) = record { command = _; means = put_late_rules_means old.now.schema (p LateRules) (tables LateRules); one = put_late_rules_one; change = refl; silent = refl }
+known old p tables (Performance row) = record { command = _; means = put_performance_means old.now.schema (p Performances) (tables Performances); one = put_performance_one; change = refl; silent = refl }
 known old p tables (Clock row) = record { command = _; means = put_office_means old.now.schema (p Office) (tables Office); one = put_office_one; change = refl; silent = refl }
 
 excused_with : (P Q : Type 0) (e : Error) → IsExcused P e → (P → Q) → IsExcused Q e

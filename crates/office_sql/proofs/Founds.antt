@@ -13,7 +13,7 @@ use Rattle.office_rows.specs.Releases.{clock_row, clock_read, clock_in}
 use Rattle.office_rows.specs.Laws.{ComesBack}
 use Rattle.office_sql.specs.Clock.{clock_key, clock_cmp}
 use Rattle.office_sql.specs.Schema.{OfficeTable, table_of}
-use Rattle.office_sql.specs.Schema.OfficeTable.{Lines, Batches, Tenderers, Notices, Lots, Envelopes, Seals, Securities, Awards, Contracts, Entries, Releases, Compiled, Office, LateRules}
+use Rattle.office_sql.specs.Schema.OfficeTable.{Lines, Batches, Tenderers, Notices, Lots, Envelopes, Seals, Securities, Awards, Contracts, Entries, Releases, Compiled, Office, LateRules, FormerNotices, Performances}
 use Rattle.office_sql.specs.Known.{IsIn, Places, HasTables}
 use Rattle.office_sql.specs.Kept.{by_rowid, read_by_rowid}
 use Rattle.office_sql.specs.Standing.{Stand, StandFor, Stands, Holds}
@@ -31,24 +31,26 @@ Found db k = (n : ℕ) × IsIn db.schema (table_of k) n × (db.trees n ≡ [])
 
 -- each table is among those that were made
 pub found : {db : Database} (k : OfficeTable) → AllByRecursion (Found db) all_tables → Found db k
-found Lines all = all.1.1.1.1.1.1.1.1.1.1.1.1.1.1.0
-found Batches all = all.1.1.1.1.1.1.1.1.1.1.1.1.1.0
-found Tenderers all = all.1.1.1.1.1.1.1.1.1.1.1.1.0
-found Notices all = all.1.1.1.1.1.1.1.1.1.1.1.0
-found Lots all = all.1.1.1.1.1.1.1.1.1.1.0
-found Envelopes all = all.1.1.1.1.1.1.1.1.1.0
-found Seals all = all.1.1.1.1.1.1.1.1.0
-found Securities all = all.1.1.1.1.1.1.1.0
-found Awards all = all.1.1.1.1.1.1.0
-found Contracts all = all.1.1.1.1.1.0
-found Entries all = all.1.1.1.1.0
-found Releases all = all.1.1.1.0
-found Compiled all = all.1.1.0
-found Office all = all.1.0
-found LateRules all = all.0
+found Lines all = all.1.1.1.1.1.1.1.1.1.1.1.1.1.1.1.1.0
+found Batches all = all.1.1.1.1.1.1.1.1.1.1.1.1.1.1.1.0
+found Tenderers all = all.1.1.1.1.1.1.1.1.1.1.1.1.1.1.0
+found Notices all = all.1.0
+found Lots all = all.1.1.1.1.1.1.1.1.1.1.1.1.0
+found Envelopes all = all.1.1.1.1.1.1.1.1.1.1.1.0
+found Seals all = all.1.1.1.1.1.1.1.1.1.1.0
+found Securities all = all.1.1.1.1.1.1.1.1.1.0
+found Awards all = all.1.1.1.1.1.1.1.1.0
+found Contracts all = all.1.1.1.1.1.1.1.0
+found Entries all = all.1.1.1.1.1.1.0
+found Releases all = all.1.1.1.1.1.0
+found Compiled all = all.1.1.1.1.0
+found Office all = all.1.1.1.0
+found LateRules all = all.1.1.0
+found FormerNotices all = all.1.1.1.1.1.1.1.1.1.1.1.1.1.0
+found Performances all = all.0
 
 -- no rows stand for no records
-nothing : {K X : Type 0} {R : K → K → Ordering} {key : X → K} {form : Value → X → Row} {decode : Row → X} {rows : List Row} → rows ≡ [] → Stand R key form decode rows []
+pub nothing : {K X : Type 0} {R : K → K → Ordering} {key : X → K} {form : Value → X → Row} {decode : Row → X} {rows : List Row} → rows ≡ [] → Stand R key form decode rows []
 nothing {R} {key} {form} {decode} e = subst (λ r. Stand R key form decode r []) (sym e) (record { kept = record { rising = tt; each = tt; one = λ a b h k s. absurd h }; is = refl })
 
 -- the clock's row among empty tables
@@ -69,6 +71,8 @@ stands rows changed x empty stand Releases = nothing (empty Releases)
 stands rows changed x empty stand Compiled = nothing (empty Compiled)
 stands rows changed x empty stand Office = stand
 stands rows changed x empty stand LateRules = nothing (empty LateRules)
+stands rows changed x empty stand FormerNotices = empty FormerNotices
+stands rows changed x empty stand Performances = nothing (empty Performances)
 
 -- the row is put into a table of the office, so that all others stay
 pub first_others : (start : Database) (old new : State) (x : ClockRow) (count : ℕ) → KeepsOthers start old.now → AreNew start all_tables → AreMade all_tables old.now → Executes put_office (clock_row x) old new (Ok count)
@@ -78,7 +82,7 @@ first_others start old new x count kept fresh was h t there =
     let tables : HasTables old.now.schema places = λ k. (found k was.each).1 in
     let same = puts_others Office bare clock_cmp clock_key clock_row (by_rowid clock_row) (read_by_rowid clock_read) 4 clock_terms clock_cells clock_stored old new places tables put_office x count (put_office_means old.now.schema (places Office) (tables Office)) (found Office was.each).2 h in
     let now = kept t there in
-    let apart : t.tree ≢ places Office = λ e. fresh.1.0 t there (ap (λ (u : Table). u.name) ((tables Office).alone t now.0 e)) in
+    let apart : t.tree ≢ places Office = λ e. fresh.1.1.1.0 t there (ap (λ (u : Table). u.name) ((tables Office).alone t now.0 e)) in
     (subst (λ (s : Schema). Has s.tables t) (sym same.0) now.0, all_has (λ (u : Table). u.tree ≢ places Office → new.now.trees u.tree ≡ old.now.trees u.tree) old.now.schema.tables t same.1 now.0 apart ∙ now.1)
 
 pub founds : (old new : State) (x : ClockRow) (count : ℕ) → ComesBack clock_row clock_read clock_in → AreMade all_tables old.now → Executes put_office (clock_row x) old new (Ok count) → Holds new.now (record no_tables { clock = x })

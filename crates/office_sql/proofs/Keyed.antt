@@ -13,7 +13,7 @@ use Rattle.sqlite_schema.specs.Rules.{agree, guards}
 use Rattle.sqlite_rules.specs.Keys.{conflicts, shares}
 use Rattle.sqlite_resolve.specs.Given.{are_among, is_key_at, key_at}
 use Rattle.office_sql.specs.Schema.{OfficeTable, table_of}
-use Rattle.office_sql.specs.Schema.OfficeTable.{Lines, Batches, Tenderers, Notices, Lots, Envelopes, Seals, Securities, Awards, Contracts, Entries, Releases, Compiled, Office, LateRules}
+use Rattle.office_sql.specs.Schema.OfficeTable.{Lines, Batches, Tenderers, Notices, Lots, Envelopes, Seals, Securities, Awards, Contracts, Entries, Releases, Compiled, Office, LateRules, FormerNotices, Performances}
 use Rattle.office_sql.specs.Known.{IsIn, at_tree, key_indexes}
 
 -- the key has an index of its own, in the order of bytes
@@ -55,6 +55,8 @@ keyed Releases = indexed refl refl refl refl refl
 keyed Compiled = indexed refl refl refl refl refl
 keyed Office = numbered refl refl refl
 keyed LateRules = indexed refl refl refl refl refl
+keyed FormerNotices = indexed refl refl refl refl refl
+keyed Performances = numbered refl refl refl
 
 -- ---- conflicts
 

@@ -1,6 +1,6 @@
 mod Sorted
 mod KeptRows
-mod Childless
+pub mod Childless
 mod Upserted
 mod RowsPut
 mod Selected
@@ -27,6 +27,7 @@ mod Keys
 mod Stored
 mod Held
 mod PutTexts
+pub mod PutsApart
 mod PutStatements
 mod DropStatements
 mod Stepping
@@ -36,7 +37,8 @@ mod CreateFacts
 mod Makes
 mod Founds
 mod MakingSteps
-pub mod Earlier
+mod Emptied
+pub mod FirstVersion
 mod Told
 mod Versions
 mod Failing

@@ -23,7 +23,7 @@ use Rattle.sqlite.specs.State.{State, Writes, Executes, ExecutesIn, mode_of}
 use Rattle.sqlite.specs.Listing.{understood}
 use Rattle.sqlite.proofs.Callers.{runs_as, command_of, statement_of, IsPlain}
 use Rattle.office_sql.specs.Schema.{OfficeTable, table_of}
-use Rattle.office_sql.specs.Schema.OfficeTable.{Lines, Batches, Tenderers, Notices, Lots, Envelopes, Seals, Securities, Awards, Contracts, Entries, Releases, Compiled as Merges, Office, LateRules}
+use Rattle.office_sql.specs.Schema.OfficeTable.{Lines, Batches, Tenderers, Notices, Lots, Envelopes, Seals, Securities, Awards, Contracts, Entries, Releases, Compiled as Merges, Office, LateRules, FormerNotices, Performances}
 use Rattle.office_sql.specs.Known.{IsIn, at_tree}
 use Rattle.office_sql.specs.Making.{Says, IsCreate, IsIndexing, AreMade, KeepsOthers, KeepsOffice, AreNew}
 use Rattle.sqlite_catalog.proofs.ListFacts.{none_placed}
@@ -93,6 +93,8 @@ named Releases = refl
 named Merges = refl
 named Office = refl
 named LateRules = refl
+named FormerNotices = refl
+named Performances = refl
 
 -- each has one key, with an index or without
 one_key : (k : OfficeTable) → ((table_of k).uniques ≡ (table_of k).primary ∷ []) ⊎ ((table_of k).uniques ≡ [])

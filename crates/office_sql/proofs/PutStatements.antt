@@ -4,7 +4,7 @@ use Rattle.std.specs.Ordering.{nat_cmp}
 use Rattle.sqlite.specs.State.{State, ExecutesInside}
 use Rattle.office_values.specs.Ids.{id_cmp}
 use Rattle.office_base.specs.Rows.{row_put}
-use Rattle.office_base.specs.Tables.{Tables, after_put, line_key, batch_key, tenderer_key, notice_key, lot_key, envelope_key, seal_key, security_key, award_key, contract_key, entry_key, release_key, compiled_key, late_key, entry_cmp, lot_cmp, release_cmp}
+use Rattle.office_base.specs.Tables.{Tables, after_put, line_key, batch_key, tenderer_key, notice_key, lot_key, envelope_key, seal_key, security_key, award_key, contract_key, entry_key, release_key, compiled_key, late_key, performance_key, entry_cmp, lot_cmp, release_cmp}
 use Rattle.office_base.specs.declared.records.LineRow.{LineRow}
 use Rattle.office_base.specs.declared.records.BatchRow.{BatchRow}
 use Rattle.office_base.specs.declared.records.TendererRow.{TendererRow}
@@ -19,18 +19,19 @@ use Rattle.office_base.specs.declared.records.EntryRow.{EntryRow}
 use Rattle.office_base.specs.declared.records.ReleaseRow.{ReleaseRow}
 use Rattle.office_base.specs.declared.records.CompiledRow.{CompiledRow}
 use Rattle.office_base.specs.declared.records.LateRow.{LateRow}
+use Rattle.office_base.specs.declared.records.PerformanceRow.{PerformanceRow}
 use Rattle.office_base.specs.declared.records.ClockRow.{ClockRow}
-use Rattle.office_base.specs.declared.puts.Put.TheVariants.{Line, Batch, Tenderer, Notice, Lot, Envelope, Seal, Security, Award, Contract, Entry, Release, Compiled, Late, Clock}
+use Rattle.office_base.specs.declared.puts.Put.TheVariants.{Line, Batch, Tenderer, Notice, Lot, Envelope, Seal, Security, Award, Contract, Entry, Release, Compiled, Late, Performance, Clock}
 use Rattle.office_rows.specs.Budget.{line_row, line_read, line_in, batch_row, batch_read, batch_in}
 use Rattle.office_rows.specs.Notices.{tenderer_row, tenderer_read, tenderer_in, notice_row, notice_read, notice_in, late_row, late_read, late_in, lot_row, lot_in}
 use Rattle.office_rows.specs.Tenders.{envelope_row, envelope_read, envelope_in, seal_row, seal_read, seal_in, security_row, security_read, security_in}
-use Rattle.office_rows.specs.Awards.{award_row, award_read, award_in, contract_row, contract_read, contract_in, entry_row, entry_read, entry_in}
+use Rattle.office_rows.specs.Awards.{award_row, award_read, award_in, contract_row, contract_read, contract_in, entry_row, entry_read, entry_in, performance_row, performance_read, performance_in}
 use Rattle.office_rows.specs.Releases.{release_row, release_read, release_in, compiled_row, compiled_read, compiled_in, clock_row, clock_read, clock_in}
 use Rattle.office_sql.specs.Clock.{clock_key, clock_cmp}
 use Rattle.office_rows.specs.ItemTexts.{items_text, items_in}
 use Rattle.office_rows.specs.Laws.{ComesBack, LotComesBack}
 use Rattle.office_sql.specs.Schema.{OfficeTable}
-use Rattle.office_sql.specs.Schema.OfficeTable.{Lines, Batches, Tenderers, Notices, Lots, Envelopes, Seals, Securities, Awards, Contracts, Entries, Releases, Compiled, Office, LateRules}
+use Rattle.office_sql.specs.Schema.OfficeTable.{Lines, Batches, Tenderers, Notices, Lots, Envelopes, Seals, Securities, Awards, Contracts, Entries, Releases, Compiled, Office, LateRules, Performances}
 use Rattle.office_sql.specs.Kept.{behind, by_rowid, read_by_rowid}
 use Rattle.office_sql.specs.Standing.{StandFor, Stands}
 use Rattle.office_sql.specs.Steps.{Puts}
@@ -38,8 +39,8 @@ use Rattle.sqlite_value.specs.Order.{Row}
 use Rattle.office_sql.proofs.Writes.{puts_row, with_rows}
 use Rattle.office_sql.proofs.Held.{holds_put, goes_with}
 use Rattle.office_sql.proofs.Made.{made_of}
-use Rattle.office_sql.proofs.Stored.{bare, line_terms, line_cells, line_stored, batch_terms, batch_cells, batch_stored, tenderer_terms, tenderer_cells, tenderer_stored, notice_terms, notice_cells, notice_stored, lot_terms, lot_cells, lot_stored, envelope_terms, envelope_cells, envelope_stored, seal_terms, seal_cells, seal_stored, security_terms, security_cells, security_stored, award_terms, award_cells, award_stored, contract_terms, contract_cells, contract_stored, entry_terms, entry_cells, entry_stored, release_terms, release_cells, release_stored, compiled_terms, compiled_cells, compiled_stored, clock_terms, clock_cells, clock_stored, late_terms, late_cells, late_stored}
-use Rattle.office_sql.proofs.PutTexts.{put_lines, put_lines_means, put_batches, put_batches_means, put_tenderers, put_tenderers_means, put_notices, put_notices_means, put_lots, put_lots_means, put_envelopes, put_envelopes_means, put_seals, put_seals_means, put_securities, put_securities_means, put_awards, put_awards_means, put_contracts, put_contracts_means, put_entries, put_entries_means, put_releases, put_releases_means, put_compiled, put_compiled_means, put_office, put_office_means, put_late_rules, put_late_rules_means}
+use Rattle.office_sql.proofs.Stored.{bare, line_terms, line_cells, line_stored, batch_terms, batch_cells, batch_stored, tenderer_terms, tenderer_cells, tenderer_stored, notice_terms, notice_cells, notice_stored, lot_terms, lot_cells, lot_stored, envelope_terms, envelope_cells, envelope_stored, seal_terms, seal_cells, seal_stored, security_terms, security_cells, security_stored, award_terms, award_cells, award_stored, contract_terms, contract_cells, contract_stored, entry_terms, entry_cells, entry_stored, release_terms, release_cells, release_stored, compiled_terms, compiled_cells, compiled_stored, clock_terms, clock_cells, clock_stored, late_terms, late_cells, late_stored, performance_terms, performance_cells, performance_stored}
+use Rattle.office_sql.proofs.PutTexts.{put_lines, put_lines_means, put_batches, put_batches_means, put_tenderers, put_tenderers_means, put_notices, put_notices_means, put_lots, put_lots_means, put_envelopes, put_envelopes_means, put_seals, put_seals_means, put_securities, put_securities_means, put_awards, put_awards_means, put_contracts, put_contracts_means, put_entries, put_entries_means, put_releases, put_releases_means, put_compiled, put_compiled_means, put_office, put_office_means, put_late_rules, put_late_rules_means, put_performance, put_performance_means}
 
 after_line : (rows : OfficeTable → List Row) (changed : List Row) (t : Tables) (x : LineRow) → Stands rows t → StandFor Lines changed (after_put (Line x) t)
     → Stands (with_rows rows Lines changed) (after_put (Line x) t)
@@ -78,7 +79,7 @@ after_notice rows changed t x was stand k = was k
 
 pub puts_notice : (old new : State) (x : NoticeRow) (count : ℕ) → ComesBack notice_row notice_read notice_in → ExecutesInside 0 put_notices (notice_row x) old new (Ok count) → Puts old new (Notice x ∷ [])
 puts_notice old new x count back h = goes_with old new (Notice x) h.1 (λ t was. made_of put_notices (notice_row x) old new _ (put_notices_means old.now.schema (was.places Notices) (was.tables Notices)) refl refl count h.0) (λ t was.
-    let done = puts_row Notices bare id_cmp notice_key notice_row (behind notice_row) notice_in 11 notice_terms notice_cells notice_stored old new was.places was.tables put_notices x count t.notices (put_notices_means old.now.schema (was.places Notices) (was.tables Notices)) (λ v. back.entry v x) (was.stands Notices) h.0 in
+    let done = puts_row Notices bare id_cmp notice_key notice_row (behind notice_row) notice_in 12 notice_terms notice_cells notice_stored old new was.places was.tables put_notices x count t.notices (put_notices_means old.now.schema (was.places Notices) (was.tables Notices)) (λ v. back.entry v x) (was.stands Notices) h.0 in
     holds_put Notices id_cmp notice_key (behind notice_row) notice_in old.now new.now t (after_put (Notice x) t) was _ done (after_notice (λ j. old.now.trees (was.places j)) (new.now.trees (was.places Notices)) t x was.stands))
 
 after_lot : (rows : OfficeTable → List Row) (changed : List Row) (t : Tables) (x : LotRow) → Stands rows t → StandFor Lots changed (after_put (Lot x) t)
@@ -180,6 +181,16 @@ pub puts_late : (old new : State) (x : LateRow) (count : ℕ) → ComesBack late
 puts_late old new x count back h = goes_with old new (Late x) h.1 (λ t was. made_of put_late_rules (late_row x) old new _ (put_late_rules_means old.now.schema (was.places LateRules) (was.tables LateRules)) refl refl count h.0) (λ t was.
     let done = puts_row LateRules bare id_cmp late_key late_row (behind late_row) late_in 1 late_terms late_cells late_stored old new was.places was.tables put_late_rules x count t.late_rules (put_late_rules_means old.now.schema (was.places LateRules) (was.tables LateRules)) (λ v. back.entry v x) (was.stands LateRules) h.0 in
     holds_put LateRules id_cmp late_key (behind late_row) late_in old.now new.now t (after_put (Late x) t) was _ done (after_late (λ j. old.now.trees (was.places j)) (new.now.trees (was.places LateRules)) t x was.stands))
+
+after_performance : (rows : OfficeTable → List Row) (changed : List Row) (t : Tables) (x : PerformanceRow) → Stands rows t → StandFor Performances changed (after_put (Performance x) t)
+    → Stands (with_rows rows Performances changed) (after_put (Performance x) t)
+after_performance rows changed t x was stand Performances = stand
+after_performance rows changed t x was stand k = was k
+
+pub puts_performance : (old new : State) (x : PerformanceRow) (count : ℕ) → ComesBack performance_row performance_read performance_in → ExecutesInside 0 put_performance (performance_row x) old new (Ok count) → Puts old new (Performance x ∷ [])
+puts_performance old new x count back h = goes_with old new (Performance x) h.1 (λ t was. made_of put_performance (performance_row x) old new _ (put_performance_means old.now.schema (was.places Performances) (was.tables Performances)) refl refl count h.0) (λ t was.
+    let done = puts_row Performances bare nat_cmp performance_key performance_row (by_rowid performance_row) (read_by_rowid performance_read) 4 performance_terms performance_cells performance_stored old new was.places was.tables put_performance x count t.performances (put_performance_means old.now.schema (was.places Performances) (was.tables Performances)) (λ v. back.row x) (was.stands Performances) h.0 in
+    holds_put Performances nat_cmp performance_key (by_rowid performance_row) (read_by_rowid performance_read) old.now new.now t (after_put (Performance x) t) was _ done (after_performance (λ j. old.now.trees (was.places j)) (new.now.trees (was.places Performances)) t x was.stands))
 
 after_clock : (rows : OfficeTable → List Row) (changed : List Row) (t : Tables) (x : ClockRow) → Stands rows t → StandFor Office changed (after_put (Clock x) t)
     → Stands (with_rows rows Office changed) (after_put (Clock x) t)

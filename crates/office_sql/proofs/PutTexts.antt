@@ -6,15 +6,15 @@ use Rattle.sqlite_schema.specs.declared.command.Conflict.TheVariants.{Abort}
 use Rattle.sqlite_schema.specs.declared.command.Source.TheVariants.{Values}
 use Rattle.sqlite_tied.specs.Compute.{everything}
 pub use Rattle.office_sql.specs.Schema.{put_office}
-pub use Rattle.office_sql.specs.Statements.{put_lines, put_batches, put_tenderers, put_notices, put_lots, put_envelopes, put_seals, put_securities, put_awards, put_contracts, put_entries, put_releases, put_compiled, put_late_rules}
-use Rattle.office_sql.specs.Schema.{lines, batches, tenderers, notices, lots, envelopes, seals, securities, awards, contracts, entries, releases, compiled, office, late_rules}
+pub use Rattle.office_sql.specs.Statements.{put_lines, put_batches, put_tenderers, put_notices, put_lots, put_envelopes, put_seals, put_securities, put_awards, put_contracts, put_entries, put_releases, put_compiled, put_late_rules, put_performance}
+use Rattle.office_sql.specs.Schema.{lines, batches, tenderers, notices, lots, envelopes, seals, securities, awards, contracts, entries, releases, compiled, office, late_rules, performance}
 use Rattle.office_sql.specs.Known.{IsIn, at_tree}
 use Rattle.office_sql.proofs.Meanings.{Means, IsOne, parsed_in}
 use Rattle.office_sql.proofs.Keyed.{keyed}
-use Rattle.office_sql.specs.Schema.OfficeTable.{Lines, Batches, Tenderers, Notices, Lots, Envelopes, Seals, Securities, Awards, Contracts, Entries, Releases, Compiled, Office, LateRules}
+use Rattle.office_sql.specs.Schema.OfficeTable.{Lines, Batches, Tenderers, Notices, Lots, Envelopes, Seals, Securities, Awards, Contracts, Entries, Releases, Compiled, Office, LateRules, Performances}
 use Rattle.office_sql.proofs.Selecting.{found_by_tree}
 use Rattle.office_sql.proofs.Upserts.{IsUpsert, InsertsRows, NamesKey, Updates, on_conflict, columns_in, rows_in, clause_in, upserts_mean}
-use Rattle.office_sql.proofs.Stored.{line_terms, line_cells, batch_terms, batch_cells, tenderer_terms, tenderer_cells, notice_terms, notice_cells, lot_terms, lot_cells, envelope_terms, envelope_cells, seal_terms, seal_cells, security_terms, security_cells, award_terms, award_cells, contract_terms, contract_cells, entry_terms, entry_cells, release_terms, release_cells, compiled_terms, compiled_cells, clock_terms, clock_cells, late_terms, late_cells}
+use Rattle.office_sql.proofs.Stored.{line_terms, line_cells, batch_terms, batch_cells, tenderer_terms, tenderer_cells, notice_terms, notice_cells, lot_terms, lot_cells, envelope_terms, envelope_cells, seal_terms, seal_cells, security_terms, security_cells, award_terms, award_cells, contract_terms, contract_cells, entry_terms, entry_cells, release_terms, release_cells, compiled_terms, compiled_cells, clock_terms, clock_cells, late_terms, late_cells, performance_terms, performance_cells}
 
 lines_read : IsUpsert put_lines (codes "lines")
 unfolding everything parsed_in columns_in rows_in clause_in
@@ -88,11 +88,11 @@ pub put_tenderers_means : (schema : Schema) (n : ℕ) (it : IsIn schema tenderer
 put_tenderers_means schema n it =
     upserts_mean schema put_tenderers tenderers n it tenderers_read refl (keyed Tenderers) _ (tenderers_rows schema n) (tenderers_key n) 4 tenderer_cells (tenderers_update schema it.place n) (rw (it.stored, found_by_tree schema tenderers n it))
 
-notices_read : IsUpsert put_notices (codes "notices")
+notices_read : IsUpsert put_notices (codes "notices_2")
 unfolding everything parsed_in columns_in rows_in clause_in
 notices_read = record { is = refl; statement = refl; formats = refl; targeted = refl; changes = refl }
 
-notices_rows : (schema : Schema) (n : ℕ) → InsertsRows schema (at_tree notices n) put_notices (Values notice_terms 12)
+notices_rows : (schema : Schema) (n : ℕ) → InsertsRows schema (at_tree notices n) put_notices (Values notice_terms 13)
 unfolding everything parsed_in columns_in rows_in
 notices_rows schema n = refl
 
@@ -100,17 +100,17 @@ notices_key : (n : ℕ) → NamesKey (at_tree notices n) put_notices
 unfolding everything parsed_in clause_in
 notices_key n = refl
 
-notices_update : (schema : Schema) (at n : ℕ) → Updates schema at (at_tree notices n) put_notices 11 notice_cells
+notices_update : (schema : Schema) (at n : ℕ) → Updates schema at (at_tree notices n) put_notices 12 notice_cells
 unfolding everything parsed_in clause_in
 notices_update schema at n = refl
 
-pub put_notices_one : IsOne put_notices 11
+pub put_notices_one : IsOne put_notices 12
 unfolding everything parsed_in
 put_notices_one = record { whole = refl; given = refl }
 
-pub put_notices_means : (schema : Schema) (n : ℕ) (it : IsIn schema notices n) → Means schema put_notices (InsertOr it.place Abort (Values notice_terms 12) (on_conflict (at_tree notices n) 11 notice_cells ∷ []))
+pub put_notices_means : (schema : Schema) (n : ℕ) (it : IsIn schema notices n) → Means schema put_notices (InsertOr it.place Abort (Values notice_terms 13) (on_conflict (at_tree notices n) 12 notice_cells ∷ []))
 put_notices_means schema n it =
-    upserts_mean schema put_notices notices n it notices_read refl (keyed Notices) _ (notices_rows schema n) (notices_key n) 11 notice_cells (notices_update schema it.place n) (rw (it.stored, found_by_tree schema notices n it))
+    upserts_mean schema put_notices notices n it notices_read refl (keyed Notices) _ (notices_rows schema n) (notices_key n) 12 notice_cells (notices_update schema it.place n) (rw (it.stored, found_by_tree schema notices n it))
 
 lots_read : IsUpsert put_lots (codes "lots")
 unfolding everything parsed_in columns_in rows_in clause_in
@@ -375,3 +375,27 @@ put_late_rules_one = record { whole = refl; given = refl }
 pub put_late_rules_means : (schema : Schema) (n : ℕ) (it : IsIn schema late_rules n) → Means schema put_late_rules (InsertOr it.place Abort (Values late_terms 2) (on_conflict (at_tree late_rules n) 1 late_cells ∷ []))
 put_late_rules_means schema n it =
     upserts_mean schema put_late_rules late_rules n it late_rules_read refl (keyed LateRules) _ (late_rules_rows schema n) (late_rules_key n) 1 late_cells (late_rules_update schema it.place n) (rw (it.stored, found_by_tree schema late_rules n it))
+
+performance_read : IsUpsert put_performance (codes "performance")
+unfolding everything parsed_in columns_in rows_in clause_in
+performance_read = record { is = refl; statement = refl; formats = refl; targeted = refl; changes = refl }
+
+performance_rows : (schema : Schema) (n : ℕ) → InsertsRows schema (at_tree performance n) put_performance (Values performance_terms 5)
+unfolding everything parsed_in columns_in rows_in
+performance_rows schema n = refl
+
+performance_key : (n : ℕ) → NamesKey (at_tree performance n) put_performance
+unfolding everything parsed_in clause_in
+performance_key n = refl
+
+performance_update : (schema : Schema) (at n : ℕ) → Updates schema at (at_tree performance n) put_performance 4 performance_cells
+unfolding everything parsed_in clause_in
+performance_update schema at n = refl
+
+pub put_performance_one : IsOne put_performance 4
+unfolding everything parsed_in
+put_performance_one = record { whole = refl; given = refl }
+
+pub put_performance_means : (schema : Schema) (n : ℕ) (it : IsIn schema performance n) → Means schema put_performance (InsertOr it.place Abort (Values performance_terms 5) (on_conflict (at_tree performance n) 4 performance_cells ∷ []))
+put_performance_means schema n it =
+    upserts_mean schema put_performance performance n it performance_read refl (keyed Performances) _ (performance_rows schema n) (performance_key n) 4 performance_cells (performance_update schema it.place n) (rw (it.stored, found_by_tree schema performance n it))

@@ -30,7 +30,7 @@ use Rattle.office_sql.proofs.Selected.{picked, permuted_has}
 
 -- the rows that pass, each shown by its rowid
 module _ (p : Row → Bool) (env : Row → Env) where
-  has_picked : (rows : List Row) (r : Row) → Has rows r → p r ≡ true → Has (picked p env rows) (env r)
+  pub has_picked : (rows : List Row) (r : Row) → Has rows r → p r ≡ true → Has (picked p env rows) (env r)
   has_picked [] r h is = absurd h
   has_picked (x ∷ rows) r (inl same) is = rw (ap p (sym same) ∙ is) (inl (ap env same))
   has_picked (x ∷ rows) r (inr more) is = elim (p x) as (λ b. Has (cond b (env x ∷ []) [] ++ picked p env rows) (env r)) [ true ↦ inr (has_picked rows r more is) | false ↦ has_picked rows r more is ]

@@ -7,7 +7,7 @@ use Rattle.sqlite_schema.specs.declared.schema.Kind.TheVariants.{Integer, Text}
 use Rattle.sqlite_schema.specs.declared.command.Command.TheVariants.{Select}
 use Rattle.sqlite_resolve.specs.Lowering.{alone, chosen, first_found, max_budget}
 use Rattle.sqlite_tied.specs.Compute.{everything}
-use Rattle.office_sql.specs.Schema.{column_of, lines, batches, tenderers, notices, lots, envelopes, seals, securities, awards, contracts, entries, releases, compiled, office, late_rules}
+use Rattle.office_sql.specs.Schema.{column_of, lines, batches, tenderers, notices, lots, envelopes, seals, securities, awards, contracts, entries, releases, compiled, office, late_rules, former_notices, performance}
 use Rattle.office_sql.specs.Known.{IsIn, at_tree}
 use Rattle.office_sql.proofs.Meanings.{Means, IsOne, parsed_in}
 use Rattle.office_sql.proofs.Simple.{equals_e, both_e, names_of, outputs_of, Has, no_test, one_test, two_tests, three_tests}
@@ -27,7 +27,11 @@ tenderers_has n = (refl, refl, refl, (refl, refl, refl, (refl, refl, refl, (refl
 
 notices_has : (n : ℕ) → Has (at_tree notices n) max_budget (columns_of notices)
 unfolding same_name
-notices_has n = (refl, refl, refl, (refl, refl, refl, (refl, refl, refl, (refl, refl, refl, (refl, refl, refl, (refl, refl, refl, (refl, refl, refl, (refl, refl, refl, (refl, refl, refl, (refl, refl, refl, (refl, refl, refl, tt)))))))))))
+notices_has n = (refl, refl, refl, (refl, refl, refl, (refl, refl, refl, (refl, refl, refl, (refl, refl, refl, (refl, refl, refl, (refl, refl, refl, (refl, refl, refl, (refl, refl, refl, (refl, refl, refl, (refl, refl, refl, (refl, refl, refl, tt))))))))))))
+
+former_notices_has : (n : ℕ) → Has (at_tree former_notices n) max_budget (columns_of former_notices)
+unfolding same_name
+former_notices_has n = (refl, refl, refl, (refl, refl, refl, (refl, refl, refl, (refl, refl, refl, (refl, refl, refl, (refl, refl, refl, (refl, refl, refl, (refl, refl, refl, (refl, refl, refl, (refl, refl, refl, (refl, refl, refl, tt)))))))))))
 
 lots_has : (n : ℕ) → Has (at_tree lots n) max_budget (columns_of lots)
 unfolding same_name
@@ -64,6 +68,10 @@ releases_has n = (refl, refl, refl, (refl, refl, refl, (refl, refl, refl, (refl,
 compiled_has : (n : ℕ) → Has (at_tree compiled n) max_budget (columns_of compiled)
 unfolding same_name
 compiled_has n = (refl, refl, refl, (refl, refl, refl, tt))
+
+performance_has : (n : ℕ) → Has (at_tree performance n) max_budget (columns_of performance)
+unfolding same_name
+performance_has n = (refl, refl, refl, (refl, refl, refl, (refl, refl, refl, (refl, refl, refl, tt))))
 
 late_rules_has : (n : ℕ) → Has (at_tree late_rules n) max_budget (columns_of late_rules)
 unfolding same_name
@@ -116,13 +124,13 @@ get_tenderer_means schema n it =
     tt tt (rw (it.stored, found_by_tree schema tenderers n it))
 
 abbrev pub get_notice : List ℕ
-get_notice = codes "SELECT notice, title, published, deadline, validity, standstill, weight, state, opened, amendments, releases FROM notices WHERE notice = ?1"
+get_notice = codes "SELECT notice, title, published, deadline, validity, standstill, weight, state, opened, amendments, releases, performance FROM notices_2 WHERE notice = ?1"
 
-get_notice_read : IsSelect get_notice (codes "notices") (names_of (columns_of notices)) (Some (equals_e (codes "notice") 1)) ([])
+get_notice_read : IsSelect get_notice (codes "notices_2") (names_of (columns_of notices)) (Some (equals_e (codes "notice") 1)) ([])
 unfolding everything parsed_in
 get_notice_read = record { is = refl; statement = refl; formats = refl }
 
-pub get_notice_means : (schema : Schema) (n : ℕ) → IsIn schema notices n → Means schema get_notice (Select (record { lets = []; body = select n (1 ∷ []) (range_with_len 1 11) ([]) }) (names_of (columns_of notices)))
+pub get_notice_means : (schema : Schema) (n : ℕ) → IsIn schema notices n → Means schema get_notice (Select (record { lets = []; body = select n (1 ∷ []) (range_with_len 1 12) ([]) }) (names_of (columns_of notices)))
 unfolding same_name alone chosen first_found
 get_notice_means schema n it =
     selects_mean schema notices n it (columns_of notices) ([]) get_notice (notices_has n) (Some (equals_e (codes "notice") 1)) _ _ _ get_notice_read
@@ -269,6 +277,20 @@ get_late_means schema n it =
     (one_test schema it.place (at_tree late_rules n) it.found late_rules.name (outputs_of (at_tree late_rules n) [] (columns_of late_rules)) (0, column_of (codes "notice") Text true) 1 (left (columns_of late_rules)) _ (refl, refl, refl, tt) refl refl (inl (inl refl, refl), refl, refl))
     tt tt (rw (it.stored, found_by_tree schema late_rules n it))
 
+abbrev pub get_performance : List ℕ
+get_performance = codes "SELECT contract, reference, amount, state FROM performance WHERE contract = ?1"
+
+get_performance_read : IsSelect get_performance (codes "performance") (names_of (columns_of performance)) (Some (equals_e (codes "contract") 1)) ([])
+unfolding everything parsed_in
+get_performance_read = record { is = refl; statement = refl; formats = refl }
+
+pub get_performance_means : (schema : Schema) (n : ℕ) → IsIn schema performance n → Means schema get_performance (Select (record { lets = []; body = select n (0 ∷ []) (0 ∷ range_with_len 2 3) ([]) }) (names_of (columns_of performance)))
+unfolding same_name alone chosen first_found
+get_performance_means schema n it =
+    selects_mean schema performance n it (columns_of performance) ([]) get_performance (performance_has n) (Some (equals_e (codes "contract") 1)) _ _ _ get_performance_read
+    (one_test schema it.place (at_tree performance n) it.found performance.name (outputs_of (at_tree performance n) [] (columns_of performance)) (0, column_of (codes "contract") Integer true) 1 (left (columns_of performance)) _ (refl, refl, refl, tt) refl refl (inr refl, refl, refl))
+    tt tt (rw (it.stored, found_by_tree schema performance n it))
+
 abbrev pub get_clock : List ℕ
 get_clock = codes "SELECT version, moment, receipts, awards FROM office"
 
@@ -314,6 +336,20 @@ list_lines_means schema n it =
     selects_mean schema lines n it (columns_of lines) ((0, column_of (codes "line") Text true) ∷ []) list_lines (lines_has n) None _ _ _ list_lines_read
     (no_test schema it.place (at_tree lines n) it.found lines.name (outputs_of (at_tree lines n) [] (columns_of lines)) (left (columns_of lines)) _)
     (refl, refl, refl, tt) (refl, tt) (rw (it.stored, found_by_tree schema lines n it))
+
+abbrev pub list_former : List ℕ
+list_former = codes "SELECT notice, title, published, deadline, validity, standstill, weight, state, opened, amendments, releases FROM notices ORDER BY notice"
+
+list_former_read : IsSelect list_former (codes "notices") (names_of (columns_of former_notices)) None (codes "notice" ∷ [])
+unfolding everything parsed_in
+list_former_read = record { is = refl; statement = refl; formats = refl }
+
+pub list_former_means : (schema : Schema) (n : ℕ) → IsIn schema former_notices n → Means schema list_former (Select (record { lets = []; body = select n ([]) (range_with_len 1 11) (1 ∷ []) }) (names_of (columns_of former_notices)))
+unfolding same_name alone chosen first_found
+list_former_means schema n it =
+    selects_mean schema former_notices n it (columns_of former_notices) ((0, column_of (codes "notice") Text true) ∷ []) list_former (former_notices_has n) None _ _ _ list_former_read
+    (no_test schema it.place (at_tree former_notices n) it.found former_notices.name (outputs_of (at_tree former_notices n) [] (columns_of former_notices)) (left (columns_of former_notices)) _)
+    (refl, refl, refl, tt) (refl, tt) (rw (it.stored, found_by_tree schema former_notices n it))
 
 abbrev pub list_lots_of_notice : List ℕ
 list_lots_of_notice = codes "SELECT notice, lot, title, line, estimate, security, items, state, reserved FROM lots WHERE notice = ?1 ORDER BY notice, lot"

@@ -11,7 +11,7 @@ use Rattle.sqlite_value.proofs.OrderLemmas.{value_cmp-Text}
 use Rattle.sqlite_sql.specs.Query.{Output}
 use Rattle.sqlite.specs.State.{State, Shown}
 use Rattle.office_values.specs.Ids.{id_cmp, same_id}
-use Rattle.office_base.specs.Tables.{Tables, same_number, line_key, line_at, batch_key, batch_at, tenderer_key, tenderer_at, notice_key, notice_at, lot_key, lot_at, envelope_key, envelope_at, seal_key, seal_at, security_key, security_at, award_key, award_at, contract_key, contract_at, entry_key, entry_at, release_key, release_at, compiled_key, compiled_at, late_key, late_at, entry_cmp, lot_cmp, release_cmp, awards_of_notice, contracts_of_notice, entries_of_contract, envelopes_of_notice, envelopes_of_tenderer, of_tenderer, lots_of_line, lots_of_notice, releases_of_notice, securities_of_notice}
+use Rattle.office_base.specs.Tables.{Tables, same_number, line_key, line_at, batch_key, batch_at, tenderer_key, tenderer_at, notice_key, notice_at, lot_key, lot_at, envelope_key, envelope_at, seal_key, seal_at, security_key, security_at, award_key, award_at, contract_key, contract_at, entry_key, entry_at, release_key, release_at, compiled_key, compiled_at, late_key, late_at, performance_key, performance_at, entry_cmp, lot_cmp, release_cmp, awards_of_notice, contracts_of_notice, entries_of_contract, envelopes_of_notice, envelopes_of_tenderer, of_tenderer, lots_of_line, lots_of_notice, releases_of_notice, securities_of_notice}
 use Rattle.office_base.specs.Joined.{reservations}
 use Rattle.office_base.specs.declared.records.LineRow.{LineRow}
 use Rattle.office_base.specs.declared.records.BatchRow.{BatchRow}
@@ -27,23 +27,26 @@ use Rattle.office_base.specs.declared.records.EntryRow.{EntryRow}
 use Rattle.office_base.specs.declared.records.ReleaseRow.{ReleaseRow}
 use Rattle.office_base.specs.declared.records.CompiledRow.{CompiledRow}
 use Rattle.office_base.specs.declared.records.LateRow.{LateRow}
+use Rattle.office_base.specs.declared.records.PerformanceRow.{PerformanceRow}
 use Rattle.office_base.specs.declared.records.ClockRow.{ClockRow}
 use Rattle.office_base.proofs.ExactKeys.{ids_exact, lots_exact, same_id_is}
 use Rattle.office_base.proofs.Orders.{lots_total, entries_total, releases_total}
 use Rattle.office_rows.specs.Values.{number_in}
 use Rattle.office_rows.specs.Budget.{line_row, line_read, line_in, batch_row, batch_read, batch_in}
-use Rattle.office_rows.specs.Notices.{tenderer_row, tenderer_read, tenderer_in, notice_row, notice_read, notice_in, late_row, late_read, late_in, lot_row, lot_read, lot_in}
+use Rattle.office_rows.specs.Notices.{tenderer_row, tenderer_read, tenderer_in, notice_row, notice_read, notice_in, former_row, former_read, former_in, late_row, late_read, late_in, lot_row, lot_read, lot_in}
 use Rattle.office_rows.specs.Tenders.{envelope_row, envelope_read, seal_row, seal_read, security_row, security_read}
-use Rattle.office_rows.specs.Awards.{award_row, award_read, contract_row, contract_read, entry_row, entry_read, entry_in}
-use Rattle.office_rows.specs.Releases.{release_row, release_read, release_in, compiled_row, compiled_read, compiled_in, clock_row, clock_read}
+use Rattle.office_rows.specs.Awards.{award_row, award_read, contract_row, contract_read, entry_row, entry_read, entry_in, performance_row, performance_read}
+use Rattle.office_rows.specs.Releases.{release_row, release_read, release_in, compiled_row, compiled_read, compiled_in, clock_row, clock_row_of, clock_read}
 use Rattle.office_sql.specs.Clock.{clock_key, clock_cmp}
-use Rattle.office_sql.specs.Version.{HasVersionOne}
-use Rattle.office_sql.specs.Schema.OfficeTable.{Lines, Batches, Tenderers, Notices, Lots, Envelopes, Seals, Securities, Awards, Contracts, Entries, Releases, Compiled, Office, LateRules}
+use Rattle.office_sql.specs.Version.{HasVersion}
+use Rattle.office_sql.specs.Schema.OfficeTable.{Lines, Batches, Tenderers, Notices, Lots, Envelopes, Seals, Securities, Awards, Contracts, Entries, Releases, Compiled, Office, LateRules, Performances}
 use Rattle.office_sql.specs.Kept.{behind, by_rowid, read_by_rowid}
-use Rattle.office_sql.specs.Standing.{Holds}
+use Rattle.office_sql.specs.Known.{IsIn}
+use Rattle.office_sql.specs.Schema.{former_notices}
+use Rattle.office_sql.specs.Standing.{Stand, Holds}
 use Rattle.office_sql.proofs.Cells.{text_tested, number_tested, three_tested, numbers_cmp, and_true, then_equal, pair_then, both_equal, same_number_is}
 use Rattle.office_sql.proofs.Keys.{entries_exact, releases_exact, clock_total, clock_exact}
-use Rattle.office_sql.proofs.SelectTexts.{get_line, get_line_means, get_batch, get_batch_means, get_tenderer, get_tenderer_means, get_notice, get_notice_means, get_lot, get_lot_means, get_envelope, get_envelope_means, get_seal, get_seal_means, get_security, get_security_means, get_award, get_award_means, get_contract, get_contract_means, get_entry, get_entry_means, get_release, get_release_means, get_compiled, get_compiled_means, get_late, get_late_means, get_clock, get_clock_means, get_version, get_version_means, list_lines, list_lines_means, list_lots_of_notice, list_lots_of_notice_means, list_lots_of_line, list_lots_of_line_means, list_reservations_of_line, list_reservations_of_line_means, list_envelopes_of_notice, list_envelopes_of_notice_means, list_envelopes_of_tenderer, list_envelopes_of_tenderer_means, list_securities_of_notice, list_securities_of_notice_means, list_awards_of_notice, list_awards_of_notice_means, list_contracts_of_notice, list_contracts_of_notice_means, list_entries_of_contract, list_entries_of_contract_means, list_releases_of_notice, list_releases_of_notice_means}
+use Rattle.office_sql.proofs.SelectTexts.{get_line, get_line_means, get_batch, get_batch_means, get_tenderer, get_tenderer_means, get_notice, get_notice_means, get_lot, get_lot_means, get_envelope, get_envelope_means, get_seal, get_seal_means, get_security, get_security_means, get_award, get_award_means, get_contract, get_contract_means, get_entry, get_entry_means, get_release, get_release_means, get_compiled, get_compiled_means, get_late, get_late_means, get_performance, get_performance_means, get_clock, get_clock_means, get_version, get_version_means, list_lines, list_lines_means, list_former, list_former_means, list_lots_of_notice, list_lots_of_notice_means, list_lots_of_line, list_lots_of_line_means, list_reservations_of_line, list_reservations_of_line_means, list_envelopes_of_notice, list_envelopes_of_notice_means, list_envelopes_of_tenderer, list_envelopes_of_tenderer_means, list_securities_of_notice, list_securities_of_notice_means, list_awards_of_notice, list_awards_of_notice_means, list_contracts_of_notice, list_contracts_of_notice_means, list_entries_of_contract, list_entries_of_contract_means, list_releases_of_notice, list_releases_of_notice_means}
 use Rattle.office_sql.proofs.Asking.{shows_rows, lists, gets, filter-all}
 
 pub select_get_line : (old new : State) (rows : List Row) (t : Tables) → Holds old.now t → (k : List ℕ) → Shown get_line (Text k ∷ []) old new rows → option_map line_read (slice_get rows 0) ≡ line_at k t
@@ -63,7 +66,7 @@ select_get_tenderer old new rows t was k h =
 
 pub select_get_notice : (old new : State) (rows : List Row) (t : Tables) → Holds old.now t → (k : List ℕ) → Shown get_notice (Text k ∷ []) old new rows → option_map notice_read (slice_get rows 0) ≡ notice_at k t
 select_get_notice old new rows t was k h =
-    gets id_cmp nat_list_cmp_total ids_exact notice_key (behind notice_row) notice_in notice_row notice_read (λ v x. refl) old new rows (was.places Notices) t.notices (was.stands Notices) get_notice (Text k ∷ []) (1 ∷ []) (range_with_len 1 11) ([]) _ (get_notice_means old.now.schema (was.places Notices) (was.tables Notices)) (λ (x : NoticeRow). same_id x.notice k) (λ v x. and_true _ ∙ text_tested x.notice k)
+    gets id_cmp nat_list_cmp_total ids_exact notice_key (behind notice_row) notice_in notice_row notice_read (λ v x. refl) old new rows (was.places Notices) t.notices (was.stands Notices) get_notice (Text k ∷ []) (1 ∷ []) (range_with_len 1 12) ([]) _ (get_notice_means old.now.schema (was.places Notices) (was.tables Notices)) (λ (x : NoticeRow). same_id x.notice k) (λ v x. and_true _ ∙ text_tested x.notice k)
     k (λ x. same_id_is x.notice k) (λ v x. refl) (λ a b. refl) h
 
 pub select_get_lot : (old new : State) (rows : List Row) (t : Tables) → Holds old.now t → (k : List ℕ) → (l : List ℕ) → Shown get_lot (Text k ∷ Text l ∷ []) old new rows → option_map lot_read (slice_get rows 0) ≡ lot_at (k, l) t
@@ -116,20 +119,35 @@ select_get_late old new rows t was k h =
     gets id_cmp nat_list_cmp_total ids_exact late_key (behind late_row) late_in late_row late_read (λ v x. refl) old new rows (was.places LateRules) t.late_rules (was.stands LateRules) get_late (Text k ∷ []) (1 ∷ []) (range_with_len 1 1) ([]) _ (get_late_means old.now.schema (was.places LateRules) (was.tables LateRules)) (λ (x : LateRow). same_id x.notice k) (λ v x. and_true _ ∙ text_tested x.notice k)
     k (λ x. same_id_is x.notice k) (λ v x. refl) (λ a b. refl) h
 
+pub select_get_performance : (old new : State) (rows : List Row) (t : Tables) → Holds old.now t → (k : ℕ) → Shown get_performance (Int (pos k) ∷ []) old new rows → option_map performance_read (slice_get rows 0) ≡ performance_at k t
+select_get_performance old new rows t was k h =
+    gets nat_cmp nat_cmp_total numbers_exact performance_key (by_rowid performance_row) (read_by_rowid performance_read) performance_row performance_read (λ v x. refl) old new rows (was.places Performances) t.performances (was.stands Performances) get_performance (Int (pos k) ∷ []) (0 ∷ []) (0 ∷ range_with_len 2 3) ([]) _ (get_performance_means old.now.schema (was.places Performances) (was.tables Performances)) (λ (x : PerformanceRow). same_number x.contract k) (λ v x. and_true _ ∙ number_tested x.contract k)
+    k (λ x. same_number_is x.contract k) (λ v x. refl) (λ a b. refl) h
+
+pub select_clock : (n : ℕ) (clock : ClockRow) (old new : State) (rows : List Row) → HasVersion n clock old.now → Shown get_clock ([]) old new rows → map clock_read rows ≡ clock ∷ []
+select_clock n clock old new rows was h =
+    lists clock_cmp clock_total clock_exact clock_key (by_rowid (clock_row_of n)) (read_by_rowid clock_read) (clock_row_of n) clock_read (λ v x. refl) old new rows was.place (clock ∷ []) was.stand get_clock ([]) ([]) (0 ∷ range_with_len 2 3) ([]) _ (get_clock_means old.now.schema was.place was.table) (λ (x : ClockRow). true) (λ v x. refl)
+    (λ (x : ClockRow). []) (λ v x. refl) (λ x y. refl) h
+
 pub select_get_clock : (old new : State) (rows : List Row) (t : Tables) → Holds old.now t → Shown get_clock ([]) old new rows → map clock_read rows ≡ t.clock ∷ []
 select_get_clock old new rows t was h =
     lists clock_cmp clock_total clock_exact clock_key (by_rowid clock_row) (read_by_rowid clock_read) clock_row clock_read (λ v x. refl) old new rows (was.places Office) (t.clock ∷ []) (was.stands Office) get_clock ([]) ([]) (0 ∷ range_with_len 2 3) ([]) _ (get_clock_means old.now.schema (was.places Office) (was.tables Office)) (λ (x : ClockRow). true) (λ v x. refl)
     (λ (x : ClockRow). []) (λ v x. refl) (λ x y. refl) h
 
-pub select_get_version : (old new : State) (rows : List Row) → HasVersionOne old.now → Shown get_version ([]) old new rows → rows ≡ (Int (pos 1) ∷ []) ∷ []
-select_get_version old new rows was h =
-    shows_rows clock_cmp clock_total clock_exact clock_key (by_rowid clock_row) (read_by_rowid clock_read) clock_row clock_read (λ v x. refl) old new rows was.place (was.clock ∷ []) was.stand get_version ([]) ([]) (0 ∷ []) ([]) _ (get_version_means old.now.schema was.place was.table) (λ (x : ClockRow). true) (λ v x. refl)
-    (λ (x : ClockRow). ([], Int (pos 1) ∷ [])) (λ v x. refl) (λ x y a b. refl) h
+pub select_get_version : (n : ℕ) (clock : ClockRow) (old new : State) (rows : List Row) → HasVersion n clock old.now → Shown get_version ([]) old new rows → rows ≡ (Int (pos n) ∷ []) ∷ []
+select_get_version n clock old new rows was h =
+    shows_rows clock_cmp clock_total clock_exact clock_key (by_rowid (clock_row_of n)) (read_by_rowid clock_read) (clock_row_of n) clock_read (λ v x. refl) old new rows was.place (clock ∷ []) was.stand get_version ([]) ([]) (0 ∷ []) ([]) _ (get_version_means old.now.schema was.place was.table) (λ (x : ClockRow). true) (λ v x. refl)
+    (λ (x : ClockRow). ([], Int (pos n) ∷ [])) (λ v x. refl) (λ x y a b. refl) h
 
 pub select_list_lines : (old new : State) (rows : List Row) (t : Tables) → Holds old.now t → Shown list_lines ([]) old new rows → map line_read rows ≡ t.lines
 select_list_lines old new rows t was h =
     lists id_cmp nat_list_cmp_total ids_exact line_key (behind line_row) line_in line_row line_read (λ v x. refl) old new rows (was.places Lines) t.lines (was.stands Lines) list_lines ([]) ([]) (range_with_len 1 4) (1 ∷ []) _ (list_lines_means old.now.schema (was.places Lines) (was.tables Lines)) (λ (x : LineRow). true) (λ v x. refl)
     (λ (x : LineRow). Text x.line ∷ []) (λ v x. refl) (λ x y. then_equal _ ∙ ap is_lt (value_cmp-Text x.line y.line)) h ∙ filter-all t.lines
+
+pub select_list_former : (old new : State) (rows : List Row) (place : ℕ) (table : IsIn old.now.schema former_notices place) (xs : List NoticeRow) → Stand id_cmp notice_key (behind former_row) former_in (old.now.trees place) xs → Shown list_former ([]) old new rows → map former_read rows ≡ xs
+select_list_former old new rows place table xs stand h =
+    lists id_cmp nat_list_cmp_total ids_exact notice_key (behind former_row) former_in former_row former_read (λ v x. refl) old new rows place xs stand list_former ([]) ([]) (range_with_len 1 11) (1 ∷ []) _ (list_former_means old.now.schema place table) (λ (x : NoticeRow). true) (λ v x. refl)
+    (λ (x : NoticeRow). Text x.notice ∷ []) (λ v x. refl) (λ x y. then_equal _ ∙ ap is_lt (value_cmp-Text x.notice y.notice)) h ∙ filter-all xs
 
 pub select_list_lots_of_notice : (old new : State) (rows : List Row) (t : Tables) → Holds old.now t → (k : List ℕ) → Shown list_lots_of_notice (Text k ∷ []) old new rows → map lot_read rows ≡ lots_of_notice k t
 select_list_lots_of_notice old new rows t was k h =

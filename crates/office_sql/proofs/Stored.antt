@@ -11,7 +11,7 @@ use Rattle.sqlite_sql.specs.Term.{Term, lit, col}
 use Rattle.sqlite_schema.specs.Rules.{agree}
 use Rattle.std.specs.Prelude.{option_map}
 use Rattle.office_values.specs.Ids.{id_cmp}
-use Rattle.office_base.specs.Tables.{line_key, batch_key, tenderer_key, notice_key, lot_key, envelope_key, seal_key, security_key, award_key, contract_key, entry_key, release_key, compiled_key, late_key, entry_cmp, lot_cmp, release_cmp}
+use Rattle.office_base.specs.Tables.{line_key, batch_key, tenderer_key, notice_key, lot_key, envelope_key, seal_key, security_key, award_key, contract_key, entry_key, release_key, compiled_key, late_key, performance_key, entry_cmp, lot_cmp, release_cmp}
 use Rattle.office_base.specs.declared.records.LineRow.{LineRow}
 use Rattle.office_base.specs.declared.records.BatchRow.{BatchRow}
 use Rattle.office_base.specs.declared.records.TendererRow.{TendererRow}
@@ -26,6 +26,7 @@ use Rattle.office_base.specs.declared.records.EntryRow.{EntryRow}
 use Rattle.office_base.specs.declared.records.ReleaseRow.{ReleaseRow}
 use Rattle.office_base.specs.declared.records.CompiledRow.{CompiledRow}
 use Rattle.office_base.specs.declared.records.LateRow.{LateRow}
+use Rattle.office_base.specs.declared.records.PerformanceRow.{PerformanceRow}
 use Rattle.office_base.specs.declared.records.ClockRow.{ClockRow}
 use Rattle.office_rows.specs.Values.{as_number}
 use Rattle.office_rows.specs.Words.{how_text}
@@ -35,12 +36,12 @@ use Rattle.office_base.proofs.Orders.{lots_total, entries_total, releases_total}
 use Rattle.office_rows.specs.Budget.{line_row, batch_row}
 use Rattle.office_rows.specs.Notices.{tenderer_row, notice_row, late_row, lot_row}
 use Rattle.office_rows.specs.Tenders.{envelope_row, seal_row, security_row}
-use Rattle.office_rows.specs.Awards.{award_row, contract_row, entry_row}
+use Rattle.office_rows.specs.Awards.{award_row, contract_row, entry_row, performance_row}
 use Rattle.office_rows.specs.Releases.{release_row, compiled_row, clock_row}
 use Rattle.office_sql.specs.Clock.{clock_key, clock_cmp}
 use Rattle.office_sql.specs.Kept.{behind, by_rowid}
-use Rattle.office_sql.specs.Schema.{OfficeTable, table_of, lines, batches, tenderers, notices, lots, envelopes, seals, securities, awards, contracts, entries, releases, compiled, office, late_rules}
-use Rattle.office_sql.specs.Schema.OfficeTable.{Lines, Batches, Tenderers, Notices, Lots, Envelopes, Seals, Securities, Awards, Contracts, Entries, Releases, Compiled, Office, LateRules}
+use Rattle.office_sql.specs.Schema.{OfficeTable, table_of, lines, batches, tenderers, notices, lots, envelopes, seals, securities, awards, contracts, entries, releases, compiled, office, late_rules, performance}
+use Rattle.office_sql.specs.Schema.OfficeTable.{Lines, Batches, Tenderers, Notices, Lots, Envelopes, Seals, Securities, Awards, Contracts, Entries, Releases, Compiled, Office, LateRules, FormerNotices, Performances}
 use Rattle.office_sql.proofs.Cells.{cast_null, cast_int, cast_perhaps, cast_words, texts_equal, equal_texts, numbers_equal, equal_numbers, both_true, one_true, first_true, only_true}
 use Rattle.office_sql.proofs.Keyed.{keyed}
 use Rattle.office_sql.proofs.Writes.{IsStored, IsBare}
@@ -62,6 +63,8 @@ bare Releases = record { childless = refl; key = keyed Releases; uncounted = ref
 bare Compiled = record { childless = refl; key = keyed Compiled; uncounted = refl }
 bare Office = record { childless = refl; key = keyed Office; uncounted = refl }
 bare LateRules = record { childless = refl; key = keyed LateRules; uncounted = refl }
+bare FormerNotices = record { childless = refl; key = keyed FormerNotices; uncounted = refl }
+bare Performances = record { childless = refl; key = keyed Performances; uncounted = refl }
 
 -- ---- lines
 
@@ -170,19 +173,19 @@ unfolding first_key
 notice_met u v x y h = equal_texts x.notice y.notice (only_true _ h)
 
 abbrev pub notice_terms : List Term
-notice_terms = lit Null ∷ col 0 0 ∷ col 0 1 ∷ col 0 2 ∷ col 0 3 ∷ col 0 4 ∷ col 0 5 ∷ col 0 6 ∷ col 0 7 ∷ col 0 8 ∷ col 0 9 ∷ col 0 10 ∷ []
+notice_terms = lit Null ∷ col 0 0 ∷ col 0 1 ∷ col 0 2 ∷ col 0 3 ∷ col 0 4 ∷ col 0 5 ∷ col 0 6 ∷ col 0 7 ∷ col 0 8 ∷ col 0 9 ∷ col 0 10 ∷ col 0 11 ∷ []
 
 abbrev pub notice_cells : List Term
-notice_cells = col 1 1 ∷ col 0 1 ∷ col 0 2 ∷ col 0 3 ∷ col 0 4 ∷ col 0 5 ∷ col 0 6 ∷ col 0 7 ∷ col 0 8 ∷ col 0 9 ∷ col 0 10 ∷ []
+notice_cells = col 1 1 ∷ col 0 1 ∷ col 0 2 ∷ col 0 3 ∷ col 0 4 ∷ col 0 5 ∷ col 0 6 ∷ col 0 7 ∷ col 0 8 ∷ col 0 9 ∷ col 0 10 ∷ col 0 11 ∷ []
 
-pub notice_stored : IsStored Notices id_cmp notice_key notice_row (behind notice_row) 11 notice_terms notice_cells
+pub notice_stored : IsStored Notices id_cmp notice_key notice_row (behind notice_row) 12 notice_terms notice_cells
 notice_stored = record {
   total = nat_list_cmp_total;
   exact = ids_exact;
   given = λ n x. refl;
   chosen = λ rows x. refl;
-  tries = λ n x. rw (cast_null, cast_int (pos x.published), cast_int (pos x.deadline), cast_int (pos x.validity), cast_int (pos x.standstill), cast_int (pos x.weight), cast_perhaps x.opened, cast_int (pos x.amendments), cast_int (pos x.releases));
-  stores = λ n m x. rw (cast_int m, cast_int (pos x.published), cast_int (pos x.deadline), cast_int (pos x.validity), cast_int (pos x.standstill), cast_int (pos x.weight), cast_perhaps x.opened, cast_int (pos x.amendments), cast_int (pos x.releases));
+  tries = λ n x. rw (cast_null, cast_int (pos x.published), cast_int (pos x.deadline), cast_int (pos x.validity), cast_int (pos x.standstill), cast_int (pos x.weight), cast_perhaps x.opened, cast_int (pos x.amendments), cast_int (pos x.releases), cast_int (pos x.performance));
+  stores = λ n m x. rw (cast_int m, cast_int (pos x.published), cast_int (pos x.deadline), cast_int (pos x.validity), cast_int (pos x.standstill), cast_int (pos x.weight), cast_perhaps x.opened, cast_int (pos x.amendments), cast_int (pos x.releases), cast_int (pos x.performance));
   numbered = λ m x. refl;
   kept = λ m x. refl;
   meets = notice_meets;
@@ -483,7 +486,7 @@ compiled_stored = record {
 
 clock_meets : (u v : Value) (x y : ClockRow) → clock_key x ≡ clock_key y → agree plain office.primary (by_rowid clock_row u x) office.primary (by_rowid clock_row v y) ≡ true
 unfolding first_key
-clock_meets u v x y e = one_true _ (numbers_equal 1 1 refl)
+clock_meets u v x y e = one_true _ (numbers_equal 2 2 refl)
 
 clock_met : (u v : Value) (x y : ClockRow) → agree plain office.primary (by_rowid clock_row u x) office.primary (by_rowid clock_row v y) ≡ true → clock_key x ≡ clock_key y
 clock_met u v x y h = refl
@@ -500,8 +503,8 @@ clock_stored = record {
   exact = clock_exact;
   given = λ n x. refl;
   chosen = λ rows x. refl;
-  tries = λ n x. rw (cast_null, cast_int (pos 1), cast_int (pos x.moment), cast_int (pos x.receipts), cast_int (pos x.awards));
-  stores = λ n m x. rw (cast_null, cast_int (pos 1), cast_int (pos x.moment), cast_int (pos x.receipts), cast_int (pos x.awards));
+  tries = λ n x. rw (cast_null, cast_int (pos 2), cast_int (pos x.moment), cast_int (pos x.receipts), cast_int (pos x.awards));
+  stores = λ n m x. rw (cast_null, cast_int (pos 2), cast_int (pos x.moment), cast_int (pos x.receipts), cast_int (pos x.awards));
   numbered = λ m x. refl;
   kept = λ m x. refl;
   meets = clock_meets;
@@ -540,4 +543,36 @@ late_stored = record {
   met = late_met;
   finds = λ x id more. refl;
   updates = λ n x y v more e. refl;
+}
+
+-- ---- performance securities
+
+performance_meets : (u v : Value) (x y : PerformanceRow) → performance_key x ≡ performance_key y → agree plain performance.primary (by_rowid performance_row u x) performance.primary (by_rowid performance_row v y) ≡ true
+unfolding first_key
+performance_meets u v x y e = one_true _ (numbers_equal x.contract y.contract e)
+
+performance_met : (u v : Value) (x y : PerformanceRow) → agree plain performance.primary (by_rowid performance_row u x) performance.primary (by_rowid performance_row v y) ≡ true → performance_key x ≡ performance_key y
+unfolding first_key
+performance_met u v x y h = equal_numbers x.contract y.contract (only_true _ h)
+
+abbrev pub performance_terms : List Term
+performance_terms = col 0 0 ∷ lit Null ∷ col 0 1 ∷ col 0 2 ∷ col 0 3 ∷ []
+
+abbrev pub performance_cells : List Term
+performance_cells = lit Null ∷ col 0 1 ∷ col 0 2 ∷ col 0 3 ∷ []
+
+pub performance_stored : IsStored Performances nat_cmp performance_key performance_row (by_rowid performance_row) 4 performance_terms performance_cells
+performance_stored = record {
+  total = nat_cmp_total;
+  exact = numbers_exact;
+  given = λ n x. refl;
+  chosen = λ rows x. refl;
+  tries = λ n x. rw (cast_null, cast_int (pos x.contract), cast_int (pos x.amount));
+  stores = λ n m x. rw (cast_null, cast_int (pos x.contract), cast_int (pos x.amount));
+  numbered = λ m x. refl;
+  kept = λ m x. refl;
+  meets = performance_meets;
+  met = performance_met;
+  finds = λ x id more. refl;
+  updates = λ n x y v more e. ap (λ q. Int (pos y.contract) ∷ Int (pos q) ∷ Null ∷ drop 1 (performance_row x)) e;
 }

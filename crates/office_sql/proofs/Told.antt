@@ -15,7 +15,7 @@ use Rattle.sqlite_catalog.proofs.ReadLemmas.{tables_once}
 use Rattle.sqlite.specs.Effect.{Database, IsDatabase}
 use Rattle.office_base.specs.Tables.{Tables}
 use Rattle.office_sql.specs.Schema.{OfficeTable, table_of}
-use Rattle.office_sql.specs.Schema.OfficeTable.{Lines, Batches, Tenderers, Notices, Lots, Envelopes, Seals, Securities, Awards, Contracts, Entries, Releases, Compiled, Office, LateRules}
+use Rattle.office_sql.specs.Schema.OfficeTable.{Lines, Batches, Tenderers, Notices, Lots, Envelopes, Seals, Securities, Awards, Contracts, Entries, Releases, Compiled, Office, LateRules, Performances}
 use Rattle.office_sql.specs.Known.{IsIn, at_tree}
 use Rattle.office_sql.specs.Standing.{Stand, StandFor, Holds}
 
@@ -57,4 +57,4 @@ told d e t u x y trees =
     let tables = same_tables d e x.sound y.sound trees in
     let stands : (k : OfficeTable) → StandFor k (e.trees (y.places k)) t = λ k.
     subst (λ n. StandFor k (e.trees n) t) (same_place d.schema e.schema (table_of k) (x.places k) (y.places k) tables (x.tables k) (y.tables k)) (subst (λ (r : Trees). StandFor k (r (x.places k)) t) trees (x.stands k)) in
-    λ i. record { lines = same (stands Lines) (y.stands Lines) i; batches = same (stands Batches) (y.stands Batches) i; tenderers = same (stands Tenderers) (y.stands Tenderers) i; notices = same (stands Notices) (y.stands Notices) i; lots = same (stands Lots) (y.stands Lots) i; envelopes = same (stands Envelopes) (y.stands Envelopes) i; seals = same (stands Seals) (y.stands Seals) i; securities = same (stands Securities) (y.stands Securities) i; awards = same (stands Awards) (y.stands Awards) i; contracts = same (stands Contracts) (y.stands Contracts) i; entries = same (stands Entries) (y.stands Entries) i; releases = same (stands Releases) (y.stands Releases) i; compiled = same (stands Compiled) (y.stands Compiled) i; late_rules = same (stands LateRules) (y.stands LateRules) i; clock = one_of (same (stands Office) (y.stands Office)) i }
+    λ i. record { lines = same (stands Lines) (y.stands Lines) i; batches = same (stands Batches) (y.stands Batches) i; tenderers = same (stands Tenderers) (y.stands Tenderers) i; notices = same (stands Notices) (y.stands Notices) i; lots = same (stands Lots) (y.stands Lots) i; envelopes = same (stands Envelopes) (y.stands Envelopes) i; seals = same (stands Seals) (y.stands Seals) i; securities = same (stands Securities) (y.stands Securities) i; awards = same (stands Awards) (y.stands Awards) i; contracts = same (stands Contracts) (y.stands Contracts) i; entries = same (stands Entries) (y.stands Entries) i; releases = same (stands Releases) (y.stands Releases) i; compiled = same (stands Compiled) (y.stands Compiled) i; late_rules = same (stands LateRules) (y.stands LateRules) i; performances = same (stands Performances) (y.stands Performances) i; clock = one_of (same (stands Office) (y.stands Office)) i }

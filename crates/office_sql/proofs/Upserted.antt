@@ -1,4 +1,4 @@
--- What INSERT .. ON CONFLICT (key) DO UPDATE of one row does to its own table, and to others that have no foreign key.
+-- What INSERT .. ON CONFLICT (key) DO UPDATE of one row does to its own table, and to others that stand apart.
 use Rattle.std.proofs.Common.{◌≡◌, ◌≢◌, ◌⊎◌, inl, inr, ℕ, ℤ, true, false, cond, List, [], ◌∷◌, ◌++◌, ◌/◌, length, map, drop, Option, Some, None, Ok, Err, Result, refl, sym, ap, subst, ◌∙◌}
 use Rattle.sqlite_value.specs.Order.{Row}
 use Rattle.sqlite_trees.specs.Tree.{Trees, rowid}
@@ -19,7 +19,7 @@ use Rattle.std.specs.List.{AllByRecursion}
 use Rattle.sqlite_rules.specs.Lists.{Has}
 use Rattle.sqlite_rules.proofs.ActionLemmas.{no_works}
 use Rattle.sqlite.proofs.Callers.{one_step}
-use Rattle.office_sql.proofs.Childless.{IsOwn, writes}
+use Rattle.office_sql.proofs.Childless.{IsOwn, SparesMarked, writes}
 
 -- a part that gave a value did not stop on the way
 pub went : {B E R : Type 0} {b : B} {Stops : E → Type 0} → ((stop : E) × Stops stop × (Ok b ≡ Err stop)) ⊎ R → R
@@ -30,9 +30,9 @@ pub same_value : {B E : Type 0} {a b : B} → ◌≡◌ {A = Result B E} (Ok a) 
 same_value e = cc
 
 module _ (task : Task) where
-  -- trees of other tables with no foreign key are as before
+  -- the rows of tables apart are as before
   abbrev pub Spares : Trees → Trees → Type 0
-  Spares old new = (n : ℕ) → IsOwn task.schema n → task.table.tree ≢ n → new n ≡ old n
+  Spares old new = SparesMarked task.schema task.table.tree old new
 
   -- the row as it is tried
   abbrev pub tried : Trees → Row → Row
@@ -67,7 +67,7 @@ module _ (task : Task) where
     abbrev pub IsUpserted : Trees → Trees → Row → Type 0
     IsUpserted db next source = IsAdded db next (tried db source) ⊎ IsRenewed db next (tried db source)
 
-    -- the rows of the other tables are as before
+    -- so they are of either
     pub spared : (db next : Trees) (source : Row) → IsUpserted db next source → Spares db next
     spared db next source (inl added) = added.others
     spared db next source (inr renewed) = renewed.others
@@ -78,7 +78,7 @@ module _ (task : Task) where
           let p = went h in
           let done = writes task.schema task.keys db p.0 (edit_of db task.table [] Given 0 (new ∷ [])) p.1 in
           let is : w.trees ≡ p.0 = ap (λ (it : Written). it.trees) (same_value p.2) in
-          rw is (record { none = none; fresh = done.applies.fresh; rows = done.own task.table.tree own ∙ done.applies.rows; others = done.others })
+          rw is (record { none = none; fresh = done.applies.fresh; rows = done.own task.table.tree own ∙ done.applies.rows; others = done.apart })
 
       -- where OR says nothing, the row is put
       put_anyway : (db : Trees) (new : Row) (found : List Row) (w : Written) → Clears task Abort new db found (Ok w) → Puts task new db (Ok w)
@@ -101,7 +101,7 @@ module _ (task : Task) where
             answers = queried.1;
             fresh = done.applies.fresh;
             rows = done.own task.table.tree own ∙ done.applies.rows;
-            others = done.others;
+            others = done.apart;
           }))
 
       judged : (db : Trees) (new : Row) (verdict : Option Refusal) (w : Written) → Judged task Abort (clause ∷ []) new db verdict (Ok w) → Upserts task Abort new db (clause ∷ []) (Ok w)

@@ -1,4 +1,4 @@
--- Where the office is of version 1, that is the answer, and the schema takes the question.
+-- Where an office stands its version is the answer, and the schema takes the question.
 use Rattle.std.proofs.Common.{◌≡◌, ◌⊎◌, inl, inr, ℕ, List, [], Option, Some, None, Ok, Err, Result, true, refl, sym, ap, subst, ◌∙◌, IsTrue}
 use Rattle.std.specs.Prelude.{IfOk, IfErr}
 use Rattle.sqlite_value.specs.Order.{Row}
@@ -18,8 +18,9 @@ use Rattle.sqlite.specs.Held.{Held, state}
 use Rattle.sqlite.specs.Listing.{understood}
 use Rattle.sqlite.specs.State.{State, FailsToQuery, FailsToShow, IsTooLate, IsNotRun, IsNoStatement, store_error}
 use Rattle.sqlite.proofs.Callers.{IsPlain, command_of}
+use Rattle.office_base.specs.declared.records.ClockRow.{ClockRow}
 use Rattle.office_sql.specs.Steps.{IsAsked, IsRefusal}
-use Rattle.office_sql.specs.Version.{get_version, version_one, HasVersionOne, ShowsVersionOne}
+use Rattle.office_sql.specs.Version.{get_version, one_version, HasVersion, ShowsVersion}
 use Rattle.office_sql.proofs.SelectTexts.{get_version_means}
 use Rattle.office_sql.proofs.Selects.{select_get_version}
 
@@ -40,7 +41,7 @@ never_read limit q names db full e why is (inr (inr stopped)) = let x = sym stop
 never_asked : (limit : Option ℕ) (k : Command) (q : Program) (names : List (List ℕ)) (db : Database) (full : Row) (e : Error) (why : CompileError) → e ≡ SqlInputError why → k ≡ Select q names → RefusesToRead limit k db full e → ⊥
 never_asked limit k q names db full e why is selects refused = never_read limit q names db full e why is (subst (λ c. RefusesToRead limit c db full e) selects refused)
 
-module _ (old new : State) (shows : IsTrue old.is_open → HasVersionOne old.now) (e : Error) (why : CompileError) (is : e ≡ SqlInputError why) where
+module _ (n : ℕ) (clock : ClockRow) (old new : State) (shows : IsTrue old.is_open → HasVersion n clock old.now) (e : Error) (why : CompileError) (is : e ≡ SqlInputError why) where
   plain : IsTrue old.is_open → IsPlain (understood old.now.schema get_version)
   plain o = let was = shows o in (get_version_means old.now.schema was.place was.table).plain
 
@@ -68,15 +69,15 @@ module _ (old new : State) (shows : IsTrue old.is_open → HasVersionOne old.now
   never_input (inl (inr h)) = shown h.0.returning h.0 _ refl h.1.is h.2
   never_input (inr late) = let x = sym late.4 ∙ is in cc
 
-pub asked_version : {S A E : Type 0} (g : Ghosts S) (old : Held S) (rows_of : A → List Row) (r : Result A E) → IfOk r (λ a. IsAsked g get_version [] old (rows_of a)) → ShowsVersionOne (state g old)
-    → IfOk r (λ a. rows_of a ≡ version_one)
-asked_version g old rows_of (Ok a) h shows =
-    select_get_version (state g (record old { in_transaction = true })) (state g h.after) (rows_of a) (subst HasVersionOne (sym h.settled) (shows h.was_open)) h.shown
-asked_version g old rows_of (Err e) h shows = tt
+pub asked_version : {S A E : Type 0} (n : ℕ) (clock : ClockRow) (g : Ghosts S) (old : Held S) (rows_of : A → List Row) (r : Result A E) → IfOk r (λ a. IsAsked g get_version [] old (rows_of a))
+    → ShowsVersion n clock (state g old) → IfOk r (λ a. rows_of a ≡ one_version n)
+asked_version n clock g old rows_of (Ok a) h shows =
+    select_get_version n clock (state g (record old { in_transaction = true })) (state g h.after) (rows_of a) (subst (HasVersion n clock) (sym h.settled) (shows h.was_open)) h.shown
+asked_version n clock g old rows_of (Err e) h shows = tt
 
-pub refused_version : {S A : Type 0} (g : Ghosts S) (old : Held S) (r : Result A Error) → IfErr r (IsRefusal g get_version [] old) → (IsTrue (state g old).is_open → (state g old).now ≡ (state g old).committed)
-    → ShowsVersionOne (state g old) → IfErr r (λ e. (why : CompileError) → e ≡ SqlInputError why → ⊥)
-refused_version g old (Ok a) h settled shows = tt
-refused_version g old (Err e) (inl h) settled shows = λ why is.
-    never_input (state g (record old { in_transaction = true })) (state g h.0) (λ o. subst HasVersionOne (sym (settled o)) (shows o)) e why is h.1
-refused_version g old (Err e) (inr h) settled shows = λ why is. let x : InvalidQuery ≡ SqlInputError why = sym h ∙ is in cc
+pub refused_version : {S A : Type 0} (n : ℕ) (clock : ClockRow) (g : Ghosts S) (old : Held S) (r : Result A Error) → IfErr r (IsRefusal g get_version [] old)
+    → (IsTrue (state g old).is_open → (state g old).now ≡ (state g old).committed) → ShowsVersion n clock (state g old) → IfErr r (λ e. (why : CompileError) → e ≡ SqlInputError why → ⊥)
+refused_version n clock g old (Ok a) h settled shows = tt
+refused_version n clock g old (Err e) (inl h) settled shows = λ why is.
+    never_input n clock (state g (record old { in_transaction = true })) (state g h.0) (λ o. subst (HasVersion n clock) (sym (settled o)) (shows o)) e why is h.1
+refused_version n clock g old (Err e) (inr h) settled shows = λ why is. let x : InvalidQuery ≡ SqlInputError why = sym h ∙ is in cc

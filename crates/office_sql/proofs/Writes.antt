@@ -1,5 +1,5 @@
 -- The put of one record into one table of the office.
-use Rattle.std.proofs.Common.{◌≡◌, ◌≢◌, inl, inr, ℕ, ℤ, true, false, not, cond, ◌&&◌, List, [], ◌∷◌, ◌++◌, map, drop, Option, None, Some, Ok, refl, sym, ap, ap₂, subst, ◌∙◌, slice_get, true≢false}
+use Rattle.std.proofs.Common.{◌≡◌, ◌≢◌, inl, inr, ℕ, ℤ, true, false, not, cond, ◌&&◌, List, [], ◌∷◌, ◌++◌, map, drop, Option, None, Some, Ok, refl, sym, ap, ap₂, subst, subst₂, ◌∙◌, slice_get, true≢false}
 use Rattle.std.specs.Prelude.{bytes_eq, length, ◌/◌}
 use Rattle.std.specs.declared.cmp.Ordering.{Ordering}
 use Rattle.std.specs.Cmp.{IsTotalOrder}
@@ -39,15 +39,18 @@ use Rattle.sqlite_rules.proofs.TableLemmas.{int_is}
 use Rattle.sqlite_catalog.proofs.AlterLemmas.{place_has}
 use Rattle.sqlite.specs.Effect.{Database, IsDatabase, value_rows}
 use Rattle.sqlite.specs.Rows.{Task, Written, InsertsOr, shown, stamped}
-use Rattle.sqlite.specs.Does.{Tally, AtPlace, OnRows}
-use Rattle.sqlite.specs.State.{State, mode_of, Executes}
-use Rattle.sqlite.proofs.Callers.{runs_as}
+use Rattle.sqlite.specs.Does.{Tally, AtPlace, OnRows, Does}
+use Rattle.sqlite.specs.Listing.{understood}
+use Rattle.sqlite.specs.State.{State, mode_of, Executes, text_of}
+use Rattle.sqlite.specs.declared.run.Mode.{Mode}
+use Rattle.sqlite_resolve.specs.declared.compiled.Compiled.{Compiled}
+use Rattle.sqlite.proofs.Callers.{runs_as, command_of, IsPlain}
 use Rattle.office_base.specs.Rows.{row_put}
 use Rattle.office_sql.specs.Schema.{OfficeTable, table_of}
 use Rattle.office_sql.specs.Known.{IsIn, at_tree, Places, HasTables}
 use Rattle.office_sql.specs.Kept.{key_of, table_of as table_of_rows, AreKept}
 use Rattle.office_sql.specs.Standing.{Stand}
-use Rattle.office_sql.proofs.Childless.{IsOwn}
+use Rattle.office_sql.proofs.Childless.{IsOwn, SparesMarked, spared_own}
 use Rattle.office_sql.proofs.Keyed.{HasKey, conflicts_key}
 use Rattle.office_sql.proofs.Cells.{and_true}
 use Rattle.office_sql.proofs.Selected.{picked, passes_query}
@@ -250,7 +253,7 @@ module _ (k : OfficeTable) (bare : (j : OfficeTable) → IsBare (table_of j)) {K
         schema = ap (λ (d : Database). d.schema) w.2;
         sound = w.3;
         rows = subst (λ (d : Database). (λ j. d.trees (p j)) ≡ with_rows (λ j. db (p j)) k (d.trees (p k))) (sym w.2)
-            (changed old.now.schema p tables db next k (λ j other. spared t target q db next (form Null x) one (p j) (is_own j) other));
+            (changed old.now.schema p tables db next k (λ j other. spared_own old.now.schema (p k) (p j) db next (spared t target q db next (form Null x) one) (is_own j) other));
         stand = subst (λ (d : Database). Stand R key form decode (d.trees (p k)) (row_put R key xs x)) (sym w.2) (upserted_stands x decodes db next was.kept xs was.is one);
       }
 
@@ -261,3 +264,33 @@ module _ (k : OfficeTable) (bare : (j : OfficeTable) → IsBare (table_of j)) {K
       let w = written text (encode x) count means h in
       let same = others (task (encode x)) target q (bare k).uncounted (is_own k) old.now.trees terms (length terms) (form Null x) w.0 empty (it.given (p k) x) w.1 in
       (ap (λ (d : Database). d.schema) w.2, subst (λ (d : Database). AllByRecursion (λ t. t.tree ≢ p k → d.trees t.tree ≡ old.now.trees t.tree) old.now.schema.tables) (sym w.2) same)
+
+-- whatever the text makes of the office, tables apart are as before
+module _ (k : OfficeTable) (bare : (j : OfficeTable) → IsBare (table_of j)) {K X : Type 0} (R : K → K → Ordering) (key : X → K) (encode : X → Row) (form : Value → X → Row) (base : ℕ) (terms cells : List Term)
+    (it : IsStored k R key encode form base terms cells) (limit : Option ℕ) (first second : Database) (n : ℕ) (at : IsIn first.schema (table_of k) n) where
+  abbrev upsert : Command
+  upsert = InsertOr at.place Abort (Values terms (length terms)) (on_conflict (at_tree (table_of k) n) base cells ∷ [])
+
+  abbrev mode : Mode
+  mode = record { keys = Enforced; in_doubt = false; may_wait = false }
+
+  abbrev own_task : Row → Task
+  own_task params = record { limit = limit; keys = Enforced; schema = first.schema; table = at_tree (table_of k) n; params = params }
+
+  pub put_apart : (text : List ℕ) (x : X) → Means first.schema text upsert → (c : Compiled) → understood first.schema text ≡ Ok c
+      → (tally : Tally) → Does limit mode (encode x) first (text_of text c) c.returning c.command (Ok (tally, second))
+      → (second.schema ≡ first.schema) × SparesMarked first.schema n first.trees second.trees
+  put_apart text x means c is tally does =
+      let command : c.command ≡ upsert = sym (ap command_of is) ∙ means.is in
+      let untold : c.returning ≡ None = (subst IsPlain is means.plain).0 in
+      let named = subst₂ (λ returning command. Does limit mode (encode x) first (text_of text c) returning command (Ok (tally, second))) untold command does in
+      let done = went (subst (λ o. AtPlace (λ table. OnRows (record { limit = limit; keys = Enforced; schema = first.schema; table = table; params = encode x }) mode None upsert first.trees) o (Ok (tally, second))) at.found named) in
+      let now : second ≡ record { schema = first.schema; trees = done.0.trees } = ap (λ (p : Tally × Database). p.1) (same_value (went (went done.2).2).2) in
+      let task = own_task (encode x) in
+      let target = Some (table_of k).primary in
+      let q = update_of n base cells in
+      let one : IsUpserted task target q first.trees done.0.trees (form Null x) = upserted task target q (bare k).uncounted (own_table first.schema (table_of k) n (bare k).childless at) first.trees terms (length terms) (form Null x) done.0 (it.given n x) done.1 in (
+        ap (λ (d : Database). d.schema) now,
+        λ marked inside out t there is_marked.
+            ap (λ (d : Database). d.trees t.tree) now ∙ spared task target q first.trees done.0.trees (form Null x) one marked inside out t there is_marked,
+      )

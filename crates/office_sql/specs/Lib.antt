@@ -1,4 +1,5 @@
 pub mod Kept
+pub mod Apart
 pub mod Clock
 pub mod Schema
 pub mod Statements
@@ -7,6 +8,6 @@ pub mod Standing
 pub mod Steps
 pub mod Failing
 pub mod Making
-pub mod Earlier
+pub mod First
 pub mod Laws
 pub mod Version

@@ -14,7 +14,7 @@ use Rattle.sqlite.specs.State.{State, text_of}
 use Rattle.sqlite.specs.Effect.{Database, IsDatabase}
 use Rattle.office_base.specs.Tables.{no_tables}
 use Rattle.office_sql.specs.Schema.{OfficeTable, table_of}
-use Rattle.office_sql.specs.Schema.OfficeTable.{Lines, Batches, Tenderers, Notices, Lots, Envelopes, Seals, Securities, Awards, Contracts, Entries, Releases, Compiled as Merges, Office, LateRules}
+use Rattle.office_sql.specs.Schema.OfficeTable.{Lines, Batches, Tenderers, Notices, Lots, Envelopes, Seals, Securities, Awards, Contracts, Entries, Releases, Compiled as Merges, Office, LateRules, FormerNotices, Performances}
 use Rattle.office_sql.specs.Known.{IsIn, at_tree}
 use Rattle.office_sql.specs.Standing.{Holds}
 use Rattle.office_sql.specs.Steps.{Goes}
@@ -43,7 +43,7 @@ pub record AreMade (done : List OfficeTable) (db : Database) : Type 0 where
 
 -- all tables of an office, the last that is made first
 abbrev pub all_tables : List OfficeTable
-all_tables = LateRules ∷ Office ∷ Merges ∷ Releases ∷ Entries ∷ Contracts ∷ Awards ∷ Securities ∷ Seals ∷ Envelopes ∷ Lots ∷ Notices ∷ Tenderers ∷ Batches ∷ Lines ∷ []
+all_tables = Performances ∷ Notices ∷ LateRules ∷ Office ∷ Merges ∷ Releases ∷ Entries ∷ Contracts ∷ Awards ∷ Securities ∷ Seals ∷ Envelopes ∷ Lots ∷ FormerNotices ∷ Tenderers ∷ Batches ∷ Lines ∷ []
 
 -- each table that was there is there, with its rows
 abbrev pub KeepsOthers : Database → Database → Type 0

@@ -77,11 +77,18 @@ create_tenderers = codes "CREATE TABLE tenderers (tenderer TEXT NOT NULL PRIMARY
 abbrev pub tenderers : Table
 tenderers = table_with (codes "tenderers") (column_of (codes "tenderer") Text true ∷ column_of (codes "name") Text true ∷ column_of (codes "address") Text true ∷ column_of (codes "key") Blob true ∷ []) (1 ∷ []) create_tenderers
 
+-- the notices of earlier programs, which knew no performance securities: this one keeps the table with no rows
+abbrev pub create_former_notices : List ℕ
+create_former_notices = codes "CREATE TABLE notices (notice TEXT NOT NULL PRIMARY KEY CHECK (length(notice) BETWEEN 1 AND 32), title TEXT NOT NULL CHECK (length(title) BETWEEN 1 AND 200), published INTEGER NOT NULL CHECK (published BETWEEN 0 AND 4102444799), deadline INTEGER NOT NULL CHECK (deadline BETWEEN 0 AND 4102444799), validity INTEGER NOT NULL CHECK (validity BETWEEN 1 AND 365), standstill INTEGER NOT NULL CHECK (standstill BETWEEN 0 AND 90), weight INTEGER NOT NULL CHECK (weight BETWEEN 0 AND 100), state TEXT NOT NULL CHECK (state IN ('receiving', 'opened', 'cancelled')), opened INTEGER CHECK (opened BETWEEN 0 AND 4102444799), amendments INTEGER NOT NULL CHECK (amendments BETWEEN 0 AND 50), releases INTEGER NOT NULL CHECK (releases BETWEEN 0 AND 9999)) STRICT"
+
+abbrev pub former_notices : Table
+former_notices = table_with (codes "notices") (column_of (codes "notice") Text true ∷ column_of (codes "title") Text true ∷ column_of (codes "published") Integer true ∷ column_of (codes "deadline") Integer true ∷ column_of (codes "validity") Integer true ∷ column_of (codes "standstill") Integer true ∷ column_of (codes "weight") Integer true ∷ column_of (codes "state") Text true ∷ column_of (codes "opened") Integer false ∷ column_of (codes "amendments") Integer true ∷ column_of (codes "releases") Integer true ∷ []) (1 ∷ []) create_former_notices
+
 abbrev pub create_notices : List ℕ
-create_notices = codes "CREATE TABLE notices (notice TEXT NOT NULL PRIMARY KEY CHECK (length(notice) BETWEEN 1 AND 32), title TEXT NOT NULL CHECK (length(title) BETWEEN 1 AND 200), published INTEGER NOT NULL CHECK (published BETWEEN 0 AND 4102444799), deadline INTEGER NOT NULL CHECK (deadline BETWEEN 0 AND 4102444799), validity INTEGER NOT NULL CHECK (validity BETWEEN 1 AND 365), standstill INTEGER NOT NULL CHECK (standstill BETWEEN 0 AND 90), weight INTEGER NOT NULL CHECK (weight BETWEEN 0 AND 100), state TEXT NOT NULL CHECK (state IN ('receiving', 'opened', 'cancelled')), opened INTEGER CHECK (opened BETWEEN 0 AND 4102444799), amendments INTEGER NOT NULL CHECK (amendments BETWEEN 0 AND 50), releases INTEGER NOT NULL CHECK (releases BETWEEN 0 AND 9999)) STRICT"
+create_notices = codes "CREATE TABLE notices_2 (notice TEXT NOT NULL PRIMARY KEY CHECK (length(notice) BETWEEN 1 AND 32), title TEXT NOT NULL CHECK (length(title) BETWEEN 1 AND 200), published INTEGER NOT NULL CHECK (published BETWEEN 0 AND 4102444799), deadline INTEGER NOT NULL CHECK (deadline BETWEEN 0 AND 4102444799), validity INTEGER NOT NULL CHECK (validity BETWEEN 1 AND 365), standstill INTEGER NOT NULL CHECK (standstill BETWEEN 0 AND 90), weight INTEGER NOT NULL CHECK (weight BETWEEN 0 AND 100), state TEXT NOT NULL CHECK (state IN ('receiving', 'opened', 'cancelled')), opened INTEGER CHECK (opened BETWEEN 0 AND 4102444799), amendments INTEGER NOT NULL CHECK (amendments BETWEEN 0 AND 50), releases INTEGER NOT NULL CHECK (releases BETWEEN 0 AND 9999), performance INTEGER NOT NULL CHECK (performance BETWEEN 0 AND 1000000000000)) STRICT"
 
 abbrev pub notices : Table
-notices = table_with (codes "notices") (column_of (codes "notice") Text true ∷ column_of (codes "title") Text true ∷ column_of (codes "published") Integer true ∷ column_of (codes "deadline") Integer true ∷ column_of (codes "validity") Integer true ∷ column_of (codes "standstill") Integer true ∷ column_of (codes "weight") Integer true ∷ column_of (codes "state") Text true ∷ column_of (codes "opened") Integer false ∷ column_of (codes "amendments") Integer true ∷ column_of (codes "releases") Integer true ∷ []) (1 ∷ []) create_notices
+notices = table_with (codes "notices_2") (column_of (codes "notice") Text true ∷ column_of (codes "title") Text true ∷ column_of (codes "published") Integer true ∷ column_of (codes "deadline") Integer true ∷ column_of (codes "validity") Integer true ∷ column_of (codes "standstill") Integer true ∷ column_of (codes "weight") Integer true ∷ column_of (codes "state") Text true ∷ column_of (codes "opened") Integer false ∷ column_of (codes "amendments") Integer true ∷ column_of (codes "releases") Integer true ∷ column_of (codes "performance") Integer true ∷ []) (1 ∷ []) create_notices
 
 abbrev pub create_lots : List ℕ
 create_lots = codes "CREATE TABLE lots (notice TEXT NOT NULL CHECK (length(notice) BETWEEN 1 AND 32), lot TEXT NOT NULL CHECK (length(lot) BETWEEN 1 AND 32), title TEXT NOT NULL CHECK (length(title) BETWEEN 1 AND 200), line TEXT NOT NULL CHECK (length(line) BETWEEN 1 AND 32), estimate INTEGER NOT NULL CHECK (estimate BETWEEN 1 AND 1000000000000), security INTEGER NOT NULL CHECK (security BETWEEN 0 AND 1000000000000), items TEXT NOT NULL, state TEXT NOT NULL CHECK (state IN ('undecided', 'awarded', 'contracted', 'unsuccessful', 'cancelled')), reserved INTEGER NOT NULL CHECK (reserved BETWEEN 0 AND 1000000000000), PRIMARY KEY (notice, lot)) STRICT"
@@ -143,6 +150,12 @@ create_late_rules = codes "CREATE TABLE late_rules (notice TEXT NOT NULL PRIMARY
 abbrev pub late_rules : Table
 late_rules = table_with (codes "late_rules") (column_of (codes "notice") Text true ∷ []) (1 ∷ []) create_late_rules
 
+abbrev pub create_performance : List ℕ
+create_performance = codes "CREATE TABLE performance (contract INTEGER NOT NULL PRIMARY KEY CHECK (contract BETWEEN 1 AND 1000000000), reference TEXT NOT NULL CHECK (length(reference) BETWEEN 1 AND 32), amount INTEGER NOT NULL CHECK (amount BETWEEN 1 AND 1000000000000), state TEXT NOT NULL CHECK (state IN ('held', 'returned', 'forfeited'))) STRICT"
+
+abbrev pub performance : Table
+performance = table_by_rowid (codes "performance") (column_of (codes "contract") Integer true ∷ column_of (codes "reference") Text true ∷ column_of (codes "amount") Integer true ∷ column_of (codes "state") Text true ∷ []) create_performance
+
 abbrev pub create_office : List ℕ
 create_office = codes "CREATE TABLE office (version INTEGER NOT NULL PRIMARY KEY CHECK (version BETWEEN 1 AND 2147483647), moment INTEGER NOT NULL CHECK (moment BETWEEN 0 AND 4102444799), receipts INTEGER NOT NULL CHECK (receipts BETWEEN 0 AND 1000000000), awards INTEGER NOT NULL CHECK (awards BETWEEN 0 AND 1000000000)) STRICT"
 
@@ -200,6 +213,8 @@ pub data OfficeTable : Type 0 where
   Compiled : OfficeTable
   Office : OfficeTable
   LateRules : OfficeTable
+  FormerNotices : OfficeTable
+  Performances : OfficeTable
 
 abbrev pub table_of : OfficeTable → Table
 table_of Lines = lines
@@ -217,3 +232,5 @@ table_of Releases = releases
 table_of Compiled = compiled
 table_of Office = office
 table_of LateRules = late_rules
+table_of FormerNotices = former_notices
+table_of Performances = performance

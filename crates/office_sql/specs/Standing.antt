@@ -6,17 +6,17 @@ use Rattle.sqlite_value.specs.declared.value.Value.{Value}
 use Rattle.sqlite_value.specs.Order.{Row}
 use Rattle.sqlite.specs.Effect.{Database, IsDatabase}
 use Rattle.office_values.specs.Ids.{id_cmp}
-use Rattle.office_base.specs.Tables.{Tables, line_key, batch_key, tenderer_key, notice_key, lot_key, envelope_key, seal_key, security_key, award_key, contract_key, entry_key, release_key, compiled_key, late_key, entry_cmp, lot_cmp, release_cmp}
+use Rattle.office_base.specs.Tables.{Tables, line_key, batch_key, tenderer_key, notice_key, lot_key, envelope_key, seal_key, security_key, award_key, contract_key, entry_key, release_key, compiled_key, late_key, performance_key, entry_cmp, lot_cmp, release_cmp}
 use Rattle.office_rows.specs.Budget.{line_row, line_in, batch_row, batch_in}
 use Rattle.office_rows.specs.Notices.{tenderer_row, tenderer_in, notice_row, notice_in, late_row, late_in, lot_row, lot_in}
 use Rattle.office_rows.specs.Tenders.{envelope_row, envelope_read, seal_row, seal_read, security_row, security_read}
-use Rattle.office_rows.specs.Awards.{award_row, award_read, contract_row, contract_read, entry_row, entry_in}
+use Rattle.office_rows.specs.Awards.{award_row, award_read, contract_row, contract_read, entry_row, entry_in, performance_row, performance_read}
 use Rattle.office_rows.specs.Releases.{release_row, release_in, compiled_row, compiled_in, clock_row, clock_read}
 use Rattle.office_sql.specs.Clock.{clock_key, clock_cmp}
 use Rattle.office_sql.specs.Kept.{table_of as records_of, AreKept, behind, by_rowid, read_by_rowid}
 use Rattle.office_sql.specs.Known.{Places, HasTables}
 use Rattle.office_sql.specs.Schema.{OfficeTable}
-use Rattle.office_sql.specs.Schema.OfficeTable.{Lines, Batches, Tenderers, Notices, Lots, Envelopes, Seals, Securities, Awards, Contracts, Entries, Releases, Compiled, Office, LateRules}
+use Rattle.office_sql.specs.Schema.OfficeTable.{Lines, Batches, Tenderers, Notices, Lots, Envelopes, Seals, Securities, Awards, Contracts, Entries, Releases, Compiled, Office, LateRules, FormerNotices, Performances}
 
 -- the rows of a tree stand for these records
 pub record Stand {K X : Type 0} (R : K → K → Ordering) (key : X → K) (form : Value → X → Row) (decode : Row → X) (rows : List Row) (xs : List X) : Type 0 where
@@ -40,6 +40,8 @@ StandFor Releases rows t = Stand release_cmp release_key (behind release_row) re
 StandFor Compiled rows t = Stand id_cmp compiled_key (behind compiled_row) compiled_in rows t.compiled
 StandFor Office rows t = Stand clock_cmp clock_key (by_rowid clock_row) (read_by_rowid clock_read) rows (t.clock ∷ [])
 StandFor LateRules rows t = Stand id_cmp late_key (behind late_row) late_in rows t.late_rules
+StandFor FormerNotices rows t = rows ≡ []
+StandFor Performances rows t = Stand nat_cmp performance_key (by_rowid performance_row) (read_by_rowid performance_read) rows t.performances
 
 -- the rows of each table do
 abbrev pub Stands : (OfficeTable → List Row) → Tables → Type 0

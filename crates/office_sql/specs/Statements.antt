@@ -3,11 +3,11 @@ use Rattle.std.specs.Prelude.{List, ℕ, [], ◌∷◌, codes, pos}
 use Rattle.sqlite_value.specs.declared.value.Value.TheVariants.{Int}
 use Rattle.sqlite_value.specs.Order.{Row}
 use Rattle.office_base.specs.declared.puts.Put.{Put}
-use Rattle.office_base.specs.declared.puts.Put.TheVariants.{Line, Batch, Tenderer, Notice, Lot, Envelope, Seal, DropSeal, Security, Award, Contract, Entry, Release, Compiled, Late, Clock}
+use Rattle.office_base.specs.declared.puts.Put.TheVariants.{Line, Batch, Tenderer, Notice, Lot, Envelope, Seal, DropSeal, Security, Award, Contract, Entry, Release, Compiled, Late, Performance, Clock}
 use Rattle.office_rows.specs.Budget.{line_row, batch_row}
 use Rattle.office_rows.specs.Notices.{tenderer_row, notice_row, late_row, lot_row}
 use Rattle.office_rows.specs.Tenders.{envelope_row, seal_row, security_row}
-use Rattle.office_rows.specs.Awards.{award_row, contract_row, entry_row}
+use Rattle.office_rows.specs.Awards.{award_row, contract_row, entry_row, performance_row}
 use Rattle.office_rows.specs.Releases.{release_row, compiled_row, clock_row}
 use Rattle.office_sql.specs.Schema.{put_office}
 
@@ -21,7 +21,7 @@ abbrev pub put_tenderers : List ℕ
 put_tenderers = codes "INSERT INTO tenderers (tenderer, name, address, key) VALUES (?1, ?2, ?3, ?4) ON CONFLICT (tenderer) DO UPDATE SET name = ?2, address = ?3, key = ?4"
 
 abbrev pub put_notices : List ℕ
-put_notices = codes "INSERT INTO notices (notice, title, published, deadline, validity, standstill, weight, state, opened, amendments, releases) VALUES (?1, ?2, ?3, ?4, ?5, ?6, ?7, ?8, ?9, ?10, ?11) ON CONFLICT (notice) DO UPDATE SET title = ?2, published = ?3, deadline = ?4, validity = ?5, standstill = ?6, weight = ?7, state = ?8, opened = ?9, amendments = ?10, releases = ?11"
+put_notices = codes "INSERT INTO notices_2 (notice, title, published, deadline, validity, standstill, weight, state, opened, amendments, releases, performance) VALUES (?1, ?2, ?3, ?4, ?5, ?6, ?7, ?8, ?9, ?10, ?11, ?12) ON CONFLICT (notice) DO UPDATE SET title = ?2, published = ?3, deadline = ?4, validity = ?5, standstill = ?6, weight = ?7, state = ?8, opened = ?9, amendments = ?10, releases = ?11, performance = ?12"
 
 abbrev pub put_lots : List ℕ
 put_lots = codes "INSERT INTO lots (notice, lot, title, line, estimate, security, items, state, reserved) VALUES (?1, ?2, ?3, ?4, ?5, ?6, ?7, ?8, ?9) ON CONFLICT (notice, lot) DO UPDATE SET title = ?3, line = ?4, estimate = ?5, security = ?6, items = ?7, state = ?8, reserved = ?9"
@@ -53,6 +53,9 @@ put_compiled = codes "INSERT INTO compiled (notice, text) VALUES (?1, ?2) ON CON
 abbrev pub put_late_rules : List ℕ
 put_late_rules = codes "INSERT INTO late_rules (notice) VALUES (?1) ON CONFLICT (notice) DO UPDATE SET notice = ?1"
 
+abbrev pub put_performance : List ℕ
+put_performance = codes "INSERT INTO performance (contract, reference, amount, state) VALUES (?1, ?2, ?3, ?4) ON CONFLICT (contract) DO UPDATE SET reference = ?2, amount = ?3, state = ?4"
+
 abbrev pub drop_seal : List ℕ
 drop_seal = codes "DELETE FROM seals WHERE receipt = ?1"
 
@@ -73,6 +76,7 @@ statement_of (Entry row) = put_entries
 statement_of (Release row) = put_releases
 statement_of (Compiled row) = put_compiled
 statement_of (Late row) = put_late_rules
+statement_of (Performance row) = put_performance
 statement_of (Clock row) = put_office
 
 -- its values: the record, column by column
@@ -92,4 +96,5 @@ values_of (Entry row) = entry_row row
 values_of (Release row) = release_row row
 values_of (Compiled row) = compiled_row row
 values_of (Late row) = late_row row
+values_of (Performance row) = performance_row row
 values_of (Clock row) = clock_row row

@@ -9,7 +9,7 @@ use Rattle.sqlite.specs.Held.{Held}
 use Rattle.sqlite.specs.State.{State}
 use Rattle.sqlite.specs.declared.error.Error.TheVariants.{SqlInputError}
 use Rattle.office_base.specs.declared.records.ClockRow.{ClockRow}
-use Rattle.office_rows.specs.Releases.{clock_row, clock_read}
+use Rattle.office_rows.specs.Releases.{clock_row_of, clock_read}
 use Rattle.office_sql.specs.Clock.{clock_key, clock_cmp}
 use Rattle.office_sql.specs.Kept.{by_rowid, read_by_rowid}
 use Rattle.office_sql.specs.Known.{IsIn}
@@ -20,20 +20,19 @@ use Rattle.office_sql.specs.Steps.{IsRefusal}
 abbrev pub get_version : List ℕ
 get_version = codes "SELECT version FROM office"
 
--- one row, and it is version 1
-abbrev pub version_one : List Row
-version_one = (Int (pos 1) ∷ []) ∷ []
+-- one row, and it is this version
+abbrev pub one_version : ℕ → List Row
+one_version n = (Int (pos n) ∷ []) ∷ []
 
--- the table `office` is there, with one row, of version 1
-pub record HasVersionOne (db : Database) : Type 0 where
+-- the table `office` is there, with one row, of this version, and has this clock
+pub record HasVersion (n : ℕ) (clock : ClockRow) (db : Database) : Type 0 where
   pub place : ℕ
   pub table : IsIn db.schema office place
-  pub clock : ClockRow
-  pub stand : Stand clock_cmp clock_key (by_rowid clock_row) (read_by_rowid clock_read) (db.trees place) (clock ∷ [])
+  pub stand : Stand clock_cmp clock_key (by_rowid (clock_row_of n)) (read_by_rowid clock_read) (db.trees place) (clock ∷ [])
 
 -- in the last commit of an open store
-abbrev pub ShowsVersionOne : State → Type 0
-ShowsVersionOne s = IsTrue s.is_open → HasVersionOne s.committed
+abbrev pub ShowsVersion : ℕ → ClockRow → State → Type 0
+ShowsVersion n clock s = IsTrue s.is_open → HasVersion n clock s.committed
 
 -- the schema has no table that answers
 abbrev pub HasNoVersion : {S : Type 0} → Ghosts S → Held S → Type 0

@@ -4,6 +4,7 @@
 
 pub mod ask;
 pub mod faults;
+pub mod first;
 pub mod laws;
 pub mod lists;
 pub mod lookups;

@@ -2,7 +2,7 @@
 ghost use Rattle.std.specs.Prelude.{◌≡◌, IfOk};
 ghost use Rattle.sqlite.specs.Held.{state};
 ghost use Rattle.sqlite.specs.State.{HasCleanDisk, Survives};
-ghost use Rattle.office_base.specs.Tables.{line_at, batch_at, tenderer_at, notice_at, lot_at, envelope_at, seal_at, security_at, award_at, contract_at, entry_at, release_at, compiled_at, late_at};
+ghost use Rattle.office_base.specs.Tables.{line_at, batch_at, tenderer_at, notice_at, lot_at, envelope_at, seal_at, security_at, award_at, contract_at, entry_at, release_at, compiled_at, late_at, performance_at};
 ghost use Rattle.office_sql.specs.Steps.{Tells, Refused};
 
 use crate::ask::ask_first;
@@ -10,7 +10,7 @@ use crate::values::{id_value, number_value, sequence_value};
 use office_base::counts::Sequence;
 use office_base::records::{
     AwardRow, BatchRow, ClockRow, CompiledRow, ContractRow, EntryRow, EnvelopeRow, LateRow,
-    LineRow, LotRow, NoticeRow, ReleaseRow, SealRow, SecurityRow, TendererRow,
+    LineRow, LotRow, NoticeRow, PerformanceRow, ReleaseRow, SealRow, SecurityRow, TendererRow,
 };
 use office_base::shelf::ShelfFault;
 use office_values::given::AskedNumber;
@@ -85,7 +85,7 @@ pub fn get_notice<S: Alter>(
     ask_first(
         alloc,
         conn,
-        "SELECT notice, title, published, deadline, validity, standstill, weight, state, opened, amendments, releases FROM notices WHERE notice = ?1",
+        "SELECT notice, title, published, deadline, validity, standstill, weight, state, opened, amendments, releases, performance FROM notices_2 WHERE notice = ?1",
         &[id_value(notice)],
     )
 }
@@ -270,6 +270,24 @@ pub fn get_late<S: Alter>(
         conn,
         "SELECT notice FROM late_rules WHERE notice = ?1",
         &[id_value(notice)],
+    )
+}
+
+/// The performance security of this contract.
+pub fn get_performance<S: Alter>(
+    alloc: Global,
+    conn: &mut Connection<S>,
+    contract: AskedNumber,
+) -> Result<Option<PerformanceRow>, ShelfFault>
+    ensures got { Tells S.Store conn.old conn.new result (λ t row. row ≡ performance_at contract t) }
+    ensures kept { HasCleanDisk (state S.Store conn.new) → Refused (state S.Store conn.old) (state S.Store conn.new) }
+    ensures survives { Survives (state S.Store conn.old) (state S.Store conn.new) (λ _. ⊥) }
+{
+    ask_first(
+        alloc,
+        conn,
+        "SELECT contract, reference, amount, state FROM performance WHERE contract = ?1",
+        &[number_value(contract)],
     )
 }
 

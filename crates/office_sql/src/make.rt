@@ -1,15 +1,13 @@
 //! Making an office in a database, whatever other tables stand there.
 ghost use Rattle.std.specs.Prelude.{◌≡◌, ℕ, false, [], ◌∷◌, Ok, IsTrue, OnOk, OnErr};
-ghost use Rattle.std.specs.List.{list_all};
 ghost use Rattle.sqlite_schema.specs.declared.schema.Index.{Index};
 ghost use Rattle.sqlite.specs.Held.{state};
 ghost use Rattle.sqlite.specs.State.{HasCleanDisk, Survives, ExecutesInside};
 ghost use Rattle.office_base.specs.Tables.{first_clock};
 ghost use Rattle.office_rows.specs.Releases.{clock_row};
 ghost use Rattle.office_sql.specs.Schema.{OfficeTable, table_of, put_office};
-ghost use Rattle.office_sql.specs.Schema.OfficeTable.{Lines, Batches, Tenderers, Notices, Lots, Envelopes, Seals, Securities, Awards, Contracts, Entries, Releases, Compiled, Office};
+ghost use Rattle.office_sql.specs.Schema.OfficeTable.{Lines, Batches, Tenderers, Notices, Lots, Envelopes, Seals, Securities, Awards, Contracts, Entries, Releases, Compiled, Office, LateRules, FormerNotices, Performances};
 ghost use Rattle.office_sql.specs.Making.{IsCreate, IsIndexing, Makes, Indexes, Founds, all_tables};
-ghost use Rattle.office_sql.specs.Earlier.{later_tables, has_table, has_later, Completes};
 ghost use Rattle.office_sql.specs.Steps.{Refused};
 
 use crate::statement::execute_one;
@@ -19,7 +17,6 @@ use office_rows::values::clock_values;
 use office_values::given::LastNumber;
 use office_values::moment::Moment;
 use sqlite::{Alter, Error, Transaction};
-use sqlite_schema::schema::Schema;
 
 // One CREATE TABLE.
 fn make_table<S: Alter>(tx: &mut Transaction<'_, S>, sql: &str) -> Result<(), Error>
@@ -41,10 +38,10 @@ fn make_index<S: Alter>(tx: &mut Transaction<'_, S>, sql: &str) -> Result<(), Er
     execute_one(tx, sql, &[])
 }
 
-// The tables of the budget and of notices.
+// The tables of the budget, and that of the notices of version 1, which stays empty.
 fn make_budget<S: Alter>(tx: &mut Transaction<'_, S>) -> Result<(), Error>
     ensures same_reference { tx.new.conn.ghost_name ≡ tx.old.conn.ghost_name }
-    ensures made { HasCleanDisk (state S.Store tx.new.conn.now) → IsTrue (state S.Store tx.old.conn.now).in_transaction → OnOk result (Makes (state S.Store tx.old.conn.now) (state S.Store tx.new.conn.now) (Notices ∷ Tenderers ∷ Batches ∷ Lines ∷ [])) }
+    ensures made { HasCleanDisk (state S.Store tx.new.conn.now) → IsTrue (state S.Store tx.old.conn.now).in_transaction → OnOk result (Makes (state S.Store tx.old.conn.now) (state S.Store tx.new.conn.now) (FormerNotices ∷ Tenderers ∷ Batches ∷ Lines ∷ [])) }
     ensures refused { HasCleanDisk (state S.Store tx.new.conn.now) → IsTrue (state S.Store tx.old.conn.now).in_transaction → OnErr result (Refused (state S.Store tx.old.conn.now) (state S.Store tx.new.conn.now)) }
     ensures survives { Survives (state S.Store tx.old.conn.now) (state S.Store tx.new.conn.now) (λ _. ⊥) }
 {
@@ -133,10 +130,10 @@ fn make_kept<S: Alter>(tx: &mut Transaction<'_, S>) -> Result<(), Error>
     )
 }
 
-// The tables that came later: the notices whose tenders may be withdrawn late.
-fn make_later<S: Alter>(tx: &mut Transaction<'_, S>) -> Result<(), Error>
+/// The table of the notices whose tenders may be withdrawn late.
+pub(crate) fn make_late<S: Alter>(tx: &mut Transaction<'_, S>) -> Result<(), Error>
     ensures same_reference { tx.new.conn.ghost_name ≡ tx.old.conn.ghost_name }
-    ensures made { HasCleanDisk (state S.Store tx.new.conn.now) → IsTrue (state S.Store tx.old.conn.now).in_transaction → OnOk result (Makes (state S.Store tx.old.conn.now) (state S.Store tx.new.conn.now) later_tables) }
+    ensures made { HasCleanDisk (state S.Store tx.new.conn.now) → IsTrue (state S.Store tx.old.conn.now).in_transaction → OnOk result (Makes (state S.Store tx.old.conn.now) (state S.Store tx.new.conn.now) (LateRules ∷ [])) }
     ensures refused { HasCleanDisk (state S.Store tx.new.conn.now) → IsTrue (state S.Store tx.old.conn.now).in_transaction → OnErr result (Refused (state S.Store tx.old.conn.now) (state S.Store tx.new.conn.now)) }
     ensures survives { Survives (state S.Store tx.old.conn.now) (state S.Store tx.new.conn.now) (λ _. ⊥) }
 {
@@ -146,42 +143,21 @@ fn make_later<S: Alter>(tx: &mut Transaction<'_, S>) -> Result<(), Error>
     )
 }
 
-/// Makes the tables that an office of an earlier program lacks, with no rows, beside what is there. Where it is refused, as where an index or a
-/// view has a name of theirs, nothing is committed.
-pub fn complete<S: Alter>(tx: &mut Transaction<'_, S>) -> Result<(), Error>
+/// The tables of version 2: the notices, with the performance securities that they ask for, and these securities.
+pub(crate) fn make_second<S: Alter>(tx: &mut Transaction<'_, S>) -> Result<(), Error>
     ensures same_reference { tx.new.conn.ghost_name ≡ tx.old.conn.ghost_name }
-    ensures completes { HasCleanDisk (state S.Store tx.new.conn.now) → IsTrue (state S.Store tx.old.conn.now).in_transaction → OnOk result (Completes (state S.Store tx.old.conn.now) (state S.Store tx.new.conn.now)) }
+    ensures made { HasCleanDisk (state S.Store tx.new.conn.now) → IsTrue (state S.Store tx.old.conn.now).in_transaction → OnOk result (Makes (state S.Store tx.old.conn.now) (state S.Store tx.new.conn.now) (Performances ∷ Notices ∷ [])) }
     ensures refused { HasCleanDisk (state S.Store tx.new.conn.now) → IsTrue (state S.Store tx.old.conn.now).in_transaction → OnErr result (Refused (state S.Store tx.old.conn.now) (state S.Store tx.new.conn.now)) }
     ensures survives { Survives (state S.Store tx.old.conn.now) (state S.Store tx.new.conn.now) (λ _. ⊥) }
 {
-    make_later(tx)
-}
-
-// Whether the schema has a table of this name.
-fn has_table(schema: &Schema, name: &[u8]) -> bool
-    ensures { result ≡ has_table schema.now name.now }
-{
-    schema.table_named(name).is_some()
-}
-
-// Whether it has one of each of these names.
-fn has_all(schema: &Schema, names: &[&[u8]]) -> bool
-    ensures { result ≡ list_all (λ name. has_table schema.now name.now) names.now }
-{
-    'names: for name in names {
-        if !has_table(schema, name) {
-            return false;
-        }
-    }
-    true
-}
-
-/// Whether the tables that came later are there.
-pub fn has_later(schema: &Schema) -> bool
-    ensures { result ≡ has_later schema.now }
-{
-    let names: [&[u8]; 1] = [b"late_rules"];
-    has_all(schema, names.as_slice())
+    make_table(
+        tx,
+        "CREATE TABLE notices_2 (notice TEXT NOT NULL PRIMARY KEY CHECK (length(notice) BETWEEN 1 AND 32), title TEXT NOT NULL CHECK (length(title) BETWEEN 1 AND 200), published INTEGER NOT NULL CHECK (published BETWEEN 0 AND 4102444799), deadline INTEGER NOT NULL CHECK (deadline BETWEEN 0 AND 4102444799), validity INTEGER NOT NULL CHECK (validity BETWEEN 1 AND 365), standstill INTEGER NOT NULL CHECK (standstill BETWEEN 0 AND 90), weight INTEGER NOT NULL CHECK (weight BETWEEN 0 AND 100), state TEXT NOT NULL CHECK (state IN ('receiving', 'opened', 'cancelled')), opened INTEGER CHECK (opened BETWEEN 0 AND 4102444799), amendments INTEGER NOT NULL CHECK (amendments BETWEEN 0 AND 50), releases INTEGER NOT NULL CHECK (releases BETWEEN 0 AND 9999), performance INTEGER NOT NULL CHECK (performance BETWEEN 0 AND 1000000000000)) STRICT",
+    )?;
+    make_table(
+        tx,
+        "CREATE TABLE performance (contract INTEGER NOT NULL PRIMARY KEY CHECK (contract BETWEEN 1 AND 1000000000), reference TEXT NOT NULL CHECK (length(reference) BETWEEN 1 AND 32), amount INTEGER NOT NULL CHECK (amount BETWEEN 1 AND 1000000000000), state TEXT NOT NULL CHECK (state IN ('held', 'returned', 'forfeited'))) STRICT",
+    )
 }
 
 // All tables.
@@ -195,7 +171,8 @@ fn make_tables<S: Alter>(tx: &mut Transaction<'_, S>) -> Result<(), Error>
     make_tenders(tx)?;
     make_contracts(tx)?;
     make_kept(tx)?;
-    make_later(tx)
+    make_late(tx)?;
+    make_second(tx)
 }
 
 // The first indexes.

@@ -10,19 +10,19 @@ use crate::values::given_value;
 use office_base::puts::Put;
 use office_base::records::{
     AwardRow, BatchRow, ClockRow, CompiledRow, ContractRow, EntryRow, EnvelopeRow, LateRow,
-    LineRow, LotRow, NoticeRow, ReleaseRow, SealRow, SecurityRow, TendererRow,
+    LineRow, LotRow, NoticeRow, PerformanceRow, ReleaseRow, SealRow, SecurityRow, TendererRow,
 };
 use office_rows::items::items_text;
 use office_rows::laws::{
     awards_come_back, batches_come_back, clock_comes_back, compiled_comes_back,
     contracts_come_back, entries_come_back, envelopes_come_back, late_rules_come_back,
-    lines_come_back, lots_come_back, notices_come_back, releases_come_back, seals_come_back,
-    securities_come_back, tenderers_come_back,
+    lines_come_back, lots_come_back, notices_come_back, performances_come_back, releases_come_back,
+    seals_come_back, securities_come_back, tenderers_come_back,
 };
 use office_rows::values::{
     award_values, batch_values, clock_values, compiled_values, contract_values, entry_values,
-    envelope_values, late_values, line_values, lot_values, notice_values, release_values,
-    seal_values, security_values, tenderer_values,
+    envelope_values, late_values, line_values, lot_values, notice_values, performance_values,
+    release_values, seal_values, security_values, tenderer_values,
 };
 use office_values::given::GivenNumber;
 use sqlite::{Alter, Error, Transaction};
@@ -99,7 +99,7 @@ pub fn put_notice<S: Alter>(tx: &mut Transaction<'_, S>, row: &NoticeRow) -> Res
     notices_come_back();
     execute_one(
         tx,
-        "INSERT INTO notices (notice, title, published, deadline, validity, standstill, weight, state, opened, amendments, releases) VALUES (?1, ?2, ?3, ?4, ?5, ?6, ?7, ?8, ?9, ?10, ?11) ON CONFLICT (notice) DO UPDATE SET title = ?2, published = ?3, deadline = ?4, validity = ?5, standstill = ?6, weight = ?7, state = ?8, opened = ?9, amendments = ?10, releases = ?11",
+        "INSERT INTO notices_2 (notice, title, published, deadline, validity, standstill, weight, state, opened, amendments, releases, performance) VALUES (?1, ?2, ?3, ?4, ?5, ?6, ?7, ?8, ?9, ?10, ?11, ?12) ON CONFLICT (notice) DO UPDATE SET title = ?2, published = ?3, deadline = ?4, validity = ?5, standstill = ?6, weight = ?7, state = ?8, opened = ?9, amendments = ?10, releases = ?11, performance = ?12",
         &notice_values(row),
     )
 }
@@ -266,6 +266,25 @@ pub fn put_late<S: Alter>(tx: &mut Transaction<'_, S>, row: &LateRow) -> Result<
         tx,
         "INSERT INTO late_rules (notice) VALUES (?1) ON CONFLICT (notice) DO UPDATE SET notice = ?1",
         &late_values(row),
+    )
+}
+
+/// Adds a performance security, or replaces the one of its key.
+pub fn put_performance<S: Alter>(
+    tx: &mut Transaction<'_, S>,
+    row: &PerformanceRow,
+) -> Result<(), Error>
+    ensures same_reference { tx.new.conn.ghost_name ≡ tx.old.conn.ghost_name }
+    ensures puts { HasCleanDisk (state S.Store tx.new.conn.now) → IsTrue (state S.Store tx.old.conn.now).in_transaction → OnOk result (Puts (state S.Store tx.old.conn.now) (state S.Store tx.new.conn.now) (Put.Performance row.now ∷ [])) }
+    ensures refused { HasCleanDisk (state S.Store tx.new.conn.now) → IsTrue (state S.Store tx.old.conn.now).in_transaction → OnErr result (Refused (state S.Store tx.old.conn.now) (state S.Store tx.new.conn.now)) }
+    ensures failed { ErrorHasCause (state S.Store tx.old.conn.now) (state S.Store tx.new.conn.now) (Put.Performance row.now ∷ []) result }
+    ensures survives { Survives (state S.Store tx.old.conn.now) (state S.Store tx.new.conn.now) (λ _. ⊥) }
+{
+    performances_come_back();
+    execute_one(
+        tx,
+        "INSERT INTO performance (contract, reference, amount, state) VALUES (?1, ?2, ?3, ?4) ON CONFLICT (contract) DO UPDATE SET reference = ?2, amount = ?3, state = ?4",
+        &performance_values(row),
     )
 }
 

@@ -1,6 +1,7 @@
 -- Making an office in a transaction, and entering one.
-use Rattle.std.proofs.Common.{◌≡◌, inl, inr, Bool, true, false, [], Ok, Err, Result, refl, sym, ap, subst, ◌∙◌, IsTrue, true≢false}
+use Rattle.std.proofs.Common.{◌≡◌, inl, inr, Bool, true, false, List, [], Ok, Err, Result, refl, sym, ap, subst, ◌∙◌, IsTrue, true≢false}
 use Rattle.sqlite_tied.specs.Compute.{everything}
+use Rattle.sqlite_value.specs.Order.{Row}
 use Rattle.sqlite_trees.specs.Tree.{Trees}
 use Rattle.sqlite_trees.specs.declared.memory.MemStore.{MemStore}
 use Rattle.sqlite_trees.specs.declared.store.Store.{Ghosts}
@@ -17,7 +18,7 @@ use Rattle.office_sql.specs.Making.{Founds, KeepsOthers}
 use Rattle.office_sql.specs.Standing.{Holds}
 use Rattle.office_sql.specs.Steps.{Refused, ShowsTables}
 use Rattle.office_sql.specs.Version.{get_version, HasNoVersion}
-use Rattle.office_store.specs.Founding.{Founded, LeavesNew, LeavesOffice, IsSoundOpen, Answered, Enters, takes_a_name}
+use Rattle.office_store.specs.Founding.{Founded, LeavesNew, LeavesOffice, IsSoundOpen, is_version_one, is_version_two, Answered, Enters, takes_a_name}
 use Rattle.office_store.specs.SqlMeaning.{LeavesShown}
 
 sound_now : (old : State) → (IsTrue old.is_open → old.now ≡ old.committed) → IsSoundOpen old → IsTrue old.is_open → IsDatabase old.now
@@ -79,13 +80,14 @@ unfolding understood everything listing_schema is_understood
 unanswered = refl
 
 -- there nothing answers
-no_version : {S : Type 0} (g : Ghosts S) (old : Held S) (first : Bool) → old.schema ≡ no_schema → Answered g old first → ⊥
+no_version : {S : Type 0} (g : Ghosts S) (old : Held S) (passes : List Row → Bool) → old.schema ≡ no_schema → Answered g old passes → ⊥
 unfolding Shown is_understood
-no_version g old first none (rows, asked, is) = true≢false (sym (ap is_understood asked.shown.1.is) ∙ ap (λ s. is_understood (understood s get_version)) none ∙ unanswered)
+no_version g old passes none (rows, asked, is) = true≢false (sym (ap is_understood asked.shown.1.is) ∙ ap (λ s. is_understood (understood s get_version)) none ∙ unanswered)
 
 pub enters_bare : {S : Type 0} (g : Ghosts S) (old new : Held S) → old.schema ≡ no_schema → Enters g old new → ShowsTables (state g new) no_tables
-enters_bare g old new bare (inl entered) = absurd (no_version g old true bare entered.0)
-enters_bare g old new bare (inr made) = λ is_open. made.2.tables
+enters_bare g old new bare (inl entered) = absurd (no_version g old is_version_two bare entered.0)
+enters_bare g old new bare (inr (inl entered)) = absurd (no_version g old is_version_one bare entered.0)
+enters_bare g old new bare (inr (inr made)) = λ is_open. made.2.tables
 
 pub enters_empty : (old new : Held MemStore) → IsEmpty (state over_memory old) → Enters over_memory old new → ShowsTables (state over_memory new) no_tables
 enters_empty old new empty = enters_bare over_memory old new empty.2

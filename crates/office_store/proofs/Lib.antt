@@ -2,7 +2,7 @@ mod Kept
 mod Once
 mod Shelves
 mod Founding
-mod Completing
+mod Migrating
 mod Reopening
 mod Paths
 mod Joined

@@ -12,7 +12,7 @@ use Rattle.sqlite_trees.specs.Objects.{catalog_tree}
 use Rattle.sqlite_trees.specs.Props.{Trees-set}
 use Rattle.sqlite_trees.specs.Tree.{Trees}
 use Rattle.sqlite_trees.proofs.Doubt.{no_doubt}
-use Rattle.sqlite.specs.Effect.{Database}
+use Rattle.sqlite.specs.Effect.{Database, IsDatabase}
 use Rattle.sqlite.specs.Held.{Held}
 use Rattle.sqlite.specs.State.{HasCleanDisk, Survives}
 use Rattle.sqlite.specs.Files.{file_state, over_files, image_of, IsOpened, Finds, IsCleanLeft}
@@ -22,7 +22,7 @@ use Rattle.sqlite.specs.declared.file.Leftover.{Leftover}
 use Rattle.sqlite.specs.declared.file.Leftover.TheVariants as left
 use Rattle.sqlite.proofs.ListingLemmas.{empty_is_sound}
 use Rattle.office_base.specs.Tables.{Tables}
-use Rattle.office_sql.specs.Earlier.{ShowsOffice, HoldsOffice as HasOffice}
+use Rattle.office_sql.specs.First.{ShowsOffice, HoldsOffice as HasOffice}
 use Rattle.office_sql.specs.Steps.{Refused}
 use Rattle.office_store.specs.Founding.{LeavesOffice, IsNoOffice}
 use Rattle.office_store.specs.Reopening.{Found, HoldsOffice, HoldStill, IsLeftOf, IsReason, IsUsableLeft, LeavesFound, MayCommit}
@@ -34,12 +34,17 @@ use Rattle.office_store.proofs.Once.{schema_once}
 pub finds_in : {D : Type 0} {g : Ghosts D} (files : Files D) (now : Held (FileStore D g)) → Finds files now → FindsIn (image_of g files) (file_state now)
 finds_in files now found = record { holds = found.holds; reads = found.reads }
 
+-- an office of either version stands in a sound database
+sound_of : (db : Database) (t : Tables) → HasOffice db t → IsDatabase db
+sound_of db t (inl was) = was.sound
+sound_of db t (inr was) = was.sound
+
 -- the office that files hold is in what was opened there
 pub held_shown : {D : Type 0} {g : Ghosts D} (image : Image) (now : Held (FileStore D g)) → IsOpened now → FindsIn image (file_state now)
     → (t : Tables) → HoldsOffice image t → ShowsOffice (file_state now) t
 held_shown image now opened found t (db, held, (d, is, holds)) is_open =
     let trees : (file_state now).committed.trees ≡ d.trees = ∥∥₁_elim held (Trees-set _ _) (found.holds db) ∙ is in
-    let schema : (file_state now).committed.schema ≡ d.schema = schema_once (file_state now).committed d (opened.1 is_open).1 holds.sound trees in
+    let schema : (file_state now).committed.schema ≡ d.schema = schema_once (file_state now).committed d (opened.1 is_open).1 (sound_of d t holds) trees in
     let same : d ≡ (file_state now).committed = λ i. record { schema = (sym schema) i; trees = (sym trees) i } in
     subst (λ (x : Database). HasOffice x t) same holds
 

@@ -1,5 +1,5 @@
 -- What an opening finds in a database, and what it makes there.
-use Rattle.std.specs.Prelude.{◌≡◌, ◌⊎◌, ◌&&◌, ℕ, Bool, true, false, nat_eq, pos, IsTrue, List, [], ◌∷◌, codes}
+use Rattle.std.specs.Prelude.{◌≡◌, ◌⊎◌, ◌&&◌, ℕ, Bool, true, false, not, nat_eq, pos, IsTrue, List, [], ◌∷◌, codes}
 use Rattle.std.specs.List.{list_any}
 use Rattle.sqlite_value.specs.declared.value.Value.TheVariants.{Int}
 use Rattle.sqlite_value.specs.Order.{Row}
@@ -12,8 +12,8 @@ use Rattle.sqlite.specs.Effect.{Database, IsDatabase}
 use Rattle.sqlite.specs.Held.{Held, state}
 use Rattle.sqlite.specs.State.{State}
 use Rattle.office_base.specs.Tables.{Tables, no_tables}
-use Rattle.office_sql.specs.Earlier.{has_later, later_tables, HoldsOffice}
-use Rattle.office_sql.specs.Making.{AreMade, KeepsOthers}
+use Rattle.office_sql.specs.First.{HoldsFirst, IsMigrated}
+use Rattle.office_sql.specs.Making.{KeepsOthers}
 use Rattle.office_sql.specs.Standing.{Holds}
 use Rattle.office_sql.specs.Steps.{Leaves, Refused, IsAsked}
 use Rattle.office_sql.specs.Version.{get_version, HasNoVersion}
@@ -23,7 +23,7 @@ abbrev pub table_names : List (List ℕ)
 table_names =
     codes "lines" ∷ codes "batches" ∷ codes "tenderers" ∷ codes "notices" ∷ codes "lots" ∷ codes "envelopes" ∷ codes "seals"
     ∷ codes "securities" ∷ codes "awards" ∷ codes "contracts" ∷ codes "entries" ∷ codes "releases" ∷ codes "compiled" ∷ codes "office"
-    ∷ codes "late_rules" ∷ []
+    ∷ codes "late_rules" ∷ codes "notices_2" ∷ codes "performance" ∷ []
 
 -- a table, an index or a view of the schema has one of them
 abbrev pub takes_a_name : Schema → Bool
@@ -38,9 +38,18 @@ abbrev pub is_version_one : List Row → Bool
 is_version_one ((Int (pos n) ∷ []) ∷ []) = nat_eq n 1
 is_version_one _ = false
 
--- these rows were the answer to the question for the version
-abbrev pub Answered : {S : Type 0} → Ghosts S → Held S → Bool → Type 0
-Answered g old first = (rows : List Row) × IsAsked g get_version [] old rows × (is_version_one rows ≡ first)
+-- the rows are one, and it is version 2
+abbrev pub is_version_two : List Row → Bool
+is_version_two ((Int (pos n) ∷ []) ∷ []) = nat_eq n 2
+is_version_two _ = false
+
+-- neither
+abbrev pub is_other_version : List Row → Bool
+is_other_version rows = not (is_version_one rows) && not (is_version_two rows)
+
+-- rows that pass were the answer to the question for the version
+abbrev pub Answered : {S : Type 0} → Ghosts S → Held S → (List Row → Bool) → Type 0
+Answered g old passes = (rows : List Row) × IsAsked g get_version [] old rows × IsTrue (passes rows)
 
 -- an office was made, and stands empty beside what was there
 pub record Founded (old new : State) : Type 0 where
@@ -59,40 +68,42 @@ IsSoundOpen s = IsTrue s.is_open → IsDatabase s.committed
 abbrev pub LeavesNew : State → Trees → Type 0
 LeavesNew old trees = IsTrue old.is_open × (IsDatabase old.committed → Leaves no_tables trees)
 
--- the tables that came later stand beside what was there, with no rows; an office of an earlier program has all its tables with them, and the content that it had
-pub record HasAdded (old new : Database) : Type 0 where
-  pub made : AreMade later_tables new
-  pub others : KeepsOthers old new
-  pub tables : (t : Tables) → HoldsOffice old t → Holds new t
-
--- these tables weren't there, and were added
-pub record Completed (old new : State) : Type 0 where
+-- an office of version 1 became one of version 2, with its content, beside what others had there
+pub record Migrated (old new : State) : Type 0 where
   pub was_open : IsTrue old.is_open
-  pub lacked : has_later old.committed.schema ≡ false
   pub is_open : IsTrue new.is_open
-  pub added : HasAdded old.committed new.committed
+  pub tables : (t : Tables) → HoldsFirst old.committed t → IsMigrated t old.committed new.committed
   -- a stop leaves this and nothing else
   pub only : (db : Trees) → new.may_leave db → db ≡ new.committed.trees
 
--- what the commit of these tables leaves, where they weren't there
-abbrev pub LeavesCompleted : State → Trees → Type 0
-LeavesCompleted old trees = IsTrue old.is_open × (has_later old.committed.schema ≡ false) × ((db : Database) × (trees ≡ db.trees) × HasAdded old.committed db)
+-- what the commit of a migration leaves: the whole of an office of version 2, with the content that stood there, beside what others had
+abbrev pub LeavesMigrated : State → Trees → Type 0
+LeavesMigrated old trees = IsTrue old.is_open × ((t : Tables) → HoldsFirst old.committed t → (db : Database) × (trees ≡ db.trees) × IsMigrated t old.committed db)
 
--- the tables that came later are there: they were, and the last commit is as it was; or they weren't, and were added
-abbrev pub Readied : State → State → Type 0
-Readied old new = ((has_later old.committed.schema ≡ true) × Refused old new) ⊎ Completed old new
+-- an office of version 1 was migrated; of one of version 2 the last commit is as it was
+abbrev pub Readied : Bool → State → State → Type 0
+Readied true old new = Migrated old new
+Readied false old new = Refused old new
 
--- what an opening may commit: the whole of an empty office, where nothing answered and no name of a table was taken; or the tables that came later, where version 1
--- answered and they weren't there
+-- what that may commit
+abbrev pub LeavesReadied : Bool → State → Trees → Type 0
+LeavesReadied first old trees = IsTrue first × LeavesMigrated old trees
+
+-- what an opening may commit: the whole of an empty office, where nothing answered and no name of a table was taken; or, where version 1 answered, the whole of an
+-- office that was migrated
 abbrev pub LeavesOffice : {S : Type 0} → Ghosts S → Held S → Trees → Type 0
 LeavesOffice g old trees =
     (IsTrue (state g old).is_open × HasNoVersion g old × (takes_a_name old.schema ≡ false) × Leaves no_tables trees)
-    ⊎ (Answered g old true × LeavesCompleted (state g old) trees)
+    ⊎ (Answered g old is_version_one × LeavesMigrated (state g old) trees)
 
--- an office of version 1 was there, and the tables that came later are there now; or nothing answered, no name of a table was taken, and an office was made
+-- an office of version 2 was there, and is as it was; or one of version 1 was, and it was migrated; or nothing answered, no name of a table was taken, and an office
+-- was made
 abbrev pub Enters : {S : Type 0} → Ghosts S → Held S → Held S → Type 0
-Enters g old new = (Answered g old true × Readied (state g old) (state g new)) ⊎ (HasNoVersion g old × (takes_a_name old.schema ≡ false) × Founded (state g old) (state g new))
+Enters g old new =
+    (Answered g old is_version_two × Refused (state g old) (state g new))
+    ⊎ ((Answered g old is_version_one × Migrated (state g old) (state g new))
+    ⊎ (HasNoVersion g old × (takes_a_name old.schema ≡ false) × Founded (state g old) (state g new)))
 
 -- what answered is another version or no single row; or nothing answered, and the name of a table is taken
 abbrev pub IsNoOffice : {S : Type 0} → Ghosts S → Held S → Type 0
-IsNoOffice g old = Answered g old false ⊎ (HasNoVersion g old × (takes_a_name old.schema ≡ true))
+IsNoOffice g old = Answered g old is_other_version ⊎ (HasNoVersion g old × (takes_a_name old.schema ≡ true))

@@ -18,7 +18,7 @@ use Rattle.sqlite.specs.Closing.{HoldsAlone, IsCopied}
 use Rattle.sqlite.specs.declared.file.Leftover.{Leftover}
 use Rattle.sqlite.specs.declared.file.Leftover.TheVariants as left
 use Rattle.office_base.specs.Tables.{Tables, no_tables}
-use Rattle.office_sql.specs.Earlier.{ShowsOffice, HoldsOffice as HasOffice}
+use Rattle.office_sql.specs.First.{ShowsOffice, HoldsOffice as HasOffice}
 use Rattle.office_sql.specs.Steps.{ShowsTables}
 use Rattle.office_store.specs.Founding.{Enters, IsNoOffice, LeavesOffice}
 use Rattle.office_store.specs.declared.found.OpenFault.{OpenFault}
@@ -42,8 +42,8 @@ pub record Entered {S : Type 0} (g : StoreGhosts S) (before now : Held S) : Type
   pub kept : (t : Tables) → ShowsOffice (state g before) t → ShowsTables (state g now) t
   pub stops : Survives (state g before) (state g now) (LeavesOffice g before)
 
--- what an opening may have committed that was then refused: nothing where it met no office, else at most the whole of an empty one where none was, or the tables
--- that one of an earlier program lacked
+-- what an opening may have committed that was then refused: nothing where it met no office, else at most the whole of an empty one where none was, or the whole
+-- of one that was migrated
 abbrev pub MayCommit : {S : Type 0} → StoreGhosts S → OpenFault → Held S → Trees → Type 0
 MayCommit g fault.NotAnOffice before db = ⊥
 MayCommit g fault.NoMemory before db = LeavesOffice g before db
@@ -76,7 +76,8 @@ module _ {D : Type 0} {g : Ghosts D} where
     pub finds : FindsIn image (file_state before)
     pub only : (db : Trees) → (file_state before).may_leave db → db ≡ (file_state before).committed.trees
 
-  -- the office that they hold is shown; one of an earlier program has its content, and nothing in the tables that it lacked
+  -- the office that they hold is shown; one of version 1 has its content: its notices ask for no performance securities, there are none of these, and no late
+  -- withdrawals where it had no table of them
   abbrev pub OpensHeld : Image → Held (FileStore D g) → Type 0
   OpensHeld image now = HasCleanDisk (file_state now) → (t : Tables) → HoldsOffice image t → ShowsTables (file_state now) t
 

@@ -5,12 +5,12 @@ ghost use Rattle.sqlite_catalog.specs.Change.{is_used};
 ghost use Rattle.sqlite.specs.Held.{state};
 ghost use Rattle.sqlite.specs.State.{HasCleanDisk, Survives};
 ghost use Rattle.office_base.specs.Tables.{Tables};
-ghost use Rattle.office_sql.specs.Earlier.{ShowsOffice};
+ghost use Rattle.office_sql.specs.First.{ShowsOffice};
 ghost use Rattle.office_sql.specs.Steps.{Refused, ShowsTables};
-ghost use Rattle.office_store.specs.Founding.{Founded, LeavesNew, LeavesOffice, Enters, IsNoOffice, IsSoundOpen, takes_a_name, has_rowids, is_version_one};
+ghost use Rattle.office_store.specs.Founding.{Founded, LeavesNew, LeavesOffice, Enters, IsNoOffice, IsSoundOpen, takes_a_name, has_rowids, is_version_one, is_version_two, is_other_version};
 ghost use Rattle.office_store.specs.SqlMeaning.{LeavesShown};
 
-use crate::complete::ready;
+use crate::migrate::ready;
 use office_base::shelf::ShelfFault;
 use office_sql::faults::fault;
 use office_sql::make::make;
@@ -20,6 +20,7 @@ use sqlite_catalog::layout::is_used;
 use sqlite_schema::names::same_name;
 use sqlite_schema::schema::Schema;
 use sqlite_value::value::ValueRef;
+use std::alloc::Global;
 
 /// Why no office was opened.
 #[derive(Clone, Copy, Debug, PartialEq, Eq)]
@@ -27,21 +28,28 @@ pub enum OpenFault {
     /// Memory was refused.
     NoMemory,
     /// The store failed, or keeps its tables in another form than this program makes, or the name of an index of the office's is taken, or, in
-    /// an office of an earlier program, that of a table which it lacks.
+    /// an office of version 1, that of a table which it lacks.
     Store,
-    /// What stands there is no office of version 1: it has another version or no single row of one, or its schema takes no question for
+    /// What stands there is no office of version 1 or 2: it has another version or no single row of one, or its schema takes no question for
     /// the version, and has the name of a table of the office's for a table, an index or a view.
     NotAnOffice,
+}
+
+/// The fault of a shelf, as one of an opening.
+pub(crate) fn opening(fault: ShelfFault) -> OpenFault
+    ensures { result ≡ OpenFault.NotAnOffice → ⊥ }
+{
+    match fault {
+        ShelfFault::NoMemory => OpenFault::NoMemory,
+        ShelfFault::Store => OpenFault::Store,
+    }
 }
 
 /// The fault of a store, as one of an opening.
 pub(crate) fn open_fault(error: Error) -> OpenFault
     ensures { result ≡ OpenFault.NotAnOffice → ⊥ }
 {
-    match fault(error) {
-        ShelfFault::NoMemory => OpenFault::NoMemory,
-        ShelfFault::Store => OpenFault::Store,
-    }
+    opening(fault(error))
 }
 
 /// Makes an office, in one transaction.
@@ -74,7 +82,7 @@ fn any_is_used(schema: &Schema, names: &[&[u8]]) -> bool
 fn takes_a_name(schema: &Schema) -> bool
     ensures { result ≡ takes_a_name schema.now }
 {
-    let names: [&[u8]; 15] = [
+    let names: [&[u8]; 17] = [
         b"lines",
         b"batches",
         b"tenderers",
@@ -90,6 +98,8 @@ fn takes_a_name(schema: &Schema) -> bool
         b"compiled",
         b"office",
         b"late_rules",
+        b"notices_2",
+        b"performance",
     ];
     any_is_used(schema, names.as_slice())
 }
@@ -101,6 +111,21 @@ fn is_version_one(rows: &[Row]) -> bool
         return false;
     }
     matches!(rows[0].get_ref(0), Ok(ValueRef::Int(1)))
+}
+
+fn is_version_two(rows: &[Row]) -> bool
+    ensures { result ≡ is_version_two rows.now }
+{
+    if rows.len() != 1 || rows[0].column_count() != 1 {
+        return false;
+    }
+    matches!(rows[0].get_ref(0), Ok(ValueRef::Int(2)))
+}
+
+fn is_other_version(rows: &[Row]) -> bool
+    ensures { result ≡ is_other_version rows.now }
+{
+    !is_version_one(rows) && !is_version_two(rows)
 }
 
 // Whether the key of the table `office` is its rowid, as this program makes it.
@@ -124,9 +149,9 @@ pub(crate) fn still_open<S: Alter>(conn: &mut Connection<S>) -> Result<(), OpenF
     Ok(())
 }
 
-/// Enters the office that is there, and makes the tables that an earlier program didn't make; or makes an office where no name of its tables is
-/// taken. The store is open then.
-pub(crate) fn enter<S: Alter>(conn: &mut Connection<S>) -> Result<(), OpenFault>
+/// Enters the office that is there, where one of version 1 becomes one of version 2; or makes an office where no name of its tables is taken. The
+/// store is open then.
+pub(crate) fn enter<S: Alter>(alloc: Global, conn: &mut Connection<S>) -> Result<(), OpenFault>
     ensures enters { HasCleanDisk (state S.Store conn.new) → OnOk result (Enters S.Store conn.old conn.new) }
     ensures none { HasCleanDisk (state S.Store conn.new) → IfErr result (λ e. e ≡ OpenFault.NotAnOffice → IsNoOffice S.Store conn.old) }
     ensures found { HasCleanDisk (state S.Store conn.new) → (t : Tables) → ShowsOffice (state S.Store conn.old) t → OnOk result (ShowsTables (state S.Store conn.new) t) }
@@ -144,13 +169,14 @@ pub(crate) fn enter<S: Alter>(conn: &mut Connection<S>) -> Result<(), OpenFault>
     let has_key = has_rowids(conn.schema());
     match ask_version(conn) {
         Ok(rows) => {
-            if !is_version_one(rows.as_slice()) {
+            if is_other_version(rows.as_slice()) {
                 return Err(OpenFault::NotAnOffice);
             }
             if !has_key {
                 return Err(OpenFault::Store);
             }
-            match ready(conn) {
+            let is_first = is_version_one(rows.as_slice());
+            match ready(alloc, conn, is_first) {
                 Ok(()) => Ok(()),
                 Err(fault) => Err(fault),
             }

@@ -1,10 +1,10 @@
 //! An office in SQL, in memory or in files: the shelf over its tables, and how it is made, opened and closed.
 #![tactic(auto)]
 
-mod complete;
 pub mod found;
 mod joined_rows;
 pub mod ledger_rows;
+mod migrate;
 pub mod open;
 pub mod path;
 pub mod shelf;

@@ -40,7 +40,7 @@ impl SqlShelf<MemStore> {
         let Ok(mut conn) = Connection::open_in_memory(alloc) else {
             return Err(OpenFault::NoMemory);
         };
-        match enter(&mut conn) {
+        match enter(alloc, &mut conn) {
             Ok(()) => Ok(SqlShelf {
                 alloc,
                 conn,
@@ -52,9 +52,10 @@ impl SqlShelf<MemStore> {
 }
 
 impl<D: Disk + Drop> SqlShelf<FileStore<D>> {
-    /// The office in two files, or a new one where no name of the office's tables is taken there. Other tables stay. An office of an earlier
-    /// program gets the tables that it lacks. Where it shows the tables of an office, a stop leaves one. A refusal comes with what is left of
-    /// the files: they are closed, or, where they can't be, it is their store.
+    /// The office in two files, or a new one where no name of the office's tables is taken there. Other tables stay. An office of version 1
+    /// becomes one of version 2, with its content; then rows of others stay but for such as their foreign keys tie to `notices` or `office`.
+    /// Where it shows the tables of an office, a stop leaves one. A refusal comes with what is left of the files: they are closed, or, where
+    /// they can't be, it is their store.
     pub fn open_files(
         alloc: Global,
         files: Files<D>,
@@ -76,7 +77,7 @@ impl<D: Disk + Drop> SqlShelf<FileStore<D>> {
             Ok(conn) => conn,
             Err((error, left)) => return Err((open_fault(error), left)),
         };
-        match enter(&mut conn) {
+        match enter(alloc, &mut conn) {
             Ok(()) => Ok(SqlShelf {
                 alloc,
                 conn,

@@ -12,7 +12,7 @@ use office_base::ledger::{ContractSums, LedgerRow};
 use office_base::puts::Put;
 use office_base::records::{
     AwardRow, BatchRow, ClockRow, CompiledRow, ContractRow, EntryRow, EnvelopeRow, LateRow,
-    LineRow, LotRow, NoticeRow, ReleaseRow, SealRow, SecurityRow, TendererRow,
+    LineRow, LotRow, NoticeRow, PerformanceRow, ReleaseRow, SealRow, SecurityRow, TendererRow,
 };
 use office_base::shelf::{Lookups, Shelf, ShelfFault};
 use office_changes::apply::apply_all;
@@ -196,6 +196,16 @@ impl<S: Alter> Lookups for SqlShelf<S> {
 
     fn get_late(&mut self, notice: &Id) -> Result<Option<LateRow>, ShelfFault> {
         match lookups::get_late(self.alloc, &mut self.conn, notice) {
+            Ok(found) => Ok(found),
+            Err(fault) => Err(self.count(fault)),
+        }
+    }
+
+    fn get_performance(
+        &mut self,
+        contract: AskedNumber,
+    ) -> Result<Option<PerformanceRow>, ShelfFault> {
+        match lookups::get_performance(self.alloc, &mut self.conn, contract) {
             Ok(found) => Ok(found),
             Err(fault) => Err(self.count(fault)),
         }

@@ -13,7 +13,6 @@ use Rattle.office_values.specs.declared.settings.Settings.{Settings}
 use Rattle.office_base.specs.Shelves.{Keeps, Meaning}
 use Rattle.office_base.specs.Tables.{Tables}
 use Rattle.office_sql.specs.Steps.{ShowsTables}
-use Rattle.office_sql.proofs.Earlier.{whole_office}
 use Rattle.office_desk.specs.Desks.{DeskOf}
 use Rattle.office_store.specs.Reopening.{HoldsOffice, OpensBlank, OpensHeld}
 use Rattle.office_store.specs.SqlMeaning.{sql_meaning}
@@ -39,8 +38,8 @@ module _ {D : Type 0} {g : Ghosts D} where
         | inr after ↦ copied.left mid after
       ] in
       elim log [
-        | inl same ↦ subst (λ (image : Image). HoldsOffice image t) (sym same) (trees, there.both, ((file_state last).committed, refl, whole_office _ t (shows copied.was_open)))
-        | inr same ↦ subst (λ (image : Image). HoldsOffice image t) (sym same) (trees, there.alone, ((file_state last).committed, refl, whole_office _ t (shows copied.was_open)))
+        | inl same ↦ subst (λ (image : Image). HoldsOffice image t) (sym same) (trees, there.both, ((file_state last).committed, refl, inl (shows copied.was_open)))
+        | inr same ↦ subst (λ (image : Image). HoldsOffice image t) (sym same) (trees, there.alone, ((file_state last).committed, refl, inl (shows copied.was_open)))
       ]
 
   pub closes : (image : Image) (settings : Settings) (most : ℕ) (old new : Connected (FileStore D g) × ℕ) (files : Files D)

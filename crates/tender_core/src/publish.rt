@@ -206,6 +206,7 @@ fn push_notice(
         validity: new.validity,
         standstill: new.standstill,
         weight: new.criteria.weight(),
+        performance: new.performance,
         state: NoticeState::Receiving,
         opened: None,
         amendments: AmendmentCount::read(0).unwrap(),

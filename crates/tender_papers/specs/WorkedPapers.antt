@@ -71,6 +71,7 @@ worked_notice = record {
   opened = Some 1772366401;
   amendments = 0;
   releases = 1;
+  performance = 0;
 }
 
 -- a lot of three of the item I1

@@ -61,6 +61,7 @@ fn notice(alloc: Global, ids: &[&str]) -> Option<NewNotice> {
         standstill: Standstill::read(10)?,
         criteria: Criteria::Price,
         late_withdrawal: LateWithdrawal::Refused,
+        performance: Amount::read(0)?,
         title: line(alloc, b"Road repair")?,
         lots: lots(alloc, ids)?,
     })

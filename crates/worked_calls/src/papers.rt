@@ -249,6 +249,7 @@ fn notice(alloc: Global) -> Option<NoticeRow> {
         validity: Validity::read(30)?,
         standstill: Standstill::read(10)?,
         weight: Weight::read(1)?,
+        performance: Amount::read(0)?,
         state: NoticeState::Opened,
         opened: Moment::read(b"2026-03-01T12:00:01Z"),
         amendments: AmendmentCount::read(0)?,

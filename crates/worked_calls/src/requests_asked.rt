@@ -76,7 +76,7 @@ fn asks_for_each(alloc: Global, caller: &Caller, rows: &[(&str, &[u8], Endpoint)
 
 const PUBLICATION: &[u8] = br#"{
     "title": "Road repair", "deadline": "2026-03-01T12:00:00Z", "validity_days": 90, "standstill_days": 10,
-    "criteria": "points", "price_weight": 60, "late_withdrawal": "forfeits",
+    "criteria": "points", "price_weight": 60, "late_withdrawal": "forfeits", "performance": 70,
     "lots": [{
         "id": "L1", "title": "North", "line": "1000", "estimate": 600, "security": 50,
         "items": [{"id": "I1", "title": "Paving", "quantity": 3}]
@@ -89,7 +89,7 @@ const REGISTRATION: &[u8] =
 const AMENDMENT: &[u8] = b"{\"id\":\"E1\",\"kind\":\"cut\",\"amount\":5,\"rationale\":\"less\"}";
 
 // Each route but those of tenderers alone, with a body that it takes.
-const OF_CLERKS: [(&str, &[u8], Endpoint); 20] = [
+const OF_CLERKS: [(&str, &[u8], Endpoint); 21] = [
     (
         "POST /budget/B1",
         b"line,kind,amount,title\n1000,add,5,Roads\n",
@@ -162,6 +162,11 @@ const OF_CLERKS: [(&str, &[u8], Endpoint); 20] = [
     ),
     ("GET /notices/N1/record", b"", Queries(QueryKind::Record)),
     ("GET /securities/17", b"", Queries(QueryKind::Security)),
+    (
+        "GET /contracts/17/security",
+        b"",
+        Queries(QueryKind::Performance),
+    ),
 ];
 
 // The routes of tenderers alone.
@@ -207,7 +212,7 @@ fn is_about(why: &Refusal, number: u8, name: &str) -> bool {
 }
 
 // Requests of the clerk's with the number and the name of their refusal; the number 0 where there is none.
-const REFUSED: [(&str, &[u8], (u8, &str)); 14] = [
+const REFUSED: [(&str, &[u8], (u8, &str)); 17] = [
     ("GET /lines/1000/", b"", (4, "")),
     ("GET /tenders/01", b"", (4, "")),
     ("GET /notices/N1/releases/1", b"", (4, "")),
@@ -229,7 +234,14 @@ const REFUSED: [(&str, &[u8], (u8, &str)); 14] = [
         b"{\"id\":\"P1\",\"amount\":1.0}",
         (8, "amount"),
     ),
-    ("POST /awards/1/sign", b"{", (0, "")),
+    ("POST /awards/1/sign", b"{", (8, "body")),
+    (
+        "POST /awards/1/sign",
+        b"{\"security\":\"P1\"}",
+        (8, "amount"),
+    ),
+    ("POST /awards/1/sign", b"{\"amount\":70}", (8, "security")),
+    ("POST /awards/1/fail", b"{", (0, "")),
 ];
 
 fn is_refused(alloc: Global, routes: &Routes, row: &(&str, &[u8], (u8, &str))) -> bool {

@@ -39,6 +39,7 @@ const QUERIES: &[(QueryKind, bool, bool, bool)] = &[
     (QueryKind::Record, true, true, true),
     (QueryKind::Tender, false, false, true),
     (QueryKind::Security, false, true, true),
+    (QueryKind::Performance, false, true, true),
 ];
 
 // The digest of "abc": FIPS 180-4's example of one block.

@@ -54,6 +54,7 @@ const FIELDS: &[(Field, &str)] = &[
     (Field::Criteria, "criteria"),
     (Field::PriceWeight, "price_weight"),
     (Field::LateWithdrawal, "late_withdrawal"),
+    (Field::Performance, "performance"),
     (Field::Lots, "lots"),
     (Field::Rationale, "rationale"),
     (Field::Security, "security"),

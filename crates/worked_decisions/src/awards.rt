@@ -5,11 +5,13 @@ use crate::rows;
 use award_core::examine::{ExamineRows, decide_examine};
 use award_core::fail::{FailRows, decide_fail};
 use award_core::sign::{SignRows, decide_sign};
-use office_acts::tender::Quality;
+use office_acts::amounts::SecurityAmount;
+use office_acts::tender::{NamedSecurity, Quality};
 use office_base::reading::Reading;
 use office_base::records::{
     AwardState, EnvelopeRow, EnvelopeState, LotRow, LotState, NoticeRow, NoticeState, SecurityState,
 };
+use office_values::money::Amount;
 use std::alloc::Global;
 
 // Opened, with what the price weighs.
@@ -172,10 +174,21 @@ fn awards_fail(rt: HostRuntime) {
     assert!(rt; are_decided(rt.alloc(), &FAILINGS));
 }
 
-// The signing of the contract of an active award, at this second.
+// The signing of the contract of an active award, at this second. The notice asks for a performance security of so much, and one of so much is named.
 #[derive(Clone, Copy)]
 pub struct Signing {
     pub second: u64,
+    pub asked: u64,
+    pub named: Option<u64>,
+}
+
+// The notice, which asks for a performance security of so much.
+fn asking(alloc: Global, asked: u64) -> Option<NoticeRow> {
+    let performance = Amount::read(asked)?;
+    Some(NoticeRow {
+        performance,
+        ..notice(alloc, 0)?
+    })
 }
 
 impl Signing {
@@ -184,20 +197,34 @@ impl Signing {
         let envelope: Option<EnvelopeRow> = tender(Some(true));
         let rows = SignRows {
             award: rows::award(AwardState::Active),
-            notice: notice(alloc, 0),
+            notice: asking(alloc, self.asked),
             lot: awarded(alloc),
             envelope,
             securities: rows::of(alloc, rows::security(1, SecurityState::Held)),
             clock,
         };
+        let security = match self.named {
+            Some(amount) => Some(NamedSecurity {
+                reference: rows::id("P1")?,
+                amount: SecurityAmount::read(amount)?,
+            }),
+            None => None,
+        };
         let whole = rows.notice.is_some() && rows.lot.is_some() && rows::is_one(&rows.securities);
-        Some((whole, decide_sign(alloc, t, rows)))
+        Some((whole, decide_sign(alloc, t, rows, security)))
     }
 }
 
-static SIGNINGS: [(Case, Wanted); 3] = [
+// Behind the standstill, where none is asked and none is named.
+const PLAINLY: Signing = Signing {
+    second: 864_020,
+    asked: 0,
+    named: None,
+};
+
+static SIGNINGS: [(Case, Wanted); 4] = [
     (
-        Case::Signing(Signing { second: 864_020 }),
+        Case::Signing(PLAINLY),
         Wanted::Puts(&[
             Made::Award(AwardState::Signed, [500, 20]),
             Made::Lot(LotState::Contracted, [600, 0]),
@@ -212,11 +239,37 @@ static SIGNINGS: [(Case, Wanted); 3] = [
         ]),
     ),
     (
-        Case::Signing(Signing { second: 864_019 }),
+        Case::Signing(Signing {
+            asked: 70,
+            named: Some(70),
+            ..PLAINLY
+        }),
+        Wanted::Puts(&[
+            Made::Award(AwardState::Signed, [500, 20]),
+            Made::Lot(LotState::Contracted, [600, 0]),
+            Made::Contract(MadeContract {
+                numbers: [864_020, 0],
+                ended: None,
+                how: None,
+            }),
+            NOTICE,
+            Made::Clock([864_020, 1, 1]),
+            Made::Security(1, SecurityState::Returned),
+            Made::Performance(70, SecurityState::Held),
+        ]),
+    ),
+    (
+        Case::Signing(Signing {
+            second: 864_019,
+            ..PLAINLY
+        }),
         Wanted::Refused("Standstill"),
     ),
     (
-        Case::Signing(Signing { second: 7_776_009 }),
+        Case::Signing(Signing {
+            second: 7_776_009,
+            ..PLAINLY
+        }),
         Wanted::Refused("Expired"),
     ),
 ];
@@ -224,4 +277,37 @@ static SIGNINGS: [(Case, Wanted); 3] = [
 #[test]
 fn contracts_are_signed(rt: HostRuntime) {
     assert!(rt; are_decided(rt.alloc(), &SIGNINGS));
+}
+
+// Before the standstill is over, too: what is named is looked at first.
+static UNSECURED: [(Case, Wanted); 3] = [
+    (
+        Case::Signing(Signing {
+            second: 864_019,
+            asked: 70,
+            named: None,
+        }),
+        Wanted::Refused("SecurityMissing"),
+    ),
+    (
+        Case::Signing(Signing {
+            second: 864_019,
+            asked: 70,
+            named: Some(69),
+        }),
+        Wanted::Refused("SecurityTooSmall"),
+    ),
+    (
+        Case::Signing(Signing {
+            second: 864_019,
+            asked: 0,
+            named: Some(70),
+        }),
+        Wanted::Refused("SecurityNotAsked"),
+    ),
+];
+
+#[test]
+fn performance_securities_are_asked_for(rt: HostRuntime) {
+    assert!(rt; are_decided(rt.alloc(), &UNSECURED));
 }

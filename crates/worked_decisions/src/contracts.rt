@@ -7,7 +7,7 @@ use award_core::end::{EndRows, decide_end};
 use award_core::pay::{PayRows, decide_pay};
 use office_acts::amounts::EntryAmount;
 use office_acts::contract::{ChangeKind, How};
-use office_base::records::{EntryKind, EntryRow, NoticeRow, NoticeState};
+use office_base::records::{EntryKind, EntryRow, NoticeRow, NoticeState, SecurityState};
 use office_base::rows::Rows;
 use std::alloc::Global;
 
@@ -173,10 +173,11 @@ fn contracts_are_cut(rt: HostRuntime) {
     assert!(rt; are_decided(rt.alloc(), &CUTS));
 }
 
-// The end of a contract of which 100 was paid; it has ended already where a second is given.
+// The end of a contract of which 100 was paid, and which has a performance security; it has ended already where a second is given.
 #[derive(Clone, Copy)]
 pub struct End {
     pub ended: Option<u64>,
+    pub how: How,
 }
 
 impl End {
@@ -191,16 +192,20 @@ impl End {
             entries: earlier(alloc, EntryKind::Payment),
             notice: notice(alloc),
             line: rows::line(alloc, 300),
+            performance: rows::performance(70, SecurityState::Held),
             clock,
         };
         let whole = rows::is_one(&rows.entries) && rows.notice.is_some() && rows.line.is_some();
-        Some((whole, decide_end(alloc, t, rows, How::ForDefault)))
+        Some((whole, decide_end(alloc, t, rows, self.how)))
     }
 }
 
-static ENDS: [(Case, Wanted); 2] = [
+static ENDS: [(Case, Wanted); 3] = [
     (
-        Case::End(End { ended: None }),
+        Case::End(End {
+            ended: None,
+            how: How::ForDefault,
+        }),
         Wanted::Puts(&[
             Made::Contract(MadeContract {
                 numbers: [30, 400],
@@ -210,10 +215,31 @@ static ENDS: [(Case, Wanted); 2] = [
             Made::Line([900, 700]),
             NOTICE,
             Made::Clock([50, 1, 1]),
+            Made::Performance(70, SecurityState::Forfeited),
         ]),
     ),
     (
-        Case::End(End { ended: Some(40) }),
+        Case::End(End {
+            ended: None,
+            how: How::Regular,
+        }),
+        Wanted::Puts(&[
+            Made::Contract(MadeContract {
+                numbers: [30, 400],
+                ended: Some(50),
+                how: Some(How::Regular),
+            }),
+            Made::Line([900, 700]),
+            NOTICE,
+            Made::Clock([50, 1, 1]),
+            Made::Performance(70, SecurityState::Returned),
+        ]),
+    ),
+    (
+        Case::End(End {
+            ended: Some(40),
+            how: How::Regular,
+        }),
         Wanted::Refused("ContractEnded"),
     ),
 ];

@@ -4,8 +4,8 @@ use office_base::puts::Put;
 use office_base::reading::Reading;
 use office_base::records::{
     AwardRow, AwardState, BatchRow, ClockRow, ContractRow, EntryKind, EntryRow, EnvelopeRow,
-    EnvelopeState, LineRow, LotRow, LotState, NoticeRow, NoticeState, SealRow, SecurityRow,
-    SecurityState, TendererRow,
+    EnvelopeState, LineRow, LotRow, LotState, NoticeRow, NoticeState, PerformanceRow, SealRow,
+    SecurityRow, SecurityState, TendererRow,
 };
 use office_values::moment::Moment;
 use office_values::text::TextLine;
@@ -30,6 +30,8 @@ pub enum Made {
     Contract(MadeContract),
     /// That tenders for N1 may be withdrawn late.
     Late,
+    /// The performance security of the first contract: its amount.
+    Performance(u64, SecurityState),
     Entry(MadeEntry),
     /// The second, and the last receipt and award.
     Clock([u64; 3]),
@@ -97,6 +99,9 @@ fn is_made(put: &Put, wanted: &Made) -> bool {
         (Put::Award(row), Made::Award(state, numbers)) => is_award(row, *state, *numbers),
         (Put::Contract(row), Made::Contract(wanted)) => is_contract(row, wanted),
         (Put::Late(row), Made::Late) => row.notice.as_str() == "N1",
+        (Put::Performance(row), Made::Performance(amount, state)) => is_performance(
+            row, *amount, *state,
+        ),
         (Put::Entry(row), Made::Entry(wanted)) => is_entry(row, wanted),
         (Put::Clock(row), Made::Clock(numbers)) => is_clock(row, *numbers),
         _ => false,
@@ -193,6 +198,12 @@ fn is_tender(row: &EnvelopeRow, wanted: &MadeTender) -> bool {
 fn is_seal(row: &SealRow, numbers: [u64; 3]) -> bool {
     let bytes = row.bytes.as_slice();
     [row.receipt.get(), bytes.len() as u64, bytes[0] as u64] == numbers
+}
+
+fn is_performance(row: &PerformanceRow, amount: u64, state: SecurityState) -> bool {
+    are(&[row.reference.as_str()], &["P1"])
+        && [row.contract.get(), row.amount.get()] == [1, amount]
+        && row.state == state
 }
 
 fn is_security(row: &SecurityRow, number: u64, state: SecurityState) -> bool {

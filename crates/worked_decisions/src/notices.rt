@@ -83,6 +83,7 @@ fn new_notice(alloc: Global, content: &Publication) -> Option<NewNotice> {
         standstill: Standstill::read(10)?,
         criteria: Criteria::Price,
         late_withdrawal: content.late,
+        performance: Amount::read(0)?,
         title: rows::text(alloc, "Road repair")?,
         lots: new_lots(alloc, content.line, content.estimate)?,
     })

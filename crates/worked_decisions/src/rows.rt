@@ -6,7 +6,7 @@ use office_base::counts::{AmendmentCount, CorrectionCount, ReleaseCount, TenderL
 use office_base::reading::Reading;
 use office_base::records::{
     AwardRow, AwardState, ClockRow, ContractRow, EntryKind, EntryRow, EnvelopeRow, EnvelopeState,
-    LineRow, LotRow, LotState, NoticeRow, NoticeState, SecurityRow, SecurityState,
+    LineRow, LotRow, LotState, NoticeRow, NoticeState, PerformanceRow, SecurityRow, SecurityState,
 };
 use office_base::rows::Rows;
 use office_values::given::{GivenNumber, LastNumber};
@@ -73,6 +73,7 @@ pub fn notice(alloc: Global, state: NoticeState, weight: u64, releases: u64) -> 
         validity: Validity::read(90)?,
         standstill: Standstill::read(10)?,
         weight: Weight::read(weight)?,
+        performance: Amount::read(0)?,
         state,
         opened: None,
         amendments: AmendmentCount::read(0)?,
@@ -150,6 +151,16 @@ pub fn security(number: u64, state: SecurityState) -> Option<SecurityRow> {
         lot: id("L1")?,
         reference: id("S1")?,
         amount: SecurityAmount::read(50)?,
+        state,
+    })
+}
+
+/// The performance security of the first contract.
+pub fn performance(amount: u64, state: SecurityState) -> Option<PerformanceRow> {
+    Some(PerformanceRow {
+        contract: GivenNumber::read(1)?,
+        reference: id("P1")?,
+        amount: SecurityAmount::read(amount)?,
         state,
     })
 }

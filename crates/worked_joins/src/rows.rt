@@ -1,15 +1,15 @@
 //! Rows as an office writes them, read and written again; and rows that no office writes.
 use office_base::records::{
     AwardRow, BatchRow, ClockRow, CompiledRow, ContractRow, EntryRow, EnvelopeRow, LineRow, LotRow,
-    NoticeRow, ReleaseRow, SealRow, SecurityRow, TendererRow,
+    NoticeRow, PerformanceRow, ReleaseRow, SealRow, SecurityRow, TendererRow,
 };
 use office_base::shelf::ShelfFault;
 use office_rows::items::items_text;
-use office_rows::stored::{Stored, all, first};
+use office_rows::stored::{FormerClock, FormerNotice, Stored, all, first};
 use office_rows::values::{
     award_values, batch_values, clock_values, compiled_values, contract_values, entry_values,
-    envelope_values, line_values, lot_values, notice_values, release_values, seal_values,
-    security_values, tenderer_values,
+    envelope_values, line_values, lot_values, notice_values, performance_values, release_values,
+    seal_values, security_values, tenderer_values,
 };
 use sqlite::{Connection, Row};
 use sqlite_value::value::ValueRef;
@@ -77,7 +77,7 @@ fn are_same(left: &[ValueRef<'_>], right: &[ValueRef<'_>]) -> bool {
             .all(|(left, right)| is_same(*left, *right))
 }
 
-fn notice_of<'a>(state: &'a [u8], opened: ValueRef<'a>) -> [ValueRef<'a>; 11] {
+fn notice_of<'a>(state: &'a [u8], opened: ValueRef<'a>, performance: i64) -> [ValueRef<'a>; 12] {
     [
         Text(b"N1"),
         Text(b"Road repair"),
@@ -90,6 +90,7 @@ fn notice_of<'a>(state: &'a [u8], opened: ValueRef<'a>) -> [ValueRef<'a>; 11] {
         opened,
         Int(2),
         Int(3),
+        Int(performance),
     ]
 }
 
@@ -168,6 +169,10 @@ fn contract_of<'a>(ended: ValueRef<'a>, how: ValueRef<'a>) -> [ValueRef<'a>; 9] 
     ]
 }
 
+fn performance_of(state: &[u8]) -> [ValueRef<'_>; 4] {
+    [Int(1), Text(b"P1"), Int(70), Text(state)]
+}
+
 fn entry_of<'a>(kind: &'a [u8], rationale: ValueRef<'a>) -> [ValueRef<'a>; 6] {
     [Int(1), Text(b"P1"), Text(kind), Int(10), Int(9), rationale]
 }
@@ -193,6 +198,14 @@ fn is_clock_back(alloc: Global, values: &[ValueRef<'_>]) -> bool {
     }
 }
 
+// A clock of version 1 is read as one, and is that of version 2 but for the version.
+fn is_former_clock_back(alloc: Global, values: &[ValueRef<'_>], second: &[ValueRef<'_>]) -> bool {
+    match read::<FormerClock>(alloc, values) {
+        Some(former) => are_same(&clock_values(&former.row), second),
+        None => false,
+    }
+}
+
 fn is_tenderer_back(alloc: Global, values: &[ValueRef<'_>]) -> bool {
     match read::<TendererRow>(alloc, values) {
         Some(row) => are_same(&tenderer_values(&row), values),
@@ -203,6 +216,24 @@ fn is_tenderer_back(alloc: Global, values: &[ValueRef<'_>]) -> bool {
 fn is_notice_back(alloc: Global, values: &[ValueRef<'_>]) -> bool {
     match read::<NoticeRow>(alloc, values) {
         Some(row) => are_same(&notice_values(&row), values),
+        None => false,
+    }
+}
+
+// A notice without its last value is one of version 1, and is this one if that is 0.
+fn is_former_notice_back(alloc: Global, values: &[ValueRef<'_>]) -> bool {
+    let Some((_, former)) = values.split_last() else {
+        return false;
+    };
+    match read::<FormerNotice>(alloc, former) {
+        Some(former) => are_same(&notice_values(&former.row), values),
+        None => false,
+    }
+}
+
+fn is_performance_back(alloc: Global, values: &[ValueRef<'_>]) -> bool {
+    match read::<PerformanceRow>(alloc, values) {
+        Some(row) => are_same(&performance_values(&row), values),
         None => false,
     }
 }
@@ -275,7 +306,9 @@ fn budgets_come_back(rt: HostRuntime) {
     let alloc = rt.alloc();
     assert!(rt; is_line_back(alloc, &[Text(b"1000"), Text(b"Roads"), Int(1000), Int(395)]));
     assert!(rt; is_batch_back(alloc, &[Text(b"B-1"), Int(4_102_444_799), Int(500)]));
-    assert!(rt; is_clock_back(alloc, &[Int(1), Int(8), Int(3), Int(0)]));
+    let clock = [Int(2), Int(8), Int(3), Int(0)];
+    assert!(rt; is_clock_back(alloc, &clock));
+    assert!(rt; is_former_clock_back(alloc, &[Int(1), Int(8), Int(3), Int(0)], &clock));
 }
 
 // States of notices, and when they were opened.
@@ -287,7 +320,9 @@ static NOTICES: [(&[u8], ValueRef<'static>); 3] = [
 
 fn all_notices_come_back(alloc: Global) -> bool {
     for (state, opened) in &NOTICES {
-        if !is_notice_back(alloc, &notice_of(state, *opened)) {
+        if !is_notice_back(alloc, &notice_of(state, *opened, 70))
+            || !is_former_notice_back(alloc, &notice_of(state, *opened, 0))
+        {
             return false;
         }
     }
@@ -415,12 +450,22 @@ fn all_entries_come_back(alloc: Global) -> bool {
     true
 }
 
+fn all_performances_come_back(alloc: Global) -> bool {
+    for state in &SECURITIES {
+        if !is_performance_back(alloc, &performance_of(state)) {
+            return false;
+        }
+    }
+    true
+}
+
 #[test]
 fn contracts_come_back(rt: HostRuntime) {
     let alloc = rt.alloc();
     assert!(rt; all_awards_come_back(alloc));
     assert!(rt; all_contracts_come_back(alloc));
     assert!(rt; all_entries_come_back(alloc));
+    assert!(rt; all_performances_come_back(alloc));
 }
 
 #[test]
@@ -455,13 +500,17 @@ fn refuses_words_and_numbers(rt: HostRuntime) {
     assert!(rt; all_lines_are_refused(alloc));
     let batch = [Text(b"B1"), Int(4_102_444_800), Int(500)];
     assert!(rt; is_refused::<BatchRow>(alloc, &batch));
-    assert!(rt; is_refused::<ClockRow>(alloc, &[Int(2), Int(8), Int(3), Int(0)]));
+    assert!(rt; is_refused::<ClockRow>(alloc, &[Int(1), Int(8), Int(3), Int(0)]));
+    assert!(rt; is_refused::<FormerClock>(alloc, &[Int(2), Int(8), Int(3), Int(0)]));
     let short = DIGEST.split_at(31).0;
     let tenderer = [Text(b"T1"), Text(b"Acme"), Text(b"1 Road"), Blob(short)];
     assert!(rt; is_refused::<TendererRow>(alloc, &tenderer));
     let tenderer = [Text(b"T1"), Text(b"Acme"), Text(b"1 Road"), Text(DIGEST)];
     assert!(rt; is_refused::<TendererRow>(alloc, &tenderer));
-    assert!(rt; is_refused::<NoticeRow>(alloc, &notice_of(b"Opened", Null)));
+    assert!(rt; is_refused::<NoticeRow>(alloc, &notice_of(b"Opened", Null, 70)));
+    assert!(rt; is_refused::<NoticeRow>(alloc, &notice_of(b"opened", Null, -1)));
+    assert!(rt; is_refused::<FormerNotice>(alloc, &notice_of(b"opened", Null, 0)));
+    assert!(rt; is_refused::<PerformanceRow>(alloc, &performance_of(b"opened")));
     assert!(rt; is_refused::<AwardRow>(alloc, &award_of(b"sealed")));
     assert!(rt; is_refused::<ContractRow>(alloc, &contract_of(Null, Text(b"regularly"))));
     assert!(rt; is_refused::<EntryRow>(alloc, &entry_of(b"cut", Text(b""))));

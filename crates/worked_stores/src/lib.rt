@@ -8,6 +8,8 @@ mod earlier;
 #[cfg(test)]
 mod earlier_file;
 #[cfg(test)]
+mod first_files;
+#[cfg(test)]
 mod life;
 #[cfg(test)]
 mod no_offices;

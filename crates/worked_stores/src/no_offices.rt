@@ -61,6 +61,18 @@ fn names_are_taken(rt: HostRuntime) {
     assert!(rt; shows_number(alloc, view, "SELECT * FROM seals", 6));
     let late = "CREATE TABLE late_rules (x INTEGER); INSERT INTO late_rules VALUES (9)";
     assert!(rt; shows_number(alloc, late, "SELECT x FROM late_rules", 9));
+    let performance = "CREATE TABLE performance (x INTEGER); INSERT INTO performance VALUES (3)";
+    assert!(rt; shows_number(alloc, performance, "SELECT x FROM performance", 3));
+}
+
+// A version after this program's, and both of them at once.
+#[test]
+fn versions_come_later(rt: HostRuntime) {
+    let alloc = rt.alloc();
+    let three = "DELETE FROM office; INSERT INTO office VALUES (3, 0, 0, 0)";
+    assert!(rt; office_shows_number(alloc, three, "SELECT version FROM office", 3));
+    let both = "INSERT INTO office VALUES (1, 0, 0, 0)";
+    assert!(rt; office_shows_number(alloc, both, "SELECT count(*) FROM office", 2));
 }
 
 #[test]

@@ -48,13 +48,17 @@ pub(crate) fn all_changed(
     Ok(disks)
 }
 
-/// Each of an office's tables, in the order of its keys, the one that came later at the end.
-pub(crate) static TABLES: [&str; 15] = [
+/// Its version and clock, and its notices, as version 2 has them.
+pub(crate) static SECOND: [&str; 2] = [
     "SELECT * FROM office ORDER BY version",
+    "SELECT * FROM notices_2 ORDER BY notice",
+];
+
+// The tables that every version has alike, each in the order of its keys.
+static OTHERS: [&str; 12] = [
     "SELECT * FROM lines ORDER BY line",
     "SELECT * FROM batches ORDER BY batch",
     "SELECT * FROM tenderers ORDER BY tenderer",
-    "SELECT * FROM notices ORDER BY notice",
     "SELECT * FROM lots ORDER BY notice, lot",
     "SELECT * FROM envelopes ORDER BY receipt",
     "SELECT * FROM seals ORDER BY receipt",
@@ -64,7 +68,13 @@ pub(crate) static TABLES: [&str; 15] = [
     "SELECT * FROM entries ORDER BY contract, entry",
     "SELECT * FROM releases ORDER BY notice, seq",
     "SELECT * FROM compiled ORDER BY notice",
+];
+
+/// The tables that version 1 may lack, and the one that version 2 keeps empty.
+pub(crate) static LATER: [&str; 3] = [
     "SELECT * FROM late_rules ORDER BY notice",
+    "SELECT * FROM performance ORDER BY contract",
+    "SELECT * FROM notices ORDER BY notice",
 ];
 
 // The text of an office's ledger.
@@ -73,29 +83,43 @@ fn ledger_of(alloc: Global, office: &mut OfficeOnDisks) -> Result<Vec<u8>, Wrong
     Ok(ledger_text(alloc, &rows)?.into_vec())
 }
 
-// Appends all rows that these questions have for their answers.
+// Appends all rows that these questions have for their answers, those of each behind a semicolon.
 fn append_answers(
-    alloc: Global,
     bytes: &mut Vec<u8>,
-    disks: Disks,
+    database: &mut Database,
     questions: &[&str],
 ) -> Result<(), Wrong> {
-    let mut database = Database::open(alloc, disks).ok_or(Wrong::Unopened)?;
     for question in questions {
-        bytes.extend_from_slice(question.as_bytes())?;
+        bytes.extend_from_slice(b";")?;
         database.append_all(bytes, question).ok_or(Wrong::Unopened)?;
     }
     Ok(())
 }
 
-/// All rows that these questions have for their answers in these files, whether or not they are an office's.
+// Appends all rows of these files: by the first questions, of the tables that every version has alike, and by the last questions.
+fn append_rows(
+    alloc: Global,
+    bytes: &mut Vec<u8>,
+    disks: Disks,
+    first: &[&str],
+    last: &[&str],
+) -> Result<(), Wrong> {
+    let mut database = Database::open(alloc, disks).ok_or(Wrong::Unopened)?;
+    append_answers(bytes, &mut database, first)?;
+    append_answers(bytes, &mut database, OTHERS.as_slice())?;
+    append_answers(bytes, &mut database, last)
+}
+
+/// All rows of these files, whether or not they are an office's: by the first questions, of the tables that every version has alike, and by the
+/// last questions.
 pub(crate) fn answers_in(
     alloc: Global,
     disks: Disks,
-    questions: &[&str],
+    first: &[&str],
+    last: &[&str],
 ) -> Result<Vec<u8>, Wrong> {
     let mut bytes = Vec::new(alloc);
-    append_answers(alloc, &mut bytes, disks, questions)?;
+    append_rows(alloc, &mut bytes, disks, first, last)?;
     Ok(bytes)
 }
 
@@ -110,6 +134,12 @@ pub(crate) fn rows_in(alloc: Global, disks: Disks) -> Result<Vec<u8>, Wrong> {
     let mut office = opened(alloc, disks)?;
     let mut bytes = ledger_of(alloc, &mut office)?;
     let disks = office.close().ok_or(Wrong::Unopened)?;
-    append_answers(alloc, &mut bytes, disks, TABLES.as_slice())?;
+    append_rows(
+        alloc,
+        &mut bytes,
+        disks,
+        SECOND.as_slice(),
+        LATER.as_slice(),
+    )?;
     Ok(bytes)
 }

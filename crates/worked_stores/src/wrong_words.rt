@@ -80,9 +80,9 @@ const OFFICE: &str =
 
 // No moment, and one receipt more than can be given.
 static CLOCK: [&str; 3] = [
-    "INSERT INTO office VALUES (1, 5, 1, 0)",
-    "INSERT INTO office VALUES (1, NULL, 1, 0)",
-    "INSERT INTO office VALUES (1, 5, 1000000001, 0)",
+    "INSERT INTO office VALUES (2, 5, 1, 0)",
+    "INSERT INTO office VALUES (2, NULL, 1, 0)",
+    "INSERT INTO office VALUES (2, 5, 1000000001, 0)",
 ];
 
 #[test]
@@ -105,15 +105,16 @@ static TENDERER: [&str; 4] = [
 ];
 
 const NOTICES: &str =
-    "DROP TABLE notices; CREATE TABLE notices (notice BLOB, title BLOB, published BLOB, deadline BLOB, validity BLOB, standstill BLOB, weight BLOB, state BLOB, opened BLOB, amendments BLOB, releases BLOB)";
+    "DROP TABLE notices_2; CREATE TABLE notices_2 (notice BLOB, title BLOB, published BLOB, deadline BLOB, validity BLOB, standstill BLOB, weight BLOB, state BLOB, opened BLOB, amendments BLOB, releases BLOB, performance BLOB)";
 
-// A word that is no state, one in other letters, none, and a text for a moment.
-static NOTICE: [&str; 5] = [
-    "INSERT INTO notices VALUES ('N1', 'Repair', 5, 9, 90, 10, 0, 'cancelled', NULL, 0, 1)",
-    "INSERT INTO notices VALUES ('N1', 'Repair', 5, 9, 90, 10, 0, 'closed', NULL, 0, 1)",
-    "INSERT INTO notices VALUES ('N1', 'Repair', 5, 9, 90, 10, 0, 'Opened', NULL, 0, 1)",
-    "INSERT INTO notices VALUES ('N1', 'Repair', 5, 9, 90, 10, 0, '', NULL, 0, 1)",
-    "INSERT INTO notices VALUES ('N1', 'Repair', 5, 9, 90, 10, 0, 'opened', '', 0, 1)",
+// A word that is no state, one in other letters, none, a text for a moment, and a performance security past the greatest.
+static NOTICE: [&str; 6] = [
+    "INSERT INTO notices_2 VALUES ('N1', 'Repair', 5, 9, 90, 10, 0, 'cancelled', NULL, 0, 1, 70)",
+    "INSERT INTO notices_2 VALUES ('N1', 'Repair', 5, 9, 90, 10, 0, 'closed', NULL, 0, 1, 70)",
+    "INSERT INTO notices_2 VALUES ('N1', 'Repair', 5, 9, 90, 10, 0, 'Opened', NULL, 0, 1, 70)",
+    "INSERT INTO notices_2 VALUES ('N1', 'Repair', 5, 9, 90, 10, 0, '', NULL, 0, 1, 70)",
+    "INSERT INTO notices_2 VALUES ('N1', 'Repair', 5, 9, 90, 10, 0, 'opened', '', 0, 1, 70)",
+    "INSERT INTO notices_2 VALUES ('N1', 'Repair', 5, 9, 90, 10, 0, 'opened', 7, 0, 1, 1000000000001)",
 ];
 
 const LOTS: &str =
@@ -209,6 +210,17 @@ static CONTRACT: [&str; 4] = [
     "INSERT INTO contracts VALUES (1, 'N1', 'L1', X'5431', 600, 8, NULL, NULL, 0)",
 ];
 
+const PERFORMANCES: &str =
+    "DROP TABLE performance; CREATE TABLE performance (contract BLOB, reference BLOB, amount BLOB, state BLOB)";
+
+// A word that is no state, a name that is none, and nothing.
+static PERFORMANCE: [&str; 4] = [
+    "INSERT INTO performance VALUES (1, 'P1', 70, 'held')",
+    "INSERT INTO performance VALUES (1, 'P1', 70, 'kept')",
+    "INSERT INTO performance VALUES (1, 'P 1', 70, 'held')",
+    "INSERT INTO performance VALUES (1, 'P1', 0, 'held')",
+];
+
 const ENTRIES: &str =
     "DROP TABLE entries; CREATE TABLE entries (contract BLOB, entry BLOB, kind BLOB, amount BLOB, moment BLOB, rationale BLOB)";
 
@@ -243,6 +255,7 @@ fn contracts_are_read(rt: HostRuntime) {
     let alloc = rt.alloc();
     assert!(rt; are_refused(alloc, Question::Award, AWARDS, &AWARD));
     assert!(rt; are_refused(alloc, Question::Contract, CONTRACTS, &CONTRACT));
+    assert!(rt; are_refused(alloc, Question::Performance, PERFORMANCES, &PERFORMANCE));
     assert!(rt; are_refused(alloc, Question::Entry, ENTRIES, &ENTRY));
     assert!(rt; are_refused(alloc, Question::Release, RELEASES, &RELEASE));
     assert!(rt; are_refused(alloc, Question::Compiled, COMPILED, &MERGE));

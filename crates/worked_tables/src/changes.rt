@@ -35,6 +35,7 @@ pub enum Change {
     Release(&'static str, u64, &'static str),
     Compiled(&'static str, &'static str),
     Late(&'static str),
+    Performance(u64, u64),
 }
 
 /// Changes that are made at once, and what the office tells before them and after.
@@ -67,6 +68,9 @@ fn put_of(alloc: Global, change: Change) -> Option<Put> {
         }
         Change::Compiled(notice, text) => Some(Put::Compiled(rows::compiled(alloc, notice, text)?)),
         Change::Late(notice) => Some(Put::Late(rows::late(notice)?)),
+        Change::Performance(contract, amount) => Some(Put::Performance(rows::performance(
+            contract, amount,
+        )?)),
         Change::Seal(receipt, byte) => Some(Put::Seal(rows::seal(alloc, receipt, byte)?)),
         other => put_of_numbers(other),
     }

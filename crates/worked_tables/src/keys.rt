@@ -13,6 +13,7 @@ const EACH: &[Change] = &[
     Change::Release("N1", 2, "[]"),
     Change::Compiled("N1", "{}"),
     Change::Late("N1"),
+    Change::Performance(8, 70),
     Change::Priced(2, "N1", (95, 90)),
     Change::Seal(3, 65),
     Change::Security(4, "N1", 50),
@@ -52,6 +53,7 @@ const FOUND: &[Told] = &[
     (Look::At(Key::Release("N1", 2)), &[(&["N1", "[]"], &[2])]),
     (Look::At(Key::Compiled("N1")), &[(&["N1", "{}"], &[])]),
     (Look::At(Key::Late("N1")), &[(&["N1"], &[])]),
+    (Look::At(Key::Performance(8)), &[(&["P1"], &[8, 70])]),
     (Look::At(Key::Clock), &[(&[], &[5, 3, 1])]),
 ];
 
@@ -93,6 +95,8 @@ const OTHERS: &[Told] = &[
     (Look::At(Key::Release("N2", 2)), &[]),
     (Look::At(Key::Compiled("N2")), &[]),
     (Look::At(Key::Late("N")), &[]),
+    (Look::At(Key::Performance(7)), &[]),
+    (Look::At(Key::Performance(9)), &[]),
 ];
 
 static OTHERS_NOT_FOUND: [Step; 1] = [Step {

@@ -35,6 +35,7 @@ pub enum Key {
     Release(&'static str, u64),
     Compiled(&'static str),
     Late(&'static str),
+    Performance(u64),
     Clock,
 }
 
@@ -110,6 +111,10 @@ fn is_record(shelf: &mut MemoryShelf, key: Key, wanted: &[Shown]) -> Option<bool
         ),
         Key::Compiled(notice) => is_found(shelf.get_compiled(&id(notice)?), wanted),
         Key::Late(notice) => is_found(shelf.get_late(&id(notice)?), wanted),
+        Key::Performance(contract) => is_found(
+            shelf.get_performance(AskedNumber::read(contract)?),
+            wanted,
+        ),
         Key::Clock => Some(all_show(&[shelf.get_clock().ok()?], wanted)),
         Key::Entry(number, entry) => is_found(
             shelf.get_entry(AskedNumber::read(number)?, &id(entry)?),

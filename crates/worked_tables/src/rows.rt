@@ -11,7 +11,7 @@ use office_base::reading::Reading;
 use office_base::records::{
     AwardRow, AwardState, BatchRow, ClockRow, CompiledRow, ContractRow, EntryKind, EntryRow,
     EnvelopeRow, EnvelopeState, LateRow, LineRow, LotRow, LotState, NoticeRow, NoticeState,
-    ReleaseRow, SealRow, SecurityRow, SecurityState, TendererRow,
+    PerformanceRow, ReleaseRow, SealRow, SecurityRow, SecurityState, TendererRow,
 };
 use office_values::given::{GivenNumber, LastNumber};
 use office_values::id::Id;
@@ -79,6 +79,7 @@ pub fn notice(alloc: Global, notice: &str, releases: u64) -> Option<NoticeRow> {
         validity: Validity::read(90)?,
         standstill: Standstill::read(10)?,
         weight: Weight::read(0)?,
+        performance: Amount::read(0)?,
         state: NoticeState::Receiving,
         opened: None,
         amendments: AmendmentCount::read(0)?,
@@ -234,6 +235,16 @@ pub fn release(alloc: Global, notice: &str, seq: u64, text: &str) -> Option<Rele
         seq: Sequence::read(seq)?,
         moment: Moment::from_second(5)?,
         text: json(alloc, text)?,
+    })
+}
+
+/// The performance security of this contract, which comes to so much and is held.
+pub fn performance(contract: u64, amount: u64) -> Option<PerformanceRow> {
+    Some(PerformanceRow {
+        contract: GivenNumber::read(contract)?,
+        reference: id("P1")?,
+        amount: SecurityAmount::read(amount)?,
+        state: SecurityState::Held,
     })
 }
 

@@ -3,8 +3,8 @@ use office_base::ledger::{ContractSums, LedgerRow, Pots};
 use office_base::reading::Reading;
 use office_base::records::{
     AwardRow, AwardState, BatchRow, ClockRow, CompiledRow, ContractRow, EntryKind, EntryRow,
-    EnvelopeRow, EnvelopeState, LateRow, LineRow, LotRow, LotState, NoticeRow, ReleaseRow, SealRow,
-    SecurityRow, TendererRow,
+    EnvelopeRow, EnvelopeState, LateRow, LineRow, LotRow, LotState, NoticeRow, PerformanceRow,
+    ReleaseRow, SealRow, SecurityRow, TendererRow,
 };
 use office_values::money::Amount;
 
@@ -186,6 +186,13 @@ impl Shows for CompiledRow {
 impl Shows for LateRow {
     fn shows(&self, wanted: &Shown) -> bool {
         are(&[self.notice.as_str()], &[], wanted)
+    }
+}
+
+impl Shows for PerformanceRow {
+    fn shows(&self, wanted: &Shown) -> bool {
+        let numbers = [self.contract.get(), self.amount.get()];
+        are(&[self.reference.as_str()], &numbers, wanted)
     }
 }
 

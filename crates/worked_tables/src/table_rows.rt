@@ -92,6 +92,7 @@ fn tables_take_rows_of_notices(rt: HostRuntime) {
     assert!(rt; takes(alloc, rows::release(alloc, "N1", 1, "{}")));
     assert!(rt; takes(alloc, rows::compiled(alloc, "N1", "{}")));
     assert!(rt; takes(alloc, rows::late("N1")));
+    assert!(rt; takes(alloc, rows::performance(1, 70)));
 }
 
 #[test]

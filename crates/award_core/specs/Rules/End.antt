@@ -1,11 +1,12 @@
 -- The end of a contract: what is outstanding is free again.
-use Rattle.std.specs.Prelude.{ℕ, ◌+◌, Bool, not, List, [], ◌∷◌, Option, Some, is_some}
+use Rattle.std.specs.Prelude.{ℕ, ◌+◌, Bool, not, List, [], ◌∷◌, ◌++◌, Option, Some, is_some}
 use Rattle.office_acts.specs.declared.contract.How.{How}
+use Rattle.office_acts.specs.declared.contract.How.TheVariants as hows
 use Rattle.office_values.specs.declared.refusal.Thing.TheVariants as things
 use Rattle.office_values.specs.declared.refusal.Refusal.{Refusal}
 use Rattle.office_values.specs.declared.refusal.Refusal.TheVariants.{NoSuch, ContractEnded, LimitReached}
 use Rattle.office_base.specs.Rows.{holds_of}
-use Rattle.office_base.specs.RuleParts.{clock_put, released, has_all_releases}
+use Rattle.office_base.specs.RuleParts.{clock_put, released, has_all_releases, performance_settled, put_if}
 use Rattle.office_base.specs.Joined.{outstanding}
 use Rattle.award_core.specs.Rules.AmendContract.{has_ended}
 use Rattle.office_base.specs.declared.records.LineRow.{LineRow}
@@ -13,9 +14,12 @@ use Rattle.office_base.specs.declared.records.NoticeRow.{NoticeRow}
 use Rattle.office_base.specs.declared.records.ContractRow.{ContractRow}
 use Rattle.office_base.specs.declared.records.EntryRow.{EntryRow}
 use Rattle.office_base.specs.declared.records.ClockRow.{ClockRow}
+use Rattle.office_base.specs.declared.records.PerformanceRow.{PerformanceRow}
+use Rattle.office_base.specs.declared.records.SecurityState.{SecurityState}
+use Rattle.office_base.specs.declared.records.SecurityState.TheVariants.{Returned, Forfeited}
 use Rattle.office_base.specs.declared.puts.Put.TheVariants as puts
 use Rattle.office_base.specs.declared.puts.Put.{Put}
-use Rattle.office_base.specs.Tables.{Tables, contract_at, entries_of_contract}
+use Rattle.office_base.specs.Tables.{Tables, contract_at, performance_at, entries_of_contract}
 use Rattle.office_base.specs.Parents.{notice_of_contract, lot_of_contract, line_of_lot}
 use Rattle.award_core.specs.declared.end.EndRows.{EndRows}
 
@@ -30,15 +34,25 @@ end_conditions contract notice =
 abbrev pub ended_contract : ℕ → How → List EntryRow → ContractRow → ContractRow
 ended_contract t how entries c = record c { ended = Some t; how = Some how; released = outstanding entries c }
 
+-- what becomes of the performance security
+abbrev pub ended_state : How → SecurityState
+ended_state hows.Regular = Returned
+ended_state hows.ForDefault = Forfeited
+
 -- with its entries, and its lot's line
-abbrev pub end_effect : ClockRow → ℕ → How → Option ContractRow → List EntryRow → Option NoticeRow → Option LineRow → List Put
-end_effect clock t how (Some c) entries (Some n) (Some r) =
+abbrev pub end_parts : ClockRow → ℕ → How → ContractRow → List EntryRow → NoticeRow → LineRow → List Put
+end_parts clock t how c entries n r =
     puts.Contract (ended_contract t how entries c)
     ∷ puts.Line (record r { free = r.free + outstanding entries c })
     ∷ puts.Notice (released n)
     ∷ clock_put clock t
     ∷ []
-end_effect clock t how contract entries notice line = []
+
+-- with its performance security
+abbrev pub end_effect : ClockRow → ℕ → How → Option ContractRow → List EntryRow → Option NoticeRow → Option LineRow → Option PerformanceRow → List Put
+end_effect clock t how (Some c) entries (Some n) (Some r) performance =
+    end_parts clock t how c entries n r ++ put_if (performance_settled (ended_state how)) performance
+end_effect clock t how contract entries notice line performance = []
 
 -- the rows that the end of a contract looks at
 abbrev pub end_rows : Tables → ℕ → EndRows
@@ -47,6 +61,7 @@ end_rows s contract = record {
   entries = entries_of_contract contract s;
   notice = notice_of_contract (contract_at contract s) s;
   line = line_of_lot (lot_of_contract (contract_at contract s) s) s;
+  performance = performance_at contract s;
   clock = s.clock;
 }
 
@@ -55,4 +70,4 @@ abbrev pub end_tests : EndRows → List (Bool × Refusal)
 end_tests rows = end_conditions rows.contract rows.notice
 
 abbrev pub end_puts : EndRows → ℕ → How → List Put
-end_puts rows t how = end_effect rows.clock t how rows.contract rows.entries rows.notice rows.line
+end_puts rows t how = end_effect rows.clock t how rows.contract rows.entries rows.notice rows.line rows.performance

@@ -32,15 +32,18 @@ stands_still t n a = nat_lt t (a.moment + days n.standstill)
 abbrev pub is_standing_still : ℕ → Option NoticeRow → AwardRow → Bool
 is_standing_still t notice a = holds_of (λ (n : NoticeRow). stands_still t n a) notice
 
--- the award, and its notice
-abbrev pub fail_conditions : ℕ → Option AwardRow → Option NoticeRow → List (Bool × Refusal)
-fail_conditions t award notice =
-    (not (is_some award), NoSuch things.Award)
-    ∷ (holds_of isnt_active award, AlreadyDecided)
+-- an award that stands, in effect, after its standstill
+abbrev pub standing_conditions : ℕ → Option AwardRow → Option NoticeRow → List (Bool × Refusal)
+standing_conditions t award notice =
+    (holds_of isnt_active award, AlreadyDecided)
     ∷ (holds_of (is_expired t) notice, Expired)
     ∷ (holds_of (is_standing_still t notice) award, Standstill)
     ∷ (has_all_releases notice, LimitReached)
     ∷ []
+
+-- the award, and its notice
+abbrev pub fail_conditions : ℕ → Option AwardRow → Option NoticeRow → List (Bool × Refusal)
+fail_conditions t award notice = (not (is_some award), NoSuch things.Award) ∷ standing_conditions t award notice
 
 abbrev pub failed_award : AwardRow → AwardRow
 failed_award a = record a { state = award_states.Failed }

@@ -1,8 +1,12 @@
 -- The signing of a contract (Model Law, article 22).
-use Rattle.std.specs.Prelude.{ℕ, Bool, List, [], ◌∷◌, Option, Some, None}
+use Rattle.std.specs.Prelude.{ℕ, Bool, not, ◌&&◌, List, [], ◌∷◌, ◌++◌, Option, Some, None, is_some, nat_lt, nat_eq}
+use Rattle.office_acts.specs.declared.tender.NamedSecurity.{NamedSecurity}
+use Rattle.office_values.specs.declared.refusal.Thing.TheVariants as things
 use Rattle.office_values.specs.declared.refusal.Refusal.{Refusal}
-use Rattle.office_base.specs.RuleParts.{clock_put, released, securities_returned}
-use Rattle.award_core.specs.Rules.Fail.{fail_conditions}
+use Rattle.office_values.specs.declared.refusal.Refusal.TheVariants.{NoSuch, SecurityMissing, SecurityTooSmall, SecurityNotAsked}
+use Rattle.office_base.specs.Rows.{holds_of}
+use Rattle.office_base.specs.RuleParts.{clock_put, released, securities_returned, put_if}
+use Rattle.award_core.specs.Rules.Fail.{standing_conditions}
 use Rattle.office_base.specs.declared.records.LotState.TheVariants as lot_states
 use Rattle.office_base.specs.declared.records.AwardState.TheVariants as award_states
 use Rattle.office_base.specs.declared.records.NoticeRow.{NoticeRow}
@@ -11,6 +15,8 @@ use Rattle.office_base.specs.declared.records.EnvelopeRow.{EnvelopeRow}
 use Rattle.office_base.specs.declared.records.SecurityRow.{SecurityRow}
 use Rattle.office_base.specs.declared.records.AwardRow.{AwardRow}
 use Rattle.office_base.specs.declared.records.ContractRow.{ContractRow}
+use Rattle.office_base.specs.declared.records.PerformanceRow.{PerformanceRow}
+use Rattle.office_base.specs.declared.records.SecurityState.TheVariants.{Held}
 use Rattle.office_base.specs.declared.records.ClockRow.{ClockRow}
 use Rattle.office_base.specs.declared.puts.Put.TheVariants as puts
 use Rattle.office_base.specs.declared.puts.Put.{Put}
@@ -18,9 +24,24 @@ use Rattle.office_base.specs.Tables.{Tables, award_at}
 use Rattle.office_base.specs.Parents.{notice_of_award, lot_of_award, envelope_of_award, securities_of_award}
 use Rattle.award_core.specs.declared.sign.SignRows.{SignRows}
 
--- the award, and its notice: refused as a failing is
-abbrev pub sign_conditions : ℕ → Option AwardRow → Option NoticeRow → List (Bool × Refusal)
-sign_conditions t award notice = fail_conditions t award notice
+-- the notice asks for a performance security and none is named; the one that is named is less than it asks; it asks for none and one is named
+abbrev pub is_missing : Option NamedSecurity → NoticeRow → Bool
+is_missing named n = nat_lt 0 n.performance && not (is_some named)
+
+abbrev pub is_too_small : Option NamedSecurity → NoticeRow → Bool
+is_too_small named n = holds_of (λ (s : NamedSecurity). nat_lt s.amount n.performance) named
+
+abbrev pub isnt_asked : Option NamedSecurity → NoticeRow → Bool
+isnt_asked named n = nat_eq n.performance 0 && is_some named
+
+-- the award, its notice, and the performance security that is named: else refused as a failing is
+abbrev pub sign_conditions : ℕ → Option AwardRow → Option NoticeRow → Option NamedSecurity → List (Bool × Refusal)
+sign_conditions t award notice named =
+    (not (is_some award), NoSuch things.Award)
+    ∷ (holds_of (is_missing named) notice, SecurityMissing)
+    ∷ (holds_of (is_too_small named) notice, SecurityTooSmall)
+    ∷ (holds_of (isnt_asked named) notice, SecurityNotAsked)
+    ∷ standing_conditions t award notice
 
 abbrev pub signed_award : AwardRow → AwardRow
 signed_award a = record a { state = award_states.Signed }
@@ -47,16 +68,27 @@ contract_row t a tenderer = record {
   released = 0;
 }
 
+-- the contract's performance security, held
+abbrev pub performance_row : AwardRow → NamedSecurity → PerformanceRow
+performance_row a named = record { contract = a.award; reference = named.reference; amount = named.amount; state = Held }
+
+abbrev pub performance_put : AwardRow → NamedSecurity → Put
+performance_put a named = puts.Performance (performance_row a named)
+
 -- the award, its notice, its lot, its tender, and the lot's securities
-abbrev pub sign_effect : ClockRow → ℕ → Option AwardRow → Option NoticeRow → Option LotRow → Option EnvelopeRow → List SecurityRow → List Put
-sign_effect clock t (Some a) (Some n) (Some l) envelope securities =
+abbrev pub sign_parts : ClockRow → ℕ → AwardRow → NoticeRow → LotRow → Option EnvelopeRow → List SecurityRow → List Put
+sign_parts clock t a n l envelope securities =
     puts.Award (signed_award a)
     ∷ puts.Lot (contracted_lot l)
     ∷ puts.Contract (contract_row t a (tenderer_in envelope))
     ∷ puts.Notice (released n)
     ∷ clock_put clock t
     ∷ securities_returned securities
-sign_effect clock t award notice lot envelope securities = []
+
+abbrev pub sign_effect : ClockRow → ℕ → Option AwardRow → Option NoticeRow → Option LotRow → Option EnvelopeRow → List SecurityRow → Option NamedSecurity → List Put
+sign_effect clock t (Some a) (Some n) (Some l) envelope securities named =
+    sign_parts clock t a n l envelope securities ++ put_if (performance_put a) named
+sign_effect clock t award notice lot envelope securities named = []
 
 -- the rows that the signing of a contract looks at
 abbrev pub sign_rows : Tables → ℕ → SignRows
@@ -70,8 +102,8 @@ sign_rows s award = record {
 }
 
 -- when it is refused, by these rows, and what it puts
-abbrev pub sign_tests : SignRows → ℕ → List (Bool × Refusal)
-sign_tests rows t = sign_conditions t rows.award rows.notice
+abbrev pub sign_tests : SignRows → ℕ → Option NamedSecurity → List (Bool × Refusal)
+sign_tests rows t named = sign_conditions t rows.award rows.notice named
 
-abbrev pub sign_puts : SignRows → ℕ → List Put
-sign_puts rows t = sign_effect rows.clock t rows.award rows.notice rows.lot rows.envelope rows.securities
+abbrev pub sign_puts : SignRows → ℕ → Option NamedSecurity → List Put
+sign_puts rows t named = sign_effect rows.clock t rows.award rows.notice rows.lot rows.envelope rows.securities named

@@ -8,6 +8,7 @@ ghost use Rattle.office_plans.specs.Asking.{given_by};
 ghost use Rattle.office_desk.specs.Steps.{IsPlanned};
 
 use super::with_release;
+use office_acts::tender::NamedSecurity;
 use office_base::laws::looks_follow;
 use office_base::shelf::Lookups;
 use office_plans::commands::{award, fail, sign};
@@ -62,12 +63,13 @@ pub(crate) fn sign<H: Lookups>(
     settings: &Settings,
     asking: &Asking,
     award: AskedNumber,
+    security: Option<NamedSecurity>,
 ) -> Result<Planned, Refusal>
     requires { may asking.now.caller.now kinds.Sign ≡ true }
-    ensures { Looks H.meaning shelf.old shelf.new (λ s. IsPlanned settings.now (given_by asking.now s (Sign award)) result) }
+    ensures { Looks H.meaning shelf.old shelf.new (λ s. IsPlanned settings.now (given_by asking.now s (Sign award security)) result) }
 {
     looks_follow::<H>();
-    let planned = sign::plan(alloc, shelf, asking, award)?;
+    let planned = sign::plan(alloc, shelf, asking, award, security)?;
     let released = awards::signed(alloc, shelf, settings, asking.moment, award)?;
     with_release(alloc, shelf, planned, released)
 }

@@ -20,8 +20,8 @@ use office_values::refusal::{Refusal, Thing};
 use std::alloc::{AllocError, Global};
 use tender_core::tenders::is_by;
 
-// Whether the clerk calls or this tenderer.
-fn is_by_clerk_or(caller: &Caller, tenderer: &Id) -> bool
+/// Whether the clerk calls or this tenderer.
+pub(crate) fn is_by_clerk_or(caller: &Caller, tenderer: &Id) -> bool
     ensures { result ≡ (is_clerk caller.now || is_by caller.now tenderer.now) }
 {
     matches!(caller, Caller::Clerk) || is_by(caller, tenderer)

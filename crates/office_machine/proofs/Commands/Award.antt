@@ -21,7 +21,7 @@ use Rattle.office_machine.proofs.RowsApart.{award_rows_apart}
 
 module _ (s : Tables) (now : ℕ) (notice lot : List ℕ) (n : NoticeRow) (l : LotRow) (w : LineRow) (is : notice_at notice s ≡ Some n)
     (full : has_all_releases (notice_at notice s) ≡ false) where
-  decided : (o : Option EnvelopeRow) → HasTail s now (Some notice) (decision_puts s.clock now n l w o (securities_of_lot notice lot s))
+  decided : (o : Option EnvelopeRow) → HasTail s now (Some notice) None (decision_puts s.clock now n l w o (securities_of_lot notice lot s))
   decided None = front (puts.Lot _ ∷ puts.Line _ ∷ []) (refl, (refl, tt)) (loud notice n (released n) _ _ is full refl refl (returned_own (securities_of_lot notice lot s)) refl)
   decided (Some e) = front (puts.Award _ ∷ puts.Lot _ ∷ puts.Line _ ∷ []) (refl, (refl, (refl, tt))) (loud notice n (released n) _ [] is full refl refl tt refl)
 

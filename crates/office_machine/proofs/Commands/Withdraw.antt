@@ -18,7 +18,7 @@ use Rattle.office_machine.proofs.WithdrawFates as withdraw_fates
 use Rattle.office_machine.specs.Replies.{Withdrew, state_after}
 use Rattle.office_machine.proofs.RowsApart.{withdraw_rows_apart}
 
-tail_of : (s : Tables) (t : ℕ) (e : EnvelopeRow) (security : Option SecurityRow) (late : Bool) → HasTail s t None (taken_back_puts s.clock t e security late)
+tail_of : (s : Tables) (t : ℕ) (e : EnvelopeRow) (security : Option SecurityRow) (late : Bool) → HasTail s t None None (taken_back_puts s.clock t e security late)
 tail_of s t e security false = front (puts.Envelope _ ∷ puts.DropSeal _ ∷ []) (refl, (refl, tt)) (quiet _ _ (on-if is_own (security_settled Returned) security (λ _. refl)) refl)
 tail_of s t e security true = front (puts.Envelope _ ∷ []) (refl, tt) (quiet _ _ (on-if is_own (security_settled Forfeited) security (λ _. refl)) refl)
 

@@ -37,6 +37,7 @@ pub record AmendingWorked : Type 0 where
         opened = None;
         amendments = 1;
         releases = 2;
+        performance = 0;
       }
       ∷ []
   -- it may stay where it is

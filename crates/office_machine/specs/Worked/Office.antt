@@ -156,11 +156,15 @@ lot id estimate = record { id = id; title = codes "North"; line = roads; estimat
 
 -- road repair; tenders are in effect for 90 days, and contracts wait for 10
 abbrev pub notice : ℕ → Criteria → List NewLot → NewNotice
-notice due criteria lots = record { title = codes "Road repair"; deadline = due; validity = 90; standstill = 10; criteria = criteria; late_withdrawal = Refused; lots = lots }
+notice due criteria lots = record { title = codes "Road repair"; deadline = due; validity = 90; standstill = 10; criteria = criteria; late_withdrawal = Refused; performance = 0; lots = lots }
 
 -- the same, whose tenders can be withdrawn after the deadline at the price of their securities
 abbrev pub lenient : ℕ → Criteria → List NewLot → NewNotice
 lenient due criteria lots = record (notice due criteria lots) { late_withdrawal = Forfeits }
+
+-- the same, which asks for a performance security of 70
+abbrev pub demanding : ℕ → Criteria → List NewLot → NewNotice
+demanding due criteria lots = record (notice due criteria lots) { performance = 70 }
 
 -- a row of a budget file
 abbrev pub row : List ℕ → BudgetKind → (amount : ℕ) → 1 ≤ amount → BudgetRow
@@ -219,7 +223,7 @@ awards moment = by_clerk moment (Award n1 l1)
 
 -- the contract of an award is signed, or its winner doesn't sign
 abbrev pub signs : ℕ → ℕ → Request
-signs moment award = by_clerk moment (Sign award)
+signs moment award = by_clerk moment (Sign award None)
 
 abbrev pub fails : ℕ → ℕ → Request
 fails moment award = by_clerk moment (Fail award)

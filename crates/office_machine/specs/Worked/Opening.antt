@@ -52,6 +52,7 @@ notice_opened moment releases = record {
   opened = Some moment;
   amendments = 0;
   releases = releases;
+  performance = 0;
 }
 
 -- the lot, still undecided

@@ -97,6 +97,7 @@ pub record PublishingWorked : Type 0 where
         opened = None;
         amendments = 0;
         releases = 1;
+        performance = 0;
       }
       ∷ []
   -- and its lot

@@ -23,7 +23,7 @@ commands_of_clerk =
     ∷ Examine 1 true None
     ∷ Award n1 l1
     ∷ Fail 1
-    ∷ Sign 1
+    ∷ Sign 1 None
     ∷ AmendContract 1 (codes "E1") changes.Raise 1 (codes "Changed")
     ∷ Pay 1 (codes "E1") 1
     ∷ End 1 Regular

@@ -75,6 +75,7 @@ telling these those =
       opened = Some deadline;
       amendments = 0;
       releases = 2;
+      performance = 0;
     })
     (record {
       notice = n1;

@@ -39,11 +39,13 @@ fn load<H: Lookups>(shelf: &mut H, contract: AskedNumber) -> Result<EndRows, She
     let lot = lot_of_contract(shelf, &row)?;
     let line = line_of_lot(shelf, &lot)?;
     let entries = Rows::from_vec(shelf.list_entries_of_contract(contract)?);
+    let performance = shelf.get_performance(contract)?;
     Ok(EndRows {
         contract: row,
         entries,
         notice,
         line,
+        performance,
         clock,
     })
 }

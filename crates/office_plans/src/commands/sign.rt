@@ -15,6 +15,7 @@ use crate::planned::Planned;
 use crate::releases::award_release;
 use crate::reply::Reply;
 use award_core::sign::{SignRows, decide_sign};
+use office_acts::tender::NamedSecurity;
 use office_base::shelf::{Lookups, ShelfFault};
 use office_values::given::AskedNumber;
 use office_values::refusal::Refusal;
@@ -45,15 +46,16 @@ fn load<H: Lookups>(
     })
 }
 
-/// Plans the signing of the contract of an award.
+/// Plans the signing of the contract of an award, with a performance security where one is named.
 pub fn plan<H: Lookups>(
     alloc: Global,
     shelf: &mut H,
     asking: &Asking,
     award: AskedNumber,
+    security: Option<NamedSecurity>,
 ) -> Result<Planned, Refusal>
     requires { may asking.now.caller.now kinds.Sign ≡ true }
-    ensures { Looks H.meaning shelf.old shelf.new (λ s. HasEffect (given_by asking.now s (Sign award)) result) }
+    ensures { Looks H.meaning shelf.old shelf.new (λ s. HasEffect (given_by asking.now s (Sign award security)) result) }
 {
     let rows = load(alloc, shelf, award)?;
     let t = asking.time(&rows.clock);
@@ -62,6 +64,6 @@ pub fn plan<H: Lookups>(
         release: award_release(&rows.award, &rows.notice),
         moment: t,
     };
-    let decided = decide_sign(alloc, t, rows);
+    let decided = decide_sign(alloc, t, rows, security);
     planned(alloc, decided, &reply)
 }

@@ -96,6 +96,7 @@ notice_row t notice new = record {
   validity = new.validity;
   standstill = new.standstill;
   weight = weight_of new.criteria;
+  performance = new.performance;
   state = Receiving;
   opened = None;
   amendments = 0;

@@ -45,5 +45,8 @@ returns-in-Compiled-clause-failed g c = rw c.in-Compiled.is c.put_compiled.ensur
 pub returns-in-Late-clause-failed : goal.returns-in-Late-clause-failed
 returns-in-Late-clause-failed g c = rw c.in-Late.is c.put_late.ensures.failed
 
+pub returns-in-Performance-clause-failed : goal.returns-in-Performance-clause-failed
+returns-in-Performance-clause-failed g c = rw c.in-Performance.is c.put_performance.ensures.failed
+
 pub returns-in-Clock-clause-failed : goal.returns-in-Clock-clause-failed
 returns-in-Clock-clause-failed g c = rw c.in-Clock.is c.put_clock.ensures.failed

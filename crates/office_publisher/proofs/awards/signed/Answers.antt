@@ -11,7 +11,7 @@ returns-clause-looks g c =
     let second = c.in_ok-next.ensures.looks in
     let third = c.in_ok-lots.ensures.0 in (
       c.looks_follow.ensures _ _ _ first.0 (c.looks_follow.ensures _ _ _ second.0 third.0),
-      λ honest s held caller.
+      λ honest s held named caller.
           let row = c.in_ok-row.row in
           let later = third.0.before honest in
           let sooner = second.0.before later in

@@ -1,8 +1,8 @@
 use Rattle.std.proofs.Common.{arith, [], ◌∷◌}
 use Rattle.sqlite.specs.Held.{state}
 use Rattle.sqlite.specs.State.{HasCleanDisk}
-use Rattle.office_sql.specs.Schema.OfficeTable.{Lines, Batches, Tenderers, Notices}
-use Rattle.office_sql.proofs.CreateFacts.{creates_lines, creates_batches, creates_tenderers, creates_notices}
+use Rattle.office_sql.specs.Schema.OfficeTable.{Lines, Batches, Tenderers, FormerNotices}
+use Rattle.office_sql.proofs.CreateFacts.{creates_lines, creates_batches, creates_tenderers, creates_former_notices}
 use Rattle.office_sql.proofs.MakingSteps.{makes_then, goes_then, goes_refused}
 use Rattle.office_sql.proofs.Stepping.{on_ok_with, on_err, on_err_with}
 use Rattle.office_sql.proofs.make.make_budget.Goals as goal
@@ -18,7 +18,7 @@ returns-clause-made g c clean inside =
     let step_2 = makes_then (state g.S.Store c.args.tx.now.conn.now) (state g.S.Store c.make_table.new.tx.conn.now) (state g.S.Store c.make_table-2.new.tx.conn.now) (Lines ∷ []) (Batches ∷ []) step_1 one_2 in
     let one_3 = c.in_ok-make_table-3.ensures.made clean_3 one_2.goes.mode Tenderers creates_tenderers in
     let step_3 = makes_then (state g.S.Store c.args.tx.now.conn.now) (state g.S.Store c.make_table-2.new.tx.conn.now) (state g.S.Store c.make_table-3.new.tx.conn.now) (Batches ∷ Lines ∷ []) (Tenderers ∷ []) step_2 one_3 in
-    on_ok_with c.make_table-4.result _ _ (c.make_table-4.ensures.made clean one_3.goes.mode Notices creates_notices) (λ h. makes_then (state g.S.Store c.args.tx.now.conn.now) (state g.S.Store c.make_table-3.new.tx.conn.now) (state g.S.Store c.make_table-4.new.tx.conn.now) (Tenderers ∷ Batches ∷ Lines ∷ []) (Notices ∷ []) step_3 h)
+    on_ok_with c.make_table-4.result _ _ (c.make_table-4.ensures.made clean one_3.goes.mode FormerNotices creates_former_notices) (λ h. makes_then (state g.S.Store c.args.tx.now.conn.now) (state g.S.Store c.make_table-3.new.tx.conn.now) (state g.S.Store c.make_table-4.new.tx.conn.now) (Tenderers ∷ Batches ∷ Lines ∷ []) (FormerNotices ∷ []) step_3 h)
 
 pub returns-in_err-make_table-2-clause-refused : goal.returns-in_err-make_table-2-clause-refused
 returns-in_err-make_table-2-clause-refused g c clean inside =

@@ -1,34 +1,37 @@
-use Rattle.std.proofs.Common.{rules, arith, ◌≡◌, ◌∙◌, ap, sym, subst, inl, inr, [], true, false, true≢false}
+use Rattle.std.proofs.Common.{rules, arith, ◌≡◌, refl, subst, inl, inr, [], true, false}
 use Rattle.sqlite.specs.Held.{state}
 use Rattle.sqlite.specs.declared.error.Error.TheVariants.{SqlInputError}
 use Rattle.sqlite.specs.State.{HasCleanDisk, IsLive}
 use Rattle.sqlite.proofs.StateLemmas.{survives_then}
 use Rattle.office_sql.specs.Steps.{IsRefusal}
 use Rattle.office_sql.specs.Version.{get_version}
-use Rattle.office_sql.proofs.Earlier.{shown_version}
-use Rattle.office_store.specs.Founding.{is_version_one, takes_a_name, LeavesOffice}
+use Rattle.office_store.specs.Founding.{is_version_one, is_other_version, takes_a_name, Readied, LeavesReadied, LeavesOffice}
 use Rattle.office_store.proofs.Founding.{sound_after, founded_after, leaves_before, refused_on, shown_is_left}
-use Rattle.office_store.proofs.Completing.{leaves_completed_before, readied_after, office_on}
+use Rattle.office_store.proofs.Migrating.{leaves_readied_before, readied_after, readied_enters, readied_shows, never_other, shown_version}
 use Rattle.office_store.proofs.found.enter.Goals as goal
 
 pub returns-in-Ok-ready-clause-enters : goal.returns-in-Ok-ready-clause-enters
 returns-in-Ok-ready-clause-enters g c clean =
-    let old = state g.S.Store c.args.conn.now in
+    let held = c.args.conn.now in
+    let old = state g.S.Store held in
     let mid = state g.S.Store c.ask_version.new.conn in
     let end = state g.S.Store c.ready.new.conn in
     let early : HasCleanDisk mid = omega (arith, clean, c.ready.ensures.survives.clean) in
-    let one : is_version_one c.in-Ok.rows.items ≡ true = search rules in
-    inl (
-      (c.in-Ok.rows.items, c.in-Ok.ensures.asked early, one),
-      readied_after old mid end (c.ask_version.ensures.kept early) (c.in-Ok-ready.ensures.is_open clean) (c.in-Ok-ready.ensures.readied clean),
-    )
+    let one : is_other_version c.in-Ok.rows.items ≡ false = search rules in
+    let first : c.is_version_one-is_first.result ≡ is_version_one c.in-Ok.rows.items = search rules in
+    let readied = readied_after c.is_version_one-is_first.result old mid end (c.ask_version.ensures.kept early) (c.in-Ok-ready.ensures.readied clean) in
+    readied_enters g.S.Store held c.ready.new.conn c.in-Ok.rows.items (c.in-Ok.ensures.asked early) one (is_version_one c.in-Ok.rows.items) refl (subst (λ b. Readied b old end) first readied)
 
 pub returns-in-Ok-ready-clause-found : goal.returns-in-Ok-ready-clause-found
 returns-in-Ok-ready-clause-found g c clean t shows =
-    let old = state g.S.Store c.args.conn.now in
+    let held = c.args.conn.now in
+    let old = state g.S.Store held in
     let mid = state g.S.Store c.ask_version.new.conn in
+    let end = state g.S.Store c.ready.new.conn in
     let early : HasCleanDisk mid = omega (arith, clean, c.ready.ensures.survives.clean) in
-    c.in-Ok-ready.ensures.shows clean t (office_on old mid t (c.ask_version.ensures.kept early) shows)
+    let first : c.is_version_one-is_first.result ≡ is_version_one c.in-Ok.rows.items = search rules in
+    let readied = readied_after c.is_version_one-is_first.result old mid end (c.ask_version.ensures.kept early) (c.in-Ok-ready.ensures.readied clean) in
+    readied_shows g.S.Store held c.in-Ok.rows.items (λ n clock is. c.in-Ok.ensures.one early n clock is) end t shows (c.in-Ok.ensures.asked early).was_open (subst (λ b. Readied b old end) first readied)
 
 pub returns-in-Ok-ready-clause-sound : goal.returns-in-Ok-ready-clause-sound
 returns-in-Ok-ready-clause-sound g c clean =
@@ -38,11 +41,12 @@ pub returns-in-Ok-ready-clause-survives : goal.returns-in-Ok-ready-clause-surviv
 returns-in-Ok-ready-clause-survives g c =
     let old = state g.S.Store c.args.conn.now in
     let mid = state g.S.Store c.ask_version.new.conn in
-    let one : is_version_one c.in-Ok.rows.items ≡ true = search rules in
+    let first : c.is_version_one-is_first.result ≡ is_version_one c.in-Ok.rows.items = search rules in
     survives_then old mid (state g.S.Store c.ready.new.conn) _ _ (LeavesOffice g.S.Store c.args.conn.now) (λ _ db none. absurd none)
     (λ clean db leaves.
     let early : HasCleanDisk mid = omega (arith, clean, c.ready.ensures.survives.clean) in
-    inr ((c.in-Ok.rows.items, c.in-Ok.ensures.asked early, one), leaves_completed_before old mid db (c.ask_version.ensures.kept early) leaves))
+    leaves_readied_before g.S.Store c.args.conn.now c.ask_version.new.conn c.in-Ok.rows.items db (c.in-Ok.ensures.asked early) (c.ask_version.ensures.kept early)
+    (subst (λ b. LeavesReadied b mid db) first leaves))
     c.ask_version.ensures.survives c.ready.ensures.survives
 
 pub returns-in-Ok-clause-kept : goal.returns-in-Ok-clause-kept
@@ -55,22 +59,23 @@ pub returns-in-Ok-clause-survives : goal.returns-in-Ok-clause-survives
 returns-in-Ok-clause-survives g c =
     let old = state g.S.Store c.args.conn.now in
     let mid = state g.S.Store c.ask_version.new.conn in
-    let one : is_version_one c.in-Ok.rows.items ≡ true = search rules in
+    let first : c.is_version_one-is_first.result ≡ is_version_one c.in-Ok.rows.items = search rules in
     survives_then old mid (state g.S.Store c.ready.new.conn) _ _ (LeavesOffice g.S.Store c.args.conn.now) (λ _ db none. absurd none)
     (λ clean db leaves.
     let early : HasCleanDisk mid = omega (arith, clean, c.ready.ensures.survives.clean) in
-    inr ((c.in-Ok.rows.items, c.in-Ok.ensures.asked early, one), leaves_completed_before old mid db (c.ask_version.ensures.kept early) leaves))
+    leaves_readied_before g.S.Store c.args.conn.now c.ask_version.new.conn c.in-Ok.rows.items db (c.in-Ok.ensures.asked early) (c.ask_version.ensures.kept early)
+    (subst (λ b. LeavesReadied b mid db) first leaves))
     c.ask_version.ensures.survives c.ready.ensures.survives
 
-pub returns-then-not-is_version_one-clause-none : goal.returns-then-not-is_version_one-clause-none
-returns-then-not-is_version_one-clause-none g c clean why =
-    let other : is_version_one c.in-Ok.rows.items ≡ false = search rules in
+pub returns-then-is_other_version-clause-none : goal.returns-then-is_other_version-clause-none
+returns-then-is_other_version-clause-none g c clean why =
+    let other : is_other_version c.in-Ok.rows.items ≡ true = search rules in
     inl (c.in-Ok.rows.items, c.in-Ok.ensures.asked clean, other)
 
-pub returns-then-not-is_version_one-clause-known : goal.returns-then-not-is_version_one-clause-known
-returns-then-not-is_version_one-clause-known g c clean t shows why =
-    let other : is_version_one c.in-Ok.rows.items ≡ false = search rules in
-    true≢false (sym (ap is_version_one (c.in-Ok.ensures.one clean (shown_version (state g.S.Store c.args.conn.now) t shows))) ∙ other)
+pub returns-then-is_other_version-clause-known : goal.returns-then-is_other_version-clause-known
+returns-then-is_other_version-clause-known g c clean t shows why =
+    let other : is_other_version c.in-Ok.rows.items ≡ true = search rules in
+    never_other g.S.Store c.args.conn.now c.in-Ok.rows.items (λ n clock is. c.in-Ok.ensures.one clean n clock is) t shows (c.in-Ok.ensures.asked clean).was_open other
 
 pub returns-then-taken-clause-none : goal.returns-then-taken-clause-none
 returns-then-taken-clause-none g c clean why =
@@ -81,7 +86,7 @@ returns-then-taken-clause-none g c clean why =
 pub returns-then-taken-clause-known : goal.returns-then-taken-clause-known
 returns-then-taken-clause-known g c clean t shows why =
     let input : c.in-Err-SqlInputError.field-0 ≡ SqlInputError c.in-Err-SqlInputError.field-0-0 = search rules in
-    c.in-Err-SqlInputError.ensures.taken clean (shown_version (state g.S.Store c.args.conn.now) t shows) c.in-Err-SqlInputError.field-0-0 input
+    shown_version g.S.Store c.args.conn.now t shows (λ n clock is. c.in-Err-SqlInputError.ensures.taken clean n clock is c.in-Err-SqlInputError.field-0-0 input)
 
 pub returns-in-Ok-found-clause-enters : goal.returns-in-Ok-found-clause-enters
 returns-in-Ok-found-clause-enters g c clean =
@@ -93,11 +98,11 @@ returns-in-Ok-found-clause-enters g c clean =
     let live : IsLive old = search rules in
     let none : takes_a_name c.args.conn.now.schema ≡ false = search rules in
     let input : c.in-Err-SqlInputError.field-0 ≡ SqlInputError c.in-Err-SqlInputError.field-0-0 = search rules in
-    inr (
+    inr (inr (
       (c.in-Err-SqlInputError.field-0-0, subst (IsRefusal g.S.Store get_version [] c.args.conn.now) input (c.in-Err-SqlInputError.ensures.refused early)),
       none,
       founded_after old mid end kept (c.in-Ok-found.ensures.founded clean (sound_after old mid kept live)),
-    )
+    ))
 
 pub returns-in-Ok-found-clause-is_open : goal.returns-in-Ok-found-clause-is_open
 returns-in-Ok-found-clause-is_open g c clean =
@@ -118,7 +123,7 @@ pub returns-in-Ok-found-clause-found : goal.returns-in-Ok-found-clause-found
 returns-in-Ok-found-clause-found g c clean t shows =
     let early : HasCleanDisk (state g.S.Store c.ask_version.new.conn) = omega (arith, c.found.ensures.survives.clean) in
     let input : c.in-Err-SqlInputError.field-0 ≡ SqlInputError c.in-Err-SqlInputError.field-0-0 = search rules in
-    absurd (c.in-Err-SqlInputError.ensures.taken early (shown_version (state g.S.Store c.args.conn.now) t shows) c.in-Err-SqlInputError.field-0-0 input)
+    absurd (shown_version g.S.Store c.args.conn.now t shows (λ n clock is. c.in-Err-SqlInputError.ensures.taken early n clock is c.in-Err-SqlInputError.field-0-0 input))
 
 pub returns-in-Ok-found-clause-survives : goal.returns-in-Ok-found-clause-survives
 returns-in-Ok-found-clause-survives g c =

@@ -16,7 +16,7 @@ returns-clause-does g c =
 pub returns-in_err-planned-clause-joins : goal.returns-in_err-planned-clause-joins
 returns-in_err-planned-clause-joins g c honest s registered held keeps xs reached =
     let x : Given = given s c.args.moment c.args.caller.now c.args.command in
-    let laws : Laws = record { accounts = c.accounts.ensures; tenders = c.tenders.ensures; securities = c.securities.ensures; reaches = c.keeping.ensures.reaches; stays = c.keeping.ensures.stays } in
+    let laws : Laws = record { accounts = c.accounts.ensures; tenders = c.tenders.ensures; securities = c.securities.ensures; performances = c.performances.ensures; reaches = c.keeping.ensures.reaches; stays = c.keeping.ensures.stays } in
     joined_refused laws _ _ x xs reached keeps _ c.from_residual.result c.from_residual.ensures.0 (c.in_err-planned.ensures.looks.0.same honest s held)
 
 pub returns-clause-joins : goal.returns-clause-joins

@@ -1,0 +1,120 @@
+-- The notices of an office of version 1, put one after another, are those that it had; what others have beside them stays.
+use Rattle.std.proofs.Common.{◌≡◌, inl, inr, ℕ, Option, Bool, true, false, List, [], ◌∷◌, ◌++◌, map, append-nil, refl, sym, ap, subst, subst₂, ◌∙◌, IsTrue, Ordering, Less, Greater}
+use Rattle.std.proofs.lemmas.List.{append_assoc}
+use Rattle.std.specs.Cmp.{IsTotalOrder}
+use Rattle.std.specs.Cmp.Lexicographic.{nat_list_cmp_total}
+use Rattle.std.specs.Ordering.{ordering_reverse}
+use Rattle.sqlite_schema.specs.declared.schema.Schema.{Schema}
+use Rattle.sqlite_rules.specs.Lists.{Has}
+use Rattle.sqlite_trees.specs.Tree.{Trees}
+use Rattle.sqlite.specs.Effect.{Database}
+use Rattle.sqlite.specs.State.{State, Shows}
+use Rattle.office_values.specs.Ids.{id_cmp}
+use Rattle.office_base.specs.Rows.{by_order, row_put, StartsAbove, IsInOrder}
+use Rattle.office_base.specs.Tables.{Tables, notice_key, after_puts}
+use Rattle.office_base.specs.declared.puts.Put.{Put}
+use Rattle.office_base.specs.declared.puts.Put.TheVariants as puts
+use Rattle.office_base.specs.declared.records.ClockRow.{ClockRow}
+use Rattle.office_base.specs.declared.records.NoticeRow.{NoticeRow}
+use Rattle.office_rows.specs.declared.stored.FormerNotice.{FormerNotice}
+use Rattle.office_sql.specs.Apart.{LeadsInside}
+use Rattle.office_sql.specs.First.{AreApart, IsMigrated, Begins}
+use Rattle.office_sql.specs.Known.{IsIn}
+use Rattle.office_sql.specs.Schema.{notices as version_two}
+use Rattle.office_sql.specs.Schema.OfficeTable.{Notices}
+use Rattle.office_sql.specs.Standing.{Holds}
+use Rattle.office_sql.specs.Steps.{MakeAll, Puts}
+use Rattle.office_sql.proofs.Childless.{SparesMarked}
+use Rattle.office_sql.proofs.FirstVersion.{first_sorted}
+use Rattle.office_sql.proofs.PutsApart.{notice_apart}
+use Rattle.office_changes.specs.Migration.{HoldsThese, Becomes, Migrates, LeavesSecond}
+use Rattle.office_changes.proofs.Steps.{goes_then}
+
+-- ---- a row above all others goes to the end
+
+module _ {K X : Type 0} {R : K → K → Ordering} (o : IsTotalOrder R) (key : X → K) where
+  above_next : (d : X) (xs : List X) (x : X) (more : List X) → StartsAbove R key (key d) (xs ++ x ∷ more) × IsInOrder R key (xs ++ x ∷ more) → R (key d) (key x) ≡ Less
+  above_next d [] x more h = h.0
+  above_next d (y ∷ ys) x more h = o.trans (key d) (key y) (key x) h.0 (above_next y ys x more h.1)
+
+  put_last : (xs : List X) (x : X) (more : List X) → IsInOrder R key (xs ++ x ∷ more) → row_put R key xs x ≡ xs ++ x ∷ []
+  unfolding row_put
+  put_last [] x more h = refl
+  put_last (d ∷ xs) x more h =
+      let above : R (key x) (key d) ≡ Greater = o.antisymm (key x) (key d) ∙ ap ordering_reverse (above_next d xs x more h) in
+      ap (λ c. by_order c (x ∷ d ∷ xs) (x ∷ xs) (d ∷ row_put R key xs x)) above ∙ ap (λ rest. d ∷ rest) (put_last xs x more h.1)
+
+-- ---- so all of them come to stand in their order
+
+abbrev row_of : FormerNotice → NoticeRow
+row_of r = r.row
+
+abbrev put_of : FormerNotice → Put
+put_of r = puts.Notice r.row
+
+refilled : (done : List NoticeRow) (more : List FormerNotice) (t : Tables) → IsInOrder id_cmp notice_key (done ++ map row_of more)
+    → after_puts (map put_of more) (record t { notices = done }) ≡ record t { notices = done ++ map row_of more }
+refilled done [] t h = ap (λ l. record t { notices = l }) (sym (append-nil done))
+refilled done (x ∷ more) t h =
+    let moved : (done ++ x.row ∷ []) ++ map row_of more ≡ done ++ x.row ∷ map row_of more = append_assoc done (x.row ∷ []) (map row_of more) in
+    ap (λ l. after_puts (map put_of more) (record t { notices = l })) (put_last nat_list_cmp_total notice_key done x.row (map row_of more) h)
+    ∙ refilled (done ++ x.row ∷ []) more t (subst (IsInOrder id_cmp notice_key) (sym moved) h)
+    ∙ ap (λ l. record t { notices = l }) moved
+
+-- ---- tables apart keep their rows
+
+puts_apart : (limit : Option ℕ) (notices : List FormerNotice) (first last : Database) (n : ℕ) → IsIn first.schema version_two n → MakeAll limit (map put_of notices) first last
+    → (last.schema ≡ first.schema) × SparesMarked first.schema n first.trees last.trees
+puts_apart limit [] first last n at same = (
+  ap (λ (d : Database). d.schema) same,
+  λ marked inside out t there is_marked. ap (λ (d : Database). d.trees t.tree) same,
+)
+puts_apart limit (x ∷ more) first last n at (second, made, rest) =
+    let one = notice_apart limit x.row first second n at made in
+    let others = puts_apart limit more second last n (subst (λ s. IsIn s version_two n) (sym one.0) at) rest in (
+      others.0 ∙ one.0,
+      λ marked inside out t there is_marked.
+          others.1 marked (subst (λ s. LeadsInside s marked) (sym one.0) inside) out t (subst (λ (s : Schema). Has s.tables t) (sym one.0) there) is_marked
+          ∙ one.1 marked inside out t there is_marked,
+    )
+
+-- ---- the whole transaction
+
+module _ (late : Bool) (clock : ClockRow) (notices : List FormerNotice) where
+  pub becomes : (old first mid : State) → Begins late clock old first → Puts first mid (map put_of notices) → Becomes late clock (map row_of notices) old mid
+  becomes old first mid begun put = record {
+    goes = goes_then old first mid begun.goes put.goes;
+    tables = λ t was.
+        let blank = begun.tables t was.held was.late_is was.clock_is in
+        let start = record t { notices = [] } in
+        let sorted = subst (IsInOrder id_cmp notice_key) was.notices_are (first_sorted old.now t was.held) in
+        let at = blank.held.tables Notices in
+        let n = blank.held.places Notices in
+        let kept = puts_apart first.step_limit notices first.now mid.now n at (put.made start blank.held) in
+        record {
+          held = subst (Holds mid.now) (refilled [] notices t sorted ∙ ap (λ l. record t { notices = l }) (sym was.notices_are)) (put.tables start blank.held);
+          others = λ u stood.
+              let one = blank.others u stood in (
+                subst (λ (s : Schema). Has s.tables u) (sym kept.0) one.0,
+                λ marked apart is_marked.
+                    let before : AreApart first.now.schema marked = subst (λ s. AreApart s marked) kept.0 apart in
+                    kept.1 marked before.inside (before.others Notices (inr (inr (inl refl))) n at) u one.0 is_marked ∙ one.1 marked before is_marked,
+              );
+        };
+  }
+
+  module _ (old mid : State) (settled : IsTrue old.is_open → old.now ≡ old.committed) (it : Becomes late clock (map row_of notices) (record old { in_transaction = true }) mid) where
+    from_commit : (t : Tables) → HoldsThese late clock (map row_of notices) old.committed t → HoldsThese late clock (map row_of notices) old.now t
+    from_commit t = subst (λ d. HoldsThese late clock (map row_of notices) d t) (sym (settled it.goes.was_open))
+
+    pub migrates : (new : State) → Shows mid new mid.now mid.now false → (IsTrue new.is_open → (db : Trees) → new.may_leave db → db ≡ new.committed.trees)
+        → Migrates late clock (map row_of notices) old new
+    migrates new shows only = record {
+      was_open = it.goes.was_open;
+      is_open = shows.is_open;
+      tables = λ t was. subst₂ (IsMigrated t) (settled it.goes.was_open) (sym shows.committed_is) (it.tables t (from_commit t was));
+      only = only shows.is_open;
+    }
+
+    pub migrate_leaves : (db : Trees) → db ≡ mid.now.trees → LeavesSecond late clock (map row_of notices) old db
+    migrate_leaves db is = (it.goes.was_open, λ t was. (mid.now, is, subst (λ d. IsMigrated t d mid.now) (settled it.goes.was_open) (it.tables t (from_commit t was))))
