@@ -229,7 +229,7 @@ LOTS = [("active", [], ["Waits", "Waits", "Waits"]),
         ("complete", [("B", "cancelled"), ("C", "active")], ["Couldn't win", "Passed over", "Won"])]
 PAID, HALF, NONE = ({"amount": 10}, [4, 6]), ({"amount": 10}, [4]), ({"amount": 10}, [])
 # The state of the tender, whether it was opened, its contracts with what was paid and whether they ended, and what is said of the whole.
-STATES = [("active", False, [], "Deadline passed, tenders not opened yet"), ("unsuccessful", True, [], "Ended without an award"),
+STATES = [("active", False, [], "Deadline passed, tenders not opened yet"), ("unsuccessful", True, [], "Ended without a contract"),
           ("complete", True, [(*NONE, False)], "Contract runs, nothing paid yet"), ("complete", True, [(*HALF, False), (*NONE, True)], "Contracts run, paid in part"),
           ("complete", True, [(*PAID, False), (*HALF, True)], "Paid in full"), ("complete", True, [(*HALF, True)] * 2, "All contracts ended")]
 

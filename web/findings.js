@@ -28,7 +28,7 @@ export function stateOf(compiled) {
     return ["stopped", "Cancelled"];
   }
   if (status === "unsuccessful") {
-    return ["stopped", "Ended without an award"];
+    return ["stopped", "Ended without a contract"];
   }
   if (status === "complete") {
     return stateOfContracts(compiled.contracts ?? []);
@@ -56,7 +56,7 @@ function stateOfContracts(contracts) {
 
 /** The state of one lot, likewise. */
 export function stateOfLot(compiled, lot) {
-  const states = { complete: ["done", "Contracted"], cancelled: ["stopped", "Cancelled"], unsuccessful: ["stopped", "Ended without an award"] };
+  const states = { complete: ["done", "Contracted"], cancelled: ["stopped", "Cancelled"], unsuccessful: ["stopped", "Ended without a contract"] };
   if (states[lot.status]) {
     return states[lot.status];
   }
@@ -105,12 +105,12 @@ function ofWinner(award, passed, byPrice) {
     : ["stopped", "Award ended", "Examined, and won; then the lot was cancelled."];
 }
 
-/** A priced tender that never won. A lot is decided only when each of these was examined or taken back, and goes to the best of those that were found responsive; so one
- * that was better than a winner, or stands in a lot that nobody won, was found not responsive, or was taken back after the deadline, where its notice lets it:
+/** A priced tender that never won. A lot is decided only when each of these was examined or withdrawn, and goes to the best of those that were found responsive; so one
+ * that was better than a winner, or stands in a lot that nobody won, was found not responsive, or was withdrawn from the deadline on, where its notice lets it:
  * which of the two is published nowhere. */
 function ofOther(lot, awards, place) {
   if (lot.status === "unsuccessful" || place === "before") {
-    return ["stopped", "Couldn't win", "It doesn't meet what was asked, or was taken back after the deadline."];
+    return ["stopped", "Couldn't win", "It doesn't meet what was asked, or was withdrawn from the deadline on."];
   }
   if (awards.length === 0) {
     return lot.status === "cancelled" ? ["stopped", "Not decided", "The lot was cancelled before a decision."] : ["running", "Waits", "The lot isn't decided yet."];
@@ -122,12 +122,12 @@ function ofOther(lot, awards, place) {
 const BEHIND = {
   beside: "As low a price as a winner's, but it came later.",
   behind: "Its price wasn't the lowest.",
-  unknown: "Not the best by points, not responsive, or taken back after the deadline; which of these isn't published.",
+  unknown: "Not the best by points, not responsive, or withdrawn from the deadline on; which of these isn't published.",
 };
 
 /** How the best tender is found, as a sentence. */
 export function criteria(compiled) {
   return compiled.tender.awardCriteria === "priceOnly"
-    ? "The lowest price wins, among the tenders that were found responsive and weren't taken back; of equal prices the one that came first."
-    : "The most points for price and quality win, among the tenders that were found responsive and weren't taken back; of equal points the lower price.";
+    ? "The lowest price wins, among the tenders that were found responsive and were neither withdrawn nor passed over; of equal prices the one that came first."
+    : "The most points for price and quality win, among the tenders that were found responsive and were neither withdrawn nor passed over; of equal points the lower price.";
 }

@@ -56,7 +56,7 @@ export function drawLedger(lines) {
   const sum = sumOf(lines);
   const all = Number.isSafeInteger(sum.appropriation) ? [element("section", { class: "card", "aria-labelledby": "all" },
     element("h2", { id: "all" }, lines.length === 1 ? "The one line" : `All ${count(lines.length, "line")}`), ...pots("All lines", sum))] : [];
-  const words = "What a line may spend, its appropriation, is paid already, contracted and still to pay, reserved for notices that have no contract yet, or free.";
+  const words = "What a line may spend, its appropriation, is paid already, contracted and still to pay, reserved for lots that have no contract yet, or free.";
   return [heading, element("p", { class: "intro" }, words), ...all,
     element("section", { "aria-labelledby": "each" }, element("h2", { id: "each" }, "Line by line"), ...cards(lines)),
     element("p", {}, "Drawn from ", element("a", { href: "/ledger" }, "/ledger"))];

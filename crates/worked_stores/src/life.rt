@@ -1,7 +1,7 @@
-//! A procurement from its tenderer to a payment, each command one time.
+//! A procurement from its tenderer to the end of its contract, each command one time.
 
-/// A tenderer is registered, two lines are imported, a notice is published whose tenders may be withdrawn late, a tender is presented, opened, examined and
-/// awarded, a contract is signed and paid.
+/// A tenderer is registered, two lines are imported, a notice is published whose tenders may be withdrawn late, and which asks for a performance security, a
+/// tender is presented, opened, examined and awarded, a contract is signed with that security, paid and ended.
 pub(crate) static LIFE: &str = r#"
 at 2026-01-05T09:00:00Z clerk POST /tenderers/T1
 > {"name":"Alpha","address":"High Street 1","key":"2cf24dba5fb0a30e26e83b2ac5b9e29e1b161e5c1fa7425e73043362938b9824"}
@@ -14,7 +14,7 @@ at 2026-01-05T09:00:00Z clerk POST /budget/B1
 = 200 {"batch":"B1","moment":"2026-01-05T09:00:00Z","rows":2}
 
 at 2026-02-01T09:00:00Z clerk POST /notices/N1
-> {"title":"Road repair","deadline":"2026-03-01T12:00:00Z","validity_days":90,"standstill_days":10,"criteria":"price","late_withdrawal":"forfeits","lots":[
+> {"title":"Road repair","deadline":"2026-03-01T12:00:00Z","validity_days":90,"standstill_days":10,"criteria":"price","late_withdrawal":"forfeits","performance":70,"lots":[
 > {"id":"L1","title":"North","line":"1000","estimate":700,"security":50,"items":[{"id":"I1","title":"Paving","quantity":1}]}]}
 = 200 {"moment":"2026-02-01T09:00:00Z","notice":"N1","release":1}
 
@@ -35,11 +35,16 @@ at 2026-03-02T10:00:00Z clerk POST /notices/N1/lots/L1/award
 = 200 {"award":1,"lot":"L1","moment":"2026-03-02T10:00:00Z","price":700,"release":3,"tender":1}
 
 at 2026-03-12T10:00:00Z clerk POST /awards/1/sign
+> {"security":"P1","amount":70}
 = 200 {"contract":1,"moment":"2026-03-12T10:00:00Z","release":4}
 
 at 2026-04-02T09:00:00Z clerk POST /contracts/1/pay
 > {"id":"P1","amount":300}
 = 200 {"contract":1,"moment":"2026-04-02T09:00:00Z","outstanding":400,"release":5}
+
+at 2026-05-01T09:00:00Z clerk POST /contracts/1/end
+> {"how":"regular"}
+= 200 {"contract":1,"moment":"2026-05-01T09:00:00Z","outstanding":0,"release":6}
 "#;
 
 /// The ledger behind the import of the two lines.

@@ -157,7 +157,7 @@ fn stopped(alloc: Global, disks: &Disks, puts: &[Put]) -> Result<(), Wrong> {
 // The same in the last of the first so many commands of a life.
 fn stopped_in_life(alloc: Global, count: usize) -> Result<(), Wrong> {
     let mut changes = changes_of(alloc, &[LIFE])?;
-    if changes.len() != 9 {
+    if changes.len() != 10 {
         return Err(Wrong::Stop(0));
     }
     changes.truncate(count);
@@ -225,6 +225,12 @@ fn a_signature_is_stopped(rt: HostRuntime) {
 fn a_payment_is_stopped(rt: HostRuntime) {
     let alloc = rt.alloc();
     assert!(rt; leaves_all_or_none(alloc, 9) || leaves_all_or_none(alloc, 9));
+}
+
+#[test]
+fn an_end_is_stopped(rt: HostRuntime) {
+    let alloc = rt.alloc();
+    assert!(rt; leaves_all_or_none(alloc, 10) || leaves_all_or_none(alloc, 10));
 }
 
 // The text of the ledger behind the first so many commands of a life.
