@@ -255,11 +255,11 @@ fn is_refused(alloc: Global, routes: &Routes, row: &(&str, &[u8], (u8, &str))) -
     }
 }
 
-fn refuses_each(alloc: Global) -> bool {
+fn refuses_each(alloc: Global, rows: &[(&str, &[u8], (u8, &str))]) -> bool {
     let Ok(routes) = Routes::new(alloc) else {
         return false;
     };
-    for row in &REFUSED {
+    for row in rows {
         if !is_refused(alloc, &routes, row) {
             return false;
         }
@@ -269,7 +269,7 @@ fn refuses_each(alloc: Global) -> bool {
 
 #[test]
 fn refuses(rt: HostRuntime) {
-    assert!(rt; refuses_each(rt.alloc()));
+    assert!(rt; refuses_each(rt.alloc(), &REFUSED));
 }
 
 const TENDER: &str = "POST /notices/N1/lots/L1/tenders?security=%47%31&x=1&amount=050";
