@@ -1,5 +1,5 @@
 //! Rows of the selects that show joined rows: those that the selects can show, and those that no office writes.
-use crate::rows::row_of;
+use crate::values::row_of;
 use office_base::shelf::ShelfFault;
 use office_joins::reading::{joined_lot, joined_row};
 use sqlite_value::value::ValueRef;

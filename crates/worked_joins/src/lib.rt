@@ -2,10 +2,16 @@
 #![tactic(auto)]
 
 #[cfg(test)]
+mod answers;
+#[cfg(test)]
 mod joined_ledgers;
 #[cfg(test)]
 mod joined_rows;
 #[cfg(test)]
 mod joins;
 #[cfg(test)]
+mod refused_rows;
+#[cfg(test)]
 mod rows;
+#[cfg(test)]
+mod values;

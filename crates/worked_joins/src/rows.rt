@@ -1,62 +1,28 @@
-//! Rows as an office writes them, read and written again; and rows that no office writes.
+//! Rows as an office writes them, read and written again.
+use crate::values::{
+    DIGEST, award_of, contract_of, entry_of, envelope_of, lot_of, notice_of, performance_of,
+    row_of, security_of,
+};
 use office_base::records::{
     AwardRow, BatchRow, ClockRow, CompiledRow, ContractRow, EntryRow, EnvelopeRow, LineRow, LotRow,
     NoticeRow, PerformanceRow, ReleaseRow, SealRow, SecurityRow, TendererRow,
 };
-use office_base::shelf::ShelfFault;
 use office_rows::items::items_text;
-use office_rows::stored::{FormerClock, FormerNotice, Stored, all, first};
+use office_rows::stored::{FormerClock, FormerNotice, Stored, all};
 use office_rows::values::{
     award_values, batch_values, clock_values, compiled_values, contract_values, entry_values,
     envelope_values, line_values, lot_values, notice_values, performance_values, release_values,
     seal_values, security_values, tenderer_values,
 };
-use sqlite::{Connection, Row};
+use sqlite::Row;
 use sqlite_value::value::ValueRef;
 use sqlite_value::value::ValueRef::{Blob, Int, Null, Text};
 use std::alloc::Global;
 
-const DIGEST: &[u8] = b"\x00\x0123456789abcdef0123456789ABCDEF";
-
 const ITEMS: &str = "I1\t3\tPaving, 2 m\nI-2.a\t1000000\tK\u{fc}bel \"x\"\n";
-
-// Selects of so many values.
-static SELECTS: [&str; 17] = [
-    "SELECT NULL",
-    "SELECT ?1",
-    "SELECT ?1, ?2",
-    "SELECT ?1, ?2, ?3",
-    "SELECT ?1, ?2, ?3, ?4",
-    "SELECT ?1, ?2, ?3, ?4, ?5",
-    "SELECT ?1, ?2, ?3, ?4, ?5, ?6",
-    "SELECT ?1, ?2, ?3, ?4, ?5, ?6, ?7",
-    "SELECT ?1, ?2, ?3, ?4, ?5, ?6, ?7, ?8",
-    "SELECT ?1, ?2, ?3, ?4, ?5, ?6, ?7, ?8, ?9",
-    "SELECT ?1, ?2, ?3, ?4, ?5, ?6, ?7, ?8, ?9, ?10",
-    "SELECT ?1, ?2, ?3, ?4, ?5, ?6, ?7, ?8, ?9, ?10, ?11",
-    "SELECT ?1, ?2, ?3, ?4, ?5, ?6, ?7, ?8, ?9, ?10, ?11, ?12",
-    "SELECT ?1, ?2, ?3, ?4, ?5, ?6, ?7, ?8, ?9, ?10, ?11, ?12, ?13",
-    "SELECT ?1, ?2, ?3, ?4, ?5, ?6, ?7, ?8, ?9, ?10, ?11, ?12, ?13, ?14",
-    "SELECT ?1, ?2, ?3, ?4, ?5, ?6, ?7, ?8, ?9, ?10, ?11, ?12, ?13, ?14, ?15",
-    "SELECT ?1, ?2, ?3, ?4, ?5, ?6, ?7, ?8, ?9, ?10, ?11, ?12, ?13, ?14, ?15, ?16",
-];
-
-// A row of an answer, of these values; None where it was not answered.
-pub(crate) fn row_of(alloc: Global, values: &[ValueRef<'_>]) -> Option<Row> {
-    let sql = SELECTS.get(values.len())?;
-    let mut conn = Connection::open_in_memory(alloc).ok()?;
-    conn.query_row(sql, values).ok()
-}
 
 fn read<R: Stored>(alloc: Global, values: &[ValueRef<'_>]) -> Option<R> {
     R::from_row(alloc, &row_of(alloc, values)?).ok()
-}
-
-fn is_refused<R: Stored + Drop>(alloc: Global, values: &[ValueRef<'_>]) -> bool {
-    match row_of(alloc, values) {
-        Some(row) => matches!(R::from_row(alloc, &row), Err(ShelfFault::Store)),
-        None => false,
-    }
 }
 
 fn is_same(left: ValueRef<'_>, right: ValueRef<'_>) -> bool {
@@ -75,106 +41,6 @@ fn are_same(left: &[ValueRef<'_>], right: &[ValueRef<'_>]) -> bool {
             .iter()
             .zip(right.iter())
             .all(|(left, right)| is_same(*left, *right))
-}
-
-fn notice_of<'a>(state: &'a [u8], opened: ValueRef<'a>, performance: i64) -> [ValueRef<'a>; 12] {
-    [
-        Text(b"N1"),
-        Text(b"Road repair"),
-        Int(5),
-        Int(9),
-        Int(90),
-        Int(10),
-        Int(0),
-        Text(state),
-        opened,
-        Int(2),
-        Int(3),
-        Int(performance),
-    ]
-}
-
-fn lot_of<'a>(items: &'a [u8], state: &'a [u8]) -> [ValueRef<'a>; 9] {
-    [
-        Text(b"N1"),
-        Text(b"L1"),
-        Text(b"North"),
-        Text(b"1000"),
-        Int(600),
-        Int(50),
-        Text(items),
-        Text(state),
-        Int(601),
-    ]
-}
-
-// The four columns of a reading, then whether the tender was found responsive, and its quality.
-fn envelope_of<'a>(state: &'a [u8], read: [ValueRef<'a>; 6]) -> [ValueRef<'a>; 16] {
-    let [word, stated, corrected, corrections, responsive, quality] = read;
-    [
-        Int(12),
-        Text(b"N1"),
-        Text(b"L1"),
-        Text(b"T1"),
-        Int(6),
-        Int(32_768),
-        Blob(DIGEST),
-        Int(11),
-        Text(state),
-        word,
-        stated,
-        corrected,
-        corrections,
-        responsive,
-        quality,
-        Int(1),
-    ]
-}
-
-fn security_of(state: &[u8]) -> [ValueRef<'_>; 7] {
-    [
-        Int(12),
-        Text(b"T1"),
-        Text(b"N1"),
-        Text(b"L1"),
-        Text(b"BANK-7"),
-        Int(50),
-        Text(state),
-    ]
-}
-
-fn award_of(state: &[u8]) -> [ValueRef<'_>; 7] {
-    [
-        Int(1),
-        Text(b"N1"),
-        Text(b"L1"),
-        Int(12),
-        Int(600),
-        Int(7),
-        Text(state),
-    ]
-}
-
-fn contract_of<'a>(ended: ValueRef<'a>, how: ValueRef<'a>) -> [ValueRef<'a>; 9] {
-    [
-        Int(1),
-        Text(b"N1"),
-        Text(b"L1"),
-        Text(b"T1"),
-        Int(600),
-        Int(8),
-        ended,
-        how,
-        Int(0),
-    ]
-}
-
-fn performance_of(state: &[u8]) -> [ValueRef<'_>; 4] {
-    [Int(1), Text(b"P1"), Int(70), Text(state)]
-}
-
-fn entry_of<'a>(kind: &'a [u8], rationale: ValueRef<'a>) -> [ValueRef<'a>; 6] {
-    [Int(1), Text(b"P1"), Text(kind), Int(10), Int(9), rationale]
 }
 
 fn is_line_back(alloc: Global, values: &[ValueRef<'_>]) -> bool {
@@ -474,134 +340,4 @@ fn releases_come_back(rt: HostRuntime) {
     let release = [Text(b"N1"), Int(2), Int(5), Text(b"{\"date\":\"\"}")];
     assert!(rt; is_release_back(alloc, &release));
     assert!(rt; is_compiled_back(alloc, &[Text(b"N1"), Text(b"{}")]));
-}
-
-// No name, less than nothing, no number, too few values, and too many.
-static LINES_REFUSED: [&[ValueRef<'static>]; 5] = [
-    &[Text(b"10 00"), Text(b"Roads"), Int(1000), Int(395)],
-    &[Text(b"1000"), Text(b"Roads"), Int(1000), Int(-1)],
-    &[Text(b"1000"), Text(b"Roads"), Int(1000), Null],
-    &[Text(b"1000"), Text(b"Roads"), Int(1000)],
-    &[Text(b"1000"), Text(b"Roads"), Int(1000), Int(395), Null],
-];
-
-fn all_lines_are_refused(alloc: Global) -> bool {
-    for line in &LINES_REFUSED {
-        if !is_refused::<LineRow>(alloc, line) {
-            return false;
-        }
-    }
-    true
-}
-
-#[test]
-fn refuses_words_and_numbers(rt: HostRuntime) {
-    let alloc = rt.alloc();
-    assert!(rt; all_lines_are_refused(alloc));
-    let batch = [Text(b"B1"), Int(4_102_444_800), Int(500)];
-    assert!(rt; is_refused::<BatchRow>(alloc, &batch));
-    assert!(rt; is_refused::<ClockRow>(alloc, &[Int(1), Int(8), Int(3), Int(0)]));
-    assert!(rt; is_refused::<FormerClock>(alloc, &[Int(2), Int(8), Int(3), Int(0)]));
-    let short = DIGEST.split_at(31).0;
-    let tenderer = [Text(b"T1"), Text(b"Acme"), Text(b"1 Road"), Blob(short)];
-    assert!(rt; is_refused::<TendererRow>(alloc, &tenderer));
-    let tenderer = [Text(b"T1"), Text(b"Acme"), Text(b"1 Road"), Text(DIGEST)];
-    assert!(rt; is_refused::<TendererRow>(alloc, &tenderer));
-    assert!(rt; is_refused::<NoticeRow>(alloc, &notice_of(b"Opened", Null, 70)));
-    assert!(rt; is_refused::<NoticeRow>(alloc, &notice_of(b"opened", Null, -1)));
-    assert!(rt; is_refused::<FormerNotice>(alloc, &notice_of(b"opened", Null, 0)));
-    assert!(rt; is_refused::<PerformanceRow>(alloc, &performance_of(b"opened")));
-    assert!(rt; is_refused::<AwardRow>(alloc, &award_of(b"sealed")));
-    assert!(rt; is_refused::<ContractRow>(alloc, &contract_of(Null, Text(b"regularly"))));
-    assert!(rt; is_refused::<EntryRow>(alloc, &entry_of(b"cut", Text(b""))));
-}
-
-// What can't have been read and found in a tender.
-static READINGS_REFUSED: [[ValueRef<'static>; 6]; 6] = [
-    [Text(b"unreadable"), Int(1), Null, Null, Null, Null],
-    [Text(b"priced"), Int(1), Int(1), Null, Null, Null],
-    [Null, Null, Null, Int(0), Null, Null],
-    [Text(b"Priced"), Int(1), Int(1), Int(0), Null, Null],
-    [Null, Null, Null, Null, Int(2), Null],
-    [Null, Null, Null, Null, Null, Int(101)],
-];
-
-fn all_readings_are_refused(alloc: Global) -> bool {
-    for read_in in &READINGS_REFUSED {
-        if !is_refused::<EnvelopeRow>(alloc, &envelope_of(b"opened", *read_in)) {
-            return false;
-        }
-    }
-    true
-}
-
-// Texts that no lot's items have.
-static ITEMS_REFUSED: [&[u8]; 7] = [
-    b"",
-    b"I1\t3\tPaving",
-    b"I1\t03\tPaving\n",
-    b"I1\t3\tPaving\r\n",
-    b"I1\t3\n",
-    b"I1\t0\tPaving\n",
-    b"I1\t3\tPaving\nI1\t4\tKerbs\n",
-];
-
-fn all_items_are_refused(alloc: Global) -> bool {
-    for items in &ITEMS_REFUSED {
-        if !is_refused::<LotRow>(alloc, &lot_of(items, b"undecided")) {
-            return false;
-        }
-    }
-    true
-}
-
-#[test]
-fn refuses_readings_and_items(rt: HostRuntime) {
-    let alloc = rt.alloc();
-    assert!(rt; all_readings_are_refused(alloc));
-    assert!(rt; all_items_are_refused(alloc));
-}
-
-// A merge with this notice, if any, is the first of the rows.
-fn is_first(alloc: Global, rows: &[Row], notice: Option<&str>) -> bool {
-    match (first::<CompiledRow>(alloc, rows), notice) {
-        (Ok(Some(one)), Some(notice)) => one.notice.as_str() == notice,
-        (Ok(None), None) => true,
-        _ => false,
-    }
-}
-
-// The rows are two, and the second has this notice.
-fn are_two(alloc: Global, rows: &[Row], notice: &str) -> bool {
-    match all::<CompiledRow>(alloc, rows) {
-        Ok(found) => match found.as_slice() {
-            [_, second] => second.notice.as_str() == notice,
-            _ => false,
-        },
-        Err(_) => false,
-    }
-}
-
-fn add_merge(alloc: Global, rows: &mut Vec<Row>, notice: &[u8]) -> Option<()> {
-    rows.push(row_of(alloc, &[Text(notice), Text(b"{}")])?).ok()
-}
-
-fn are_read(alloc: Global, rows: &mut Vec<Row>) -> Option<bool> {
-    let none = is_first(alloc, rows.as_slice(), None);
-    add_merge(alloc, rows, b"N1")?;
-    add_merge(alloc, rows, b"N2")?;
-    let two = is_first(alloc, rows.as_slice(), Some("N1")) && are_two(alloc, rows.as_slice(), "N2");
-    add_merge(alloc, rows, b"N 3")?;
-    let refused = matches!(
-        all::<CompiledRow>(alloc, rows.as_slice()),
-        Err(ShelfFault::Store)
-    );
-    Some(none && two && refused)
-}
-
-#[test]
-fn reads_answers(rt: HostRuntime) {
-    let alloc = rt.alloc();
-    let mut rows = Vec::new(alloc);
-    assert!(rt; are_read(alloc, &mut rows) == Some(true));
 }
