@@ -71,7 +71,7 @@ def publish(asker, now, deadline):
     for name, standstill, lot in (("N2", 10, {}), ("N3", 0, {"security": 0}), ("N4", 0, {}), ("N7", 0, {"line": "3000"})):
         ask("publish", "clerk", name, body=notice(deadline, standstill, **lot))
     ask("publish", "clerk", "N6", body=sent("publish", "byPoints", deadline=deadline, standstill_days=0))
-    ask("publish", "clerk", "N5", body={**notice(deadline), "performance": 70})
+    ask("publish", "clerk", "N5", body=sent("publish", "secured", deadline=deadline, standstill_days=0, lots=[LOT]))
     ask("publish", "clerk", "N8", body={**notice(deadline), "late_withdrawal": "forfeits"})
     items = [{"id": f"I{number}", "title": "Paving", "quantity": 1} for number in range(51)]
     lots = [{**LOT, "id": f"L{number}", "estimate": 1} for number in range(21)]
