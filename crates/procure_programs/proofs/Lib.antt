@@ -1,3 +1,4 @@
 pub mod ServingSteps
 mod OpenedFiles
+mod StoppedFiles
 mod Turns
