@@ -11,6 +11,7 @@ from definitions import ROOT, text_of
 FUNCTION = re.compile(r"^( *)((?:pub(?:\([^)]*\))? )?)(?:const |async |unsafe )*fn (\w+)")
 BLOCK = re.compile(r"^(?:pub(?:\([^)]*\))? )?(impl|trait)\b(.*)")
 CLAUSE = re.compile(r"^( *)(requires|ensures)(?: (\w+))? \{", re.MULTILINE)
+HANDED_ON = re.compile(r"^pub use (?:crate::)?(\w+)::(?:\{([^}]*)\}|(\w+));", re.MULTILINE)
 MODULE = re.compile(r"^(pub(?:\([^)]*\))? )?mod (\w+);", re.MULTILINE)
 
 
@@ -130,6 +131,20 @@ def is_reached(crate, path):
         folder = folder / name
         above = folder.with_suffix(".rt")
     return True
+
+
+@lru_cache(maxsize=None)
+def handed_on(crate):
+    """(module, name) of each function and type of a private module that the crate's top makes public by `pub use`."""
+    top = ROOT / "crates" / crate / "src" / "lib.rt"
+    found = HANDED_ON.findall(text_of(top)) if top.is_file() else []
+    return {(module, name) for module, names, one in found for name in re.findall(r"\w+", names or one)}
+
+
+def public_calls_of(crate, path):
+    """The functions of a source that another crate can call."""
+    public = [call for call in calls_of(path) if call.is_public]
+    return public if is_reached(crate, path) else [call for call in public if (path.stem, call.owner or call.name) in handed_on(crate)]
 
 
 def heading_of(path):
