@@ -6,6 +6,8 @@ import re
 from functools import lru_cache
 from pathlib import Path
 
+from crates import crates_of
+
 ROOT = Path(__file__).resolve().parent.parent
 
 NAMED = re.compile(r"\s*(?:(?:abbrev|unfoldable) (?:pub )?(?!mutual\b)(\S+) :|(?:pub )?(?:record|data) ([^\s{]+))")
@@ -36,17 +38,10 @@ def crates():
     return sorted(path for path in (ROOT / "crates").glob("*") if path.is_dir())
 
 
+@lru_cache(maxsize=None)
 def crates_of_the_program():
     """The names of the crates that the program `procure` is made of: itself, and what it stands on by crates.txt."""
-    lines = [line.split(":") for line in text_of(ROOT / "crates.txt").split("\n") if ":" in line and not line.startswith("#")]
-    below = {name.strip(): rest.split() for name, rest in lines}
-    found, waiting = set(), ["procure"]
-    while waiting:
-        name = waiting.pop()
-        if name in below and name not in found:
-            found.add(name)
-            waiting += below[name]
-    return found
+    return {"procure"} | crates_of(ROOT)["procure"]
 
 
 # ---- Comments.
