@@ -12,6 +12,12 @@ def wrapped(text, first="", rest=""):
     return textwrap.wrap(text, WIDTH, initial_indent=first, subsequent_indent=rest, break_long_words=False, break_on_hyphens=False)
 
 
+def opening(text):
+    """The lines of a document's head: its title as it stands, and each paragraph wrapped, with an empty line behind each."""
+    title, *paragraphs = text.strip().split("\n\n")
+    return [title, ""] + [line for paragraph in paragraphs for line in [*wrapped(paragraph), ""]]
+
+
 def difference(name, had, wanted):
     """Where a document isn't what its script makes: the line, what stands there, and what is made."""
     at = next((i for i, (a, b) in enumerate(zip(had, wanted)) if a != b), min(len(had), len(wanted)))
