@@ -18,15 +18,16 @@ KEYWORD = re.compile(r"(?:abbrev|unfoldable|record|data|pub) (?!mod\b|use\b)")
 APART = re.compile(r"(?:use|pub use|pub mod|module|infix[lr]?|abbrev mutual)\b")
 WORD = re.compile(r"Rattle(?:\.[\w']+)+|[\w']+(?:\.[\w']+)*")
 IMPORT = re.compile(r"\buse Rattle\.([\w.]+?)(?:\.\{([^}]*)\}|\s+as\s+([\w']+))")
-CONSTRUCTOR = re.compile(r"\s+(?:pub )?(\S+) :")
+CASE = re.compile(r"\s+(?:pub )?(\S+) :")
 
 
 class Fault(Exception):
     """What can't be read, and where."""
 
 
+@lru_cache(maxsize=None)
 def text_of(path):
-    """A file's text."""
+    """A file's text, as it was when it was first asked for."""
     try:
         return path.read_text(encoding="utf-8")
     except (OSError, UnicodeDecodeError) as fault:
@@ -82,8 +83,9 @@ class Definition:
         return set(WORD.findall(text)) | steps
 
     def parts(self):
-        """The names of its constructors or fields: what stands in front of a colon in its further lines."""
-        return {found[1] for found in map(CONSTRUCTOR.match, self.lines[1:]) if found}
+        """The names of its cases, where it is of some: what stands in front of a colon in its further lines."""
+        is_of_cases = re.match(r"\s*(?:pub )?data\b", self.lines[0])
+        return {found[1] for found in map(CASE.match, self.lines[1:]) if found} if is_of_cases else set()
 
 
 def name_at(line, in_mutual):
@@ -127,7 +129,7 @@ class Source:
         self.imports = imports_of(self.text)
 
     def defines(self, name):
-        """The definition of this name, or the one with this part; None where there is none."""
+        """The definition of this name, or the one with this case; None where there is none."""
         named = [each for each in self.definitions if each.name == name]
         return next(iter(named or [each for each in self.definitions if name in each.parts()]), None)
 
@@ -143,6 +145,16 @@ def sources_of(crate):
 def source_at(crate, module):
     """The file of a crate with this module, or None."""
     return next((source for source in sources_of(crate) if source.module == module), None)
+
+
+def definition_at(crate, module, name):
+    """(file, definition) of a name of a module; a module may be that of a definition's cases. (None, None) where there is none."""
+    source = source_at(crate, module)
+    if source:
+        return source, source.defines(name)
+    above, _, last = module.rpartition(".")
+    source = source_at(crate, above)
+    return source, source.defines(last) if source else None
 
 
 # ---- Imports.
