@@ -82,7 +82,7 @@ class Definition:
         steps = {"◌>>=◌"} if re.search(r"\bdo\b|>>=", text) else set()
         return set(WORD.findall(text)) | steps
 
-    def parts(self):
+    def cases(self):
         """The names of its cases, where it is of some: what stands in front of a colon in its further lines."""
         is_of_cases = re.match(r"\s*(?:pub )?data\b", self.lines[0])
         return {found[1] for found in map(CASE.match, self.lines[1:]) if found} if is_of_cases else set()
@@ -127,11 +127,11 @@ class Source:
         self.crate, self.module = specs.parent.name, ".".join(path.relative_to(specs).with_suffix("").parts)
         self.heading, self.definitions = heading_of(lines), definitions_of(path, lines)
         self.imports = imports_of(self.text)
+        self.by_name = {case: each for each in self.definitions for case in each.cases()} | {each.name: each for each in self.definitions}
 
     def defines(self, name):
         """The definition of this name, or the one with this case; None where there is none."""
-        named = [each for each in self.definitions if each.name == name]
-        return next(iter(named or [each for each in self.definitions if name in each.parts()]), None)
+        return self.by_name.get(name)
 
 
 @lru_cache(maxsize=None)
