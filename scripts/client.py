@@ -28,7 +28,7 @@ Told = TypeVar("Told")
 Given = TypeVar("Given", covariant=True)
 Body = str | bytes | Mapping[str, Any]
 # Seconds, for the first answer of a server that just begins, and for all that a front makes wait.
-PATIENCE = 20
+PATIENCE = 60
 # How often a front is asked again.
 TRIES = 60
 # Seconds to the deadlines for which tests wait: more by AHEAD, where the machine or the program is slow.
