@@ -1,3 +1,5 @@
 pub mod ServingSteps
+mod EmptyFile
+mod EmptyOpened
 mod OpenedFiles
 mod Turns
