@@ -15,16 +15,17 @@ use Rattle.office_base.specs.Shelves.{Keeps, Meaning}
 use Rattle.office_base.specs.Tables.{Tables}
 use Rattle.office_sql.specs.Steps.{ShowsTables}
 use Rattle.office_desk.specs.Desks.{DeskOf}
-use Rattle.office_store.specs.Reopening.{HoldsOffice, OpensBlank, OpensHeld}
+use Rattle.office_store.specs.Reopening.{HoldsOffice, OpensHeld}
 use Rattle.office_store.specs.SqlMeaning.{sql_meaning}
 use Rattle.office_wire.specs.Runs.{Step, office_left}
 use Rattle.office_http.specs.Answering.{Held, office_answers}
+use Rattle.procure_programs.specs.Placed.{OpensEmpty}
 use Rattle.procure_programs.specs.Serving.{DayIn, DaysFollow, GoesOnIn, HaveOffice, MayBeFound, ServesFiles, StandsIn, StopsIn, WasServed}
 use Rattle.procure_programs.proofs.ServingSteps.{office_on, served_none, served_still}
 
 module _ {D : Type 0} {g : Ghosts D} where
   -- what files have is shown by what was opened there
-  pub shows_files : (image : Image) (now : Connected (FileStore D g)) → OpensHeld image now → OpensBlank image now → HasCleanDisk (file_state now)
+  pub shows_files : (image : Image) (now : Connected (FileStore D g)) → OpensHeld image now → OpensEmpty image now → HasCleanDisk (file_state now)
       → (t : Tables) → HaveOffice image t → ShowsTables (file_state now) t
   shows_files image now held blank clean t (inl it) = held clean t it
   shows_files image now held blank clean t (inr (none, is)) = subst (ShowsTables (file_state now)) (sym is) (blank clean none)
@@ -44,7 +45,7 @@ module _ {D : Type 0} {g : Ghosts D} where
       ]
 
   pub closes : (image : Image) (settings : Settings) (most : ℕ) (old new : Connected (FileStore D g) × ℕ) (files : Files D)
-      → OpensHeld image old.0 → OpensBlank image old.0 → WasServed (sql_meaning over_files) most settings old new
+      → OpensHeld image old.0 → OpensEmpty image old.0 → WasServed (sql_meaning over_files) most settings old new
       → (AreClean g files.log files.db → IsCopied new.0 files) → ServesFiles g image settings most files
   closes image settings most old new files held blank (before, (_, serves)) copied clean now found h are (sorted, has, stands) =
       let it = copied clean in
@@ -54,7 +55,7 @@ module _ {D : Type 0} {g : Ghosts D} where
 
   -- so of what comes back, where the files do
   pub closes_ok : {R E : Type 0} (image : Image) (settings : Settings) (most : ℕ) (old new : Connected (FileStore D g) × ℕ) (result : Result (Files D × R) E)
-      → OpensHeld image old.0 → OpensBlank image old.0 → WasServed (sql_meaning over_files) most settings old new
+      → OpensHeld image old.0 → OpensEmpty image old.0 → WasServed (sql_meaning over_files) most settings old new
       → IfOk result (λ left. AreClean g left.0.log left.0.db → IsCopied new.0 left.0) → IfOk result (λ left. ServesFiles g image settings most left.0)
   closes_ok image settings most old new (Ok left) held blank served copied = closes image settings most old new left.0 held blank served copied
   closes_ok image settings most old new (Err fault) held blank served copied = tt

@@ -13,11 +13,12 @@ use Rattle.office_machine.specs.Accounts.{TablesAreInOrder}
 use Rattle.office_publications.specs.Publishing.{publishing}
 use Rattle.office_publications.specs.Standing.{Stands}
 use Rattle.office_sql.specs.Steps.{MayLeave}
-use Rattle.office_store.specs.Reopening.{HoldsOffice, IsPutDown, OpensBlank, OpensHeld}
+use Rattle.office_store.specs.Reopening.{HoldsOffice, IsPutDown, OpensHeld}
 use Rattle.office_store.specs.SqlMeaning.{LeavesNoOther, LeavesShown, sql_meaning}
 use Rattle.office_wire.specs.Runs.{Step, office_left}
 use Rattle.office_http.specs.Answering.{Held, IsWholeAfter, LeftAfter, is_accepted, meant_in, office_answers}
 use Rattle.office_http.specs.Stops.{LeftBySteps}
+use Rattle.procure_programs.specs.Placed.{OpensEmpty}
 use Rattle.procure_programs.specs.Serving.{StandsIn, StopsFiles, WasServed}
 use Rattle.procure_programs.proofs.OpenedFiles.{settings_stay, shows_files}
 use Rattle.procure_programs.proofs.ServingSteps.{left_by}
@@ -57,13 +58,13 @@ left_whole (x ∷ steps) h Before u left = elim (left_whole steps (office_answer
 -- ---- in files
 
 module _ {D : Type 0} {g : Ghosts D} (image : Image) (settings : Settings) (most : ℕ) (old new : Connected (FileStore D g) × ℕ) (store : FileStore D g) where
-  pub stops : TablesAreInOrder → OpensHeld image old.0 → OpensBlank image old.0 → (HasCleanDisk (file_state old.0) → LeavesShown (file_state old.0))
+  pub stops : TablesAreInOrder → OpensHeld image old.0 → OpensEmpty image old.0 → (HasCleanDisk (file_state old.0) → LeavesShown (file_state old.0))
       → (HasCleanDisk (file_state old.0) → LeavesNoOther (file_state old.0)) → WasServed (sql_meaning over_files) most settings old new → IsPutDown new.0 store
       → StopsFiles image settings most store
-  stops order held blank shown alone (before, (_, serves)) put clean now may h are (sorted, has, stands) =
+  stops order held empty shown alone (before, (_, serves)) put clean now may h are (sorted, has, stands) =
       let honest : HasCleanDisk (file_state new.0) = put.clean clean in
       let early : HasCleanDisk (file_state old.0) = before honest in
-      let shows = shows_files image old.0 held blank early h.tables has in
+      let shows = shows_files image old.0 held empty early h.tables has in
       let (steps, few, _, stop) = serves honest h ((sym are, (sorted, shows)), stands) in
       ∥∥₁_map (put.left clean (stop.sound (shown early h.tables shows)) now may) (λ found.
       let u : Tables = found.0 in

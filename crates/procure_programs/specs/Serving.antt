@@ -19,12 +19,13 @@ use Rattle.office_publications.specs.Publishing.{publishing}
 use Rattle.office_publications.specs.Standing.{Stands}
 use Rattle.office_desk.specs.Desks.{DeskOf}
 use Rattle.office_desk.specs.Steps.{IsKept}
-use Rattle.office_store.specs.Reopening.{HoldsOffice, OpensBlank, OpensHeld}
+use Rattle.office_store.specs.Reopening.{HoldsOffice, OpensHeld}
 use Rattle.office_store.specs.SqlMeaning.{LeavesNoOther, LeavesShown, sql_meaning}
 use Rattle.office_wire.specs.Runs.{Step, office_left}
 use Rattle.office_http.specs.Answering.{Held, StandsAs, office_answers}
 use Rattle.office_http.specs.Joined.{joined_steps}
 use Rattle.office_http.specs.Stops.{StopsBy}
+use Rattle.procure_programs.specs.Placed.{HoldNothing, OpensEmpty}
 
 -- the office after so many steps at most, and what a stop may leave of it by then
 abbrev pub Serves : {S : Type 0} → Meaning S → ℕ → DeskOf S → DeskOf S → Type 0
@@ -43,7 +44,7 @@ WasServed M most settings old new =
 pub record ServesOpened {D : Type 0} {g : Ghosts D} (image : Image) (settings : Settings) (most : ℕ) (left : Connected (FileStore D g) × ℕ) : Type 0 where
   pub opened : Connected (FileStore D g) × ℕ
   pub held : OpensHeld image opened.0
-  pub blank : OpensBlank image opened.0
+  pub empty : OpensEmpty image opened.0
   pub sound : HasCleanDisk (file_state opened.0) → LeavesShown (file_state opened.0)
   pub alone : HasCleanDisk (file_state opened.0) → LeavesNoOther (file_state opened.0)
   pub served : WasServed (sql_meaning over_files) most settings opened left
@@ -55,9 +56,9 @@ KeepsServing M most old new =
     → (steps : List Step) × (length steps ≤ most) × StandsAs M new (office_left office_answers h steps)
     × IsKept h.settings (joined_steps h steps xs) (office_left office_answers h steps).tables
 
--- two files with these bytes have an office with this content: they hold it, or there is no byte in the file, and it is the empty one
+-- two files with these bytes have an office with this content: they hold it, or they hold nothing yet, and it is the empty one
 abbrev pub HaveOffice : Image → Tables → Type 0
-HaveOffice image t = HoldsOffice image t ⊎ ((length image.db ≡ 0) × (t ≡ no_tables))
+HaveOffice image t = HoldsOffice image t ⊎ (HoldNothing image × (t ≡ no_tables))
 
 -- an office stands in two files with these bytes, as its commands left it
 abbrev pub StandsIn : Image → Held → Type 0

@@ -6,41 +6,39 @@ ghost use Rattle.sqlite.specs.Closing.{IsCopied};
 ghost use Rattle.sqlite.specs.Files.{file_state};
 ghost use Rattle.sqlite.specs.State.{HasCleanDisk};
 ghost use Rattle.office_base.specs.Shelves.{Keeps};
-ghost use Rattle.office_store.specs.Reopening.{OpensBlank, OpensHeld};
+ghost use Rattle.office_store.specs.Reopening.{OpensHeld};
 ghost use Rattle.office_store.specs.SqlMeaning.{LeavesNoOther, LeavesShown, sql_meaning};
+ghost use Rattle.procure_programs.specs.Placed.{OpensEmpty};
 ghost use Rattle.procure_programs.specs.Serving.{ServesFiles, ServesOpened, StopsFiles, WasServed};
 
 use crate::config::no_memory;
 use crate::kept::{print_office, serve_office};
+use crate::placing::place_empty;
+use crate::room::{page_size_at, room_for};
 use office_acts::queries::Query;
 use office_base::shelf::ShelfFault;
 use office_machine::laws::order;
 use office_store::found::OpenFault;
-use office_store::path::Room;
 use office_store::shelf::SqlShelf;
 use office_values::settings::Settings;
 use procure_config::fault::ProgramFault;
 use sqlite::{Alter, FileFrom, FileStore, Files, Start, Unknown};
 use sqlite_disk::Disk;
 
-/// How much of the office's file is kept in memory: 32 MiB of its pages; and how long its log grows: by 16 MiB.
-pub const ROOM: Room = Room {
-    pages: 8_192,
-    frames: 4_096,
-};
-
-// The office in a file, or a new one where nothing of an office stands there.
+// The office in a file, or a new one where nothing of an office stands there: in a new file, whose pages are small, where there is none.
 fn open_office<S: Start>(
     rt: &HostRuntime,
     path: &str,
     start: S,
 ) -> Result<SqlShelf<FileStore<FileFrom<S>>>, ProgramFault>
     ensures held { IfOk result (λ shelf. OpensHeld (image_at S.Start) shelf.0) }
-    ensures blank { IfOk result (λ shelf. OpensBlank (image_at S.Start) shelf.0) }
+    ensures empty { IfOk result (λ shelf. OpensEmpty (image_at S.Start) shelf.0) }
     ensures sound { IfOk result (λ shelf. HasCleanDisk (file_state shelf.0) → LeavesShown (file_state shelf.0)) }
     ensures alone { IfOk result (λ shelf. HasCleanDisk (file_state shelf.0) → LeavesNoOther (file_state shelf.0)) }
 {
-    match SqlShelf::open_from(rt, path, start, ROOM) {
+    place_empty(rt, path)?;
+    let room = room_for(page_size_at(rt, path));
+    match SqlShelf::open_from(rt, path, start, room) {
         Ok(shelf) => Ok(shelf),
         Err((OpenFault::NoMemory, _)) => Err(no_memory()),
         Err((OpenFault::Store | OpenFault::NotAnOffice, _)) => Err(ProgramFault::Store),

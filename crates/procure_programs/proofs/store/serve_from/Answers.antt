@@ -6,5 +6,5 @@ pub returns : goal.returns
 returns g c =
     let it = c.in_ok-shelf.ensures in
     record {
-      serves = closes_ok (image_at g.S.Start) c.args.settings c.args.count it.opened c.in_ok-shelf.shelf c.close_office.result it.held it.blank it.served c.close_office.ensures;
+      serves = closes_ok (image_at g.S.Start) c.args.settings c.args.count it.opened c.in_ok-shelf.shelf c.close_office.result it.held it.empty it.served c.close_office.ensures;
     }
