@@ -3,7 +3,8 @@
 A row is what gate_watch tells of a crate, with each wrong body's minutes, or a row of sums that was written down by hand from a printed table: there `edits`
 is their sum, `tries` their number, `around` the checks around them, and `all` the sum that was printed.
 """
-import os, re
+import os
+import re
 
 HEADS = ("wall", "proof", "builds", "tests", "wrong bodies", "tries", "around these", "runs", "all")
 AIMS = {4: 75, 2: 135}
@@ -11,12 +12,13 @@ INTRO = """# The gate, measured
 
 <!-- made by `bench/gate --table` of bench/gate.json and bench/budgets.txt, not by hand -->
 
-`make test` is the gate; `bench/gate --save` runs it from nothing in a clean clone of what is committed and leaves its table, and `bench/gate --table` writes this page.
-What counts, and the rule of budgets: [PERFORMANCE.md](PERFORMANCE.md#the-gate). Minutes by the model are what it takes where nothing else runs (`bench/gate_model.py`).
+`make test` is the gate; `bench/gate --save` runs it from nothing in a clean clone of what is committed and leaves its table, and `bench/gate --table` writes
+this page. What counts, and the rule of budgets: [PERFORMANCE.md](PERFORMANCE.md#the-gate). Minutes by the model are what it takes where nothing else runs
+(`bench/gate_model.py`).
 """
 LEGEND = """
-By crate: the wall minutes of its proof (of a program with its builds), and processor minutes. `tests` is the proof and the build of a crate's tests, `tries` the
-number of wrong bodies, `around these` the check that they begin with and the last one, `budget` what the crate may take in all.
+By crate: the wall minutes of its proof (of a program with its builds), and processor minutes. `tests` is the proof and the build of a crate's tests, `tries`
+the number of wrong bodies, `around these` the check that they begin with and the last one, `budget` what the crate may take in all.
 """
 
 
@@ -60,6 +62,15 @@ def above_budget(crates, allowed):
     return slower, {name: used[name] for name in named if used[name] > 1.1 * slower * allowed[name]}
 
 
+def lines_of_bodies(table):
+    """What the wrong bodies came to, in a line, and a line for each that wasn't simply refused; nothing where the run didn't tell."""
+    if "came" in table:
+        kinds = [kind for _, _, kind in table["came"]]
+        counts = ", ".join(f"{kinds.count(kind)} {kind}" for kind in sorted({*kinds}, key=lambda it: (it != "refused", it)))
+        yield f"{len(kinds)} wrong bodies: {counts or 'none was tried'}"
+        yield from (f"crates/{crate}/must-fail/{name}: {kind}" for crate, name, kind in table["came"] if kind != "refused")
+
+
 def totals_of(table):
     """The lines of the table of totals."""
     minutes, chain = table["chain"]
@@ -82,12 +93,13 @@ def page_of(table, names, allowed):
     names = [name for name in names if name in crates] + sorted({*crates} - {*names})
     out = [INTRO, f"The run: {run_of(table)}. The machine: {table['machine']}.", "", "| Measured | | Aim |", "|---|---|---|"]
     out += [f"| {' | '.join(line)} |" for line in totals_of(table)]
-    out += ["", f"The chain: {' > '.join(f'`{name}`' for name in table['chain'][1])}.", LEGEND]
+    out += ["", f"The chain: {' > '.join(f'`{name}`' for name in table['chain'][1])}.", *(f"\n{it}." for it in lines_of_bodies(table)), LEGEND]
     out += [f"| Crate | {' | '.join(HEADS)} | budget |", f"|{'---|' * (len(HEADS) + 2)}"]
     for name, cells in lines_of(names, crates).items():
         most = allowed.get(name.strip("`"), sum(allowed.values()) if name == "all" else None)
         out.append(f"| {name} | {' | '.join(texts_of(cells))} | {'none' if most is None else f'{most:.1f}'} |")
     slower, above = above_budget(crates, allowed)
     told = ", ".join(f"`{name}` ({used:.1f})" for name, used in above.items()) or "none"
-    out += ["", f"Above its budget by more than a tenth: {told}." + (f" All took {slower:.2f} of their budgets, and each is held to its own times that." if slower > 1 else "")]
+    held = f" All took {slower:.2f} of their budgets, and each is held to its own times that." if slower > 1 else ""
+    out += ["", f"Above its budget by more than a tenth: {told}.{held}"]
     return "\n".join(out) + "\n"
