@@ -9,7 +9,10 @@ and then these fill the lanes that are free; a proof gets the lanes that no othe
 a check takes of memory holds it back where the others' leave too little, a proof the wrong bodies behind it too. Not in it: other work on the machine.
 Printed are the wall minutes for each number, and the longest chain of crates. `bench/gate` prints them too, beside the minutes that the run took.
 """
-import json, os, shutil, sys
+import json
+import os
+import shutil
+import sys
 
 sys.dont_write_bytecode = True
 sys.path.insert(0, os.path.join(os.path.dirname(os.path.dirname(os.path.realpath(__file__))), "scripts"))
