@@ -1,5 +1,5 @@
-"""What `tools/audit` reads: a copy of an office's file, and answers of an office."""
-import datetime, glob, hashlib, http.client, json, os, shutil, sqlite3, urllib.parse
+"""What `tools/audit` reads of a copy of an office's file, and what its rules share."""
+import datetime, glob, hashlib, json, os, shutil, sqlite3, tempfile
 
 # The tables of an office: the columns of the key, and the others.
 TABLES = {
@@ -57,8 +57,11 @@ CREATE TEMP TABLE pots AS
 CREATE TEMP VIEW offers AS SELECT * FROM envelopes WHERE state = 'opened' AND reading = 'priced' AND responsive = 1;
 """
 
-# The rules, by what they are put to: the file; the releases of a notice; those that the file keeps; an office's answers on a notice; its ledger.
-RULES = {"file": [], "releases": [], "kept": [], "answers": [], "ledger": []}
+# The rules, by what they are put to: the file; the releases of a notice; those that the file keeps; an office's answers on a notice; its minutes, and the ledger, with
+# the file; a notice of the file that isn't answered; all answers together, without the file; an earlier copy of the file; answers on a notice that may be from earlier,
+# and those that are; what was handed out under a number; an earlier ledger.
+RULES = {"file": [], "releases": [], "kept": [], "answers": [], "minutes": [], "ledger": [], "lacking": [], "outside": [], "copies": [], "witness": [], "saved": [],
+         "held": [], "ledgers": []}
 
 
 class Unreadable(Exception):
@@ -119,8 +122,9 @@ class Office:
     """A copy of an office's file, which is only read. (SQLite tests no checks of tables in a file that is opened as read-only.)"""
 
     def __init__(self, path, folder):
-        self.path, self.stamp, self.unread = path, copied(path, folder), 0
-        self.base = sqlite3.connect(os.path.join(folder, "office.db"))
+        place = tempfile.mkdtemp(dir=folder)
+        self.path, self.stamp, self.unread = path, copied(path, place), 0
+        self.base = sqlite3.connect(os.path.join(place, "office.db"))
         self.base.execute("PRAGMA trusted_schema = OFF")
         self.base.text_factory = lambda text: text.decode("utf-8", "surrogateescape")
         self.base.create_function("sha256", 1, lambda data: hashlib.sha256(data).digest() if isinstance(data, bytes) else b"", deterministic=True)
@@ -173,54 +177,3 @@ class Office:
     def has_changed(self):
         """Whether somebody wrote to the file since it was copied."""
         return stamp(self.path) != self.stamp
-
-
-class Answers:
-    """What an office answers to anybody: the files of a folder, or what a base address is asked for."""
-
-    def __init__(self, folder, base):
-        self.folder, self.base, self.place = folder, base, folder or base
-
-    def notices(self):
-        """The notices of which the folder has releases."""
-        names = [os.path.basename(path) for path in glob.glob(os.path.join(glob.escape(self.folder), "releases-*.json"))]
-        return sorted(name[len("releases-"):-len(".json")] for name in names)
-
-    def perhaps(self, path, name):
-        """The text that is answered, or None where there is none."""
-        if self.base:
-            return self.asked(path)
-        if not os.path.exists(os.path.join(self.folder, name)):
-            return None
-        with open(os.path.join(self.folder, name), encoding="utf-8", newline="") as file:
-            return file.read()
-
-    def text(self, path, name):
-        """The text that is answered, which must be there."""
-        text = self.perhaps(path, name)
-        if text is None:
-            raise Unreadable(f"{os.path.join(self.folder, name) if self.folder else self.base + path}: it isn't there")
-        return text
-
-    def package(self, notice, kind):
-        """A package of a notice, which must be a JSON object."""
-        package = json_object(self.text(f"/notices/{notice}/{kind}", f"{kind}-{notice}.json"))
-        if package is None:
-            raise Unreadable(f"{self.place}: the {kind} of {notice}: no JSON object")
-        return package
-
-    def asked(self, path):
-        """The body of the office's answer, or None where the office refuses it as not there or not yet there."""
-        parts = urllib.parse.urlsplit(self.base)
-        kind = http.client.HTTPSConnection if parts.scheme == "https" else http.client.HTTPConnection
-        try:
-            connection = kind(parts.hostname, parts.port, timeout=30)
-            connection.request("GET", parts.path.rstrip("/") + path)
-            response = connection.getresponse()
-            body = response.read().decode("utf-8")
-            connection.close()
-        except (OSError, http.client.HTTPException, ValueError) as why:
-            raise Unreadable(f"{self.base + path}: {why}")
-        if response.status not in (200, 404, 409):
-            raise Unreadable(f"{self.base + path}: status {response.status}: {body[:100]}")
-        return body if response.status == 200 else None

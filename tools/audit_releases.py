@@ -198,6 +198,16 @@ def kept_texts_are_releases(office, notice, releases):
 
 
 @rule("kept")
+def kept_texts_are_compact(office, notice, releases):
+    """The text of a release or a merge that is kept is written as the office writes JSON: compactly, members in the byte order of their names."""
+    for table in ("releases", "compiled"):
+        for *key, text in office.rows(f"SELECT {'notice, seq' if table == 'releases' else 'notice'}, text FROM {table} WHERE notice = ?", notice):
+            value = json_object(text)
+            if value is not None and text != json.dumps(value, ensure_ascii=False, separators=(",", ":"), sort_keys=True):
+                yield f"{table} {'/'.join(map(str, key))}", "isn't written as the office writes JSON"
+
+
+@rule("kept")
 def rows_have_their_releases(office, notice, releases):
     """The releases of a notice tell what its rows say that happened, each event once, and nothing else."""
     told = collections.Counter(event for release in releases for event in events_told(release))
@@ -312,22 +322,38 @@ def packages_have_their_heads(office, answers, notice, package, record):
             yield f"notices {notice}", f"the package of its {kind} is {value.get('version')}, {value.get('uri')}, {value.get('publishedDate')}"
 
 
-@rule("answers")
-def minutes_are_of_the_rows(office, answers, notice, package, record):
-    """The minutes of an opened notice say what the file says, and no others are answered."""
-    if not office:
-        return
-    path, name = f"/notices/{notice}/minutes", f"minutes-{notice}.txt"
+def text_with(lines):
+    """The text of lines whose fields have tabs between."""
+    return "".join("\t".join(str(field) for field in line if field is not None) + "\n" for line in lines)
+
+
+def minutes_of(office, notice):
+    """The minutes of a notice, by the rows; None where it isn't opened."""
     title, deadline, opened = office.rows("SELECT title, text_of(deadline), text_of(opened) FROM notices WHERE notice = ?", notice)[0]
-    if opened is None:
-        if answers.perhaps(path, name) is not None:
-            yield f"notices {notice}", "minutes are answered, and it isn't opened"
-        return
     due = [("MINUTES", notice, title), ("deadline", deadline), ("opened", opened)]
     for lot in office.rows("SELECT 'lot', lot, title FROM lots WHERE notice = ? ORDER BY lot", notice):
         due += [lot] + office.rows("""SELECT 'tender', receipt, tenderer, name, address, reading, stated, corrected, corrections
             FROM envelopes JOIN tenderers USING (tenderer) WHERE notice = ? AND lot = ? AND state = 'opened' ORDER BY receipt""", notice, lot[1])
-    yield from unlike(f"notices {notice}", answers.text(path, name), due + [("END",)])
+    return None if opened is None else text_with(due + [("END",)])
+
+
+@rule("minutes")
+def minutes_are_of_the_rows(office, answers, notice):
+    """The minutes of an opened notice say what the file says, and no others are answered."""
+    due, text = minutes_of(office, notice), answers.of_notice(notice, "minutes")
+    if due is None and text is not None:
+        yield f"notices {notice}", "minutes are answered, and it isn't opened"
+    elif due is not None and text is None and answers.base:
+        yield f"notices {notice}", "is opened, and no minutes are answered"
+    elif text is not None:
+        yield from unlike(f"notices {notice}", text, due)
+
+
+@rule("lacking")
+def kept_notices_are_answered(office, notice):
+    """An address answers on each notice that the file has."""
+    if office and notice in office.notices():
+        yield f"notices {notice}", "is in the file, and nothing is answered of it"
 
 
 @rule("ledger")
@@ -338,14 +364,18 @@ def ledger_is_of_the_rows(office, text):
         if len(numbers) != 5 or not all(number.isdigit() for number in numbers) or sum(map(int, numbers[1:])) != int(numbers[0]):
             yield f"lines {name}", f"the ledger says {numbers}: appropriation, free, reserved, contracted, paid"
     if office:
-        head = [("LEDGER",), ("line", "appropriation", "free", "reserved", "contracted", "paid")]
-        yield from unlike("office 1", text, head + office.rows("SELECT line, appropriation, free, reserved, contracted, paid FROM pots ORDER BY line"))
+        yield from unlike("office 1", text, ledger_of(office))
+
+
+def ledger_of(office):
+    """The ledger, by the rows."""
+    head = [("LEDGER",), ("line", "appropriation", "free", "reserved", "contracted", "paid")]
+    return text_with(head + office.rows("SELECT line, appropriation, free, reserved, contracted, paid FROM pots ORDER BY line"))
 
 
 def unlike(row, text, due):
-    """A finding where the lines of a text aren't those that are due, fields with tabs between."""
-    lines = text.split("\n")
-    due = ["\t".join(str(field) for field in line if field is not None) for line in due] + [""]
+    """A finding where a text isn't the one that is due."""
+    lines, due = text.split("\n"), due.split("\n")
     if lines != due:
         place = next((place for place, (here, there) in enumerate(zip(lines, due)) if here != there), min(len(lines), len(due)))
         yield row, f"line {place + 1} of the answer is {lines[place:place + 1]}, and the file says {due[place:place + 1]}"

@@ -114,6 +114,29 @@ def numbers_follow_time(office):
             (SELECT {key}, moment, lag(moment) OVER (PARTITION BY {group} ORDER BY {key}) AS earlier FROM {table}) WHERE moment < earlier""")
 
 
+# Tables whose rows are never taken out, but for those whose key is the number of the row's place; the moment where there is one.
+PLACED = {"lines": None, "batches": "moment", "tenderers": None, "notices": None, "lots": None, "entries": "moment", "releases": "moment", "compiled": None, "late_rules": None}
+
+
+@rule("file")
+def rows_came_one_after_another(office):
+    """Rows that are never taken out stand at the places (rowid) 1, 2, 3 and so on, and along them moments never fall."""
+    for table, moment in PLACED.items():
+        key, name = key_of(table), ON_DISK.get(table, table)
+        yield from office.find(table, f"""SELECT {key}, 'stands at place ' || place || ', behind ' || earlier || ': what was between is gone' FROM
+            (SELECT {key}, rowid AS place, lag(rowid, 1, 0) OVER (ORDER BY rowid) AS earlier FROM {name}) WHERE place <> earlier + 1""")
+        if moment:
+            yield from office.find(table, f"""SELECT {key}, 'is of ' || text_of(moment) || ', and was put in behind one of ' || text_of(earlier) FROM
+                (SELECT {key}, moment, lag(moment) OVER (ORDER BY rowid) AS earlier FROM {name}) WHERE moment < earlier""")
+
+
+@rule("file")
+def lines_come_from_batches(office):
+    """There are no more lines than rows of budget files that were taken in."""
+    yield from office.find("office", """SELECT version, printf('has %d lines, and its batches %d rows', lines, rows) FROM office,
+        (SELECT count(*) AS lines FROM lines), (SELECT coalesce(sum(rows), 0) AS rows FROM batches) WHERE lines > rows""")
+
+
 # ---- Money.
 
 @rule("file")
@@ -276,6 +299,16 @@ def tenderers_have_one_tender_a_lot(office):
     yield from office.find("envelopes", """
         SELECT max(receipt), printf('%s has %d tenders for %s/%s that are sealed or opened', tenderer, count(*), notice, lot)
         FROM envelopes WHERE state IN ('sealed', 'opened') GROUP BY notice, lot, tenderer HAVING count(*) > 1""")
+
+
+@rule("file")
+def tenders_of_a_lot_follow_each_other(office):
+    """A tenderer presents for a lot only while nothing of theirs is sealed for it: of those that came in time all but the last are withdrawn."""
+    yield from office.find("envelopes", """
+        SELECT later, printf('came while tender %d of %s, which is %s, was sealed for the lot', receipt, tenderer, state) FROM
+            (SELECT receipt, tenderer, e.state, lead(receipt) OVER (PARTITION BY e.notice, lot, tenderer ORDER BY receipt) AS later
+            FROM envelopes AS e JOIN notices AS n ON n.notice = e.notice WHERE moment <= deadline AND moment < coalesce(n.opened, moment + 1))
+        WHERE later IS NOT NULL AND state <> 'withdrawn'""")
 
 
 @rule("file")
