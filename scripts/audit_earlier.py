@@ -2,8 +2,6 @@
 
 What an office has told, and most of what its rows say, no command takes back. So a witness shows what was changed with everything that hangs together.
 """
-import functools
-
 from audit_answers import HELD
 from audit_office import TABLES, rule, text_of
 from audit_releases import compiled_of, difference, record_in, releases_in
@@ -27,18 +25,10 @@ WITH = {"lots": ("notices", "notice"), "late_rules": ("notices", "notice"), "sea
 NEW = ("batches moment, notices published, notices opened, envelopes moment, awards moment, contracts moment, contracts ended, entries moment, releases moment")
 
 
-@functools.lru_cache(maxsize=None)
-def table_of(office, table):
-    """The rows of a table by key: the values by column."""
-    keys, others = TABLES[table][0].split(), TABLES[table][1].split()
-    rows = office.rows(f"SELECT {', '.join(keys + others)} FROM {table}")
-    return {row[:len(keys)]: dict(zip(keys + others, row)) for row in rows}
-
-
 def both(table, later, earlier):
     """Of each row that an earlier copy has: its key as text, the row there, and the row here, or None."""
-    here = table_of(later, table)
-    for key, row in table_of(earlier, table).items():
+    here = later.table(table)
+    for key, row in earlier.table(table).items():
         yield f"{table} {'/'.join(map(str, key))}", row, here.get(key)
 
 
@@ -77,8 +67,8 @@ def what_is_decided_stays(later, earlier):
 def nothing_is_put_in_behind(later, earlier):
     """What is put in with another row isn't there where an earlier copy has that row without it."""
     for table, (parent, column) in WITH.items():
-        before, parents = table_of(earlier, table), table_of(earlier, parent)
-        for key, row in table_of(later, table).items():
+        before, parents = earlier.table(table), earlier.table(parent)
+        for key, row in later.table(table).items():
             if key not in before and (row[column],) in parents:
                 yield f"{table} {'/'.join(map(str, key))}", f"isn't in {earlier.path}, which has {parent} {row[column]}"
 
@@ -89,10 +79,20 @@ def what_is_new_is_later(later, earlier):
     (clock,), = earlier.rows("SELECT moment FROM office")
     for place in NEW.split(", "):
         table, column = place.split()
-        before = table_of(earlier, table)
-        for key, row in table_of(later, table).items():
+        before = earlier.table(table)
+        for key, row in later.table(table).items():
             if row[column] is not None and row[column] < clock and before.get(key, {}).get(column) is None:
                 yield f"{table} {'/'.join(map(str, key))}", f"{column} is {text_of(row[column])}, before {text_of(clock)}, and {earlier.path} hasn't it"
+
+
+@rule("copies")
+def appropriations_come_from_batches(later, earlier):
+    """Since an earlier copy no more lines got another appropriation or title than rows of budget files came in."""
+    came = sum(row["rows"] for key, row in later.table("batches").items() if key not in earlier.table("batches"))
+    before = earlier.table("lines")
+    moved = [key for key, row in later.table("lines").items() if [row[name] for name in ("title", "appropriation")] != [before.get(key, {}).get(name) for name in ("title", "appropriation")]]
+    for line, in moved if len(moved) > came else []:
+        yield f"lines {line}", f"has another title or appropriation than in {earlier.path}, since which {came} rows of budget files came in, for {len(moved)} lines"
 
 
 # ---- Answers that were saved.
@@ -147,8 +147,8 @@ def registers_are_of_the_rows(later, office, saved, notice):
     text = saved.of_notice(notice, "register") if office else None
     if text is None:
         return
-    rows = {row["receipt"]: row for row in table_of(office, "envelopes").values() if row["notice"] == notice}
-    told = [line.split("\t") for line in text.split("\n")[2:-1]]
+    rows = {row["receipt"]: row for row in office.table("envelopes").values() if row["notice"] == notice}
+    told = [line.split("\t") for line in text.split("\n")[1:-1]]
     for receipt, lot, moment, length, state in told:
         row = rows.get(int(receipt))
         if row is None or [lot, moment, length] != [row["lot"], text_of(row["moment"]), str(row["length"])] or state not in ("sealed", row["state"]):
@@ -162,7 +162,7 @@ def registers_are_of_the_rows(later, office, saved, notice):
 def receipts_are_of_the_rows(office, saved):
     """A receipt that a tenderer kept has its tender there, with its digest, moment and security, and a state that follows: who came late is given back, who was in time isn't, but by a cancellation."""
     for number, receipt in saved.held("receipt"):
-        row = table_of(office, "envelopes").get((receipt.get("receipt"),))
+        row = office.table("envelopes").get((receipt.get("receipt"),))
         if row is None:
             yield f"envelopes {receipt.get('receipt')}", f"{saved.place} has a receipt of it, and it isn't there"
             continue
@@ -172,7 +172,7 @@ def receipts_are_of_the_rows(office, saved):
         unlike = [name for name in names if name in receipt and receipt[name] != here[name]]
         for name in unlike:
             yield f"envelopes {row['receipt']}", f"{name} is {here[name]}, and {receipt[name]} on the receipt of {saved.place}"
-        notice = table_of(office, "notices")[(row["notice"],)]
+        notice = office.table("notices")[(row["notice"],)]
         in_time = row["state"] != "returned" or notice["state"] == "cancelled" and row["moment"] <= notice["deadline"]
         if not (receipt.get("state") == row["state"] or receipt.get("state") == "sealed" and in_time):
             yield f"envelopes {row['receipt']}", f"is {row['state']}, and {receipt.get('state')} on the receipt of {saved.place}"
@@ -184,8 +184,8 @@ def securities_are_as_shown(office, saved):
     for kind, table in (("security", "securities"), ("performance", "performance")):
         for number, shown in saved.held(kind):
             key = shown.get("security" if kind == "security" else "contract")
-            row = table_of(office, table).get((key,))
-            here = {**(row or {}), **({} if kind == "security" or row is None else {"tenderer": table_of(office, "contracts")[(key,)]["tenderer"]})}
+            row = office.table(table).get((key,))
+            here = {**(row or {}), **({} if kind == "security" or row is None else {"tenderer": office.table("contracts")[(key,)]["tenderer"]})}
             unlike = [name for name in ("amount", "reference", "tenderer") if shown.get(name) != here.get(name)]
             if row is None or unlike or shown.get("state") not in ("held", row["state"]):
                 told = {name: here.get(name) for name in ("amount", "reference", "tenderer", "state")}

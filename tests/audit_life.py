@@ -1,7 +1,7 @@
 """The office that `tests/audit` audits: procurements of every end, made by a program that serves. Most of its five seconds it waits for a deadline."""
-import hashlib, json, time
+import hashlib, json, math, time
 
-from common import CLERK, fail, request, timed_exchange
+from common import CLERK, fail, look, request, timed_exchange
 
 ITEMS = [("I1", 3), ("I2", 10)]
 TENDERERS = ["T1", "T2", "T3", "T4", "T5"]
@@ -25,13 +25,14 @@ def text_of(second):
 
 
 class Life:
-    """Requests to an office at a port, each of which must be accepted; `receipt` has the receipts by the names that they are given here."""
+    """Requests to an office at a port, each of which must be accepted; `receipt` has the receipts by the names that they are given here, `kept` what was answered to
+    each presentation, by its receipt."""
 
     def __init__(self, port):
-        self.port, self.receipt, self.deadline = port, {}, int(time.time()) + 4
+        self.port, self.receipt, self.kept, self.deadline = port, {}, {}, int(time.time()) + 4
 
     def ask(self, caller, target, body):
-        return json.loads(timed_exchange(self.port, request(b"POST", target.encode(), body.encode(), caller), patience=20)[0])
+        return json.loads(timed_exchange(self.port, request(b"POST", target.encode(), body.encode(), caller), patience=60)[0])
 
     def clerk(self, target, body=None):
         return self.ask(CLERK, target, body if isinstance(body, str) else "" if body is None else json.dumps(body))
@@ -50,10 +51,19 @@ class Life:
 
     def present(self, name, tenderer, notice, lot_name, body, security=None):
         query = f"?security={name}&amount={security}" if security else ""
-        self.receipt[name] = self.tenderer(tenderer, f"/notices/{notice}/lots/{lot_name}/tenders{query}", body)["receipt"]
+        self.keep(name, self.tenderer(tenderer, f"/notices/{notice}/lots/{lot_name}/tenders{query}", body))
 
     def modify(self, name, tenderer, old, body):
-        self.receipt[name] = self.tenderer(tenderer, f"/tenders/{self.receipt[old]}/modify", body)["receipt"]
+        self.keep(name, self.tenderer(tenderer, f"/tenders/{self.receipt[old]}/modify", body))
+
+    def keep(self, name, answer):
+        """Keeps a receipt."""
+        self.receipt[name] = answer["receipt"]
+        self.kept[answer["receipt"]] = answer
+
+    def seen(self, path, caller=None):
+        """What is answered to a look, as bytes."""
+        return timed_exchange(self.port, request(b"GET", path.encode(), caller=caller) if caller else look(path.encode()))[0]
 
     def withdraw(self, tenderer, name):
         self.tenderer(tenderer, f"/tenders/{self.receipt[name]}/withdraw")
@@ -76,7 +86,10 @@ class Life:
     def before_the_deadline(self):
         """The budget, the tenderers, eight notices and their tenders; N3 is cancelled, N5 goes on receiving, and tenders for N8 may be withdrawn late."""
         self.clerk("/budget/B1", "line,kind,amount,title\n1000,add,100000,Roads\n2000,add,100000,Schools\n2000,cut,5000,Schools\n3000,add,0007,Parks\n")
+        begun = time.monotonic()
         self.register(*TENDERERS)
+        # (Some fifty requests follow, more of them by a program with its checks in, or on a busy machine, in more than three seconds.)
+        self.deadline = int(time.time()) + max(4, math.ceil(25 * (time.monotonic() - begun)))
         self.publish("N1", self.deadline - 1, lot("L1", "1000", 600, 50), lot("L2", "2000", 300, 0), criteria="price", performance=30)
         self.clerk("/notices/N1/amend", {"deadline": text_of(self.deadline), "rationale": "More time"})
         self.publish("N2", self.deadline, lot("L1", "2000", 240, 0), criteria="points", price_weight=60, performance=15)

@@ -123,7 +123,7 @@ class Office:
 
     def __init__(self, path, folder):
         place = tempfile.mkdtemp(dir=folder)
-        self.path, self.stamp, self.unread = path, copied(path, place), 0
+        self.path, self.stamp, self.unread, self.tables = path, copied(path, place), 0, {}
         self.base = sqlite3.connect(os.path.join(place, "office.db"))
         self.base.execute("PRAGMA trusted_schema = OFF")
         self.base.text_factory = lambda text: text.decode("utf-8", "surrogateescape")
@@ -160,6 +160,14 @@ class Office:
 
     def rows(self, sql, *values):
         return self.base.execute(sql, values).fetchall()
+
+    def table(self, name):
+        """The rows of a table by their keys, each as its values by column."""
+        if name not in self.tables:
+            keys, others = (columns.split() for columns in TABLES[name])
+            rows = self.rows(f"SELECT {', '.join(keys + others)} FROM {name}")
+            self.tables[name] = {row[:len(keys)]: dict(zip(keys + others, row)) for row in rows}
+        return self.tables[name]
 
     def find(self, table, sql, *values):
         """A finding for each row that is asked for: the key of a row of the table, and what is wrong with it."""
