@@ -3,7 +3,7 @@
 A front that is asked too often says so (429), and an office that can't answer now too (502, 503, 504): then the same is asked again, after as long as
 `Retry-After` says (RFC 9110, section 10.2.3), or after 1, 2, 4 .. seconds where it says nothing.
 """
-import email.utils, glob, http.client, json, os, re, time, urllib.parse
+import email.utils, glob, http.client, os, re, time, urllib.parse
 
 from audit_office import Unreadable, json_object
 

@@ -2,7 +2,6 @@
 
 What an office has told, and most of what its rows say, no command takes back. So a witness shows what was changed with everything that hangs together.
 """
-from audit_answers import HELD
 from audit_office import TABLES, rule, text_of
 from audit_releases import compiled_of, difference, record_in, releases_in
 

@@ -5,8 +5,9 @@ that is tried too, and then which witness shows it, or that none does. What docs
 """
 import hashlib, json, os
 
-from audit_life import tender, text_of
+from audit_life import offer
 from audit_releases import compiled_of, releases_in
+from client import text_of
 
 def without(notice):
     """Deletes a procurement whole, with all that it left in a file, where nobody took part."""
@@ -229,9 +230,9 @@ def forgeries(life):
          ("earlier answers", "saved_releases_stay", "notices N2"), ("earlier answers", "paid_never_falls", "lines 2000"), ("a copy", stay, f"entries {running}/P1")),
         ("a contract was changed for another reason", "UPDATE entries SET rationale = 'Works' WHERE rationale = 'Kerbs'; " + said("N1", "Kerbs", "Works"),
          ("earlier answers", "saved_releases_stay", "notices N1"), ("a copy", stay, f"entries {life.contract}/A1")),
-        ("a tender asked another price", other_bytes(r["low"], tender(0, 21)) + f"UPDATE envelopes SET stated = 210, corrected = 210 WHERE receipt = {r['low']}",
+        ("a tender asked another price", other_bytes(r["low"], offer(0, 21)) + f"UPDATE envelopes SET stated = 210, corrected = 210 WHERE receipt = {r['low']}",
          ("earlier answers", "saved_minutes_stay", "notices N2"), ("what was handed out", "receipts_are_of_the_rows", f"envelopes {r['low']}"), ("a copy", stay, f"seals {r['low']}")),
-        ("a sealed tender is another one", other_bytes(r["sealed"], tender(9, 9)), ("what was handed out", "receipts_are_of_the_rows", f"envelopes {r['sealed']}"),
+        ("a sealed tender is another one", other_bytes(r["sealed"], offer(9, 9)), ("what was handed out", "receipts_are_of_the_rows", f"envelopes {r['sealed']}"),
          ("a copy", stay, f"envelopes {r['sealed']}")),
         ("a tenderer has another name", "UPDATE tenderers SET name = 'Firm A4' WHERE tenderer = 'T4'; " + said("N1", "Firm T4", "Firm A4"),
          ("earlier answers", "saved_releases_stay", "notices N1"), ("earlier answers", "saved_minutes_stay", "notices N1"), ("a copy", stay, "tenderers T4")),

@@ -5,7 +5,7 @@ from common import HOST, ROOT, connect, fail, free_port, place_of
 
 # An address of this machine from which, by the adapted file, no clerk asks.
 OUTSIDE = "127.0.0.2"
-PATIENCE = 20
+PATIENCE = 60
 MAIN = """
 daemon off;
 worker_processes 2;
