@@ -3,12 +3,19 @@
 A front that is asked too often says so (429), and an office that can't answer now too (502, 503, 504): then the same is asked again, after as long as
 `Retry-After` says (RFC 9110, section 10.2.3), or after 1, 2, 4 .. seconds where it says nothing.
 """
-import email.utils, glob, http.client, os, re, time, urllib.parse
+import email.utils
+import glob
+import http.client
+import os
+import re
+import time
+import urllib.parse
+from collections.abc import Callable
 
-from audit_office import Unreadable, json_object
+from audit_office import Json, Unreadable, json_object
 
-# The files of a folder, by the routes whose answers they are. The public may ask for the first four of a notice but the register, which is the clerk's; a receipt is
-# what presenting, changing or `GET /tenders/R` answers its tenderer; the securities are shown to the clerk and to their tenderer.
+# The files of a folder, by the routes whose answers they are. Of a notice anybody may ask for all but the register, which is the clerk's; a receipt is what
+# presenting, changing or `GET /tenders/R` answers its tenderer; the securities are shown to the clerk and to their tenderer.
 OF_NOTICES = {"releases": ".json", "record": ".json", "minutes": ".txt", "register": ".txt"}
 HELD = ("receipt", "security", "performance")
 
@@ -17,7 +24,7 @@ PATIENCE, LONGEST, AGAIN = 600, 30, 5
 TOO_MANY, NOT_NOW = 429, (502, 503, 504)
 
 
-def seconds_of(retry_after, tried, now=time.time):
+def seconds_of(retry_after: str | None, tried: int, now: Callable[[], float] = time.time) -> float:
     """How long to wait, by the field `Retry-After` of an answer, a count of seconds or a date; where that says nothing, twice as long each time."""
     text = (retry_after or "").strip()
     if re.fullmatch(r"[0-9]{1,9}", text):
@@ -25,44 +32,49 @@ def seconds_of(retry_after, tried, now=time.time):
     try:
         return max(0.0, email.utils.parsedate_to_datetime(text).timestamp() - now())
     except (TypeError, ValueError, OverflowError):
-        return min(LONGEST, 2 ** tried)
+        return float(min(LONGEST, 1 << tried))
 
 
 class Answers:
     """What an office answered: the files of a folder, or what an address is asked for, each once."""
 
-    def __init__(self, folder, base):
-        self.folder, self.base, self.place, self.asked = folder, base, folder or base, {}
+    def __init__(self, folder: str | None, base: str | None) -> None:
+        self.folder, self.base, self.place = folder or "", base or "", folder or base or ""
+        self.asked: dict[str, str | None] = {}
 
-    def names(self, kind, end):
+    def names(self, kind: str, end: str) -> list[str]:
         """What stands behind `kind-` in the names of the folder's files."""
         paths = glob.glob(os.path.join(glob.escape(self.folder), f"{kind}-*{end}")) if self.folder else []
         return sorted(os.path.basename(path)[len(kind) + 1:-len(end)] for path in paths)
 
-    def notices(self):
+    def notices(self) -> list[str]:
         """The notices of which the folder has anything."""
         return sorted({notice for kind, end in OF_NOTICES.items() for notice in self.names(kind, end)})
 
-    def held(self, kind):
+    def held(self, kind: str) -> list[tuple[str, Json]]:
         """What was handed out under a number and that the folder has: the number, and the JSON object."""
         return [(number, self.object(f"{kind}-{number}.json")) for number in self.names(kind, ".json")]
 
-    def perhaps(self, path, name):
+    def perhaps(self, path: str, name: str) -> str | None:
         """The text that is answered, or None where there is none."""
-        if self.base:
-            if path not in self.asked:
-                self.asked[path] = self.ask(path)
-            return self.asked[path]
+        if not self.base:
+            return self.saved(name)
+        if path not in self.asked:
+            self.asked[path] = self.ask(path)
+        return self.asked[path]
+
+    def saved(self, name: str) -> str | None:
+        """The text of a file of the folder, or None where it isn't there."""
         if not os.path.exists(os.path.join(self.folder, name)):
             return None
         with open(os.path.join(self.folder, name), encoding="utf-8", newline="") as file:
             return file.read()
 
-    def of_notice(self, notice, kind):
+    def of_notice(self, notice: str, kind: str) -> str | None:
         """The text of a notice that is answered, or None."""
         return self.perhaps(f"/notices/{notice}/{kind}", f"{kind}-{notice}{OF_NOTICES[kind]}")
 
-    def package(self, notice, kind):
+    def package(self, notice: str, kind: str) -> Json | None:
         """A package of a notice, which must be a JSON object, or None where there is none."""
         text = self.of_notice(notice, kind)
         package = json_object(text) if text is not None else None
@@ -70,14 +82,14 @@ class Answers:
             raise Unreadable(f"{self.place}: the {kind} of {notice}: no JSON object")
         return package
 
-    def object(self, name):
+    def object(self, name: str) -> Json:
         """The JSON object of a file of the folder."""
-        value = json_object(self.perhaps(None, name))
+        value = json_object(self.saved(name) or "")
         if value is None:
             raise Unreadable(f"{os.path.join(self.folder, name)}: no JSON object")
         return value
 
-    def packages(self, notice):
+    def packages(self, notice: str) -> tuple[Json | None, Json | None]:
         """The releases and the record of a notice. Those of an address are asked for again where a command came in between."""
         for _ in range(3):
             package, record = self.package(notice, "releases"), self.package(notice, "record")
@@ -87,12 +99,12 @@ class Answers:
             self.forget(f"/notices/{notice}/releases", f"/notices/{notice}/record")
         return package, record
 
-    def forget(self, *paths):
+    def forget(self, *paths: str) -> None:
         """Asks for these anew when they are looked at again."""
         for path in paths:
             self.asked.pop(path, None)
 
-    def ask(self, path):
+    def ask(self, path: str) -> str | None:
         """The body of the office's answer, or None where the office refuses it as not there or not yet there."""
         status, body = self.patient(path)
         refused = status in (404, 409) and "refusal" in (json_object(body) or {})
@@ -100,9 +112,9 @@ class Answers:
             raise Unreadable(f"{self.base + path}: status {status}: {body[:100]}")
         return body if status == 200 else None
 
-    def patient(self, path):
+    def patient(self, path: str) -> tuple[int, str]:
         """Status and body of an answer, asked for again as long as the front or the office says that it is too busy."""
-        waited = tried = failed = 0
+        waited, tried, failed = 0.0, 0, 0
         while True:
             status, retry_after, body = self.exchange(path)
             wait = seconds_of(retry_after, tried)
@@ -114,13 +126,13 @@ class Answers:
             waited += wait
             time.sleep(wait)
 
-    def exchange(self, path):
+    def exchange(self, path: str) -> tuple[int, str | None, str]:
         """Status, `Retry-After` and body of one answer."""
         parts = urllib.parse.urlsplit(self.base)
         kind = http.client.HTTPSConnection if parts.scheme == "https" else http.client.HTTPConnection
         try:
-            connection = kind(parts.hostname, parts.port, timeout=60)
-            connection.request("GET", parts.path.rstrip("/") + path)
+            connection = kind(str(parts.hostname), parts.port, timeout=60)
+            connection.request("GET", str(parts.path).rstrip("/") + path)
             response = connection.getresponse()
             body = response.read().decode("utf-8")
             connection.close()

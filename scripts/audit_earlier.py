@@ -2,15 +2,19 @@
 
 What an office has told, and most of what its rows say, no command takes back. So a witness shows what was changed with everything that hangs together.
 """
-from audit_office import TABLES, rule, text_of
+from collections.abc import Callable, Collection, Iterator
+
+from audit_answers import Answers
+from audit_office import TABLES, Found, Json, Office, Row, rule, text_of
 from audit_releases import compiled_of, difference, record_in, releases_in
+from audit_rows import MOMENTS
 
 # What no command changes in a row that is there.
 FIXED = {
-    "batches": "moment rows", "tenderers": "name address key", "notices": "title published validity standstill weight performance", "lots": "title line estimate security items",
-    "envelopes": "notice lot tenderer moment length digest security", "seals": "bytes", "securities": "tenderer notice lot reference amount",
-    "awards": "notice lot receipt price moment", "contracts": "notice lot tenderer signed moment", "entries": "kind amount moment rationale", "releases": "moment text",
-    "performance": "reference amount", "lines": "", "compiled": "", "late_rules": ""}
+    "batches": "moment rows", "tenderers": "name address key", "notices": "title published validity standstill weight performance",
+    "lots": "title line estimate security items", "envelopes": "notice lot tenderer moment length digest security", "seals": "bytes",
+    "securities": "tenderer notice lot reference amount", "awards": "notice lot receipt price moment", "contracts": "notice lot tenderer signed moment",
+    "entries": "kind amount moment rationale", "releases": "moment text", "performance": "reference amount", "lines": "", "compiled": "", "late_rules": ""}
 # What is none until it is set, once.
 ONCE = {"notices": "opened", "envelopes": "reading stated corrected corrections responsive quality", "contracts": "ended how"}
 # What only grows.
@@ -20,50 +24,53 @@ GOES_ON = {"notices": "receiving", "lots": "undecided awarded", "envelopes": "se
 # Rows that are put in with another row, and never into it later: the table of that, and its key as the columns of this one.
 WITH = {"lots": ("notices", "notice"), "late_rules": ("notices", "notice"), "seals": ("envelopes", "receipt"), "securities": ("envelopes", "security"),
         "performance": ("contracts", "contract")}
-# Moments of rows that weren't there before, or of what wasn't set.
-NEW = ("batches moment, notices published, notices opened, envelopes moment, awards moment, contracts moment, contracts ended, entries moment, releases moment")
 
 
-def both(table, later, earlier):
+def both(table: str, later: Office, earlier: Office) -> Iterator[tuple[str, Row, Row | None]]:
     """Of each row that an earlier copy has: its key as text, the row there, and the row here, or None."""
     here = later.table(table)
     for key, row in earlier.table(table).items():
         yield f"{table} {'/'.join(map(str, key))}", row, here.get(key)
 
 
-def short(value):
+def short(value: object) -> str:
     return str(value)[:60]
 
 
 # ---- Earlier copies of the file.
 
 @rule("copies")
-def rows_of_an_earlier_copy_stay(later, earlier):
+def rows_of_an_earlier_copy_stay(later: Office, earlier: Office) -> Found:
     """Each row of an earlier copy is there, with what no command changes in it; the bytes of a tender alone are taken out, when it is given back."""
     for table, columns in FIXED.items():
         for row, before, here in both(table, later, earlier):
-            if here is None and table != "seals":
-                yield row, f"was there in {earlier.path}"
-            for column in columns.split() if here else []:
+            if here is None:
+                yield from [(row, f"was there in {earlier.path}")] if table != "seals" else []
+                continue
+            for column in columns.split():
                 if here[column] != before[column]:
                     yield row, f"{column} is {short(here[column])}, and was {short(before[column])} in {earlier.path}"
 
 
 @rule("copies")
-def what_is_decided_stays(later, earlier):
+def what_is_decided_stays(later: Office, earlier: Office) -> Found:
     """What an earlier copy had decided is so: states that are final, readings, examinations, openings and ends; deadlines, counts and the clock only grow."""
     for table in TABLES:
-        kept = [(column, lambda before, here: before in (None, here)) for column in ONCE.get(table, "").split()]
-        kept += [(column, lambda before, here: before <= here) for column in GROWS.get(table, "").split()]
-        kept += [("state", lambda before, here, on=GOES_ON[table].split(): before == here or before in on)] if table in GOES_ON else []
-        for row, before, here in both(table, later, earlier) if kept else []:
-            for column, may_be in kept if here else []:
-                if not may_be(before[column], here[column]):
-                    yield row, f"{column} is {short(here[column])}, and was {short(before[column])} in {earlier.path}"
+        for row, before, here in both(table, later, earlier):
+            for column in went_back(table, before, here) if here else []:
+                yield row, f"{column} is {short((here or {})[column])}, and was {short(before[column])} in {earlier.path}"
+
+
+def went_back(table: str, before: Row, here: Row) -> Iterator[str]:
+    """The columns of a row whose value can't have come after the one before."""
+    yield from (column for column in ONCE.get(table, "").split() if before[column] not in (None, here[column]))
+    yield from (column for column in GROWS.get(table, "").split() if before[column] > here[column])
+    if table in GOES_ON and before["state"] not in (here["state"], *GOES_ON[table].split()):
+        yield "state"
 
 
 @rule("copies")
-def nothing_is_put_in_behind(later, earlier):
+def nothing_is_put_in_behind(later: Office, earlier: Office) -> Found:
     """What is put in with another row isn't there where an earlier copy has that row without it."""
     for table, (parent, column) in WITH.items():
         before, parents = earlier.table(table), earlier.table(parent)
@@ -73,10 +80,10 @@ def nothing_is_put_in_behind(later, earlier):
 
 
 @rule("copies")
-def what_is_new_is_later(later, earlier):
+def what_is_new_is_later(later: Office, earlier: Office) -> Found:
     """What an earlier copy hasn't is of its last moment or a later one."""
     (clock,), = earlier.rows("SELECT moment FROM office")
-    for place in NEW.split(", "):
+    for place in MOMENTS.split(", "):
         table, column = place.split()
         before = earlier.table(table)
         for key, row in later.table(table).items():
@@ -85,13 +92,13 @@ def what_is_new_is_later(later, earlier):
 
 
 @rule("copies")
-def appropriations_come_from_batches(later, earlier):
+def appropriations_come_from_batches(later: Office, earlier: Office) -> Found:
     """Since an earlier copy no more lines got another appropriation or title than rows of budget files came in."""
     came = sum(row["rows"] for key, row in later.table("batches").items() if key not in earlier.table("batches"))
-    before = earlier.table("lines")
-    moved = [key for key, row in later.table("lines").items() if [row[name] for name in ("title", "appropriation")] != [before.get(key, {}).get(name) for name in ("title", "appropriation")]]
+    told, before = (({key: (row["title"], row["appropriation"]) for key, row in of.table("lines").items()}) for of in (later, earlier))
+    moved = [key for key, row in told.items() if row != before.get(key)]
     for line, in moved if len(moved) > came else []:
-        yield f"lines {line}", f"has another title or appropriation than in {earlier.path}, since which {came} rows of budget files came in, for {len(moved)} lines"
+        yield f"lines {line}", f"{len(moved)} lines have another title or appropriation than in {earlier.path}, since which {came} rows of budget files came in"
 
 
 # ---- Answers that were saved.
@@ -99,19 +106,19 @@ def appropriations_come_from_batches(later, earlier):
 class Later:
     """What is audited, by a notice: the releases and the minutes that the file has, or that were answered."""
 
-    def __init__(self, notices, releases, minutes):
+    def __init__(self, notices: Collection[str], releases: Callable[[str], list[Json]], minutes: Callable[[str], str | None]) -> None:
         self.notices, self.releases, self.minutes = notices, releases, minutes
 
 
 @rule("witness")
-def saved_notices_are_there(later, office, saved, notice):
+def saved_notices_are_there(later: Later, office: Office | None, saved: Answers, notice: str) -> Found:
     """A notice of which somebody saved an answer is there."""
     if notice not in later.notices:
         yield f"notices {notice}", f"{saved.place} has answers of it, and it isn't there"
 
 
 @rule("saved")
-def saved_releases_stay(later, office, saved, notice):
+def saved_releases_stay(later: Later, office: Office | None, saved: Answers, notice: str) -> Found:
     """Releases that were saved, alone or with a record, are still the first ones of their notice, each as it was."""
     package, record = saved.package(notice, "releases"), saved.package(notice, "record")
     for kind, releases in (("releases", releases_in(package or {})), ("record", releases_in(record_in(record or {})))):
@@ -121,7 +128,7 @@ def saved_releases_stay(later, office, saved, notice):
 
 
 @rule("saved")
-def saved_records_are_merges(later, office, saved, notice):
+def saved_records_are_merges(later: Later, office: Office | None, saved: Answers, notice: str) -> Found:
     """The compiled release of a record that was saved is the merge of its releases."""
     record = saved.package(notice, "record")
     if record is not None:
@@ -131,35 +138,36 @@ def saved_records_are_merges(later, office, saved, notice):
 
 
 @rule("saved")
-def saved_minutes_stay(later, office, saved, notice):
+def saved_minutes_stay(later: Later, office: Office | None, saved: Answers, notice: str) -> Found:
     """Minutes that were saved are still the minutes: nothing changes them."""
-    text = saved.of_notice(notice, "minutes")
-    if text is not None and notice in later.notices and later.minutes(notice) not in (None, text):
-        pairs = zip(text.split("\n"), later.minutes(notice).split("\n"))
-        place, (was, here) = next(((place, pair) for place, pair in enumerate(pairs, 1) if pair[0] != pair[1]), (0, ("longer or shorter", "")))
-        yield f"notices {notice}", f"line {place} of its minutes is {here!r}, and was {was!r} in {saved.place}"
+    before, here = saved.of_notice(notice, "minutes"), later.minutes(notice) if notice in later.notices else None
+    if before is not None and here is not None and before != here:
+        lines, there = before.split("\n"), here.split("\n")
+        place = next((place for place, (was, now) in enumerate(zip(lines, there)) if was != now), min(len(lines), len(there)))
+        yield f"notices {notice}", f"line {place + 1} of its minutes is {there[place:place + 1]}, and was {lines[place:place + 1]} in {saved.place}"
 
 
 @rule("witness")
-def registers_are_of_the_rows(later, office, saved, notice):
+def registers_are_of_the_rows(later: Later, office: Office | None, saved: Answers, notice: str) -> Found:
     """Each tender of a register that the clerk saved is there, of its lot, moment and length, its state such as follows, and none was put in between."""
-    text = saved.of_notice(notice, "register") if office else None
-    if text is None:
+    text = saved.of_notice(notice, "register")
+    if office is None or text is None:
         return
-    rows = {row["receipt"]: row for row in office.table("envelopes").values() if row["notice"] == notice}
-    told = [line.split("\t") for line in text.split("\n")[1:-1]]
-    for receipt, lot, moment, length, state in told:
-        row = rows.get(int(receipt))
-        if row is None or [lot, moment, length] != [row["lot"], text_of(row["moment"]), str(row["length"])] or state not in ("sealed", row["state"]):
-            yield f"envelopes {receipt}", f"is {row and [row['lot'], text_of(row['moment']), row['length'], row['state']]}, and was {[lot, moment, length, state]} in {saved.place}"
-    for receipt in sorted(rows.keys() - {int(line[0]) for line in told}):
-        if receipt < max((int(line[0]) for line in told), default=0):
+    rows = {row["receipt"]: [row["lot"], text_of(row["moment"]), str(row["length"]), row["state"]]
+            for row in office.table("envelopes").values() if row["notice"] == notice}
+    told = {int(receipt): fields for receipt, *fields in (line.split("\t") for line in text.split("\n")[1:-1])}
+    for receipt, fields in told.items():
+        here = rows.get(receipt)
+        if here is None or fields[:-1] != here[:-1] or fields[-1] not in ("sealed", here[-1]):
+            yield f"envelopes {receipt}", f"is {here}, and was {fields} in the register of {saved.place}"
+    for receipt in sorted(rows.keys() - told.keys()):
+        if receipt < max(told, default=0):
             yield f"envelopes {receipt}", f"isn't in the register of {saved.place}, which has later ones"
 
 
 @rule("held")
-def receipts_are_of_the_rows(office, saved):
-    """A receipt that a tenderer kept has its tender there, with its digest, moment and security, and a state that follows: who came late is given back, who was in time isn't, but by a cancellation."""
+def receipts_are_of_the_rows(office: Office, saved: Answers) -> Found:
+    """A receipt that was kept has its tender, of its digest, moment and security, given back if it came late, and else only by a cancellation."""
     for number, receipt in saved.held("receipt"):
         row = office.table("envelopes").get((receipt.get("receipt"),))
         if row is None:
@@ -178,7 +186,7 @@ def receipts_are_of_the_rows(office, saved):
 
 
 @rule("held")
-def securities_are_as_shown(office, saved):
+def securities_are_as_shown(office: Office, saved: Answers) -> Found:
     """A security that the clerk or its tenderer was shown is there, of its amount, reference and tenderer, and in a state that follows; so is a contract's."""
     for kind, table in (("security", "securities"), ("performance", "performance")):
         for number, shown in saved.held(kind):
@@ -192,7 +200,7 @@ def securities_are_as_shown(office, saved):
 
 
 @rule("ledgers")
-def paid_never_falls(here, before, place):
+def paid_never_falls(here: str, before: str, place: str) -> Found:
     """Each line of a ledger that was saved is there, and no less is paid of it."""
     lines = {line.split("\t")[0]: line.split("\t") for line in here.split("\n")[2:-1]}
     for name, *_, paid in (line.split("\t") for line in before.split("\n")[2:-1]):

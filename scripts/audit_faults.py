@@ -1,38 +1,43 @@
 """The faults that `tests/audit` plants in an office that `audit_life.py` made, and where `tools/audit` must find each.
 
-A plain fault is one change of the file, or of what was answered. A forgery changes all rows, releases and merges that hang together, so that the file alone shows nothing:
-that is tried too, and then which witness shows it, or that none does. What docs/AUDITOR.md calls unseen is shown to be so by these.
+A plain fault is one change of the file, or of what was answered. A forgery changes all rows, releases and merges that hang together, so that the file alone
+shows nothing: that is tried too, and then which witnesses show it, and which don't. What docs/AUDITOR.md calls unseen is shown to be so by these.
 """
-import hashlib, json, os
+import hashlib
+import json
+import os
+from collections.abc import Callable
+from typing import Any
 
-from audit_life import offer
+from audit_life import AuditedLife, offer
+from audit_office import Json
 from audit_releases import compiled_of, releases_in
 from client import text_of
 
-def without(notice):
+def without(notice: str) -> str:
     """Deletes a procurement whole, with all that it left in a file, where nobody took part."""
     return "".join(f"DELETE FROM {table} WHERE notice = '{notice}'; " for table in ("releases", "compiled", "lots", "notices_2"))
 
 
-def said(notice, before, after):
+def said(notice: str, before: str, after: str) -> str:
     """Says something else in all releases of a notice, and in their merge."""
     return "".join(f"UPDATE {table} SET text = replace(text, '{before}', '{after}') WHERE notice = '{notice}'; " for table in ("releases", "compiled"))
 
 
-def in_places(*tables):
+def in_places(*tables: str) -> str:
     """Puts the rows of tables at the places 1, 2, 3 .. again, in their order."""
-    return "".join(f"CREATE TEMP TABLE t AS SELECT * FROM {table} ORDER BY rowid; DELETE FROM {table}; INSERT INTO {table} SELECT * FROM t ORDER BY rowid; DROP TABLE t; "
-                   for table in tables)
+    return "".join(f"CREATE TEMP TABLE t AS SELECT * FROM {table} ORDER BY rowid; DELETE FROM {table}; "
+                   f"INSERT INTO {table} SELECT * FROM t ORDER BY rowid; DROP TABLE t; " for table in tables)
 
 
-def other_bytes(receipt, body):
+def other_bytes(receipt: int, body: str) -> str:
     """Puts other bytes in the place of a tender's, with all that is said of them."""
     data = body.encode()
     return (f"UPDATE seals SET bytes = X'{data.hex()}' WHERE receipt = {receipt}; UPDATE envelopes SET digest = X'{hashlib.sha256(data).hexdigest()}', "
             f"length = {len(data)} WHERE receipt = {receipt}; ")
 
 
-def faults_of_files(life):
+def faults_of_files(life: AuditedLife) -> list[tuple[str, str, str]]:
     """Faults of the file: the rule, the row that it must name, and what is written into the file."""
     r, contract, failed = life.receipt, life.contract, life.failed
     paid = "SELECT seq FROM releases WHERE notice = 'N1' AND text LIKE '%\"P1\"%'"
@@ -65,8 +70,8 @@ def faults_of_files(life):
          "1000000000000)', '') WHERE name = 'entries'"),
         ("tables_are_as_made", "index lots_of_line", "DROP INDEX lots_of_line"),
         ("tables_are_as_made", "table notices", "DROP TABLE notices"),
-        ("notices_stand_in_one_table", "notices N1", "INSERT INTO notices SELECT notice, title, published, deadline, validity, standstill, weight, state, opened, amendments, "
-         "releases FROM notices_2 WHERE notice = 'N1'"),
+        ("notices_stand_in_one_table", "notices N1", "INSERT INTO notices SELECT notice, title, published, deadline, validity, standstill, weight, state, "
+         "opened, amendments, releases FROM notices_2 WHERE notice = 'N1'"),
         ("words_are_known", "lots N5/L1", unchecked + "UPDATE lots SET state = 'won' WHERE notice = 'N5'"),
         ("parents_are_there", f"envelopes {r['quoted']}", "DELETE FROM tenderers WHERE tenderer = 'T4'"),
         ("nothing_is_after_the_clock", f"awards {failed}", "UPDATE office SET moment = moment - 100"),
@@ -105,28 +110,28 @@ def faults_of_files(life):
         ("merges_say_what_the_rows_say", "notices N4", "UPDATE lots SET state = 'unsuccessful' WHERE notice = 'N4' AND lot = 'L1'"),
         ("heads_are_in_sequence", "releases N1/2", "UPDATE releases SET text = replace(text, '-0002\"', '-0003\"') WHERE notice = 'N1' AND seq = 2"),
         ("tags_are_of_events", "releases N1/2", "UPDATE releases SET text = replace(text, 'tenderAmendment', 'planning') WHERE notice = 'N1' AND seq = 2"),
-        # A procurement that is deleted whole, but for the places of rows; an entry that is put in behind later ones; lines, tenders and texts that no office makes.
+        # A procurement that is deleted whole, but for the places of rows; an entry from before its place; lines, tenders and texts that no office makes.
         ("rows_came_one_after_another", "releases N8/1", without("N7")),
-        ("rows_came_one_after_another", f"entries {contract}/P2", "UPDATE entries SET moment = (SELECT moment - 5 FROM entries WHERE entry = 'A1') WHERE entry = 'P2'"),
+        ("rows_came_one_after_another", f"entries {contract}/P2", "UPDATE entries SET moment = moment - 100 WHERE entry = 'P2'"),
         ("lines_come_from_batches", "office 2", "UPDATE batches SET rows = 2"),
-        ("tenders_of_a_lot_follow_each_other", f"envelopes {r['late']}", f"UPDATE envelopes SET tenderer = 'T1', state = 'withdrawn', moment = {life.deadline - 1} "
-         f"WHERE receipt IN ({r['later']}, {r['late']})"),
+        ("tenders_of_a_lot_follow_each_other", f"envelopes {r['late']}", "UPDATE envelopes SET tenderer = 'T1', state = 'withdrawn', "
+         f"moment = {life.deadline - 1} WHERE receipt IN ({r['later']}, {r['late']})"),
         ("kept_texts_are_compact", "releases N2/1", "UPDATE releases SET text = replace(text, '\",\"', '\", \"') WHERE notice = 'N2' AND seq = 1"),
         ("releases_follow_each_other", "releases N1/10", said("N1", '"amount":400,', '"amount":700,')),
     ]
 
 
-def lose(package, place):
+def lose(package: Json, place: int) -> None:
     """Loses the release of this place."""
     del package["releases"][place]
 
 
-def take_over(record, other):
+def take_over(record: Json, other: Json) -> None:
     """Puts in the compiled release of another record."""
     record["records"][0]["compiledRelease"] = other["records"][0]["compiledRelease"]
 
 
-def pay_twice(package):
+def pay_twice(package: Json) -> None:
     """Puts a payment a second time behind the releases, as a release of the next number."""
     releases = package.get("releases") or package["records"][0]["releases"]
     again = json.loads(json.dumps(next(release for release in releases if release["tag"] == ["implementation"])))
@@ -147,7 +152,7 @@ FAULTS_OF_ANSWERS = [
 
 
 
-def rewrite(folder, notice, before, after):
+def rewrite(folder: str, notice: str, before: str, after: str) -> None:
     """Says something else in the releases of a notice that were answered, in its record, and in their merge, so that these three fit."""
     paths = [os.path.join(folder, f"{kind}-{notice}.json") for kind in ("releases", "record")]
     texts = [read(path) for path in paths]
@@ -158,19 +163,19 @@ def rewrite(folder, notice, before, after):
         write(path, json.dumps(value, ensure_ascii=False), text)
 
 
-def replace(folder, name, before, after):
+def replace(folder: str, name: str, before: str, after: str) -> None:
     """Says something else in an answer."""
     path = os.path.join(folder, name)
     text = read(path)
     write(path, text.replace(before, after), text)
 
 
-def read(path):
+def read(path: str) -> str:
     with open(path, newline="", encoding="utf-8") as file:
         return file.read()
 
 
-def write(path, text, before):
+def write(path: str, text: str, before: str) -> None:
     """Writes a text that mustn't be the one before."""
     if text == before:
         raise ValueError(f"a fault changes nothing in {path}")
@@ -178,14 +183,14 @@ def write(path, text, before):
         file.write(text)
 
 
-def lose_notice(folder, notice):
+def lose_notice(folder: str, notice: str) -> None:
     """Loses all answers on a notice."""
     for name in os.listdir(folder):
         if f"-{notice}." in name:
             os.remove(os.path.join(folder, name))
 
 
-def faults_outside(life):
+def faults_outside(life: AuditedLife) -> list[tuple[Any, ...]]:
     """Faults of answers without a file: the rule, the row, what is done to their folder, and further arguments."""
     r, running = life.receipt, life.running
     start = text_of(life.deadline + 20_000_000)
@@ -213,52 +218,69 @@ def faults_outside(life):
     ]
 
 
-def forgeries(life):
+# The witnesses: what anybody was answered, what the clerk and tenderers were, and an earlier copy of the file.
+PUBLIC, HELD, COPY = "earlier answers", "what was handed out", "an earlier copy"
+
+
+def forgeries(life: AuditedLife) -> list[tuple[Any, ...]]:
     """Forgeries of the file that the file alone doesn't show: what is forged, how, and where it is found: by which witness, rule and row."""
     r, broken, running = life.receipt, life.broken, life.running
+    low, sealed, late, taken = (f"envelopes {r[name]}" for name in ("low", "sealed", "late", "taken"))
     moved, further = text_of(life.deadline + 90_000), text_of(life.deadline + 180_000)
-    stay, decided = "rows_of_an_earlier_copy_stay", "what_is_decided_stays"
+    stay, decided, receipts = "rows_of_an_earlier_copy_stay", "what_is_decided_stays", "receipts_are_of_the_rows"
     return [
         ("a procurement is deleted whole, and its places are filled", without("N7") + in_places("releases", "compiled", "lots", "notices_2"),
-         ("earlier answers", "saved_notices_are_there", "notices N7"), ("what was handed out", "saved_notices_are_there", "notices N7"), ("a copy", stay, "notices N7")),
-        ("a late tender is one in time, and withdrawn", f"UPDATE envelopes SET state = 'withdrawn', moment = {life.deadline - 1} WHERE receipt = {r['late']}",
-         ("what was handed out", "receipts_are_of_the_rows", f"envelopes {r['late']}"), ("what was handed out", "registers_are_of_the_rows", f"envelopes {r['late']}"), ("a copy", decided, f"envelopes {r['late']}")),
-        ("a contract ended regularly, not by default, and its security went back", f"UPDATE contracts SET how = 'regular' WHERE contract = {broken}; "
-         f"UPDATE performance SET state = 'returned' WHERE contract = {broken}",
-         ("what was handed out", "securities_are_as_shown", f"performance {broken}"), ("a copy", decided, f"contracts {broken}"), ("a copy", decided, f"performance {broken}")),
+         (PUBLIC, "saved_notices_are_there", "notices N7"), (HELD, "saved_notices_are_there", "notices N7"), (COPY, stay, "notices N7")),
+        ("a late tender is one in time, and withdrawn",
+         f"UPDATE envelopes SET state = 'withdrawn', moment = {life.deadline - 1} WHERE receipt = {r['late']}",
+         (HELD, receipts, late), (HELD, "registers_are_of_the_rows", late), (COPY, decided, late), (COPY, stay, late)),
+        ("a contract ended regularly, not by default, and its security went back",
+         f"UPDATE contracts SET how = 'regular' WHERE contract = {broken}; UPDATE performance SET state = 'returned' WHERE contract = {broken}",
+         (HELD, "securities_are_as_shown", f"performance {broken}"), (COPY, decided, f"contracts {broken}"), (COPY, decided, f"performance {broken}")),
         ("less was paid", f"UPDATE entries SET amount = 90 WHERE contract = {running}; " + said("N2", '"amount":100,', '"amount":90,'),
-         ("earlier answers", "saved_releases_stay", "notices N2"), ("earlier answers", "paid_never_falls", "lines 2000"), ("a copy", stay, f"entries {running}/P1")),
+         (PUBLIC, "saved_releases_stay", "notices N2"), (PUBLIC, "paid_never_falls", "lines 2000"), (COPY, stay, f"entries {running}/P1")),
         ("a contract was changed for another reason", "UPDATE entries SET rationale = 'Works' WHERE rationale = 'Kerbs'; " + said("N1", "Kerbs", "Works"),
-         ("earlier answers", "saved_releases_stay", "notices N1"), ("a copy", stay, f"entries {life.contract}/A1")),
+         (PUBLIC, "saved_releases_stay", "notices N1"), (COPY, stay, f"entries {life.contract}/A1")),
         ("a tender asked another price", other_bytes(r["low"], offer(0, 21)) + f"UPDATE envelopes SET stated = 210, corrected = 210 WHERE receipt = {r['low']}",
-         ("earlier answers", "saved_minutes_stay", "notices N2"), ("what was handed out", "receipts_are_of_the_rows", f"envelopes {r['low']}"), ("a copy", stay, f"seals {r['low']}")),
-        ("a sealed tender is another one", other_bytes(r["sealed"], offer(9, 9)), ("what was handed out", "receipts_are_of_the_rows", f"envelopes {r['sealed']}"),
-         ("a copy", stay, f"envelopes {r['sealed']}")),
+         (PUBLIC, "saved_minutes_stay", "notices N2"), (HELD, receipts, low), (COPY, stay, f"seals {r['low']}")),
+        ("a sealed tender is another one", other_bytes(r["sealed"], offer(9, 9)), (HELD, receipts, sealed), (COPY, stay, sealed)),
         ("a tenderer has another name", "UPDATE tenderers SET name = 'Firm A4' WHERE tenderer = 'T4'; " + said("N1", "Firm T4", "Firm A4"),
-         ("earlier answers", "saved_releases_stay", "notices N1"), ("earlier answers", "saved_minutes_stay", "notices N1"), ("a copy", stay, "tenderers T4")),
+         (PUBLIC, "saved_releases_stay", "notices N1"), (PUBLIC, "saved_minutes_stay", "notices N1"), (COPY, stay, "tenderers T4")),
         ("tenders may come for longer", "UPDATE notices_2 SET deadline = deadline + 90000 WHERE notice = 'N5'; " + said("N5", moved, further),
-         ("earlier answers", "saved_releases_stay", "notices N5"), ("a copy", stay, "releases N5/2")),
-        ("a tenderer has another key", "UPDATE tenderers SET key = zeroblob(32) WHERE tenderer = 'T1'", ("a copy", stay, "tenderers T1")),
+         (PUBLIC, "saved_releases_stay", "notices N5"), (COPY, stay, "releases N5/2")),
+        ("a tenderer has another key", "UPDATE tenderers SET key = zeroblob(32) WHERE tenderer = 'T1'", (COPY, stay, "tenderers T1")),
         ("a security has another reference", f"UPDATE securities SET reference = 'G0' WHERE security = {r['sealed']}",
-         ("what was handed out", "securities_are_as_shown", f"securities {r['sealed']}"), ("a copy", stay, f"securities {r['sealed']}")),
-        ("the standstill is longer", "UPDATE notices_2 SET standstill = 5 WHERE notice = 'N5'", ("a copy", stay, "notices N5")),
-        ("tenders may be withdrawn late", "INSERT INTO late_rules VALUES ('N5')", ("a copy", "nothing_is_put_in_behind", "late_rules N5")),
-        ("a line has more money", "UPDATE lines SET appropriation = appropriation + 1000, free = free + 1000 WHERE line = '3000'",
-         ("a copy", "appropriations_come_from_batches", "lines 3000")),
+         (HELD, "securities_are_as_shown", f"securities {r['sealed']}"), (COPY, stay, f"securities {r['sealed']}")),
+        ("the standstill is longer", "UPDATE notices_2 SET standstill = 5 WHERE notice = 'N5'", (COPY, stay, "notices N5")),
+        ("a performance security is asked", "UPDATE notices_2 SET performance = 5 WHERE notice = 'N5'", (COPY, stay, "notices N5")),
+        ("tenders may be withdrawn late", "INSERT INTO late_rules VALUES ('N5')", (COPY, "nothing_is_put_in_behind", "late_rules N5")),
         ("a withdrawn tender was another one", f"UPDATE envelopes SET digest = zeroblob(32) WHERE receipt = {r['taken']}",
-         ("what was handed out", "receipts_are_of_the_rows", f"envelopes {r['taken']}"), ("a copy", stay, f"envelopes {r['taken']}")),
-        ("a tender was found not responsive", f"UPDATE envelopes SET responsive = 0, quality = NULL WHERE receipt = {r['low']}", ("a copy", decided, f"envelopes {r['low']}")),
-        ("a budget file came in", "INSERT INTO batches VALUES ('B0', (SELECT max(moment) FROM batches), 9)", ("a copy", "what_is_new_is_later", "batches B0")),
-        ("a line has another title", "UPDATE lines SET title = 'Woods' WHERE line = '3000'", ("a copy", "appropriations_come_from_batches", "lines 3000")),
-        # What comes behind all witnesses, none of them shows.
-        ("a line has another title, as by a budget file", "UPDATE lines SET title = 'Woods' WHERE line = '3000'; INSERT INTO batches SELECT 'B9', moment, 1 FROM office"),
-        ("the money of a line, as by a budget file", "UPDATE lines SET appropriation = appropriation + 1, free = free + 1 WHERE line = '3000'; "
-         "INSERT INTO batches SELECT 'B9', moment, 1 FROM office"),
-        ("a tenderer came in", "INSERT INTO tenderers VALUES ('T9', 'Firm T9', 'T9 Street', zeroblob(32))"),
+         (HELD, receipts, taken), (COPY, stay, taken)),
+        ("a tender was found not responsive", f"UPDATE envelopes SET responsive = 0, quality = NULL WHERE receipt = {r['low']}", (COPY, decided, low)),
+        ("a budget file came in", "INSERT INTO batches VALUES ('B0', (SELECT max(moment) FROM batches), 9)", (COPY, "what_is_new_is_later", "batches B0")),
+        ("a line has more money", "UPDATE lines SET appropriation = appropriation + 1, free = free + 1 WHERE line = '3000'",
+         (COPY, "appropriations_come_from_batches", "lines 3000")),
+        ("a line has another title", "UPDATE lines SET title = 'Woods' WHERE line = '3000'", (COPY, "appropriations_come_from_batches", "lines 3000")),
+        # What could have come since the last witness, none of them shows.
+        ("a line has another title and more money, as by a budget file that came since",
+         "UPDATE lines SET title = 'Woods', appropriation = 8, free = 8 WHERE line = '3000'; INSERT INTO batches SELECT 'B9', moment, 1 FROM office"),
+        ("a tenderer was registered since", "INSERT INTO tenderers VALUES ('T9', 'Firm T9', 'T9 Street', zeroblob(32))"),
+        ("a contract ended by default since", ended(life)),
     ]
 
 
-def plant(folder, names, change):
+def ended(life: AuditedLife) -> str:
+    """Ends the contract that runs, in all rows that hang together, at the last moment of the office, as the command does."""
+    text = (f'{{"buyer":{{"id":"B-city","name":"City Office"}},"contracts":[{{"awardID":"{life.running}","id":"{life.running}","status":"terminated"}}],'
+            '"date":"\' || strftime(\'%Y-%m-%dT%H:%M:%SZ\', moment, \'unixepoch\') || \'","id":"ocds-a1b2c3-N2-0006","initiationType":"tender",'
+            '"language":"en","ocid":"ocds-a1b2c3-N2","tag":["contractTermination"]}').replace("\'", "'")
+    return (f"UPDATE contracts SET ended = (SELECT moment FROM office), how = 'default', released = 150 WHERE contract = {life.running}; "
+            f"UPDATE performance SET state = 'forfeited' WHERE contract = {life.running}; UPDATE lines SET free = free + 150 WHERE line = '2000'; "
+            f"UPDATE notices_2 SET releases = 6 WHERE notice = 'N2'; INSERT INTO releases SELECT 'N2', 6, moment, '{text}' FROM office; "
+            """UPDATE compiled SET text = replace(text, ']},"status":"active","value"', ']},"status":"terminated","value"') WHERE notice = 'N2'""")
+
+
+def plant(folder: str, names: list[str], change: Callable[[Any, Any], Any]) -> None:
     """Changes these answers of a folder: their JSON, with that of N2 beside it, or their text."""
     for name in names:
         path = os.path.join(folder, name)

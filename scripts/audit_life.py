@@ -28,7 +28,7 @@ def key_of(name: str) -> str:
 
 
 class Life(Client[Answer]):
-    """Requests each of which must be accepted; `receipt` has the receipts by the names that they are given here, `kept` the answers to presentations by receipt."""
+    """Requests each of which must be accepted; `receipt` has the receipts by the names that they are given here, `kept` the answers by receipt."""
 
     def __init__(self, transport: Asking) -> None:
         super().__init__(transport, key_of)

@@ -1,29 +1,31 @@
-"""The rules of `tools/audit` on what anybody is answered, where there is no file: minutes against releases, the ledger against payments, notices against one another."""
+"""The rules of `tools/audit` on what anybody is answered, where there is no file: minutes and ledger against releases, notices against one another."""
 import re
+from collections.abc import Iterator
 
-from audit_office import rule
+from audit_answers import Answers
+from audit_office import Found, Json, rule
 from audit_story import Story
 
-HEAD = "line\tappropriation\tfree\treserved\tcontracted\tpaid"
 POTS = ("reserved", "contracted", "paid")
 
 
 class Seen:
-    """What was answered of some notices: of each its story and its minutes, or None; the ledgers from before and from behind these looks, or None; whether these
-    are all notices of the office."""
+    """What was answered of some notices: of each its story and its minutes, or None; the ledgers from before and from behind these looks, or None; whether
+    these are all notices of the office."""
 
-    def __init__(self, stories, minutes, ledgers, complete):
+    def __init__(self, stories: dict[str, Story], minutes: dict[str, str | None], ledgers: tuple[str | None, str | None], complete: bool) -> None:
         self.stories, self.minutes, self.ledgers, self.complete = stories, minutes, ledgers, complete
 
 
 class Minutes:
     """What minutes say: the title, deadline and opening, of each lot its title, and of each tender its fields."""
 
-    def __init__(self, text):
+    def __init__(self, text: str) -> None:
         lines = [line.split("\t") for line in text.split("\n")]
         (self.notice, self.title), (self.deadline,), (self.opened,) = (line[1:] for line in lines[:3])
         self.shape = [line[0] for line in lines]
-        self.lots, self.tenders = {}, []
+        self.lots: dict[str, str] = {}
+        self.tenders: list[Tender] = []
         for line in lines[3:-2]:
             if line[0] == "lot":
                 lot, self.lots[line[1]] = line[1], line[2]
@@ -34,16 +36,16 @@ class Minutes:
 class Tender:
     """A tender that minutes tell."""
 
-    def __init__(self, lot, receipt, tenderer, name, address, reading, *figures):
+    def __init__(self, lot: str, receipt: str, tenderer: str, name: str, address: str, reading: str, *figures: str) -> None:
         self.lot, self.receipt, self.tenderer, self.known, self.reading = lot, int(receipt), "T-" + tenderer, (name, address), reading
-        self.stated, self.corrected, self.corrections = map(int, figures) if reading == "priced" else (None, None, None)
+        self.stated, self.corrected, self.corrections = map(int, figures) if reading == "priced" else (-1, -1, -1)
 
-    def is_read(self):
+    def is_read(self) -> bool:
         """Whether its figures are such as a reading gives."""
         return self.reading in ("unreadable", "nonconforming") or self.reading == "priced" and (self.corrections > 0 or self.stated == self.corrected)
 
 
-def read_minutes(text):
+def read_minutes(text: str) -> Minutes | None:
     """The minutes, or None where the text is of another form."""
     try:
         found = Minutes(text)
@@ -53,20 +55,21 @@ def read_minutes(text):
     return found if found.shape[:3] == ["MINUTES", "deadline", "opened"] and found.shape[-2:] == ["END", ""] and middle <= {"lot", "tender"} else None
 
 
-def pots_of(ledger):
+def pots_of(ledger: str) -> dict[str, int] | None:
     """What a ledger says is reserved, contracted and paid, of all lines together; None where it has another form."""
     lines = [line.split("\t") for line in ledger.split("\n")[2:-1]]
-    if not all(len(line) == 6 and all(re.fullmatch("[0-9]{1,16}", number) for number in line[1:]) for line in lines):
+    if not ledger.startswith("LEDGER\n") or not all(len(line) == 6 and all(re.fullmatch("[0-9]{1,16}", number) for number in line[1:]) for line in lines):
         return None
     return dict(zip(POTS, ([sum(int(line[place]) for line in lines) for place in (3, 4, 5)])))
 
 
 # ---- Minutes.
 
-def minutes_found(minutes, story):
+def minutes_found(minutes: Minutes, story: Story) -> Iterator[str]:
     """What doesn't go together in minutes and releases of a notice."""
-    if (minutes.notice, minutes.title, minutes.deadline, minutes.opened) != (story.notice, story.title, story.deadline, story.opened):
-        yield f"the minutes say {minutes.title}, {minutes.deadline}, {minutes.opened}, and the releases {story.title}, {story.deadline}, {story.opened}"
+    said, told = [minutes.notice, minutes.title, minutes.deadline, minutes.opened], [story.notice, story.title, story.deadline, str(story.opened)]
+    if said != told:
+        yield f"the minutes say {', '.join(said)}, and the releases {', '.join(told)}"
     if list(minutes.lots.items()) != sorted((lot, told["title"]) for lot, told in story.lots.items()):
         yield f"the minutes have the lots {minutes.lots}, and the releases others"
     there = {tender.tenderer: tender.known for tender in minutes.tenders}
@@ -88,8 +91,8 @@ def minutes_found(minutes, story):
 
 
 @rule("outside")
-def minutes_are_of_the_releases(seen):
-    """Minutes say of title, deadline, opening, lots, tenderers and awarded prices what the releases say; they are answered of opened notices and of no others."""
+def minutes_are_of_the_releases(seen: Seen) -> Found:
+    """Minutes say of title, deadline, opening, lots, tenderers and awarded prices what the releases say, and are answered of opened notices alone."""
     for notice, story in seen.stories.items():
         text = seen.minutes[notice]
         if text is not None and story.opened is None:
@@ -103,9 +106,9 @@ def minutes_are_of_the_releases(seen):
 # ---- The ledger.
 
 @rule("outside")
-def ledger_covers_the_releases(seen):
+def ledger_covers_the_releases(seen: Seen) -> Found:
     """No more is reserved, contracted or paid by the releases than the ledger has of all lines; where all notices are there, as much."""
-    before, after = [pots_of(ledger) for ledger in seen.ledgers] if None not in seen.ledgers else (None, None)
+    before, after = (pots_of(ledger or "") for ledger in seen.ledgers)
     if before is None or after is None:
         return
     sums = dict(zip(POTS, map(sum, zip(*(story.sums() for story in seen.stories.values())))))
@@ -118,7 +121,7 @@ def ledger_covers_the_releases(seen):
 # ---- The notices together.
 
 @rule("outside")
-def awards_are_told_in_turn(seen):
+def awards_are_told_in_turn(seen: Seen) -> Found:
     """Each award's number is told by one notice, and along the numbers dates never fall; where all notices are there, none is left out."""
     told = sorted((int(number), award["date"], notice) for notice, story in seen.stories.items() for number, award in story.awards.items())
     for (before, earlier, other), (number, date, notice) in zip(told, told[1:]):
@@ -131,8 +134,8 @@ def awards_are_told_in_turn(seen):
 
 
 @rule("outside")
-def receipts_are_told_in_turn(seen):
-    """Each receipt is in the minutes of one notice; one that was given out later isn't of a notice whose deadline came before the other's was published."""
+def receipts_are_told_in_turn(seen: Seen) -> Found:
+    """Each receipt is in one notice's minutes; a later one isn't of a notice whose deadline came before the other's notice was published."""
     minutes = {notice: read_minutes(text) for notice, text in seen.minutes.items() if text is not None}
     told = sorted((tender.receipt, notice) for notice, found in minutes.items() if found for tender in found.tenders)
     latest, last = ("", 0, ""), 0
@@ -146,9 +149,9 @@ def receipts_are_told_in_turn(seen):
 
 
 @rule("outside")
-def tenderers_are_known_alike(seen):
+def tenderers_are_known_alike(seen: Seen) -> Found:
     """A tenderer has the same name and address in all notices: what was registered is never changed."""
-    known = {}
+    known: dict[str, tuple[str, tuple[str, str]]] = {}
     for notice, story in seen.stories.items():
         for tenderer, what in story.tenderers.items():
             first, there = known.setdefault(tenderer, (notice, what))
@@ -156,12 +159,12 @@ def tenderers_are_known_alike(seen):
                 yield f"notices {notice}", f"{tenderer} is {what}, and {there} in {first}"
 
 
-def seen_of(notices, releases, answers, ledgers, complete):
+def seen_of(notices: list[str], releases: dict[str, list[Json]], answers: Answers, ledgers: tuple[str | None, str | None], complete: bool) -> Seen:
     """What was answered of these notices, with their releases."""
     stories = {notice: Story(notice, releases[notice]) for notice in notices}
     return Seen(stories, {notice: answers.of_notice(notice, "minutes") for notice in notices}, ledgers, complete)
 
 
-def lacks_minutes(answers, notice, releases):
+def lacks_minutes(answers: Answers, notice: str, releases: list[Json]) -> bool:
     """Whether the releases of a notice tell of its opening, and there are no minutes."""
     return Story(notice, releases).opened is not None and answers.of_notice(notice, "minutes") is None

@@ -1,18 +1,24 @@
 """A front for tests that answers what is saved in a folder, and now and then that it is asked too often, or that no answer can be had."""
-import contextlib, http.server, os, re, threading, time
+import contextlib
+import http.server
+import os
+import re
+import threading
+import time
+from collections.abc import Iterator
 
 NOT_THERE = b'{"name":"NoSuch","refusal":9,"what":"notice"}'
 
 
 class Front:
-    """What is answered: the files of a folder, of notices K0, K1 .. as many copies of one of them as `copies` says, nothing of the notice that is `lacking`. After `burst`
-    requests it says 429, and `wait` seconds later takes as many again; of the first requests so many as `failing` get 503."""
+    """What is answered: the files of a folder, of notices K0, K1 and so on those of the notice that is `copied`, of the notice that is `lacking` nothing. After
+    `burst` requests it says 429, and `wait` seconds later takes as many again; so many of the first requests as are `failing` get 503."""
 
-    def __init__(self, folder, copies=("", 0), burst=1 << 30, wait=1, failing=0, lacking=None):
-        self.folder, self.copied, self.burst, self.wait, self.failing, self.lacking = folder, copies[0], burst, wait, failing, lacking
+    def __init__(self, folder: str, copied: str = "", burst: int = 1 << 30, wait: int = 1, failing: int = 0, lacking: str = "") -> None:
+        self.folder, self.copied, self.burst, self.wait, self.failing, self.lacking = folder, copied, burst, wait, failing, lacking
         self.left, self.until, self.refused, self.hasty, self.address, self.lock = burst, 0.0, 0, 0, "", threading.Lock()
 
-    def turn(self):
+    def turn(self) -> tuple[int, str] | None:
         """The status of a refusal and what it says of when to ask again, or None."""
         now = time.monotonic()
         with self.lock:
@@ -29,7 +35,7 @@ class Front:
             self.left -= 1
             return None
 
-    def body(self, path):
+    def body(self, path: str) -> bytes | None:
         """What is saved of a path, or None."""
         if path == "/ledger":
             return self.read("ledger.txt")
@@ -40,7 +46,7 @@ class Front:
         data = self.read(f"{found[2]}-{self.copied if copy else found[1]}.{'txt' if found[2] == 'minutes' else 'json'}")
         return data.replace(self.copied.encode(), found[1].encode()) if copy and data else data
 
-    def read(self, name):
+    def read(self, name: str) -> bytes | None:
         path = os.path.join(self.folder, name)
         if not os.path.exists(path):
             return None
@@ -48,10 +54,10 @@ class Front:
             return file.read()
 
 
-def handler_of(front):
+def handler_of(front: Front) -> type[http.server.BaseHTTPRequestHandler]:
     """The class whose objects answer a request each."""
     class Handler(http.server.BaseHTTPRequestHandler):
-        def do_GET(self):
+        def do_GET(self) -> None:
             refused = front.turn()
             body = b'{"front":"wait a while"}' if refused else front.body(self.path)
             self.send_response(refused[0] if refused else 404 if body is None else 200)
@@ -62,13 +68,13 @@ def handler_of(front):
             self.end_headers()
             self.wfile.write(data)
 
-        def log_message(self, *_):
+        def log_message(self, *_: object) -> None:
             pass
     return Handler
 
 
 @contextlib.contextmanager
-def served(front):
+def served(front: Front) -> Iterator[Front]:
     """Serves a front at a port of its own, and gives it with its address."""
     server = http.server.ThreadingHTTPServer(("127.0.0.1", 0), handler_of(front))
     server.daemon_threads = True
