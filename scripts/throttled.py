@@ -7,7 +7,7 @@ import threading
 import time
 from collections.abc import Iterator
 
-NOT_THERE = b'{"name":"NoSuch","refusal":9,"what":"notice"}'
+NOT_THERE = {404: b'{"name":"NoSuch","refusal":9,"what":"notice"}', 409: b'{"name":"NotOpened","refusal":22}'}
 
 
 class Front:
@@ -60,10 +60,11 @@ def handler_of(front: Front) -> type[http.server.BaseHTTPRequestHandler]:
         def do_GET(self) -> None:
             refused = front.turn()
             body = b'{"front":"wait a while"}' if refused else front.body(self.path)
-            self.send_response(refused[0] if refused else 404 if body is None else 200)
+            status = refused[0] if refused else 200 if body is not None else 409 if self.path.endswith("/minutes") else 404
+            self.send_response(status)
             if refused:
                 self.send_header("Retry-After", refused[1])
-            data = NOT_THERE if body is None else body
+            data = NOT_THERE[status] if body is None else body
             self.send_header("Content-Length", str(len(data)))
             self.end_headers()
             self.wfile.write(data)
