@@ -65,7 +65,7 @@ class Answers:
 
     def saved(self, name: str) -> str | None:
         """The text of a file of the folder, or None where it isn't there."""
-        if not os.path.exists(os.path.join(self.folder, name)):
+        if not self.folder or not os.path.exists(os.path.join(self.folder, name)):
             return None
         with open(os.path.join(self.folder, name), encoding="utf-8", newline="") as file:
             return file.read()

@@ -150,7 +150,7 @@ def saved_minutes_stay(later: Later, office: Office | None, saved: Answers, noti
 @rule("witness")
 def registers_are_of_the_rows(later: Later, office: Office | None, saved: Answers, notice: str) -> Found:
     """Each tender of a register that the clerk saved is there, of its lot, moment and length, its state such as follows, and none was put in between."""
-    text = saved.of_notice(notice, "register")
+    text = saved.saved(f"register-{notice}.txt")
     if office is None or text is None:
         return
     rows = {row["receipt"]: [row["lot"], text_of(row["moment"]), str(row["length"]), row["state"]]
