@@ -3,7 +3,7 @@
 # make test   the gate: every proof from nothing, the wrong bodies that must be refused, the tests and the stored runs; it leaves build/procure too
 # make check  what needs build/procure and no proof, in three minutes: the documents, the interface, the public page in a browser, the audit, files that are refused, files of version 1, kills, a disk that fails (tools/check --help)
 # make edits  the wrong bodies that the gate leaves out, edits/
-# make soak   what takes too long for the gate, after `make test`: plays, refused memory, kills, a disk that fails, large files of version 1, the wrong bodies of edits/ (bench/soak --help)
+# make soak   what takes too long for the gate, after `make test`: plays, refused memory, kills, a disk that fails, large files of version 1, the wrong bodies of edits/ (tools/soak --help)
 # make bench  measures build/procure (bench/desk --help)
 RT ?= rt
 export RT
@@ -11,10 +11,10 @@ export RT
 .PHONY: run build test check edits soak bench
 
 run:
-	@sh bench/first_run/run.sh
+	@sh tools/first_run/run.sh
 
 build:
-	bench/build
+	tools/build
 
 test:
 	$(RT) ci
@@ -24,10 +24,10 @@ check:
 	@tools/check
 
 edits:
-	bench/edits
+	tools/edits
 
 soak:
-	bench/soak
+	tools/soak
 
 bench: build
 	bench/desk

@@ -2,8 +2,8 @@
 # Merges `{"p":null}` into `{"p":1,"q":2}` with the Nth allocation refused, N counting up until none is. Where `merge_into` was refused memory the target
 # must be what it was; where another step was, the program ends with that error. About half a minute for each N.
 set -eu
-set -- refused.rt.in
-. "$(dirname "$0")/workspace.sh"
+set -- merge_refused.rt.in
+. "$(dirname "$0")/../scripts/workspace.sh"
 refused=0
 for n in $(seq 1 200); do
     said=$(rt try --fail-alloc "$n" 2> log || true)

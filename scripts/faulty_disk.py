@@ -1,4 +1,4 @@
-"""Disks that fail, for bench/faults: one that fails once, and one that is full.
+"""Disks that fail, for tests/faults: one that fails once, and one that is full.
 
 The first is a library of C that stands before the C library (LD_PRELOAD), and the block of memory by which it is steered.
 

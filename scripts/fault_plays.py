@@ -1,4 +1,4 @@
-"""What bench/faults plays: commands, each with its moment, that an office accepts one after another and refuses a second time where that would do harm."""
+"""What tests/faults plays: commands, each with its moment, that an office accepts one after another and refuses a second time where that would do harm."""
 import json
 from collections import namedtuple
 

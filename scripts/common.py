@@ -1,4 +1,4 @@
-"""What scripts of bench/, tests/ and tools/ share: the program and its settings, requests, connections, servers, responses, and timed runs.
+"""What the scripts of bench/, tests/ and tools/ share: the program and its settings, requests, connections, servers, responses, and timed runs.
 
 The program is $PROCURE, or build/procure where that isn't set. A fault of a run ends the script with status 1 and a line that says what is wrong; a tool that
 is missing ends it with status 3 and a line that says how to get it.

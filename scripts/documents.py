@@ -1,12 +1,11 @@
-"""The documents of the repository: their fenced blocks, which are run and compared, and their links. Read by tools/check_docs and bench/walk.
+"""The documents of the repository: their fenced blocks, which are run and compared, and their links. Read by tools/check_docs and tests/walk.
 
 A block fenced as ```sh run is run; where the next block of the document is fenced as ```text, it is what the run prints, its last line feeds apart. The blocks of
 a document run in turn in one bash, in an empty folder, with `procure`, `procure-backup`, `audit` and `check_tender` on the PATH; each must end with status 0. curl
 shows no meter there. What a document left running is ended behind its last block.
 """
-import difflib, functools, os, re, shutil, signal, subprocess, sys, tempfile
+import difflib, functools, os, re, shutil, signal, subprocess, tempfile
 
-sys.path.append(os.path.join(os.path.dirname(os.path.dirname(os.path.abspath(__file__))), "bench"))
 from common import ROOT
 
 # The tools that documents use, each with the package of Debian that has it. What every Debian has isn't named.

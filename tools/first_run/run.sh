@@ -17,7 +17,7 @@ folder=$(mktemp -d)
 trap 'rm -rf "$folder"' EXIT
 trap 'exit 130' INT
 trap 'exit 143' TERM
-"$root/bench/copy_crates" "$folder/office"
+"$root/tools/copy_crates" "$folder/office"
 mkdir -p "$folder/office/crates/first_run/src"
 for file in main office; do
     cp "$here/$file.rt.in" "$folder/office/crates/first_run/src/$file.rt"
