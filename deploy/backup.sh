@@ -36,7 +36,7 @@ for tool in sqlite3 "$procure"; do
 done
 
 copy=$folder/office-$(date -u +%Y%m%dT%H%M%SZ)
-is_stopped= is_whole=
+is_stopped='' is_whole=''
 
 milliseconds() { echo $(($(date +%s%N) / 1000000)); }
 

@@ -1,150 +1,152 @@
 """The office that `tests/audit` audits: procurements of every end, made by a program that serves. Most of its five seconds it waits for a deadline."""
-import hashlib, json, time
+import time
+from collections.abc import Mapping
+from typing import Any
 
-from common import CLERK, fail, request, timed_exchange
+from client import AHEAD, Answer, Asking, Client, budget, lot, notice, tender, text_of, wait_until
+from common import fail
 
-ITEMS = [("I1", 3), ("I2", 10)]
+# The items of each lot.
+QUANTITIES = (3, 10)
+ITEMS = [(f"Part I{number}", quantity) for number, quantity in enumerate(QUANTITIES, 1)]
 TENDERERS = ["T1", "T2", "T3", "T4", "T5"]
 
 
-def lot(name, line, estimate, security):
-    """A lot of two items, as a publication gives it."""
-    items = [{"id": item, "title": f"Part {item}", "quantity": quantity} for item, quantity in ITEMS]
-    return {"id": name, "title": f"Lot {name}", "line": line, "estimate": estimate, "security": security, "items": items}
+def part(name: str, line: str, estimate: int, security: int) -> dict[str, Any]:
+    """A lot of two items."""
+    return lot(name, line, estimate, security, *ITEMS, title=f"Lot {name}")
 
 
-def tender(*units, wrong=0):
+def offer(*units: int, wrong: int = 0) -> str:
     """A tender of these unit prices, with so much too little in its sum."""
-    rows = [(item, quantity, unit, quantity * unit) for (item, quantity), unit in zip(ITEMS, units)]
-    lines = ["item,quantity,unit,total"] + ["%s,%d,%d,%d" % row for row in rows] + ["TOTAL,,,%d" % (sum(row[3] for row in rows) - wrong)]
-    return "".join(line + "\n" for line in lines)
+    return tender(*zip(QUANTITIES, units), wrong=wrong)
 
 
-def text_of(second):
-    return time.strftime("%Y-%m-%dT%H:%M:%SZ", time.gmtime(second))
+def key_of(name: str) -> str:
+    return f"key of {name}"
 
 
-class Life:
-    """Requests to an office at a port, each of which must be accepted; `receipt` has the receipts by the names that they are given here."""
+class Life(Client[Answer]):
+    """Requests each of which must be accepted; `receipt` has the receipts by the names that they are given here."""
 
-    def __init__(self, port):
-        self.port, self.receipt, self.deadline = port, {}, int(time.time()) + 4
+    def __init__(self, transport: Asking) -> None:
+        super().__init__(transport, key_of)
+        self.receipt: dict[str, int] = {}
+        self.deadline = int(time.time()) + AHEAD
 
-    def ask(self, caller, target, body):
-        return json.loads(timed_exchange(self.port, request(b"POST", target.encode(), body.encode(), caller), patience=20)[0])
+    def enrol(self, *names: str) -> None:
+        for name in names:
+            self.register(name, f"Firm {name}", f"{name} Street")
 
-    def clerk(self, target, body=None):
-        return self.ask(CLERK, target, body if isinstance(body, str) else "" if body is None else json.dumps(body))
+    def announce(self, name: str, deadline: float, *lots: Mapping[str, Any], **terms: Any) -> None:
+        self.publish(name, notice(text_of(deadline), *lots, title=f"Notice {name} <b>Straße</b>", **terms))
 
-    def tenderer(self, name, target, body=""):
-        return self.ask((name.encode(), b"key of " + name.encode()), target, body)
+    def submit(self, named: str, who: str, name: str, lot_name: str, body: str, amount: int = 0) -> None:
+        """Presents a tender, with a security of its name where an amount is given."""
+        self.receipt[named] = self.present(who, name, lot_name, body, named if amount else None, amount)["receipt"]
 
-    def register(self, *tenderers):
-        for name in tenderers:
-            key = hashlib.sha256(b"key of " + name.encode()).hexdigest()
-            self.clerk(f"/tenderers/{name}", {"name": f"Firm {name}", "address": f"{name} Street", "key": key})
+    def resubmit(self, named: str, who: str, old: str, body: str) -> None:
+        self.receipt[named] = self.modify(who, self.receipt[old], body)["receipt"]
 
-    def publish(self, notice, deadline, *lots, **criteria):
-        terms = {"title": f"Notice {notice} <b>Straße</b>", "deadline": text_of(deadline), "validity_days": 90, "standstill_days": 0}
-        self.clerk(f"/notices/{notice}", {**terms, **(criteria or {"criteria": "price"}), "lots": lots})
+    def take_back(self, who: str, named: str) -> None:
+        self.withdraw(who, self.receipt[named])
 
-    def present(self, name, tenderer, notice, lot_name, body, security=None):
-        query = f"?security={name}&amount={security}" if security else ""
-        self.receipt[name] = self.tenderer(tenderer, f"/notices/{notice}/lots/{lot_name}/tenders{query}", body)["receipt"]
+    def judge(self, named: str, responsive: bool = True, **quality: int) -> None:
+        self.examine(self.receipt[named], responsive, **quality)
 
-    def modify(self, name, tenderer, old, body):
-        self.receipt[name] = self.tenderer(tenderer, f"/tenders/{self.receipt[old]}/modify", body)["receipt"]
+    def award_of(self, name: str, lot_name: str) -> int:
+        return int(self.award(name, lot_name)["award"])
 
-    def withdraw(self, tenderer, name):
-        self.tenderer(tenderer, f"/tenders/{self.receipt[name]}/withdraw")
+    def contract_of(self, award: int, security: int = 0) -> int:
+        """Signs an award, with a security of its own name where an amount is given."""
+        return int(self.sign(award, f"P{award}" if security else None, security)["contract"])
 
-    def examine(self, name, responsive=True, **quality):
-        self.clerk(f"/tenders/{self.receipt[name]}/examine", {"responsive": responsive, **quality})
-
-    def award(self, notice, lot_name):
-        return self.clerk(f"/notices/{notice}/lots/{lot_name}/award")["award"]
-
-    def sign(self, award, security=None):
-        return self.clerk(f"/awards/{award}/sign", {"security": f"P{award}", "amount": security} if security else None)["contract"]
-
-    def wait(self):
+    def wait(self) -> None:
         """Until the deadline is over."""
         if time.time() >= self.deadline:
             fail("the deadline came before all tenders were in: the machine is too busy")
-        time.sleep(self.deadline + 1.05 - time.time())
+        wait_until(self.deadline + 1.05)
 
-    def before_the_deadline(self):
+
+class AuditedLife(Life):
+    """What `tests/audit` looks at."""
+
+    running = cancelled = active = broken = failed = contract = 0
+
+    def before_the_deadline(self) -> None:
         """The budget, the tenderers, eight notices and their tenders; N3 is cancelled, N5 goes on receiving, and tenders for N8 may be withdrawn late."""
-        self.clerk("/budget/B1", "line,kind,amount,title\n1000,add,100000,Roads\n2000,add,100000,Schools\n2000,cut,5000,Schools\n3000,add,0007,Parks\n")
-        self.register(*TENDERERS)
-        self.publish("N1", self.deadline - 1, lot("L1", "1000", 600, 50), lot("L2", "2000", 300, 0), criteria="price", performance=30)
-        self.clerk("/notices/N1/amend", {"deadline": text_of(self.deadline), "rationale": "More time"})
-        self.publish("N2", self.deadline, lot("L1", "2000", 240, 0), criteria="points", price_weight=60, performance=15)
-        self.publish("N3", self.deadline, lot("L1", "1000", 700, 10))
-        self.publish("N4", self.deadline, lot("L1", "1000", 800, 10), lot("L2", "2000", 400, 0))
-        self.publish("N5", self.deadline + 86400, lot("L1", "1000", 900, 10))
-        self.publish("N6", self.deadline, lot("L1", "2000", 100, 0), lot("L2", "2000", 200, 10))
-        self.publish("N7", self.deadline, lot("L1", "1000", 100, 0))
-        self.publish("N8", self.deadline, lot("L1", "1000", 100, 10), criteria="price", late_withdrawal="forfeits", performance=5)
-        self.present("dear", "T1", "N1", "L1", tender(90, 30, wrong=20), 50)
-        self.present("first", "T2", "N1", "L1", tender(100, 30), 60)
-        self.present("taken", "T3", "N1", "L1", tender(80, 20), 50)
-        self.present("quoted", "T4", "N1", "L1", '"' + tender(1, 1), 50)
-        self.present("nothing", "T1", "N1", "L2", "I offer nothing")
-        self.modify("cheap", "T2", "first", tender(80, 30))
-        self.withdraw("T3", "taken")
-        self.present("other", "T3", "N1", "L1", tender(80), 55)
-        for name, price in (("low", 20), ("high", 25), ("unfit", 10)):
-            self.present(name, {"low": "T1", "high": "T2", "unfit": "T3"}[name], "N2", "L1", tender(0, price))
-        self.present("vain", "T1", "N3", "L1", tender(1, 1), 10)
-        self.present("back", "T2", "N3", "L1", tender(1, 1), 10)
-        self.withdraw("T2", "back")
-        self.clerk("/notices/N3/cancel", {"rationale": "No need"})
-        self.present("ended", "T1", "N4", "L1", tender(10, 10), 10)
-        self.present("kept", "T2", "N4", "L2", tender(20, 20))
-        self.present("sealed", "T1", "N5", "L1", tender(10, 10), 20)
-        self.clerk("/notices/N5/amend", {"deadline": text_of(self.deadline + 90000), "rationale": "More time"})
-        self.present("active", "T1", "N6", "L1", tender(1, 1))
-        self.present("open", "T2", "N6", "L2", tender(1, 2), 10)
-        self.present("regretted", "T1", "N8", "L1", tender(1, 1), 10)
-        self.present("steady", "T2", "N8", "L1", tender(1, 2), 10)
+        self.import_budget("B1", budget("1000,add,100000,Roads", "2000,add,100000,Schools", "2000,cut,5000,Schools", "3000,add,0007,Parks"))
+        self.enrol(*TENDERERS)
+        self.announce_all()
+        self.submit("dear", "T1", "N1", "L1", offer(90, 30, wrong=20), 50)
+        self.submit("first", "T2", "N1", "L1", offer(100, 30), 60)
+        self.submit("taken", "T3", "N1", "L1", offer(80, 20), 50)
+        self.submit("quoted", "T4", "N1", "L1", '"' + offer(1, 1), 50)
+        self.submit("nothing", "T1", "N1", "L2", "I offer nothing")
+        self.resubmit("cheap", "T2", "first", offer(80, 30))
+        self.take_back("T3", "taken")
+        self.submit("other", "T3", "N1", "L1", offer(80), 55)
+        for named, who, price in (("low", "T1", 20), ("high", "T2", 25), ("unfit", "T3", 10)):
+            self.submit(named, who, "N2", "L1", offer(0, price))
+        self.submit("vain", "T1", "N3", "L1", offer(1, 1), 10)
+        self.submit("back", "T2", "N3", "L1", offer(1, 1), 10)
+        self.take_back("T2", "back")
+        self.cancel("N3")
+        self.submit("ended", "T1", "N4", "L1", offer(10, 10), 10)
+        self.submit("kept", "T2", "N4", "L2", offer(20, 20))
+        self.submit("sealed", "T1", "N5", "L1", offer(10, 10), 20)
+        self.amend_notice("N5", text_of(self.deadline + 90000))
+        self.submit("active", "T1", "N6", "L1", offer(1, 1))
+        self.submit("open", "T2", "N6", "L2", offer(1, 2), 10)
+        self.submit("regretted", "T1", "N8", "L1", offer(1, 1), 10)
+        self.submit("steady", "T2", "N8", "L1", offer(1, 2), 10)
 
-    def after_the_deadline(self):
+    def announce_all(self) -> None:
+        self.announce("N1", self.deadline - 1, part("L1", "1000", 600, 50), part("L2", "2000", 300, 0), performance=30)
+        self.amend_notice("N1", text_of(self.deadline))
+        self.announce("N2", self.deadline, part("L1", "2000", 240, 0), criteria="points", price_weight=60, performance=15)
+        self.announce("N3", self.deadline, part("L1", "1000", 700, 10))
+        self.announce("N4", self.deadline, part("L1", "1000", 800, 10), part("L2", "2000", 400, 0))
+        self.announce("N5", self.deadline + 86400, part("L1", "1000", 900, 10))
+        self.announce("N6", self.deadline, part("L1", "2000", 100, 0), part("L2", "2000", 200, 10))
+        self.announce("N7", self.deadline, part("L1", "1000", 100, 0))
+        self.announce("N8", self.deadline, part("L1", "1000", 100, 10), late_withdrawal="forfeits", performance=5)
+
+    def after_the_deadline(self) -> None:
         """Late tenders, the openings, and how each notice goes on."""
         self.wait()
-        self.present("late", "T5", "N1", "L1", tender(1, 1), 50)
-        for notice in ("N1", "N2", "N4", "N6", "N7", "N8"):
-            self.clerk(f"/notices/{notice}/open")
-        self.present("later", "T5", "N1", "L1", tender(1, 1))
+        self.submit("late", "T5", "N1", "L1", offer(1, 1), 50)
+        for name in ("N1", "N2", "N4", "N6", "N7", "N8"):
+            self.open(name)
+        self.submit("later", "T5", "N1", "L1", offer(1, 1))
         self.first_notice()
-        for name, quality in (("low", 10), ("high", 40)):
-            self.examine(name, quality=quality)
-        self.examine("unfit", responsive=False)
-        self.running = self.sign(self.award("N2", "L1"), 15)
-        self.clerk(f"/contracts/{self.running}/pay", {"id": "P1", "amount": 100})
-        for name in ("ended", "kept", "active", "open"):
-            self.examine(name)
-        self.cancelled = self.award("N4", "L1")
-        self.sign(self.award("N4", "L2"))
-        self.clerk("/notices/N4/cancel", {"rationale": "No need"})
-        self.active = self.award("N6", "L1")
+        for named, quality in (("low", 10), ("high", 40)):
+            self.judge(named, quality=quality)
+        self.judge("unfit", responsive=False)
+        self.running = self.contract_of(self.award_of("N2", "L1"), 15)
+        self.pay(self.running, "P1", 100)
+        for named in ("ended", "kept", "active", "open"):
+            self.judge(named)
+        self.cancelled = self.award_of("N4", "L1")
+        self.contract_of(self.award_of("N4", "L2"))
+        self.cancel("N4")
+        self.active = self.award_of("N6", "L1")
         self.award("N7", "L1")
-        self.withdraw("T1", "regretted")
-        self.examine("steady")
-        self.broken = self.sign(self.award("N8", "L1"), 5)
-        self.clerk(f"/contracts/{self.broken}/end", {"how": "default"})
+        self.take_back("T1", "regretted")
+        self.judge("steady")
+        self.broken = self.contract_of(self.award_of("N8", "L1"), 5)
+        self.end(self.broken, "default")
 
-    def first_notice(self):
+    def first_notice(self) -> None:
         """N1: its winner fails to sign, the next one signs; the contract is raised, cut, paid and ended. Nobody wins its other lot."""
-        self.examine("dear")
-        self.examine("cheap")
-        self.failed = self.award("N1", "L1")
-        self.clerk(f"/awards/{self.failed}/fail")
-        self.contract = self.sign(self.award("N1", "L1"), 40)
-        contract = f"/contracts/{self.contract}"
+        self.judge("dear")
+        self.judge("cheap")
+        self.failed = self.award_of("N1", "L1")
+        self.fail(self.failed)
+        self.contract = self.contract_of(self.award_of("N1", "L1"), 40)
         for entry, kind, amount in (("A1", "raise", 60), ("A2", "cut", 20)):
-            self.clerk(contract + "/amend", {"id": entry, "kind": kind, "amount": amount, "rationale": "Kerbs"})
+            self.amend_contract(self.contract, entry, kind, amount)
         for entry, amount in (("P1", 400), ("P2", 150)):
-            self.clerk(contract + "/pay", {"id": entry, "amount": amount})
-        self.clerk(contract + "/end", {"how": "regular"})
+            self.pay(self.contract, entry, amount)
+        self.end(self.contract)
         self.award("N1", "L2")

@@ -1,5 +1,6 @@
 """Files of transcripts, read by their form, which is told at the head of crates/worked_runs/data/setup.txt."""
-import os, re
+import os
+import re
 
 import common
 from common import CLERK, ROOT
@@ -12,8 +13,10 @@ PHRASES = {"200": "OK", "400": "Bad Request", "401": "Unauthorized", "403": "For
 class Topic:
     """A file: its pieces, each a list of blocks, and what is played, each a kind, a title and lists of names."""
 
-    def __init__(self, name):
-        self.name, self.pieces, self.played = name, {}, []
+    def __init__(self, name: str) -> None:
+        self.name = name
+        self.pieces: dict[str, list[str]] = {}
+        self.played: list[tuple[str, str, list[list[str]]]] = []
         with open(os.path.join(CRATE, "data", name), encoding="utf-8", newline="") as file:
             head, *sections = file.read().split("\n== ")
         for section in sections:
@@ -26,19 +29,19 @@ class Topic:
                 self.pieces[kind] = [sent for it in rest.strip("\n").split("\n\n") for sent in blocks_of(it)]
 
 
-def blocks_of(block):
+def blocks_of(block: str) -> list[str]:
     """What a block stands for that may begin with a number: so many blocks, with the number of each, from 1, in place of each `#`."""
     counted = re.fullmatch(r"(\d+) (.*)", block, re.S)
     return [counted[2].replace("#", str(number + 1)) for number in range(int(counted[1]))] if counted else [block]
 
 
-def topics():
+def topics() -> list[Topic]:
     """The files that crates/worked_runs/args names, in their order."""
     with open(os.path.join(CRATE, "args"), encoding="utf-8") as file:
         return [Topic(name) for name in file.read().split()]
 
 
-def text_of(line):
+def text_of(line: str) -> str:
     """What a line of a body stands for."""
     counted = re.fullmatch(r"(\d+) (.*)", line, re.S)
     count, line = (int(counted[1]), counted[2]) if counted else (1, line)
@@ -49,10 +52,13 @@ def text_of(line):
     return (line[2:].replace(r"\t", "\t").replace(r"\r", "\r").replace(r"\u{feff}", "\ufeff") + "\n") * count
 
 
-def request_of(block):
+def request_of(block: str) -> bytes:
     """A block of `procure desk` that asks what a block of a transcript asks."""
     first, *lines = block.split("\n= ", 1)[0].split("\n")
-    moment, who, rest = re.fullmatch(r"at (\S+) (\S+)(?: (.*))?", first).groups()
+    asked = re.fullmatch(r"at (\S+) (\S+)(?: (.*))?", first)
+    if not asked:
+        raise ValueError(f"no request: {first}")
+    moment, who, rest = asked.groups()
     body = "".join(map(text_of, lines)).encode()
     if who == "bytes":
         return common.block(moment.encode(), body)
@@ -62,7 +68,7 @@ def request_of(block):
     return common.block(moment.encode(), common.request(method, target, body, caller))
 
 
-def answer_of(block):
+def answer_of(block: str) -> tuple[str, str, str] | None:
     """The status, the kind and the body of a block's answer; None where any will do."""
     told = block.split("\n= ", 1)[1]
     if told == "any":
@@ -73,9 +79,12 @@ def answer_of(block):
     return status, kind, body + "".join(text_of(line) for line in lines)
 
 
-def response_of(block):
+def response_of(block: str) -> str:
     """The whole response of a block."""
-    status, kind, body = answer_of(block)
+    answer = answer_of(block)
+    if not answer:
+        raise ValueError(f"any answer will do: {block}")
+    status, kind, body = answer
     media = "text/plain; charset=utf-8" if kind == "text" else "application/json"
     field = "WWW-Authenticate: Office-Key\r\n" if status == "401" else f"Allow: {kind}\r\n" if kind in ("POST", "GET") else ""
     return (f"HTTP/1.1 {status} {PHRASES[status]}\r\nContent-Type: {media}\r\nContent-Length: {len(body.encode())}\r\n{field}"

@@ -1,3 +1,4 @@
+# shellcheck shell=sh
 # Read by scripts of bench/merge and tests: makes a workspace with `ocds_merge` and the program $1, which lies beside the script, and stands in that program's
 # folder. The programs are no crates of the repository, so that its gate does not prove and run them; they end in `.in`, since the gate refuses a `.rt` file
 # of no crate.
@@ -10,4 +11,4 @@ cp -r "$root/crates/ocds_merge" "$work/crates/ocds_merge"
 cp "$here/$1" "$work/crates/program/src/main.rt"
 printf 'ocds_merge: serde_json json thiserror\nprogram: ocds_merge serde_json anyhow\n' > "$work/crates.txt"
 printf 'Handles allowed: none.\n' > "$work/HANDLES"
-cd "$work/crates/program"
+cd "$work/crates/program" || exit 1
