@@ -5,6 +5,7 @@ there before the program comes.
 """
 import argparse
 import sqlite3
+from collections.abc import Sequence
 
 from common import check
 
@@ -44,7 +45,7 @@ def sizes_of(words: str) -> list[int]:
     return sizes
 
 
-def add_sizes(options: argparse.ArgumentParser) -> None:
+def add_sizes(options: argparse.ArgumentParser, sizes: Sequence[int] = SIZES) -> None:
     """The option that names the sizes."""
-    default = ",".join(map(str, SIZES))
-    options.add_argument("--page-sizes", type=sizes_of, default=list(SIZES), metavar="BYTES,..", help=f"the sizes of the pages of the files ({default})")
+    default = ",".join(map(str, sizes))
+    options.add_argument("--page-sizes", type=sizes_of, default=list(sizes), metavar="BYTES,..", help=f"the sizes of the pages of the files ({default})")
