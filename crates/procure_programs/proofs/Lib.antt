@@ -2,4 +2,5 @@ pub mod ServingSteps
 mod EmptyFile
 mod EmptyOpened
 mod OpenedFiles
+mod StoppedFiles
 mod Turns
