@@ -1,7 +1,7 @@
 """The sizes of the pages of an office's file: what the program gives a new one, and what files have that were made before.
 
-A file keeps the size that it has, so a test or a measure tries both: where the file isn't to have the program's own size, an empty database of the other one stands
-there before the program comes.
+A file keeps the size that it has, so a test or a measure tries both: where the file isn't to have the program's own size, an empty database of the other one
+stands there before the program comes.
 """
 import argparse
 import sqlite3
