@@ -91,8 +91,7 @@ unfolding trees_in
 holds_no_table =
     let pages = only_page empty_database in
     let db = file_trees 1024 [] pages in
-    let unlisted = catalog_rows 1024 [] (in_use 1024 pages) in
-    (
+    let unlisted = catalog_rows 1024 [] (in_use 1024 pages) in (
       db,
       (1024, valid_size, record { pages = pages; wanted = []; schema = _; found = adopts_of 1024 image pages found; ours = ours; reads = refl; sound = empty_is_sound db unlisted }),
       (λ tree low. past_version tree low (all_trees 1024 [] (in_use 1024 pages)) (version_in pages) ∙ named_tree tree low 1024 [] (in_use 1024 pages), unlisted),
