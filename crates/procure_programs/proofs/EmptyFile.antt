@@ -1,13 +1,11 @@
 -- The bytes of an empty database are those of a file of one page, which the ported `sqlite` opens as a database with no table.
-use Rattle.std.proofs.Common.{◌≡◌, ◌≢◌, ℕ, ◌≤◌, ◌<◌, ◌==◌, if◌then◌else◌, List, [], ◌∷◌, length, take, Some, None, Option, option_map, refl, sym, ap, ◌∙◌, true, subst, inl, inr, arith, ne_eqb}
+use Rattle.std.proofs.Common.{◌≡◌, ℕ, List, [], length, take, Some, None, refl, sym, ap, ◌∙◌, true, inl, inr, arith, ne_eqb}
 use Rattle.std.proofs.lemmas.Bool.{cases_eq, cond-false}
 use mathlib.Core.Path.{fun_ext}
 use Rattle.sqlite_format.specs.declared.kind.Tree.TheVariants.{Table}
 use Rattle.sqlite_format.specs.Page.{IsPage, page_cells, cell_count, content_start}
 use Rattle.sqlite_format.proofs.PageLemmas.{empty_page}
-use Rattle.sqlite_pages.specs.PageMap.{PageMap}
 use Rattle.sqlite_wal.specs.Recovery.{Image, AreWhole, only_page}
-use Rattle.sqlite_wal.specs.Recovery as raw
 use Rattle.sqlite_wal.specs.PageSize.{IsPageSize}
 use Rattle.sqlite_wal.proofs.CreateLemmas.{pages_of_one}
 use Rattle.sqlite_pool.specs.Header.{first_page, IsHeader}
@@ -21,8 +19,6 @@ use Rattle.sqlite_store.specs.Listing.{all_trees, file_trees, IsOurs}
 use Rattle.sqlite_store.specs.Listed.{catalog_rows}
 use Rattle.sqlite_store.proofs.ListingLemmas.{past_version, named_tree}
 use Rattle.sqlite_store.proofs.BuildLemmas.{new_is_empty}
-use Rattle.sqlite_trees.specs.Tree.{Trees}
-use Rattle.sqlite.specs.Files.{HoldsDatabase, IsEmpty}
 use Rattle.sqlite.proofs.ListingLemmas.{empty_is_sound}
 use Rattle.procure_programs.specs.Blank.{empty_database}
 use Rattle.procure_programs.specs.Placed.{HoldNoTable}
@@ -95,9 +91,8 @@ unfolding trees_in
 holds_no_table =
     let pages = only_page empty_database in
     let db = file_trees 1024 [] pages in
-    let unlisted = catalog_rows 1024 [] (in_use 1024 pages) in
-    ∣ (
+    let unlisted = catalog_rows 1024 [] (in_use 1024 pages) in (
       db,
       (1024, valid_size, record { pages = pages; wanted = []; schema = _; found = adopts_of 1024 image pages found; ours = ours; reads = refl; sound = empty_is_sound db unlisted }),
       (λ tree low. past_version tree low (all_trees 1024 [] (in_use 1024 pages)) (version_in pages) ∙ named_tree tree low 1024 [] (in_use 1024 pages), unlisted),
-    ) ∣₁
+    )

@@ -1,5 +1,5 @@
 -- What was opened in two files that hold nothing shows an office with no content.
-use Rattle.std.proofs.Common.{◌≡◌, inl, inr, Bool, true, false, List, [], Ok, Err, Result, length, refl, sym, ap, subst, ◌∙◌, IsTrue, true≢false}
+use Rattle.std.proofs.Common.{◌≡◌, inl, inr, Bool, true, false, List, [], Ok, Err, Result, refl, sym, ap, ◌∙◌, true≢false}
 use Rattle.sqlite_disk.specs.declared.Disk.{Ghosts}
 use Rattle.sqlite_wal.specs.Recovery.{Image}
 use Rattle.sqlite_store.specs.declared.store.FileStore.{FileStore}
@@ -19,12 +19,10 @@ use Rattle.sqlite.specs.Listing.{understood, listing_schema}
 use Rattle.sqlite.specs.State.{Shown, HasCleanDisk}
 use Rattle.sqlite.specs.Files.{file_state, over_files}
 use Rattle.sqlite.proofs.ListingLemmas.{empty_is_sound}
-use Rattle.office_base.specs.Tables.{no_tables}
-use Rattle.office_sql.specs.Steps.{ShowsTables}
 use Rattle.office_sql.specs.Version.{get_version}
 use Rattle.office_store.specs.Founding.{Answered, is_version_one, is_version_two}
 use Rattle.office_store.specs.Reopening.{EntersFound, Found, OpensBlank}
-use Rattle.procure_programs.specs.Placed.{HoldNothing, OpensEmpty}
+use Rattle.procure_programs.specs.Placed.{OpensEmpty}
 
 is_understood : Result Compiled CompileError → Bool
 is_understood (Ok c) = true
