@@ -11,6 +11,10 @@ Printed are the wall minutes for each number, and the longest chain of crates. `
 """
 import json, os, shutil, sys
 
+sys.dont_write_bytecode = True
+sys.path.insert(0, os.path.join(os.path.dirname(os.path.dirname(os.path.realpath(__file__))), "scripts"))
+from crates import crates_of
+
 ROOT = os.path.dirname(os.path.dirname(os.path.abspath(__file__)))
 # What a check takes of processor time where so many run side by side, to one that runs alone.
 SLOWER = {1: 1.0, 2: 1.12, 3: 1.19, 4: 1.25}
@@ -23,24 +27,6 @@ ITSELF, LINE, PROOF_LINE, LINE_BELOW, LIBRARY, LIBRARIES = 1e9, 1e6, 2e5, 8e4, 5
 JOB, OVER = 0.6, 0.7
 # The memory that it shares out, in bytes, where the table doesn't tell it.
 MEMORY = 0.85 * 24e9
-
-
-def crates_of(root):
-    """The crates of crates.txt, each with those that it names and all that stand below it."""
-    with open(os.path.join(root, "crates.txt")) as file:
-        lines = [line.split("#")[0].partition(":") for line in file]
-    named = {name.strip(): rest.split() for name, colon, rest in lines if colon}
-    below = {}
-
-    def walk(crate):
-        if crate not in below:
-            own = [it for it in named[crate] if it in named]
-            below[crate] = set(own).union(*(walk(it) for it in own))
-        return below[crate]
-
-    for crate in named:
-        walk(crate)
-    return below
 
 
 def lines_of(root, crate, ending=".rt"):

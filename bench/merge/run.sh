@@ -2,5 +2,5 @@
 # Builds the benchmark of the merge and prints its ratios. It takes a few minutes, more where `ocds_merge` was not checked before.
 set -eu
 set -- ratios.rt.in
-. "$(dirname "$0")/workspace.sh"
+. "$(dirname "$0")/../../scripts/workspace.sh"
 rt run --jobs 1 2> log || { cat log; exit 1; }

@@ -1,9 +1,0 @@
-#!/bin/sh
-# Merges 2,000 random lists of releases by `merge_all` and one by one as text, and compares the bytes; it prints what differs, and ends with 0 only if
-# nothing does. It takes a few minutes, most of it proofs, more where `ocds_merge` was not checked before.
-set -eu
-set -- differences.rt.in
-. "$(dirname "$0")/workspace.sh"
-rt run --jobs 1 > said 2> log || { cat log said; exit 1; }
-cat said
-grep -q ' 0 different$' said

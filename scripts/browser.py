@@ -1,0 +1,186 @@
+"""A browser without a window: Chromium, told what to do by its DevTools protocol, which it speaks over two descriptors (--remote-debugging-pipe)."""
+import base64
+import json
+import os
+import socket
+import subprocess
+import time
+from collections.abc import Callable, Mapping
+from typing import Any
+
+from common import fail
+
+Event = dict[str, Any]
+# What a page is answered in the server's place: a status and a body, or nothing.
+Answers = Mapping[str, tuple[int, bytes] | None]
+
+# Seconds until an answer, or what is waited for, must be there.
+PATIENCE = 60
+KEYS = {"Tab": (9, ""), "Enter": (13, "\r")}
+DOMAINS = ("Page", "Runtime", "Log", "Network", "Audits")
+# Without a sandbox, since that isn't to be had by root in a container; the one page that it shows is that of this repository.
+WORDS = ["--headless=new", "--no-sandbox", "--disable-gpu", "--disable-dev-shm-usage", "--hide-scrollbars", "--no-first-run", "--disable-extensions",
+         "--disable-background-networking", "--disable-component-update", "--ignore-certificate-errors", "--remote-debugging-pipe"]
+
+
+class Browser:
+    """Chromium with a profile of its own in a folder; ended behind a `with`."""
+
+    def __init__(self, program: str, folder: str) -> None:
+        self.stream, end = socket.socketpair()
+        self.stream.settimeout(PATIENCE)
+        self.count, self.rest = 0, b""
+        self.events: list[Event] = []
+
+        def plumb() -> None:
+            # It reads at 3 and writes at 4.
+            for number in (3, 4):
+                os.dup2(end.fileno(), number)
+                os.set_inheritable(number, True)
+
+        environment = {**os.environ, "HOME": folder, "DBUS_SESSION_BUS_ADDRESS": "disabled:"}
+        with end:
+            self.process = subprocess.Popen([program, *WORDS, f"--user-data-dir={os.path.join(folder, 'profile')}"], env=environment, preexec_fn=plumb,
+                                            close_fds=False, stdin=subprocess.DEVNULL, stdout=subprocess.DEVNULL, stderr=subprocess.DEVNULL)
+
+    def __enter__(self) -> "Browser":
+        return self
+
+    def __exit__(self, *_: object) -> None:
+        try:
+            self.ask("Browser.close")
+            self.process.wait(PATIENCE)
+        except (OSError, SystemExit, subprocess.TimeoutExpired):
+            self.process.kill()
+            self.process.wait()
+        self.stream.close()
+
+    def ask(self, method: str, session: str | None = None, **parameters: Any) -> Any:
+        """The answer to a command. Events that come before it are kept."""
+        self.count += 1
+        where = {"sessionId": session} if session else {}
+        self.stream.sendall(json.dumps({"id": self.count, "method": method, "params": parameters, **where}).encode() + b"\0")
+        while (message := self.receive()).get("id") != self.count:
+            # (An answer that came too late for its command is none.)
+            self.events += [message] if "method" in message else []
+        if "error" in message:
+            fail(f"chromium: {method}: {message['error']['message']}")
+        return message["result"]
+
+    def receive(self) -> Event:
+        while b"\0" not in self.rest:
+            part = self.stream.recv(1 << 20)
+            if not part:
+                fail("chromium has ended")
+            self.rest += part
+        message, _, self.rest = self.rest.partition(b"\0")
+        told: Event = json.loads(message)
+        return told
+
+
+class Page:
+    """A page in a context of its own: nothing is kept from another one. For the paths that `answers` has, it stands in the server's place: a status and a body, or
+    None for no answer."""
+
+    def __init__(self, browser: Browser, width: int, height: int = 800, dark: bool = False) -> None:
+        self.browser = browser
+        self.answers: Answers = {}
+        self.session: str | None = None
+        context = self.ask("Target.createBrowserContext")["browserContextId"]
+        target = self.ask("Target.createTarget", url="about:blank", browserContextId=context)["targetId"]
+        self.session = self.ask("Target.attachToTarget", targetId=target, flatten=True)["sessionId"]
+        for domain in DOMAINS:
+            self.ask(f"{domain}.enable")
+        self.shape(width, height, dark)
+
+    def ask(self, method: str, **parameters: Any) -> Any:
+        return self.browser.ask(method, self.session, **parameters)
+
+    def shape(self, width: int, height: int = 800, dark: bool = False, zoom: float = 1) -> None:
+        """A window of this size, that of a phone where it is narrow, light or dark."""
+        self.ask("Emulation.setDeviceMetricsOverride", width=width, height=height, deviceScaleFactor=zoom, mobile=width < 600)
+        self.ask("Emulation.setEmulatedMedia", features=[{"name": "prefers-color-scheme", "value": "dark" if dark else "light"}])
+
+    def events(self, *names: str) -> list[Event]:
+        """What has happened so far of these kinds."""
+        return [event["params"] for event in self.browser.events if event.get("sessionId") == self.session and event["method"] in names]
+
+    def run(self, script: str) -> Any:
+        """The value of an expression of the page, waited for where it is a promise."""
+        answer = self.ask("Runtime.evaluate", expression=script, returnByValue=True, awaitPromise=True)
+        if "exceptionDetails" in answer:
+            fail(f"the page: {script}: {answer['exceptionDetails']}")
+        return answer["result"].get("value")
+
+    def wait(self, script: str) -> None:
+        """Waits until an expression of the page holds."""
+        self.expect(script, lambda: self.run(f"Boolean({script})"))
+
+    def expect(self, what: str, holds: Callable[[], Any]) -> None:
+        """Waits until something holds, and lets the page be answered meanwhile."""
+        end = time.monotonic() + PATIENCE
+        while not holds():
+            self.answer()
+            if time.monotonic() > end:
+                fail(f"the page: {what}: doesn't come to hold; it shows {self.text()!r}")
+            time.sleep(0.01)
+            # Events come with the answer to a command.
+            self.run("0")
+
+    def answer(self) -> None:
+        """Answers what the page has asked, where `answers` has it."""
+        paused = [event for event in self.browser.events if event["method"] == "Fetch.requestPaused"]
+        self.browser.events = [event for event in self.browser.events if event not in paused]
+        for event in paused:
+            request = event["params"]["requestId"]
+            path = "/" + event["params"]["request"]["url"].split("/", 3)[3]
+            if path not in self.answers:
+                self.ask("Fetch.continueRequest", requestId=request)
+            elif not (answer := self.answers[path]):
+                self.ask("Fetch.failRequest", requestId=request, errorReason="ConnectionClosed")
+            else:
+                status, body = answer
+                self.ask("Fetch.fulfillRequest", requestId=request, responseCode=status, body=base64.b64encode(body).decode())
+
+    def answer_for(self, answers: Answers) -> None:
+        """From now on these are the answers."""
+        self.answers = answers
+        self.ask("Fetch.enable", patterns=[{"urlPattern": "*", "resourceType": "Fetch"}])
+
+    def go(self, address: str) -> None:
+        """Loads a page anew, until it has drawn what its address asks for."""
+        self.ask("Page.navigate", url="about:blank")
+        self.ask("Page.navigate", url=address)
+        self.wait("document.querySelector('main')?.getAttribute('aria-busy') === 'false'")
+
+    def text(self) -> str:
+        """The text that is seen of the content, in lines without space around them."""
+        lines = (self.run("(document.querySelector('main') ?? document.body).innerText") or "").split("\n")
+        return "".join(f"{' '.join(line.split())}\n" for line in lines if line.strip())
+
+    def press(self, name: str) -> None:
+        code, text = KEYS[name]
+        for kind in ("keyDown", "keyUp"):
+            self.ask("Input.dispatchKeyEvent", type=kind, key=name, code=name, windowsVirtualKeyCode=code, **({"text": text} if text and kind == "keyDown" else {}))
+
+    def type(self, text: str) -> None:
+        self.ask("Input.insertText", text=text)
+
+    def tree(self) -> list[tuple[str, str, dict[str, Any]]]:
+        """What a screen reader is told, in its order: each thing's role, its name, and its other properties."""
+        nodes = {node["nodeId"]: node for node in self.ask("Accessibility.getFullAXTree")["nodes"]}
+        told, left = [], [name for name, node in nodes.items() if "parentId" not in node]
+        while left:
+            node = nodes[left.pop()]
+            left += [child for child in reversed(node.get("childIds", [])) if child in nodes]
+            if not node.get("ignored"):
+                more = {it["name"]: it["value"].get("value") for it in node.get("properties", [])}
+                told.append((node["role"]["value"], node.get("name", {}).get("value", ""), more))
+        return told
+
+    def picture(self, path: str) -> None:
+        """A picture of the whole page, also of what one would have to scroll to."""
+        size = self.ask("Page.getLayoutMetrics")["cssContentSize"]
+        clip = {"x": 0, "y": 0, "width": size["width"], "height": size["height"], "scale": 1}
+        with open(path, "wb") as file:
+            file.write(base64.b64decode(self.ask("Page.captureScreenshot", format="png", captureBeyondViewport=True, optimizeForSpeed=True, clip=clip)["data"]))

@@ -1,0 +1,20 @@
+"""The crates of the repository, as crates.txt lists them."""
+import os
+
+
+def crates_of(root: str) -> dict[str, set[str]]:
+    """The crates of crates.txt, each with those that it names and all that stand below it."""
+    with open(os.path.join(root, "crates.txt")) as file:
+        lines = [line.split("#")[0].partition(":") for line in file]
+    named = {name.strip(): rest.split() for name, colon, rest in lines if colon}
+    below: dict[str, set[str]] = {}
+
+    def walk(crate: str) -> set[str]:
+        if crate not in below:
+            own = [it for it in named[crate] if it in named]
+            below[crate] = set(own).union(*(walk(it) for it in own))
+        return below[crate]
+
+    for crate in named:
+        walk(crate)
+    return below

@@ -1,0 +1,351 @@
+"""What `tests/page` asks of the page, in a browser: what each view says and how, for eyes, keyboards and screen readers, and what can't break it."""
+import contextlib
+import difflib
+import json
+import os
+import re
+from collections.abc import Iterator
+from typing import Any
+
+from browser import Page
+from common import ROOT, check
+from front import OUTSIDE, exchange
+from page_office import SCRIPT
+from scene import Scene
+
+SITE = "Public procurement"
+# The views, each with its place in the address.
+VIEWS = {"begin": "", "open": "#notice/N3", "awarded": "#notice/N2", "paid": "#notice/N1", "cancelled": "#notice/N4", "stopped": "#notice/N5",
+         "running": "#notice/N6", "budget": "#ledger", "missing": "#notice/N99"}
+WIDTHS, NARROWEST = {"narrow": 375, "wide": 1280}, 320
+# How many looks are more than the front takes from one address at a time, whatever the machine.
+MANY = 2000
+MOMENT = re.compile(r"\d{1,2} [A-Z][a-z]+ \d{4}, \d\d:\d\d:\d\d UTC")
+# Texts whose contrast is below 4.5 to 1 (WCAG 2.2, 1.4.3), and edges of bars and fields below 3 to 1 (1.4.11).
+PALE = """(() => {
+  const parts = (text) => text.match(/[\\d.]+/g).map(Number);
+  const channel = (value) => value <= 10.31475 ? value / 3294.6 : ((value / 255 + 0.055) / 1.055) ** 2.4;
+  const light = ([r, g, b]) => 0.2126 * channel(r) + 0.7152 * channel(g) + 0.0722 * channel(b);
+  const ground = (at) => { const own = parts(getComputedStyle(at).backgroundColor); return own[3] === 0 ? (at.parentElement ? ground(at.parentElement) : [255, 255, 255]) : own; };
+  const ratio = (one, other) => { const [low, high] = [light(one), light(other)].sort((a, b) => a - b); return (high + 0.05) / (low + 0.05); };
+  const found = [];
+  for (const at of document.querySelectorAll("body *")) {
+    const style = getComputedStyle(at);
+    const own = [...at.childNodes].some((node) => node.nodeType === Node.TEXT_NODE && node.data.trim()) || at.tagName === "INPUT";
+    if (at.checkVisibility() && own && ratio(parts(style.color), ground(at)) < 4.5) found.push(`text: ${at.textContent}`);
+    if (at.matches(".bar, .swatch, input") && ratio(parts(style.borderTopColor), ground(at.parentElement)) < 3) found.push(`edge: ${at.outerHTML}`);
+  }
+  return found;
+})()"""
+
+# Texts with a mark that turns the direction of what follows, and nothing that ends it.
+TURNING = """(() => {
+  const texts = document.createTreeWalker(document.body, NodeFilter.SHOW_TEXT), found = [];
+  while (texts.nextNode()) {
+    if (texts.currentNode.data.includes("\u202e") && !texts.currentNode.parentElement.closest("bdi")) found.push(texts.currentNode.data);
+  }
+  return found;
+})()"""
+
+# How the parts of bars are told apart without their colours: kind, picture and whether the part is filled, each once.
+PATTERNS = """[...new Set([...document.querySelectorAll(".part, .swatch")].map((at) => {
+  const style = getComputedStyle(at), empty = getComputedStyle(document.documentElement).backgroundColor;
+  return `${at.classList[1]} ${style.backgroundImage.split("(")[0]} ${style.backgroundColor === empty}`;
+}))].sort()"""
+
+
+def page_of(scene: Scene, place: str, width: int = 1280) -> Page:
+    page = Page(scene.browser, width)
+    page.go(scene.front.address(place))
+    return page
+
+
+def views(scene: Scene) -> None:
+    """Each view: its text; its headings, names and landmarks; no wider than the window; contrast; pictures. Nothing is kept, and nothing foreign asked."""
+    page, differences = Page(scene.browser, 1280), ""
+    for name, place in VIEWS.items():
+        page.shape(WIDTHS["wide"])
+        page.go(scene.front.address(place))
+        page.wait("[...document.querySelectorAll('.lines h3')].every((heading) => heading.textContent.includes(':'))")
+        differences += difference(scene, name, page)
+        for shape, width in WIDTHS.items():
+            page.shape(width)
+            is_read_out(name, page)
+            for dark in (False, True):
+                page.shape(width, dark=dark)
+                page.picture(os.path.join(scene.pictures, f"{name}-{shape}-{'dark' if dark else 'light'}.png"))
+                pale = page.run(PALE)
+                check(f"{name}, {shape}, {'dark' if dark else 'light'}: too little contrast: {pale}", not pale)
+        for width in (*WIDTHS.values(), NARROWEST):
+            page.shape(width)
+            is_within(name, width, page)
+    check("what is said is something else than in page_texts:\n" + differences, not differences)
+    keeps_nothing(scene, page)
+
+
+def difference(scene: Scene, name: str, page: Page) -> str:
+    """Where the text of a view is another than that of `page_texts/`, moments apart. Markup in it is text."""
+    text = MOMENT.sub("MOMENT", page.text())
+    with open(os.path.join(scene.pictures, f"{name}.txt"), "w") as file:
+        file.write(text)
+    with open(os.path.join(ROOT, "tests", "page_texts", f"{name}.txt")) as file:
+        wanted = file.read()
+    title = page.run("document.title")
+    check(f"{name} has the title {title}", title.endswith(SITE) and (name != "awarded" or title.startswith(SCRIPT)))
+    check(f"{name} has a script or a mark from a text", page.run("document.scripts.length === 1 && !document.querySelector('main :is(script, i, img, style)')"))
+    return "".join(difflib.unified_diff(wanted.splitlines(True), text.splitlines(True), f"page_texts/{name}.txt", "the page", n=1))
+
+
+def is_within(name: str, width: object, page: Page) -> None:
+    """Nothing is wider than the window. (A phone's `innerWidth` grows with what it shows.)"""
+    wide = page.run("document.documentElement.scrollWidth")
+    check(f"{name} is {wide} wide in a window of {width}", wide <= width)
+
+
+def is_read_out(name: str, page: Page) -> None:
+    """What a screen reader is told: landmarks, one heading of the first level and none left out, a name for each thing, a text for each bar, headers of tables."""
+    tree = page.tree()
+    roles = [role for role, _, _ in tree]
+    for role in ("banner", "navigation", "search", "main", "contentinfo", "status"):
+        check(f"{name} has {roles.count(role)} of {role}", roles.count(role) == 1)
+    levels = [more["level"] for role, _, more in tree if role == "heading"]
+    check(f"{name} has headings of the levels {levels}", levels[0] == 1 and levels.count(1) == 1 and all(next_ <= level + 1 for level, next_ in zip(levels, levels[1:])))
+    nameless = [role for role, text, _ in tree if not text and role in ("link", "button", "textbox", "image", "table", "region", "article", "navigation", "search")]
+    check(f"{name} has {nameless} without a name", not nameless)
+    bars = [text for role, text, _ in tree if role == "image"]
+    check(f"{name} has bars that tell {bars}", len(bars) == page.run("document.querySelectorAll('.bar').length") and all(re.search(r"\d", text) for text in bars))
+    check(f"{name} has a table without headers", "table" not in roles or {"columnheader", "rowheader"} <= set(roles))
+    patterns = [pattern.split(" ", 1) for pattern in page.run(PATTERNS)]
+    check(f"{name} has bars that colour alone tells apart: {patterns}", len(patterns) == len({kind for kind, _ in patterns}) == len({how for _, how in patterns}))
+
+
+def keeps_nothing(scene: Scene, page: Page) -> None:
+    """No cookie, nothing stored, nothing asked of another server; no error in the console but what the browser says of a refusal, and no breach of the policy."""
+    check("there is a cookie", page.ask("Network.getAllCookies")["cookies"] == [])
+    check("something is stored", page.run("localStorage.length + sessionStorage.length === 0 && indexedDB.databases().then((all) => all.length === 0)"))
+    asked = {event["request"]["url"] for event in page.events("Network.requestWillBeSent")} - {"about:blank"}
+    check(f"foreign things were asked for: {asked}", asked and all(url.startswith(scene.front.address()) for url in asked))
+    is_quiet(page)
+
+
+def is_quiet(page: Page) -> None:
+    faults = page.events("Runtime.exceptionThrown", "Runtime.consoleAPICalled", "Audits.issueAdded")
+    faults += [event for event in page.events("Log.entryAdded") if event["entry"]["source"] != "network"]
+    check(f"the console says {faults}", not faults)
+
+
+def focused(page: Page) -> Any:
+    """What has the focus: its name, and whether it is seen there with an outline around it."""
+    return page.run("""(() => {
+      const at = document.activeElement, box = at.getBoundingClientRect(), style = getComputedStyle(at);
+      const seen = box.left >= 0 && box.top >= 0 && box.right <= innerWidth && box.bottom <= innerHeight;
+      return [at.id || at.textContent, seen && style.outlineStyle === "solid" && parseFloat(style.outlineWidth) >= 2];
+    })()""")
+
+
+def tab(page: Page, count: int) -> list[Any]:
+    """What has the focus behind each of so many tabs."""
+    seen = []
+    for _ in range(count):
+        page.press("Tab")
+        seen.append(focused(page))
+    return seen
+
+
+def keyboard(scene: Scene) -> None:
+    """Everything can be reached and used by the keyboard, in the order in which it stands there, and it is seen where one is."""
+    page = page_of(scene, "")
+    order = tab(page, 6)
+    page.picture(os.path.join(scene.pictures, "focus-wide-light.png"))
+    check(f"tabs lead to {order}", order == [[name, True] for name in ("skip", "to-notices", "to-ledger", "notice", "Show", "budget, line by line")])
+    page.press("Enter")
+    page.wait("document.title.startsWith('Budget')")
+    check(f"the link to the budget leads to {focused(page)}", focused(page)[0] == "Budget")
+    page.wait("document.querySelectorAll('main h3').length === 20")
+    page.press("Tab")
+    page.press("Enter")
+    check(f"the button for more lines leads to {focused(page)}", focused(page)[0].startswith("Line 3100"))
+    check("the other lines are shown, and the button is gone", page.run("document.querySelectorAll('main h3').length === 22 && !document.querySelector('.more').checkVisibility()"))
+    page.go(scene.front.address())
+    page.press("Tab")
+    page.press("Enter")
+    check(f"the skip link leads to {focused(page)}", focused(page)[0] == "content")
+    page.press("Tab")
+    check(f"behind it is {focused(page)}", focused(page) == ["budget, line by line", True])
+    page.run("document.getElementById('notice').focus()")
+    page.type("N1")
+    page.press("Enter")
+    page.wait("document.title.startsWith('Road repair')")
+    check(f"the form leads to {focused(page)}", focused(page)[0] == "Road repair in the north")
+    check(f"behind it is {focused(page)}", tab(page, 1) == [["/notices/N1/record", True]])
+    is_quiet(page)
+
+
+def refusals() -> Iterator[tuple[int, bytes]]:
+    """The rows of the table of docs/API.md: what each refusal answers, as a status and a body."""
+    with open(os.path.join(ROOT, "docs", "API.md")) as file:
+        rows = re.findall(r"^\| (\d+) \| `(\w+)` \| (\d+) \|([^|]*)\|", file.read(), re.M)
+    check(f"docs/API.md has {len(rows)} refusals, and not 32", len(rows) == 32)
+    for number, name, status, what in rows:
+        for word in re.findall(r"`(\w+)`", what) if name == "NoSuch" else [None]:
+            yield int(status), json.dumps({"name": name, "refusal": int(number), **({"what": word} if word else {})}).encode()
+
+
+def sentence(page: Page, notice: str, *answers: tuple[int, bytes] | None) -> str:
+    """The sentence that the page shows where its three requests are answered so."""
+    page.answer_for(dict(zip((f"/notices/{notice}/{name}" for name in ("record", "releases", "minutes")), answers)))
+    page.run(f"location.hash = '#notice/{notice}'")
+    page.wait(f"document.getElementById('notice').value === '{notice}' && document.querySelector('main').getAttribute('aria-busy') === 'false'")
+    head, _, rest = page.text().partition("\n")
+    check(f"{answers[0]} is shown as {rest!r}", head == "Not shown" and re.fullmatch(r"[A-Z][^\n]*\.\n", rest) and "answered with the status" not in rest)
+    check(f"{answers[0]} isn't read out", page.run("document.getElementById('status').textContent") + "\n" == rest)
+    return rest
+
+
+def each_refusal(scene: Scene) -> None:
+    """Each refusal of the office is shown as a sentence of its own, what the front or the net says as one too; so is what is no number of a notice."""
+    page = page_of(scene, "")
+    page.answer_for({})
+    page.run("location.hash = '#notice/R'")
+    page.wait("document.getElementById('status').textContent === 'The office is asked …' && document.getElementById('status').offsetHeight > 10")
+    told = {answer: sentence(page, f"R{at}", *[answer] * 3) for at, answer in enumerate(refusals())}
+    check(f"two refusals have one sentence: {told}", len(set(told.values())) == len(told))
+    nameless = [body for (_, body), said in told.items() if json.loads(body).get("what", "") not in said]
+    check(f"what isn't there has no name: {nameless}", not nameless)
+    for at, status in enumerate((403, 404, 413, 429, 502, 503, 504)):
+        sentence(page, f"F{at}", *[(status, b'{"front":"no"}')] * 3)
+        sentence(page, f"H{at}", *[(status, b"<html><b>no</b></html>")] * 3)
+    sentence(page, "B1", *[(200, b"{")] * 3)
+    sentence(page, "B2", *[(200, b'{"records":[]}')] * 3)
+    sentence(page, "B3", None, None, None)
+    page.answer_for({})
+    for text in ("N 1", "a/b", "..", "x" * 33, "<b>", "%00", "é"):
+        page.run(f"location.hash = '#notice/' + encodeURIComponent({json.dumps(text)})")
+        page.wait("document.querySelector('main').textContent.includes('no number of a notice')")
+        page.run("location.hash = ''")
+        page.wait("document.querySelector('h1').textContent.startsWith('What is bought')")
+
+
+# Of a lot decided by price with three tenders, A for 100, B for 90, C for 100: the lot's state, to whom awards were made and what became of them, what is said of each.
+LOTS: list[tuple[str, list[tuple[str, str]], list[str]]] = [
+    ("active", [], ["Waits", "Waits", "Waits"]),
+    ("cancelled", [], ["Not decided", "Not decided", "Not decided"]),
+    ("unsuccessful", [], ["Couldn't win", "Couldn't win", "Couldn't win"]),
+    ("unsuccessful", [("B", "cancelled")], ["Couldn't win", "Passed over", "Couldn't win"]),
+    ("active", [("A", "cancelled")], ["Passed over", "Couldn't win", "Not chosen"]),
+    ("active", [("B", "active")], ["Not chosen", "Won", "Not chosen"]),
+    ("complete", [("B", "cancelled"), ("C", "active")], ["Couldn't win", "Passed over", "Won"])]
+Contract = tuple[dict[str, int], list[int], bool]
+VALUE = {"amount": 10}
+PAID, HALF, NONE = [4, 6], [4], list[int]()
+# The state of the tender, whether it was opened, its contracts with what was paid and whether they ended, and what is said of the whole.
+STATES: list[tuple[str, bool, list[Contract], str]] = [
+    ("active", False, [], "Deadline passed, tenders not opened yet"), ("unsuccessful", True, [], "Ended without a contract"),
+    ("complete", True, [(VALUE, NONE, False)], "Contract runs, nothing paid yet"),
+    ("complete", True, [(VALUE, HALF, False), (VALUE, NONE, True)], "Contracts run, paid in part"),
+    ("complete", True, [(VALUE, PAID, False), (VALUE, HALF, True)], "Paid in full"), ("complete", True, [(VALUE, HALF, True)] * 2, "All contracts ended")]
+
+
+def inferences(scene: Scene) -> None:
+    """What the page infers where no notice of this office shows it."""
+    page = page_of(scene, "")
+    tenders = [{"receipt": at, "tenderer": name, "reading": "priced", "corrected": price} for at, (name, price) in enumerate((("A", 100), ("B", 90), ("C", 100)), 1)]
+    for status, made, words in LOTS:
+        awards = [{"id": str(at), "relatedLots": ["L1"], "suppliers": [{"id": f"T-{name}"}], "status": state} for at, (name, state) in enumerate(made)]
+        told = [{"awards": awards, "tender": {"awardCriteria": "priceOnly"}}, {"id": "L1", "status": status}, tenders]
+        passed = [award["id"] for award in awards if award["status"] == "cancelled"]
+        said = page.run(f"import('/findings.js').then(({{ findings }}) => findings(...{json.dumps(told)}, new Set({passed})).map(([, , word]) => word))")
+        check(f"of a lot that is {status} with the awards {made} is said {said}, and not {words}", said == words)
+    for status, opened, contracts, word in STATES:
+        of_them = [{"value": value, "status": "terminated" if ended else "active", "implementation": {"transactions": [{"value": {"amount": it}} for it in paid]}}
+                   for value, paid, ended in contracts]
+        tender: dict[str, Any] = {"status": status, "lots": [], "tenderPeriod": {"endDate": "2026-01-05T09:00:00Z"}, **({"numberOfTenderers": 1} if opened else {})}
+        said = page.run(f"import('/findings.js').then(({{ stateOf }}) => stateOf({json.dumps({'tender': tender, 'contracts': of_them})})[1])")
+        check(f"a process that is {status}, with {contracts}, is called {said}, and not {word}", said == word)
+    is_quiet(page)
+
+
+def long_texts(scene: Scene) -> None:
+    """Texts of the greatest length, without a space and of either direction, and the greatest amounts: nothing is wider than the window."""
+    answers = {}
+    for name in ("record", "releases", "minutes"):
+        text = scene.front.ask("GET", f"/notices/N1/{name}").body.decode()
+        text = re.sub(r'"(title|name|rationale|description|streetAddress)":"(?:[^"\\]|\\.)*"', lambda found: f'"{found[1]}":"\u202e{"W" * 197}"', text)
+        text = re.sub(r'"amount":\d+', '"amount":999999999999', text)
+        answers[f"/notices/N9/{name}"] = (200, re.sub(r"^(tender\t\d+\tT\d)\t[^\t]*\t[^\t]*", r"\1\t" + "W" * 200 + r"\t" + "M" * 200, text, flags=re.M).encode())
+    answers["/ledger"] = (200, b"LEDGER\nline\n" + b"".join(b"%s\t999999999999999\t1\t2\t3\t999999999999993\n" % (b"W" * 32) for _ in range(3)))
+    answers["/lines/" + "W" * 32] = (200, json.dumps({"title": "M" * 200}).encode())
+    page = page_of(scene, "")
+    page.answer_for(answers)
+    for name, place in (("long", "#notice/N9"), ("large", "#ledger")):
+        page.go(scene.front.address(place))
+        page.wait("!document.title.startsWith('Public')")
+        for width in (NARROWEST, *WIDTHS.values()):
+            page.shape(width)
+            page.answer()
+            is_within(name, width, page)
+        page.picture(os.path.join(scene.pictures, f"{name}-wide-light.png"))
+        turning = page.run(TURNING)
+        check(f"{name} has texts that turn others round: {turning}", not turning)
+    is_quiet(page)
+
+
+def without_scripts(scene: Scene) -> None:
+    """Where scripts are turned off, the page says where the answers are."""
+    page = Page(scene.browser, WIDTHS["narrow"])
+    page.ask("Emulation.setScriptExecutionDisabled", value=True)
+    page.ask("Page.navigate", url=scene.front.address())
+    page.wait("document.readyState === 'complete' && document.querySelector('main')")
+    check(f"the page says {page.text()!r}", "/notices/NUMBER/record" in page.text())
+
+
+def injected(scene: Scene) -> None:
+    """What would be done to the page by a fault of it: no markup is made of texts, no script within the page runs, and nothing is asked of another server."""
+    page = page_of(scene, "")
+    elsewhere = f"https://{OUTSIDE}:{scene.front.port}/ledger"
+    harms = {"document.body.innerHTML = '<img src=x onerror=hurt()>'": "require-trusted-types-for",
+             "document.body.append(Object.assign(document.createElement('script'), {textContent: 'hurt()'}))": "require-trusted-types-for",
+             "await new Promise((yes, no) => document.body.append(Object.assign(document.createElement('style'), {onload: yes, onerror: no, textContent: '*{}'})))":
+             "style-src-elem", f"await fetch('{elsewhere}')": "connect-src",
+             f"await new Promise((yes, no) => Object.assign(new Image(), {{onload: yes, onerror: no}}).src = '{elsewhere}')": "img-src"}
+    for harm, directive in harms.items():
+        check(f"{harm} is done", page.run(f"(async () => {{ {harm}; }})().then(() => false, () => true)"))
+        page.expect(f"{harm} is refused by {directive}", lambda: directive in breaches(page))
+    check("a script of a text ran", page.run("typeof hurt === 'undefined' && document.scripts.length === 1"))
+
+
+def breaches(page: Page) -> list[Any]:
+    """What of the policy was broken, as the browser tells it."""
+    told = [event["issue"]["details"].get("contentSecurityPolicyIssueDetails", {}) for event in page.events("Audits.issueAdded")]
+    return [details.get("violatedDirective") for details in told]
+
+
+def office_away(scene: Scene) -> None:
+    """Where the office is gone, the front says so, and so does the page."""
+    scene.office.kill()
+    scene.office.wait()
+    answer = scene.front.ask("GET", "/lines/77")
+    check(f"a look without an office: {answer}", answer.status == 502 and b"front" in answer.body)
+    said = page_of(scene, "#notice/N77").text()
+    check(f"the page says {said!r}", said == "Not shown\nThe office isn't answering at the moment. Try again in a while.\n")
+
+
+def too_often(scene: Scene) -> None:
+    """Who asks too often is told so, by the front and by the page."""
+    page = page_of(scene, "")
+    with contextlib.closing(scene.front.connection()) as connection:
+        for attempt in range(5):
+            # (A busy machine asks more slowly, and each second ten looks more are free)
+            for _ in range(MANY):
+                answer = exchange(connection, "GET", "/lines/77")
+                if answer.status == 429:
+                    break
+            page.run(f"location.hash = '#notice/T{attempt}'")
+            page.wait(f"document.getElementById('notice').value === 'T{attempt}' && document.querySelector('main').getAttribute('aria-busy') === 'false'")
+            if "Too many requests came from here." in page.text():
+                break
+    check(f"of {MANY} looks at a time all are taken", answer.status == 429 and b"front" in answer.body)
+    check(f"the page says {page.text()!r}", page.text() == "Not shown\nToo many requests came from here. Wait a minute and try again.\n")
+
+
+CHECKS = [views, keyboard, each_refusal, inferences, long_texts, without_scripts, injected, office_away, too_often]

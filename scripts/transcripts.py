@@ -1,0 +1,91 @@
+"""Files of transcripts, read by their form, which is told at the head of crates/worked_runs/data/setup.txt."""
+import os
+import re
+
+import common
+from common import CLERK, ROOT
+
+CRATE = os.path.join(ROOT, "crates", "worked_runs")
+PHRASES = {"200": "OK", "400": "Bad Request", "401": "Unauthorized", "403": "Forbidden", "404": "Not Found", "405": "Method Not Allowed",
+           "409": "Conflict", "413": "Payload Too Large", "501": "Not Implemented", "503": "Service Unavailable"}
+
+
+class Topic:
+    """A file: its pieces, each a list of blocks, and what is played, each a kind, a title and lists of names."""
+
+    def __init__(self, name: str) -> None:
+        self.name = name
+        self.pieces: dict[str, list[str]] = {}
+        self.played: list[tuple[str, str, list[list[str]]]] = []
+        with open(os.path.join(CRATE, "data", name), encoding="utf-8", newline="") as file:
+            head, *sections = file.read().split("\n== ")
+        for section in sections:
+            first, _, rest = section.partition("\n")
+            kind, _, line = first.partition(" ")
+            if kind in ("play", "wrong", "alike"):
+                title, _, names = line.partition(": ")
+                self.played.append((kind, title, [part.split(" ") for part in names.split(" | ")]))
+            else:
+                self.pieces[kind] = [sent for it in rest.strip("\n").split("\n\n") for sent in blocks_of(it)]
+
+
+def blocks_of(block: str) -> list[str]:
+    """What a block stands for that may begin with a number: so many blocks, with the number of each, from 1, in place of each `#`."""
+    counted = re.fullmatch(r"(\d+) (.*)", block, re.S)
+    return [counted[2].replace("#", str(number + 1)) for number in range(int(counted[1]))] if counted else [block]
+
+
+def topics() -> list[Topic]:
+    """The files that crates/worked_runs/args names, in their order."""
+    with open(os.path.join(CRATE, "args"), encoding="utf-8") as file:
+        return [Topic(name) for name in file.read().split()]
+
+
+def text_of(line: str) -> str:
+    """What a line of a body stands for."""
+    counted = re.fullmatch(r"(\d+) (.*)", line, re.S)
+    count, line = (int(counted[1]), counted[2]) if counted else (1, line)
+    if line.startswith("> "):
+        return line[2:] * count
+    if line != "|" and not line.startswith("| "):
+        raise ValueError(f"no line of a body: {line}")
+    return (line[2:].replace(r"\t", "\t").replace(r"\r", "\r").replace(r"\u{feff}", "\ufeff") + "\n") * count
+
+
+def request_of(block: str) -> bytes:
+    """A block of `procure desk` that asks what a block of a transcript asks."""
+    first, *lines = block.split("\n= ", 1)[0].split("\n")
+    asked = re.fullmatch(r"at (\S+) (\S+)(?: (.*))?", first)
+    if not asked:
+        raise ValueError(f"no request: {first}")
+    moment, who, rest = asked.groups()
+    body = "".join(map(text_of, lines)).encode()
+    if who == "bytes":
+        return common.block(moment.encode(), body)
+    method, target = rest.encode().split(b" ", 1)
+    name, colon, key = who.encode().partition(b":")
+    caller = {"public": None, "clerk": CLERK}.get(who, (name, key if colon else b"hello"))
+    return common.block(moment.encode(), common.request(method, target, body, caller))
+
+
+def answer_of(block: str) -> tuple[str, str, str] | None:
+    """The status, the kind and the body of a block's answer; None where any will do."""
+    told = block.split("\n= ", 1)[1]
+    if told == "any":
+        return None
+    first, *lines = told.split("\n")
+    status, rest = first.split(" ", 1)
+    kind, body = ("text", "") if rest == "text" else rest.split(" ", 1) if rest.startswith(("POST ", "GET ")) else ("", rest)
+    return status, kind, body + "".join(text_of(line) for line in lines)
+
+
+def response_of(block: str) -> str:
+    """The whole response of a block."""
+    answer = answer_of(block)
+    if not answer:
+        raise ValueError(f"any answer will do: {block}")
+    status, kind, body = answer
+    media = "text/plain; charset=utf-8" if kind == "text" else "application/json"
+    field = "WWW-Authenticate: Office-Key\r\n" if status == "401" else f"Allow: {kind}\r\n" if kind in ("POST", "GET") else ""
+    return (f"HTTP/1.1 {status} {PHRASES[status]}\r\nContent-Type: {media}\r\nContent-Length: {len(body.encode())}\r\n{field}"
+            f"Connection: close\r\n\r\n{body}")
