@@ -95,7 +95,7 @@ def networks(scene: Scene) -> None:
             # (from another address each time: a wrong key makes its own wait)
             answer = scene.front.ask(method, path, caller=(b"clerk", b"wrong"), source=f"127.0.1.{number}")
             told = exchange_with_office(scene, method, path, (b"clerk", b"wrong"))
-            check(f"{method} {path} with a wrong key: {answer}, and from the office {told}", answer.status == 401 and answer.body == told)
+            check(f"{method} {path} with a wrong key: {answer}, and from the office {told!r}", answer.status == 401 and answer.body == told)
             check(f"{path} with a wrong key: {answer.head['WWW-Authenticate']}", answer.head["WWW-Authenticate"])
 
 
