@@ -188,7 +188,8 @@ def release_of(package: Any) -> Mapping[str, str]:
 
 
 def check_releases(package: Any, place: str) -> None:
-    """That each release at a place is one, none a compiled one, and none earlier than the one before it; that the package is of the last one's date."""
+    """That each release at a place is one, and none a compiled one; that none is earlier than the one before it, and that the package is of the last one's
+    date."""
     for path, release in found_at("", package, place):
         check(path, release, release_of(package))
         if "compiled" in texts_at(release, "tag"):
