@@ -1,7 +1,18 @@
 """A browser without a window: Chromium, told what to do by its DevTools protocol, which it speaks over two descriptors (--remote-debugging-pipe)."""
-import base64, json, os, socket, subprocess, time
+import base64
+import json
+import os
+import socket
+import subprocess
+import time
+from collections.abc import Callable, Mapping
+from typing import Any
 
 from common import fail
+
+Event = dict[str, Any]
+# What a page is answered in the server's place: a status and a body, or nothing.
+Answers = Mapping[str, tuple[int, bytes] | None]
 
 # Seconds until an answer, or what is waited for, must be there.
 PATIENCE = 60
@@ -15,12 +26,13 @@ WORDS = ["--headless=new", "--no-sandbox", "--disable-gpu", "--disable-dev-shm-u
 class Browser:
     """Chromium with a profile of its own in a folder; ended behind a `with`."""
 
-    def __init__(self, program, folder):
+    def __init__(self, program: str, folder: str) -> None:
         self.stream, end = socket.socketpair()
         self.stream.settimeout(PATIENCE)
-        self.count, self.rest, self.events = 0, b"", []
+        self.count, self.rest = 0, b""
+        self.events: list[Event] = []
 
-        def plumb():
+        def plumb() -> None:
             # It reads at 3 and writes at 4.
             for number in (3, 4):
                 os.dup2(end.fileno(), number)
@@ -31,10 +43,10 @@ class Browser:
             self.process = subprocess.Popen([program, *WORDS, f"--user-data-dir={os.path.join(folder, 'profile')}"], env=environment, preexec_fn=plumb,
                                             close_fds=False, stdin=subprocess.DEVNULL, stdout=subprocess.DEVNULL, stderr=subprocess.DEVNULL)
 
-    def __enter__(self):
+    def __enter__(self) -> "Browser":
         return self
 
-    def __exit__(self, *_):
+    def __exit__(self, *_: object) -> None:
         try:
             self.ask("Browser.close")
             self.process.wait(PATIENCE)
@@ -43,7 +55,7 @@ class Browser:
             self.process.wait()
         self.stream.close()
 
-    def ask(self, method, session=None, **parameters):
+    def ask(self, method: str, session: str | None = None, **parameters: Any) -> Any:
         """The answer to a command. Events that come before it are kept."""
         self.count += 1
         where = {"sessionId": session} if session else {}
@@ -55,22 +67,25 @@ class Browser:
             fail(f"chromium: {method}: {message['error']['message']}")
         return message["result"]
 
-    def receive(self):
+    def receive(self) -> Event:
         while b"\0" not in self.rest:
             part = self.stream.recv(1 << 20)
             if not part:
                 fail("chromium has ended")
             self.rest += part
         message, _, self.rest = self.rest.partition(b"\0")
-        return json.loads(message)
+        told: Event = json.loads(message)
+        return told
 
 
 class Page:
     """A page in a context of its own: nothing is kept from another one. For the paths that `answers` has, it stands in the server's place: a status and a body, or
     None for no answer."""
 
-    def __init__(self, browser, width, height=800, dark=False):
-        self.browser, self.answers, self.session = browser, {}, None
+    def __init__(self, browser: Browser, width: int, height: int = 800, dark: bool = False) -> None:
+        self.browser = browser
+        self.answers: Answers = {}
+        self.session: str | None = None
         context = self.ask("Target.createBrowserContext")["browserContextId"]
         target = self.ask("Target.createTarget", url="about:blank", browserContextId=context)["targetId"]
         self.session = self.ask("Target.attachToTarget", targetId=target, flatten=True)["sessionId"]
@@ -78,30 +93,30 @@ class Page:
             self.ask(f"{domain}.enable")
         self.shape(width, height, dark)
 
-    def ask(self, method, **parameters):
+    def ask(self, method: str, **parameters: Any) -> Any:
         return self.browser.ask(method, self.session, **parameters)
 
-    def shape(self, width, height=800, dark=False, zoom=1):
+    def shape(self, width: int, height: int = 800, dark: bool = False, zoom: float = 1) -> None:
         """A window of this size, that of a phone where it is narrow, light or dark."""
         self.ask("Emulation.setDeviceMetricsOverride", width=width, height=height, deviceScaleFactor=zoom, mobile=width < 600)
         self.ask("Emulation.setEmulatedMedia", features=[{"name": "prefers-color-scheme", "value": "dark" if dark else "light"}])
 
-    def events(self, *names):
+    def events(self, *names: str) -> list[Event]:
         """What has happened so far of these kinds."""
         return [event["params"] for event in self.browser.events if event.get("sessionId") == self.session and event["method"] in names]
 
-    def run(self, script):
+    def run(self, script: str) -> Any:
         """The value of an expression of the page, waited for where it is a promise."""
         answer = self.ask("Runtime.evaluate", expression=script, returnByValue=True, awaitPromise=True)
         if "exceptionDetails" in answer:
             fail(f"the page: {script}: {answer['exceptionDetails']}")
         return answer["result"].get("value")
 
-    def wait(self, script):
+    def wait(self, script: str) -> None:
         """Waits until an expression of the page holds."""
         self.expect(script, lambda: self.run(f"Boolean({script})"))
 
-    def expect(self, what, holds):
+    def expect(self, what: str, holds: Callable[[], Any]) -> None:
         """Waits until something holds, and lets the page be answered meanwhile."""
         end = time.monotonic() + PATIENCE
         while not holds():
@@ -112,7 +127,7 @@ class Page:
             # Events come with the answer to a command.
             self.run("0")
 
-    def answer(self):
+    def answer(self) -> None:
         """Answers what the page has asked, where `answers` has it."""
         paused = [event for event in self.browser.events if event["method"] == "Fetch.requestPaused"]
         self.browser.events = [event for event in self.browser.events if event not in paused]
@@ -121,37 +136,37 @@ class Page:
             path = "/" + event["params"]["request"]["url"].split("/", 3)[3]
             if path not in self.answers:
                 self.ask("Fetch.continueRequest", requestId=request)
-            elif self.answers[path] is None:
+            elif not (answer := self.answers[path]):
                 self.ask("Fetch.failRequest", requestId=request, errorReason="ConnectionClosed")
             else:
-                status, body = self.answers[path]
+                status, body = answer
                 self.ask("Fetch.fulfillRequest", requestId=request, responseCode=status, body=base64.b64encode(body).decode())
 
-    def answer_for(self, answers):
+    def answer_for(self, answers: Answers) -> None:
         """From now on these are the answers."""
         self.answers = answers
         self.ask("Fetch.enable", patterns=[{"urlPattern": "*", "resourceType": "Fetch"}])
 
-    def go(self, address):
+    def go(self, address: str) -> None:
         """Loads a page anew, until it has drawn what its address asks for."""
         self.ask("Page.navigate", url="about:blank")
         self.ask("Page.navigate", url=address)
         self.wait("document.querySelector('main')?.getAttribute('aria-busy') === 'false'")
 
-    def text(self):
+    def text(self) -> str:
         """The text that is seen of the content, in lines without space around them."""
         lines = (self.run("(document.querySelector('main') ?? document.body).innerText") or "").split("\n")
         return "".join(f"{' '.join(line.split())}\n" for line in lines if line.strip())
 
-    def press(self, name):
+    def press(self, name: str) -> None:
         code, text = KEYS[name]
         for kind in ("keyDown", "keyUp"):
             self.ask("Input.dispatchKeyEvent", type=kind, key=name, code=name, windowsVirtualKeyCode=code, **({"text": text} if text and kind == "keyDown" else {}))
 
-    def type(self, text):
+    def type(self, text: str) -> None:
         self.ask("Input.insertText", text=text)
 
-    def tree(self):
+    def tree(self) -> list[tuple[str, str, dict[str, Any]]]:
         """What a screen reader is told, in its order: each thing's role, its name, and its other properties."""
         nodes = {node["nodeId"]: node for node in self.ask("Accessibility.getFullAXTree")["nodes"]}
         told, left = [], [name for name, node in nodes.items() if "parentId" not in node]
@@ -163,7 +178,7 @@ class Page:
                 told.append((node["role"]["value"], node.get("name", {}).get("value", ""), more))
         return told
 
-    def picture(self, path):
+    def picture(self, path: str) -> None:
         """A picture of the whole page, also of what one would have to scroll to."""
         size = self.ask("Page.getLayoutMetrics")["cssContentSize"]
         clip = {"x": 0, "y": 0, "width": size["width"], "height": size["height"], "scale": 1}

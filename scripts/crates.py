@@ -2,14 +2,14 @@
 import os
 
 
-def crates_of(root):
+def crates_of(root: str) -> dict[str, set[str]]:
     """The crates of crates.txt, each with those that it names and all that stand below it."""
     with open(os.path.join(root, "crates.txt")) as file:
         lines = [line.split("#")[0].partition(":") for line in file]
     named = {name.strip(): rest.split() for name, colon, rest in lines if colon}
-    below = {}
+    below: dict[str, set[str]] = {}
 
-    def walk(crate):
+    def walk(crate: str) -> set[str]:
         if crate not in below:
             own = [it for it in named[crate] if it in named]
             below[crate] = set(own).union(*(walk(it) for it in own))

@@ -4,7 +4,15 @@ A block fenced as ```sh run is run; where the next block of the document is fenc
 a document run in turn in one bash, in an empty folder, with `procure`, `procure-backup` and `audit` on the PATH; each must end with status 0. curl shows no
 meter there. What a document left running is ended behind its last block.
 """
-import difflib, functools, os, re, shutil, signal, subprocess, tempfile
+import difflib
+import functools
+import os
+import re
+import shutil
+import signal
+import subprocess
+import tempfile
+from collections.abc import Iterable, Iterator, Sequence
 
 from common import ROOT
 
@@ -18,18 +26,18 @@ SKIPPED = {".git", "build", "out"}
 class Wrong(Exception):
     """What is wrong in a document, and in which line."""
 
-    def __init__(self, path, line, what):
+    def __init__(self, path: str, line: int, what: str) -> None:
         super().__init__(f"{path}:{line}: {what}")
 
 
 class Fence:
     """A fenced block: the number of its first line, what stands behind the fence, and its text."""
 
-    def __init__(self, line, info, text):
+    def __init__(self, line: int, info: str, text: str) -> None:
         self.line, self.info, self.text = line, info, text
 
 
-def documents():
+def documents() -> list[str]:
     """The paths of the repository's documents, below its top."""
     found = []
     for folder, folders, names in os.walk(ROOT):
@@ -38,14 +46,16 @@ def documents():
     return found
 
 
-def lines_of(path):
+def lines_of(path: str) -> list[str]:
     with open(os.path.join(ROOT, path), encoding="utf-8") as file:
         return file.read().split("\n")
 
 
-def fences_of(path):
+def fences_of(path: str) -> tuple[list[Fence], list[tuple[int, str]]]:
     """The fenced blocks of a document, and its other lines, each with its number."""
-    fences, prose, opened = [], [], None
+    fences: list[Fence] = []
+    prose: list[tuple[int, str]] = []
+    opened: tuple[int, str, str, int, list[str]] | None = None
     for number, line in enumerate(lines_of(path), 1):
         mark = re.match(r"( *)(`{3,}|~{3,})(.*)$", line)
         if opened:
@@ -67,11 +77,11 @@ def fences_of(path):
 class Step:
     """A block that is run, and the text that it must print, or None where no text follows."""
 
-    def __init__(self, fence, shown):
+    def __init__(self, fence: Fence, shown: Fence | None) -> None:
         self.line, self.text, self.shown = fence.line, fence.text, shown.text if shown else None
 
 
-def steps_of(path):
+def steps_of(path: str) -> list[Step]:
     """The blocks of a document that are run."""
     fences, _ = fences_of(path)
     steps = []
@@ -84,7 +94,7 @@ def steps_of(path):
     return steps
 
 
-def missing_tools(steps):
+def missing_tools(steps: Iterable[Step]) -> list[str]:
     """The tools that these blocks use and that aren't there."""
     text = "\n".join(it.text for it in steps)
     return [tool for tool in TOOLS if re.search(rf"(?<![\w./-]){tool}(?![\w./-])", text) and not shutil.which(tool)]
@@ -93,13 +103,13 @@ def missing_tools(steps):
 class Shell:
     """A bash in an empty folder of its own, to which blocks are given one after another."""
 
-    def __init__(self, folder, program):
+    def __init__(self, folder: str, program: str) -> None:
         self.home, self.tools = os.path.join(folder, "home"), os.path.join(folder, "tools")
         os.makedirs(self.home)
         os.makedirs(self.tools)
         files = {"procure": program, "procure-backup": os.path.join(ROOT, "deploy", "backup.sh"), "audit": os.path.join(ROOT, "tools", "audit")}
-        for name, file in files.items():
-            os.symlink(file, os.path.join(self.tools, name))
+        for name, place in files.items():
+            os.symlink(place, os.path.join(self.tools, name))
         with open(os.path.join(self.tools, ".curlrc"), "w") as file:
             file.write("no-progress-meter\n")
         places = {"PATH": f"{self.tools}:{os.environ['PATH']}", "CURL_HOME": self.tools, "LC_ALL": "C.UTF-8"}
@@ -107,7 +117,7 @@ class Shell:
                                         stdin=subprocess.PIPE, stdout=subprocess.PIPE, stderr=subprocess.DEVNULL, text=True)
         self.count = 0
 
-    def run(self, text):
+    def run(self, text: str) -> tuple[str, int | None]:
         """What a block printed, and its status; no status where it took too long or ended the shell."""
         self.count += 1
         block, out = (os.path.join(self.tools, f"{kind}{self.count}") for kind in ("block", "out"))
@@ -117,11 +127,12 @@ class Shell:
         with open(out, encoding="utf-8", errors="replace") as file:
             return file.read(), int(told) if told else None
 
-    def send(self, line):
+    def send(self, line: str) -> str:
         """Gives bash a line, and waits for the line that it prints."""
         late = lambda *_: os.killpg(self.process.pid, signal.SIGKILL)
         before = signal.signal(signal.SIGALRM, late)
         signal.alarm(PATIENCE)
+        assert self.process.stdin and self.process.stdout
         try:
             self.process.stdin.write(line)
             self.process.stdin.flush()
@@ -132,7 +143,7 @@ class Shell:
             signal.alarm(0)
             signal.signal(signal.SIGALRM, before)
 
-    def end(self):
+    def end(self) -> None:
         """Ends what the blocks left running, and the shell."""
         try:
             os.killpg(self.process.pid, signal.SIGKILL)
@@ -141,19 +152,19 @@ class Shell:
         self.process.communicate()
 
 
-def indented(lines):
+def indented(lines: Iterable[str]) -> str:
     return ":\n" + "\n".join(f"    {it}" for it in lines)
 
 
-def compare(path, step, told):
+def compare(path: str, step: Step, told: str) -> None:
     """That a block printed what the document shows."""
-    told, shown = (text.rstrip("\n").split("\n") for text in (told, step.shown))
-    if told != shown:
-        lines = list(difflib.unified_diff(shown, told, "shown", "printed", lineterm="", n=1))
+    printed, shown = (text.rstrip("\n").split("\n") for text in (told, step.shown or ""))
+    if printed != shown:
+        lines = list(difflib.unified_diff(shown, printed, "shown", "printed", lineterm="", n=1))
         raise Wrong(path, step.line, f"the block prints something else than is shown behind it{indented(lines)}")
 
 
-def run_steps(path, steps, program, keep=None):
+def run_steps(path: str, steps: Sequence[Step], program: str, keep: str | None = None) -> int:
     """Runs the blocks of a document, and says how many outputs were compared. Its files stay in the folder `keep`, where that is given."""
     with tempfile.TemporaryDirectory(prefix="office-docs-") as folder:
         shell = Shell(folder, program)
@@ -172,16 +183,17 @@ def run_steps(path, steps, program, keep=None):
     return sum(step.shown is not None for step in steps)
 
 
-def plain(text):
+def plain(text: str) -> str:
     """A heading's text without its marks."""
     text = re.sub(r"!?\[([^\]]*)\]\([^)]*\)", r"\1", text)
     return re.sub(r"[`*]|(?<!\w)_|_(?!\w)", "", text)
 
 
 @functools.cache
-def anchors_of(path):
+def anchors_of(path: str) -> set[str]:
     """The anchors of a document: of its headings, as they are made by the common hosts of repositories, and those that it names."""
-    found, counts = set(), {}
+    found: set[str] = set()
+    counts: dict[str, int] = {}
     for _, line in fences_of(path)[1]:
         found.update(re.findall(r"<a (?:id|name)=\"([^\"]+)\"", line))
         heading = re.match(r"#{1,6} +(.*?)(?: +#+)? *$", line)
@@ -192,7 +204,7 @@ def anchors_of(path):
     return found
 
 
-def links_of(path):
+def links_of(path: str) -> Iterator[tuple[int, str]]:
     """The links of a document to places of the repository, each with its line. What stands in a code span is no link."""
     prose = fences_of(path)[1]
     text = "\n".join(re.sub(r"(`+).+?\1", "", line) for _, line in prose)
@@ -202,7 +214,7 @@ def links_of(path):
             yield prose[text.count("\n", 0, found.start())][0], target
 
 
-def check_link(path, line, target):
+def check_link(path: str, line: int, target: str) -> None:
     """That the file of a link is there, and its anchor."""
     place, _, anchor = target.partition("#")
     file = os.path.normpath(os.path.join(os.path.dirname(path), place)) if place else path

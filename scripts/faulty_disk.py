@@ -6,7 +6,11 @@ The library counts the flushes of the program (fdatasync, fsync) and its writes 
 writes nothing. Behind a flush that fails, of what was written to that file since its last good flush all is kept, or nothing, or each second write, as a disk
 may leave it. All else goes to the C library. It also tells the program the time, so that deadlines come when they are wanted.
 """
-import mmap, os, shutil, subprocess, sys
+import mmap
+import os
+import shutil
+import subprocess
+import sys
 
 from common import made_shim
 
@@ -139,26 +143,26 @@ int clock_gettime(clockid_t id, struct timespec *at) {
 class FaultyDisk:
     """The library, made in a folder, and its block."""
 
-    def __init__(self, folder):
+    def __init__(self, folder: str) -> None:
         self.shim, self.path = made_shim(SOURCE, folder), os.path.join(folder, "block")
         with open(self.path, "w+b") as file:
             file.truncate(FIELDS * 8)
             self.fields = memoryview(mmap.mmap(file.fileno(), FIELDS * 8)).cast("q")
 
-    def environment(self):
+    def environment(self) -> dict[str, str]:
         """What a program's environment has to have."""
         return {**os.environ, "LD_PRELOAD": self.shim, "FAULTS": self.path}
 
-    def begin(self, flush=0, left=ALL, write=0):
+    def begin(self, flush: int = 0, left: int = ALL, write: int = 0) -> None:
         """Begins to count anew. The flush or the write of that number fails; what a flush leaves is given with it."""
         for field in range(FIELDS):
             self.fields[field] = 0
         self.fields[FAILING_FLUSH], self.fields[LEFT], self.fields[FAILING_WRITE] = flush, left, write
 
-    def set_clock(self, second):
+    def set_clock(self, second: int) -> None:
         self.fields[SECOND] = second
 
-    def place(self):
+    def place(self) -> str | None:
         """What failed, or nothing where all went well."""
         return PLACES.get(self.fields[PLACE])
 
@@ -168,32 +172,32 @@ class SmallDisk:
 
     SIZE, PAGE = 64 << 20, 4096
 
-    def __init__(self, folder):
+    def __init__(self, folder: str) -> None:
         self.folder, self.ballast = folder, os.path.join(folder, "ballast")
         subprocess.run(["mount", "-t", "tmpfs", "-o", f"size={self.SIZE}", "tmpfs", folder], check=True)
 
-    def leave(self, pages):
+    def leave(self, pages: int) -> None:
         """Empties it, and leaves room for so many pages."""
         for name in os.listdir(self.folder):
             os.remove(os.path.join(self.folder, name))
         with open(self.ballast, "wb") as file:
             os.posix_fallocate(file.fileno(), 0, shutil.disk_usage(self.folder).free - pages * self.PAGE)
 
-    def is_full(self):
+    def is_full(self) -> bool:
         return os.path.exists(self.ballast)
 
-    def make_room(self):
+    def make_room(self) -> None:
         os.remove(self.ballast)
 
-    def close(self):
+    def close(self) -> None:
         subprocess.run(["umount", self.folder], check=True)
 
 
-def with_mounts(script):
+def with_mounts(script: str) -> bool:
     """Runs the script anew where its mounts are its own, and end with it; nothing where that is so by now. False where it can't be had."""
     if os.environ.get("OWN_MOUNTS"):
         return True
-    for how in ([], ["--user", "--map-root-user"]):
+    for how in (), ("--user", "--map-root-user"):
         words = ["unshare", "--mount", *how]
         if not subprocess.run([*words, "true"], stderr=subprocess.DEVNULL).returncode:
             os.environ["OWN_MOUNTS"] = "1"

@@ -1,7 +1,13 @@
 """The front of deploy/nginx.conf over an office, for tests: of the file only what its head names is adapted, and nginx runs in a folder as who runs the test."""
-import collections, contextlib, http.client, os, ssl, subprocess
+import contextlib
+import http.client
+import os
+import ssl
+import subprocess
+from collections.abc import Iterable
+from typing import NamedTuple
 
-from common import HOST, ROOT, connect, fail, free_port, place_of
+from common import FIELDS, HOST, ROOT, Caller, connect, fail, free_port, need
 
 # An address of this machine from which, by the adapted file, no clerk asks.
 OUTSIDE = "127.0.0.2"
@@ -23,10 +29,17 @@ http {{
     include {folder}/procure.conf;
 }}
 """
-Answer = collections.namedtuple("Answer", "status head body")
 
 
-def adapted(text, changes):
+class Answer(NamedTuple):
+    """A response of the front."""
+
+    status: int
+    head: http.client.HTTPMessage
+    body: bytes
+
+
+def adapted(text: str, changes: Iterable[tuple[str, int, str]]) -> str:
     """The text with each old part replaced by a new one; it must stand there as often as is said."""
     for old, count, new in changes:
         if text.count(old) != count:
@@ -38,10 +51,10 @@ def adapted(text, changes):
 class Front:
     """nginx over the office at a port, with a certificate that it signed itself; ended behind a `with`."""
 
-    def __init__(self, folder, office):
+    def __init__(self, folder: str, office: int) -> None:
         self.folder, self.port, self.plain_port = folder, free_port(), free_port()
         self.key, self.certificate = os.path.join(folder, "key.pem"), os.path.join(folder, "certificate.pem")
-        subprocess.run([place_of("openssl"), "req", "-x509", "-newkey", "ec", "-pkeyopt", "ec_paramgen_curve:prime256v1", "-nodes", "-days", "2", "-subj", "/CN=office",
+        subprocess.run([need("openssl", "openssl"), "req", "-x509", "-newkey", "ec", "-pkeyopt", "ec_paramgen_curve:prime256v1", "-nodes", "-days", "2", "-subj", "/CN=office",
                         "-addext", f"subjectAltName=IP:{HOST}", "-keyout", self.key, "-out", self.certificate], check=True, capture_output=True)
         self.context = ssl.create_default_context(cafile=self.certificate)
         with open(os.path.join(ROOT, "deploy", "nginx.conf")) as file:
@@ -49,9 +62,9 @@ class Front:
         for name, content in (("procure.conf", text), ("nginx.conf", MAIN.format(folder=folder) + ("user root;\n" if os.geteuid() == 0 else ""))):
             with open(os.path.join(folder, name), "w") as file:
                 file.write(content)
-        self.process = subprocess.Popen([place_of("nginx"), "-p", folder, "-e", f"{folder}/errors.log", "-c", f"{folder}/nginx.conf"], stdin=subprocess.DEVNULL)
+        self.process = subprocess.Popen([need("nginx", "nginx"), "-p", folder, "-e", f"{folder}/errors.log", "-c", f"{folder}/nginx.conf"], stdin=subprocess.DEVNULL)
 
-    def changes(self, office):
+    def changes(self, office: int) -> list[tuple[str, int, str]]:
         """What of the file is adapted. (Of IPv6 not every machine has something.)"""
         return [("listen [::]:80;", 1, ""), ("listen [::]:443 ssl;", 1, ""), ("listen 80;", 1, f"listen {HOST}:{self.plain_port};"),
                 ("listen 443 ssl;", 1, f"listen {HOST}:{self.port} ssl;"), ("server_name office.example;", 2, f"server_name {HOST};"),
@@ -60,33 +73,38 @@ class Front:
                 ("/etc/procure/tls/key.pem;", 1, f"{self.key};"), ("/var/cache/nginx/procure ", 1, f"{self.folder}/answers "),
                 ("/var/log/nginx/procure.log ", 2, f"{self.folder}/access.log ")]
 
-    def __enter__(self):
+    def __enter__(self) -> "Front":
         connect(self.port, PATIENCE).close()
         return self
 
-    def __exit__(self, *_):
+    def __exit__(self, *_: object) -> None:
         # Told to end, it ends its workers; killed, it would leave them.
         self.process.terminate()
         self.process.wait()
 
-    def address(self, rest=""):
+    def address(self, rest: str = "") -> str:
         return f"https://{HOST}:{self.port}/{rest}"
 
-    def connection(self, source=HOST):
+    def connection(self, source: str = HOST) -> http.client.HTTPSConnection:
         return http.client.HTTPSConnection(HOST, self.port, context=self.context, source_address=(source, 0), timeout=PATIENCE)
 
-    def ask(self, method, target, body=b"", caller=None, source=HOST):
+    def ask(self, method: str, target: str, body: bytes = b"", caller: Caller | None = None, source: str = HOST) -> Answer:
         """The answer to a request by TLS. A caller is a name and a key."""
         with contextlib.closing(self.connection(source)) as connection:
             return exchange(connection, method, target, body, caller)
 
-    def logged(self, name):
+    def logged(self, name: str) -> str:
         with open(os.path.join(self.folder, name), encoding="utf-8", errors="replace") as file:
             return file.read()
 
 
-def exchange(connection, method, target, body=b"", caller=None):
+def exchange(connection: http.client.HTTPConnection, method: str, target: str, body: bytes = b"", caller: Caller | None = None) -> Answer:
     """The answer to a request on a connection, which may stay open."""
-    connection.request(method, target, body, dict(zip(("Office-Caller", "Office-Key"), caller or ())))
+    connection.request(method, target, body, fields_of(caller))
     answer = connection.getresponse()
     return Answer(answer.status, answer.headers, answer.read())
+
+
+def fields_of(caller: Caller | None) -> dict[str, str]:
+    """The fields of the head by which a caller is told."""
+    return {name.decode(): value.decode("latin-1") for name, value in zip(FIELDS, caller or ())}

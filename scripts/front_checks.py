@@ -1,9 +1,15 @@
 """What `tests/page` asks of the front by itself: what it says beside the office, what it lets through, and whom it makes wait."""
-import contextlib, http.client, json, os, re, time
+import contextlib
+import http.client
+import json
+import os
+import re
+import time
 
 from common import CLERK, HOST, ROOT, check
-from front import OUTSIDE, PATIENCE, exchange
+from front import OUTSIDE, PATIENCE, Answer, exchange, fields_of
 from page_office import SECURITY, key_of
+from scene import Scene
 
 HEADERS = {"Strict-Transport-Security": "max-age=15768000", "X-Content-Type-Options": "nosniff", "Referrer-Policy": "no-referrer", "Set-Cookie": None,
            "Cross-Origin-Opener-Policy": "same-origin", "Cross-Origin-Resource-Policy": "same-origin", "Server": "nginx"}
@@ -21,34 +27,34 @@ PLACES = {"notice": "N1", "lot": "L1", "line": "1100", "batch": "B1", "tenderer"
 MOST = 65_536
 
 
-def is_own(answer, status):
+def is_own(answer: Answer, status: int) -> bool:
     """Whether the front answers so by itself, in JSON."""
     return answer.status == status and answer.head["Content-Type"] == "application/json" and list(json.loads(answer.body)) == ["front"]
 
 
-def refusal(answer):
+def refusal(answer: Answer) -> object:
     """The name of the office's refusal."""
     return json.loads(answer.body).get("name")
 
 
-def routes():
+def routes() -> list[tuple[str, str, str]]:
     """The rows of the table of docs/API.md: a method, a path, and who may ask it."""
     with open(os.path.join(ROOT, "docs", "API.md")) as file:
         rows = re.findall(r"^\| \[`(GET|POST) (/[^`]*)`\]\([^)]*\) \| ([^|]*) \|", file.read(), re.M)
     check(f"docs/API.md has {len(rows)} routes, and not 25", len(rows) == 25)
-    return [(method, re.sub(r"\{(\w+)\}", lambda name: PLACES[name[1]], path), who) for method, path, who in rows]
+    return [(method, re.sub(r"\{(\w+)\}", lambda name: PLACES[str(name[1])], path), who) for method, path, who in rows]
 
 
-def headers(scene):
+def headers(scene: Scene) -> None:
     """Each answer has the front's headers, no version and no cookie, and its own type; what may be kept is told."""
     for path, (media, keeping) in KINDS.items():
         head = scene.front.ask("GET", path).head
-        for name, value in {**HEADERS, "Content-Type": media, "Cache-Control": keeping}.items():
+        for name, value in [*HEADERS.items(), ("Content-Type", media), ("Cache-Control", keeping)]:
             check(f"{path} has {name}: {head[name]}, and not {value}", head[name] == value)
         check(f"{path} has Content-Security-Policy: {head['Content-Security-Policy']}", (head["Content-Security-Policy"] or "").split("; ") == POLICY)
 
 
-def sizes(scene):
+def sizes(scene: Scene) -> None:
     """A body of 65,536 bytes passes, and is taken by the office; one more doesn't, nor does a body in chunks, a long head or a long path. No body is written to a
     disk."""
     body = json.dumps({"name": "Epsilon", "address": "5 Row", "key": "0" * 64}).encode()
@@ -57,9 +63,9 @@ def sizes(scene):
     answer = scene.front.ask("POST", "/tenderers/T6", body.ljust(MOST + 1), CLERK)
     check(f"a body of one byte more is refused: {answer}", is_own(answer, 413))
     with contextlib.closing(scene.front.connection()) as connection:
-        connection.request("POST", "/tenderers/T6", iter([body]), dict(zip(("Office-Caller", "Office-Key"), CLERK)), encode_chunked=True)
-        answer = connection.getresponse()
-        check(f"a body in chunks is refused: {answer.status}", answer.status == 501 and "front" in json.loads(answer.read()))
+        connection.request("POST", "/tenderers/T6", iter([body]), fields_of(CLERK), encode_chunked=True)
+        response = connection.getresponse()
+        check(f"a body in chunks is refused: {response.status}", response.status == 501 and "front" in json.loads(response.read()))
     check("a body is written to a file", "temporary file" not in scene.front.logged("errors.log"))
     answer = scene.front.ask("GET", "/ledger", caller=(b"T1", b"x" * 9000))
     check(f"a long head is refused: {answer}", answer.status == 400)
@@ -69,14 +75,14 @@ def sizes(scene):
     check(f"another method is refused: {answer}", is_own(answer, 405))
 
 
-def odd_paths(scene):
+def odd_paths(scene: Scene) -> None:
     """A path that is written in another way than the office's has no answer but the front's own, and neither has what is no route."""
     for path in ODD_PATHS + NOWHERE:
         answer = scene.front.ask("GET", path, caller=CLERK)
         check(f"GET {path}: {answer}", is_own(answer, 404))
 
 
-def networks(scene):
+def networks(scene: Scene) -> None:
     """From elsewhere the clerk's routes are refused, with the right key too, and all others reach the office."""
     for method, path, who in routes():
         answer = scene.front.ask(method, path, source=OUTSIDE, caller=CLERK if who == "clerk" else None)
@@ -86,7 +92,7 @@ def networks(scene):
             check(f"{method} {path} with a wrong key: {answer}", answer.status == 401 and refusal(answer) == "BadKey")
 
 
-def slow_clients(scene):
+def slow_clients(scene: Scene) -> None:
     """Whoever sends half a head or half a body, and then nothing, waits alone."""
     with contextlib.ExitStack() as clients:
         for sent in [b"POST /tenderers/T7 HTTP/1.1\r\nHost: office\r\nContent-Length: 1000\r\n\r\n" + b" " * 500] * 4 + [b"GET /ledger HTTP/1.1\r\nHost: of"] * 2:
@@ -101,7 +107,7 @@ def slow_clients(scene):
         check(f"beside slow clients a look is answered after {took:.1f} seconds: {answer}", refusal(answer) == "NoSuch" and took < 3)
 
 
-def names_and_keys(scene):
+def names_and_keys(scene: Scene) -> None:
     """Public routes are told nothing of who asks, so a wrong key is no matter there; and no log has a key or a security."""
     # (The last one wasn't asked before, so the front has no answer of it.)
     for path, wanted in {"/ledger": 200, "/lines/1100": 200, "/notices/N1/record": 200, "/notices/N1/releases": 200, "/notices/N1/minutes": 409, "/lines/unseen": 404}.items():
@@ -112,7 +118,7 @@ def names_and_keys(scene):
         check(f"{name} has a key or a security", not any(secret in log for secret in (SECURITY, key_of("T1"), "Office-Key")))
 
 
-def without_tls(scene):
+def without_tls(scene: Scene) -> None:
     """In the clear there is a way to the page alone; a key that comes so is refused."""
     with contextlib.closing(http.client.HTTPConnection(HOST, scene.front.plain_port, timeout=PATIENCE)) as connection:
         answer = exchange(connection, "GET", "/")

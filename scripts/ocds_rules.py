@@ -10,6 +10,8 @@ A place is the names on the way to it, as `tender/lots`: of a list each item is 
 members that the table lists at its place, and no others. A member is `NAME KIND`, and `NAME? KIND` where it may be missing.
 """
 import re
+from collections.abc import Mapping
+from typing import Any
 
 
 class Flaw(Exception):
@@ -83,11 +85,11 @@ REFERENCES = [(place, "parties/id") for place in (
     ("tender/items/relatedLot", "tender/lots/id"), ("awards/relatedLots", "tender/lots/id"), ("contracts/awardID", "awards/id")]
 
 
-def below(path, name):
+def below(path: str, name: str) -> str:
     return f"{path}/{name}" if path else name
 
 
-def found_at(path, value, place):
+def found_at(path: str, value: Any, place: str) -> list[tuple[str, Any]]:
     """What stands at a place of a value that stands at this path, each with its own path."""
     found = [(path, value)]
     for name in place.split("/") if place else []:
@@ -99,20 +101,20 @@ def found_at(path, value, place):
     return found
 
 
-def texts_at(value, place):
+def texts_at(value: Any, place: str) -> list[str]:
     return [text for _, text in found_at("", value, place) if isinstance(text, str)]
 
 
-def is_text(value):
+def is_text(value: Any) -> bool:
     return isinstance(value, str) and value != ""
 
 
-def are_texts(value):
+def are_texts(value: Any) -> bool:
     """A list of at least one text, of which none is empty and none comes twice."""
     return isinstance(value, list) and bool(value) and all(map(is_text, value)) and len(set(value)) == len(value)
 
 
-def are_objects(value):
+def are_objects(value: Any) -> bool:
     """A list of at least one object, of which no two have the same `id`."""
     if not isinstance(value, list) or not value or not all(isinstance(item, dict) for item in value):
         return False
@@ -120,7 +122,7 @@ def are_objects(value):
     return len(set(ids)) == len(ids)
 
 
-def is_kind(value, kind):
+def is_kind(value: Any, kind: str) -> bool:
     kind, _, codes = kind.partition(":")
     match kind:
         case "text":
@@ -144,11 +146,11 @@ def is_kind(value, kind):
     raise ValueError(kind)
 
 
-def check_members(path, value, members):
+def check_members(path: str, value: Any, members: str) -> None:
     """That this is an object with these members."""
     if not isinstance(value, dict):
         raise Flaw(path)
-    table = dict(member.split(" ") for member in members.split(", "))
+    table = {name: kind for name, kind in (member.split(" ") for member in members.split(", "))}
     for name in value:
         if name not in table and name + "?" not in table:
             raise Flaw(below(path, name))
@@ -160,14 +162,14 @@ def check_members(path, value, members):
             raise Flaw(below(path, name.rstrip("?")))
 
 
-def check(path, value, table):
+def check(path: str, value: Any, table: Mapping[str, str]) -> None:
     """That a value at this path is what the table says, at each of its places."""
     for place, members in table.items():
         for path_there, found in found_at(path, value, place):
             check_members(path_there, found, members)
 
 
-def check_releases(package, place):
+def check_releases(package: Any, place: str) -> None:
     """That each release at a place is one, and none a compiled one; that none is earlier than the one before it, and that the package is of the last one's date."""
     for path, release in found_at("", package, place):
         check(path, release, RELEASE)
@@ -179,20 +181,20 @@ def check_releases(package, place):
     check_last(package, "publishedDate", place + "/date")
 
 
-def check_last(value, place, others):
+def check_last(value: Any, place: str, others: str) -> None:
     """That the texts at one place are the last one at another."""
     last = (texts_at(value, others) or [""])[-1]
     if any(text != last for text in texts_at(value, place)):
         raise Flaw(place)
 
 
-def check_release_package(package):
+def check_release_package(package: Any) -> None:
     """That this is a release package whose releases are such, none earlier than the one before it, published when the last one was."""
     check("", package, RELEASE_PACKAGE)
     check_releases(package, "releases")
 
 
-def check_record_package(package):
+def check_record_package(package: Any) -> None:
     """That this is a record package, likewise, of records whose compiled release is a release of its own, dated by the last one, in which all that refers finds
     what it refers to."""
     check("", package, RECORD_PACKAGE)

@@ -1,10 +1,17 @@
 """What `tests/page` asks of the page, in a browser: what each view says and how, for eyes, keyboards and screen readers, and what can't break it."""
-import contextlib, difflib, json, os, re
+import contextlib
+import difflib
+import json
+import os
+import re
+from collections.abc import Iterator
+from typing import Any
 
 from browser import Page
 from common import ROOT, check
 from front import OUTSIDE, exchange
 from page_office import SCRIPT
+from scene import Scene
 
 SITE = "Public procurement"
 # The views, each with its place in the address.
@@ -47,13 +54,13 @@ PATTERNS = """[...new Set([...document.querySelectorAll(".part, .swatch")].map((
 }))].sort()"""
 
 
-def page_of(scene, place, width=1280):
+def page_of(scene: Scene, place: str, width: int = 1280) -> Page:
     page = Page(scene.browser, width)
     page.go(scene.front.address(place))
     return page
 
 
-def views(scene):
+def views(scene: Scene) -> None:
     """Each view: its text; its headings, names and landmarks; no wider than the window; contrast; pictures. Nothing is kept, and nothing foreign asked."""
     page, differences = Page(scene.browser, 1280), ""
     for name, place in VIEWS.items():
@@ -61,14 +68,14 @@ def views(scene):
         page.go(scene.front.address(place))
         page.wait("[...document.querySelectorAll('.lines h3')].every((heading) => heading.textContent.includes(':'))")
         differences += difference(scene, name, page)
-        for width, shape in WIDTHS.items():
-            page.shape(shape)
+        for shape, width in WIDTHS.items():
+            page.shape(width)
             is_read_out(name, page)
             for dark in (False, True):
-                page.shape(shape, dark=dark)
-                page.picture(os.path.join(scene.pictures, f"{name}-{width}-{'dark' if dark else 'light'}.png"))
+                page.shape(width, dark=dark)
+                page.picture(os.path.join(scene.pictures, f"{name}-{shape}-{'dark' if dark else 'light'}.png"))
                 pale = page.run(PALE)
-                check(f"{name}, {width}, {'dark' if dark else 'light'}: too little contrast: {pale}", not pale)
+                check(f"{name}, {shape}, {'dark' if dark else 'light'}: too little contrast: {pale}", not pale)
         for width in (*WIDTHS.values(), NARROWEST):
             page.shape(width)
             is_within(name, width, page)
@@ -76,7 +83,7 @@ def views(scene):
     keeps_nothing(scene, page)
 
 
-def difference(scene, name, page):
+def difference(scene: Scene, name: str, page: Page) -> str:
     """Where the text of a view is another than that of `page_texts/`, moments apart. Markup in it is text."""
     text = MOMENT.sub("MOMENT", page.text())
     with open(os.path.join(scene.pictures, f"{name}.txt"), "w") as file:
@@ -89,13 +96,13 @@ def difference(scene, name, page):
     return "".join(difflib.unified_diff(wanted.splitlines(True), text.splitlines(True), f"page_texts/{name}.txt", "the page", n=1))
 
 
-def is_within(name, width, page):
+def is_within(name: str, width: object, page: Page) -> None:
     """Nothing is wider than the window. (A phone's `innerWidth` grows with what it shows.)"""
     wide = page.run("document.documentElement.scrollWidth")
     check(f"{name} is {wide} wide in a window of {width}", wide <= width)
 
 
-def is_read_out(name, page):
+def is_read_out(name: str, page: Page) -> None:
     """What a screen reader is told: landmarks, one heading of the first level and none left out, a name for each thing, a text for each bar, headers of tables."""
     tree = page.tree()
     roles = [role for role, _, _ in tree]
@@ -112,7 +119,7 @@ def is_read_out(name, page):
     check(f"{name} has bars that colour alone tells apart: {patterns}", len(patterns) == len({kind for kind, _ in patterns}) == len({how for _, how in patterns}))
 
 
-def keeps_nothing(scene, page):
+def keeps_nothing(scene: Scene, page: Page) -> None:
     """No cookie, nothing stored, nothing asked of another server; no error in the console but what the browser says of a refusal, and no breach of the policy."""
     check("there is a cookie", page.ask("Network.getAllCookies")["cookies"] == [])
     check("something is stored", page.run("localStorage.length + sessionStorage.length === 0 && indexedDB.databases().then((all) => all.length === 0)"))
@@ -121,13 +128,13 @@ def keeps_nothing(scene, page):
     is_quiet(page)
 
 
-def is_quiet(page):
+def is_quiet(page: Page) -> None:
     faults = page.events("Runtime.exceptionThrown", "Runtime.consoleAPICalled", "Audits.issueAdded")
     faults += [event for event in page.events("Log.entryAdded") if event["entry"]["source"] != "network"]
     check(f"the console says {faults}", not faults)
 
 
-def focused(page):
+def focused(page: Page) -> Any:
     """What has the focus: its name, and whether it is seen there with an outline around it."""
     return page.run("""(() => {
       const at = document.activeElement, box = at.getBoundingClientRect(), style = getComputedStyle(at);
@@ -136,7 +143,7 @@ def focused(page):
     })()""")
 
 
-def tab(page, count):
+def tab(page: Page, count: int) -> list[Any]:
     """What has the focus behind each of so many tabs."""
     seen = []
     for _ in range(count):
@@ -145,7 +152,7 @@ def tab(page, count):
     return seen
 
 
-def keyboard(scene):
+def keyboard(scene: Scene) -> None:
     """Everything can be reached and used by the keyboard, in the order in which it stands there, and it is seen where one is."""
     page = page_of(scene, "")
     order = tab(page, 6)
@@ -174,7 +181,7 @@ def keyboard(scene):
     is_quiet(page)
 
 
-def refusals():
+def refusals() -> Iterator[tuple[int, bytes]]:
     """The rows of the table of docs/API.md: what each refusal answers, as a status and a body."""
     with open(os.path.join(ROOT, "docs", "API.md")) as file:
         rows = re.findall(r"^\| (\d+) \| `(\w+)` \| (\d+) \|([^|]*)\|", file.read(), re.M)
@@ -184,7 +191,7 @@ def refusals():
             yield int(status), json.dumps({"name": name, "refusal": int(number), **({"what": word} if word else {})}).encode()
 
 
-def sentence(page, notice, *answers):
+def sentence(page: Page, notice: str, *answers: tuple[int, bytes] | None) -> str:
     """The sentence that the page shows where its three requests are answered so."""
     page.answer_for(dict(zip((f"/notices/{notice}/{name}" for name in ("record", "releases", "minutes")), answers)))
     page.run(f"location.hash = '#notice/{notice}'")
@@ -195,7 +202,7 @@ def sentence(page, notice, *answers):
     return rest
 
 
-def each_refusal(scene):
+def each_refusal(scene: Scene) -> None:
     """Each refusal of the office is shown as a sentence of its own, what the front or the net says as one too; so is what is no number of a notice."""
     page = page_of(scene, "")
     page.answer_for({})
@@ -220,21 +227,26 @@ def each_refusal(scene):
 
 
 # Of a lot decided by price with three tenders, A for 100, B for 90, C for 100: the lot's state, to whom awards were made and what became of them, what is said of each.
-LOTS = [("active", [], ["Waits", "Waits", "Waits"]),
-        ("cancelled", [], ["Not decided", "Not decided", "Not decided"]),
-        ("unsuccessful", [], ["Couldn't win", "Couldn't win", "Couldn't win"]),
-        ("unsuccessful", [("B", "cancelled")], ["Couldn't win", "Passed over", "Couldn't win"]),
-        ("active", [("A", "cancelled")], ["Passed over", "Couldn't win", "Not chosen"]),
-        ("active", [("B", "active")], ["Not chosen", "Won", "Not chosen"]),
-        ("complete", [("B", "cancelled"), ("C", "active")], ["Couldn't win", "Passed over", "Won"])]
-PAID, HALF, NONE = ({"amount": 10}, [4, 6]), ({"amount": 10}, [4]), ({"amount": 10}, [])
+LOTS: list[tuple[str, list[tuple[str, str]], list[str]]] = [
+    ("active", [], ["Waits", "Waits", "Waits"]),
+    ("cancelled", [], ["Not decided", "Not decided", "Not decided"]),
+    ("unsuccessful", [], ["Couldn't win", "Couldn't win", "Couldn't win"]),
+    ("unsuccessful", [("B", "cancelled")], ["Couldn't win", "Passed over", "Couldn't win"]),
+    ("active", [("A", "cancelled")], ["Passed over", "Couldn't win", "Not chosen"]),
+    ("active", [("B", "active")], ["Not chosen", "Won", "Not chosen"]),
+    ("complete", [("B", "cancelled"), ("C", "active")], ["Couldn't win", "Passed over", "Won"])]
+Contract = tuple[dict[str, int], list[int], bool]
+VALUE = {"amount": 10}
+PAID, HALF, NONE = [4, 6], [4], list[int]()
 # The state of the tender, whether it was opened, its contracts with what was paid and whether they ended, and what is said of the whole.
-STATES = [("active", False, [], "Deadline passed, tenders not opened yet"), ("unsuccessful", True, [], "Ended without a contract"),
-          ("complete", True, [(*NONE, False)], "Contract runs, nothing paid yet"), ("complete", True, [(*HALF, False), (*NONE, True)], "Contracts run, paid in part"),
-          ("complete", True, [(*PAID, False), (*HALF, True)], "Paid in full"), ("complete", True, [(*HALF, True)] * 2, "All contracts ended")]
+STATES: list[tuple[str, bool, list[Contract], str]] = [
+    ("active", False, [], "Deadline passed, tenders not opened yet"), ("unsuccessful", True, [], "Ended without a contract"),
+    ("complete", True, [(VALUE, NONE, False)], "Contract runs, nothing paid yet"),
+    ("complete", True, [(VALUE, HALF, False), (VALUE, NONE, True)], "Contracts run, paid in part"),
+    ("complete", True, [(VALUE, PAID, False), (VALUE, HALF, True)], "Paid in full"), ("complete", True, [(VALUE, HALF, True)] * 2, "All contracts ended")]
 
 
-def inferences(scene):
+def inferences(scene: Scene) -> None:
     """What the page infers where no notice of this office shows it."""
     page = page_of(scene, "")
     tenders = [{"receipt": at, "tenderer": name, "reading": "priced", "corrected": price} for at, (name, price) in enumerate((("A", 100), ("B", 90), ("C", 100)), 1)]
@@ -244,16 +256,16 @@ def inferences(scene):
         passed = [award["id"] for award in awards if award["status"] == "cancelled"]
         said = page.run(f"import('/findings.js').then(({{ findings }}) => findings(...{json.dumps(told)}, new Set({passed})).map(([, , word]) => word))")
         check(f"of a lot that is {status} with the awards {made} is said {said}, and not {words}", said == words)
-    for status, opened, contracts, words in STATES:
-        made = [{"value": value, "status": "terminated" if ended else "active", "implementation": {"transactions": [{"value": {"amount": it}} for it in paid]}}
-                for value, paid, ended in contracts]
-        tender = {"status": status, "lots": [], "tenderPeriod": {"endDate": "2026-01-05T09:00:00Z"}, **({"numberOfTenderers": 1} if opened else {})}
-        said = page.run(f"import('/findings.js').then(({{ stateOf }}) => stateOf({json.dumps({'tender': tender, 'contracts': made})})[1])")
-        check(f"a process that is {status}, with {contracts}, is called {said}, and not {words}", said == words)
+    for status, opened, contracts, word in STATES:
+        of_them = [{"value": value, "status": "terminated" if ended else "active", "implementation": {"transactions": [{"value": {"amount": it}} for it in paid]}}
+                   for value, paid, ended in contracts]
+        tender: dict[str, Any] = {"status": status, "lots": [], "tenderPeriod": {"endDate": "2026-01-05T09:00:00Z"}, **({"numberOfTenderers": 1} if opened else {})}
+        said = page.run(f"import('/findings.js').then(({{ stateOf }}) => stateOf({json.dumps({'tender': tender, 'contracts': of_them})})[1])")
+        check(f"a process that is {status}, with {contracts}, is called {said}, and not {word}", said == word)
     is_quiet(page)
 
 
-def long_texts(scene):
+def long_texts(scene: Scene) -> None:
     """Texts of the greatest length, without a space and of either direction, and the greatest amounts: nothing is wider than the window."""
     answers = {}
     for name in ("record", "releases", "minutes"):
@@ -278,7 +290,7 @@ def long_texts(scene):
     is_quiet(page)
 
 
-def without_scripts(scene):
+def without_scripts(scene: Scene) -> None:
     """Where scripts are turned off, the page says where the answers are."""
     page = Page(scene.browser, WIDTHS["narrow"])
     page.ask("Emulation.setScriptExecutionDisabled", value=True)
@@ -287,7 +299,7 @@ def without_scripts(scene):
     check(f"the page says {page.text()!r}", "/notices/NUMBER/record" in page.text())
 
 
-def injected(scene):
+def injected(scene: Scene) -> None:
     """What would be done to the page by a fault of it: no markup is made of texts, no script within the page runs, and nothing is asked of another server."""
     page = page_of(scene, "")
     elsewhere = f"https://{OUTSIDE}:{scene.front.port}/ledger"
@@ -302,13 +314,13 @@ def injected(scene):
     check("a script of a text ran", page.run("typeof hurt === 'undefined' && document.scripts.length === 1"))
 
 
-def breaches(page):
+def breaches(page: Page) -> list[Any]:
     """What of the policy was broken, as the browser tells it."""
     told = [event["issue"]["details"].get("contentSecurityPolicyIssueDetails", {}) for event in page.events("Audits.issueAdded")]
     return [details.get("violatedDirective") for details in told]
 
 
-def office_away(scene):
+def office_away(scene: Scene) -> None:
     """Where the office is gone, the front says so, and so does the page."""
     scene.office.kill()
     scene.office.wait()
@@ -318,7 +330,7 @@ def office_away(scene):
     check(f"the page says {said!r}", said == "Not shown\nThe office isn't answering at the moment. Try again in a while.\n")
 
 
-def too_often(scene):
+def too_often(scene: Scene) -> None:
     """Who asks too often is told so, by the front and by the page."""
     page = page_of(scene, "")
     with contextlib.closing(scene.front.connection()) as connection:

@@ -1,0 +1,16 @@
+"""What the tests of `tests/page` share."""
+import subprocess
+from dataclasses import dataclass
+
+from browser import Browser
+from front import Front
+
+
+@dataclass
+class Scene:
+    """The front, the browser, the office's process, and where pictures go."""
+
+    front: Front
+    browser: Browser
+    office: "subprocess.Popen[bytes]"
+    pictures: str
