@@ -39,7 +39,7 @@ FACTS = """
     UNION ALL SELECT 'paid under ' || contract, CAST(paid AS TEXT) FROM sums WHERE notice = ?1"""
 
 
-# ---- The merge (OCDS 1.1, "Merging"; what that leaves open is as docs/DEFINITIONS.md says).
+# ---- The merge (OCDS 1.1, "Merging"; what that leaves open is as crates/ocds_merge/specs/Merge.antt has it).
 
 ABSENT = object()
 
