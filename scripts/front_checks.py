@@ -17,7 +17,8 @@ POLICY = ["default-src 'none'", "script-src 'self'", "style-src 'self'", "connec
           "frame-ancestors 'none'", "require-trusted-types-for 'script'", "trusted-types 'none'"]
 # What is asked for, its type, and whether it may be kept.
 KINDS = {"/": ("text/html", "no-cache"), "/page.css": ("text/css", "no-cache"), "/page.js": ("application/javascript", "no-cache"),
-         "/icon.svg": ("image/svg+xml", "no-cache"), "/ledger": ("text/plain; charset=utf-8", "no-store"), "/notices/N9/record": ("application/json", "no-store"),
+         "/icon.svg": ("image/svg+xml", "no-cache"), "/ledger": ("text/plain; charset=utf-8", "no-store"),
+         "/notices/N9/record": ("application/json", "no-store"),
          "/nothing": ("application/json", "no-store")}
 # Ways to write a path that the office doesn't know, and that a location of the front might take for another.
 ODD_PATHS = ["/%6cedger", "//ledger", "/notices/N1%2frecord", "/notices/%4e1/record", "/notices/../ledger", "/notices/N1/../../ledger", "/./ledger",
@@ -94,8 +95,9 @@ def networks(scene: Scene) -> None:
 
 def slow_clients(scene: Scene) -> None:
     """Whoever sends half a head or half a body, and then nothing, waits alone."""
+    half_body = b"POST /tenderers/T7 HTTP/1.1\r\nHost: office\r\nContent-Length: 1000\r\n\r\n" + b" " * 500
     with contextlib.ExitStack() as clients:
-        for sent in [b"POST /tenderers/T7 HTTP/1.1\r\nHost: office\r\nContent-Length: 1000\r\n\r\n" + b" " * 500] * 4 + [b"GET /ledger HTTP/1.1\r\nHost: of"] * 2:
+        for sent in [half_body] * 4 + [b"GET /ledger HTTP/1.1\r\nHost: of"] * 2:
             client = clients.enter_context(contextlib.closing(scene.front.connection()))
             client.connect()
             client.sock.sendall(sent)
@@ -110,7 +112,8 @@ def slow_clients(scene: Scene) -> None:
 def names_and_keys(scene: Scene) -> None:
     """Public routes are told nothing of who asks, so a wrong key is no matter there; and no log has a key or a security."""
     # (The last one wasn't asked before, so the front has no answer of it.)
-    for path, wanted in {"/ledger": 200, "/lines/1100": 200, "/notices/N1/record": 200, "/notices/N1/releases": 200, "/notices/N1/minutes": 409, "/lines/unseen": 404}.items():
+    statuses = {"/ledger": 200, "/lines/1100": 200, "/notices/N1/record": 200, "/notices/N1/releases": 200, "/notices/N1/minutes": 409, "/lines/unseen": 404}
+    for path, wanted in statuses.items():
         status = scene.front.ask("GET", path, caller=(b"T1", b"wrong")).status
         check(f"{path} with a wrong key: {status}", status == wanted)
     for name in ("access.log", "errors.log"):
