@@ -1,20 +1,26 @@
 # make run    the first run: an import and a look, in memory, without waiting for proofs
 # make build  the proved program, at build/procure, without the wrong bodies
+# make try    the whole program without proofs, at build/try/procure, with its checks in
 # make test   the gate: every proof from nothing, the wrong bodies that must be refused, the tests and the stored runs; it leaves build/procure too
 # make check  what needs build/procure and no proof, in some minutes: the documents, the interface, the public page in a browser, the audit, files that are refused, files of version 1, kills, a disk that fails, the scripts themselves (tools/check --help)
+# make docs   what scripts make of the sources, anew: docs/INDEX.md, docs/READING.md, docs/CALLS.md
 # make edits  the wrong bodies that the gate leaves out, edits/
 # make soak   what takes too long for the gate, after `make test`: plays, refused memory, kills, a disk that fails, large files of version 1, the programs and measures of bench/, the wrong bodies of edits/ (tools/soak --help)
+# make release  an archive and a Debian package of build/procure, in build/release (tools/release --help)
 # make bench  measures build/procure (bench/desk --help)
 RT ?= rt
 export RT
 
-.PHONY: run build test check edits soak bench
+.PHONY: run build try test check docs edits soak release bench
 
 run:
 	@sh tools/first_run/run.sh
 
 build:
 	tools/build
+
+try:
+	@tools/try
 
 test:
 	$(RT) ci
@@ -23,11 +29,17 @@ test:
 check:
 	@tools/check
 
+docs:
+	@tools/index && tools/reading && tools/calls
+
 edits:
 	tools/edits
 
 soak:
 	tools/soak
+
+release:
+	@tools/release
 
 bench: build
 	bench/desk

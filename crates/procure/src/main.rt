@@ -12,6 +12,9 @@ use std::io::ErrorKind;
 use std::process::ExitCode;
 use std::{env, io};
 
+// The product's version: here and in CHANGELOG.md, of whose entries the first has it. `make release` and the manual page take it from what the program tells.
+const VERSION: &str = "0.4.0";
+
 // The words of the command line. Words that are no UTF-8 name no job.
 fn words_of(rt: &HostRuntime) -> Result<Vec<String>, ProgramFault> {
     match env::args(rt) {
@@ -34,7 +37,7 @@ fn words_of(rt: &HostRuntime) -> Result<Vec<String>, ProgramFault> {
 // Faults are looked for in this order: the words, the settings, a notice that is no identifier, the office's file, and then the work.
 fn work(rt: &HostRuntime) -> Result<(), ProgramFault> {
     let words = words_of(rt)?;
-    match job_of(rt.alloc(), words.as_slice())? {
+    match job_of(rt.alloc(), VERSION, words.as_slice())? {
         Job::Desk { config } => run_desk(rt, config),
         Job::Serve {
             config,

@@ -44,10 +44,14 @@ over_notice name = with_rule (over_store name) (needed_rule (codes "NOTICE"))
 abbrev pub serve : App
 serve = with_rule (with_rule (over_store (codes "serve")) (number_rule (codes "PORT") port_bound)) (number_rule (codes "COUNT") count_bound)
 
+-- the program's name, and that it tells its version: `procure --version`
+abbrev pub named : App
+named = let app = new_app (codes "procure") in record app { top = record app.top { has_version = true } }
+
 -- the program's subcommands
 abbrev pub subcommands : App
 subcommands =
-    with_subcommand (with_subcommand (with_subcommand (with_subcommand (with_subcommand (new_app (codes "procure"))
+    with_subcommand (with_subcommand (with_subcommand (with_subcommand (with_subcommand named
     (over_settings (codes "desk")).top) serve.top) (over_store (codes "ledger")).top) (over_notice (codes "minutes")).top) (over_notice (codes "record")).top
 
 -- its command line: one of them is needed

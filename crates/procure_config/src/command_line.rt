@@ -86,8 +86,8 @@ fn serve<'a>(alloc: Global) -> Result<Command<'a>, AllocError>
     over_store(alloc, "serve", about)?.arg(port)?.arg(count)
 }
 
-/// The program's command line.
-pub(crate) fn procure<'a>(alloc: Global) -> Result<Command<'a>, AllocError>
+/// The program's command line, which tells this version.
+pub(crate) fn procure<'a>(alloc: Global, version: &'a str) -> Result<Command<'a>, AllocError>
     ensures { IfOk result (λ command. app_of command ≡ spec.procure) }
 {
     let desk = over_settings(
@@ -100,6 +100,7 @@ pub(crate) fn procure<'a>(alloc: Global) -> Result<Command<'a>, AllocError>
     let record = over_notice(alloc, "record", "Prints the record of a notice")?;
     let procure = Command::new(alloc, "procure")
         .about("A public procurement office")
+        .version(version)
         .subcommand(desk)?
         .subcommand(serve(alloc)?)?
         .subcommand(ledger)?

@@ -11,7 +11,7 @@ use std::fmt;
 /// Why a program ends. Its `Display` is the line for the standard error, without the end of line; of `Arguments` it is the text by `clap`, with its ends of lines.
 #[derive(Debug)]
 pub enum ProgramFault {
-    /// The command line is none of the program's, or asks for help.
+    /// The command line is none of the program's, or asks for help or for the version.
     Arguments(clap::Error),
     /// The first faulty member of the settings; None where their file isn't read or isn't TOML.
     Settings(Option<SettingName>),

@@ -179,17 +179,21 @@ fn no_job(command: &mut Command<'_>) -> ProgramFault
     }
 }
 
-/// The job that the words ask for, of which the first is the program's name.
-/// `Arguments` with clap's error where they ask for none or for help; `Refused(Unavailable)` where that error, or an allocation
-/// besides, is of memory.
-pub fn job_of<'a, S: AsStr>(alloc: Global, words: &'a [S]) -> Result<Job<'a>, ProgramFault>
+/// The job that the words ask for, of which the first is the program's name. The version is the text that `--version` tells.
+/// `Arguments` with clap's error where they ask for none, for help or for the version; `Refused(Unavailable)` where that error, or an
+/// allocation besides, is of memory.
+pub fn job_of<'a, S: AsStr>(
+    alloc: Global,
+    version: &'a str,
+    words: &'a [S],
+) -> Result<Job<'a>, ProgramFault>
     ensures asked { IfOk result (AsksFor (map S.text words.entry.now)) }
     ensures right { IfOk result (λ _. fault_of spec.procure (map S.text words.entry.now) ≡ []) }
     ensures fault { IfErr result (IsFaultOf (faults_of (map S.text words.entry.now))) }
     ensures taken { takes spec.procure (map S.text words.entry.now) ≡ true → IsSome (asked (map S.text words.entry.now))
         → IfErr result (λ fault. fault ≡ no_memory) }
 {
-    let mut command = procure(alloc)?;
+    let mut command = procure(alloc, version)?;
     let matches = command.try_get_matches_from_mut(words)?;
     match asked_in(&matches) {
         Some(job) => Ok(job),

@@ -28,5 +28,9 @@ pub fn worked_faults()
     ensures port_0 { faults_of (codes "procure" ∷ codes "serve" ∷ codes "a" ∷ codes "b" ∷ codes "0" ∷ codes "3" ∷ []) ≡ ErrorKind.ValueValidation ∷ [] }
     ensures port_65536 { faults_of (codes "procure" ∷ codes "serve" ∷ codes "a" ∷ codes "b" ∷ codes "65536" ∷ codes "3" ∷ []) ≡ ErrorKind.ValueValidation ∷ [] }
     ensures count_1000001 { faults_of (codes "procure" ∷ codes "serve" ∷ codes "a" ∷ codes "b" ∷ codes "80" ∷ codes "1000001" ∷ []) ≡ ErrorKind.ValueValidation ∷ [] }
+    ensures help { faults_of (codes "procure" ∷ codes "--help" ∷ []) ≡ ErrorKind.DisplayHelp ∷ [] }
+    ensures version { faults_of (codes "procure" ∷ codes "--version" ∷ []) ≡ ErrorKind.DisplayVersion ∷ [] }
+    ensures version_short { faults_of (codes "procure" ∷ codes "-V" ∷ []) ≡ ErrorKind.DisplayVersion ∷ [] }
+    ensures version_of_a_job { faults_of (codes "procure" ∷ codes "desk" ∷ codes "--version" ∷ []) ≡ ErrorKind.UnknownArgument ∷ [] }
     ensures port_0_asks { asked (codes "procure" ∷ codes "serve" ∷ codes "a" ∷ codes "b" ∷ codes "0" ∷ codes "3" ∷ []) ≡ None }
 {}

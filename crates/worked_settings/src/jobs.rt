@@ -3,6 +3,9 @@ use procure_config::fault::exit_code;
 use procure_config::job::{Job, job_of};
 use std::alloc::Global;
 
+// A version of the program.
+const VERSION: &str = "1.2.3";
+
 // Words, and the job that they ask for.
 type Asked<'a> = (&'a [&'a str], Job<'a>);
 
@@ -94,6 +97,13 @@ const NO_JOBS: &[(&[&str], &str)] = &[
     (&["procure"], "Usage: procure <COMMAND>"),
     (&["procure", "--help"], "A public procurement office"),
     (&["procure", "help"], "A public procurement office"),
+    (&["procure", "--help"], "Print version"),
+    (&["procure", "--version"], "procure 1.2.3\n"),
+    (&["procure", "-V"], "procure 1.2.3\n"),
+    (
+        &["procure", "ledger", "--version"],
+        "unexpected argument '--version'",
+    ),
     (&["procure", "desk"], "<CONFIG>"),
     (&["procure", "desk", "--help"], "a TOML file"),
     (&["procure", "shop", "a"], "unrecognized subcommand 'shop'"),
@@ -165,7 +175,7 @@ fn numbers_of(job: &Job<'_>) -> (u8, u16, u32) {
 }
 
 fn is_asked(alloc: Global, words: &[&str], wanted: &Job<'_>) -> bool {
-    match job_of(alloc, words) {
+    match job_of(alloc, VERSION, words) {
         Ok(job) => words_of(&job) == words_of(wanted) && numbers_of(&job) == numbers_of(wanted),
         Err(_) => false,
     }
@@ -202,7 +212,7 @@ fn asks_for_minutes_and_a_record(rt: HostRuntime) {
 
 // Whether the words name no job, and this is a part of what is told. Status 2 is that of `Arguments`, so it isn't want of memory.
 fn is_told(alloc: Global, words: &[&str], part: &str) -> bool {
-    let Err(fault) = job_of(alloc, words) else {
+    let Err(fault) = job_of(alloc, VERSION, words) else {
         return false;
     };
     match format!(in alloc; "{fault}") {

@@ -1,14 +1,16 @@
 use Rattle.std.proofs.Common.{◌≡◌, ◌∙◌, ap, true}
 use Rattle.clap.specs.Words.{App, app_of}
 use Rattle.clap.specs.Simple.{app_of_fields}
-use Rattle.procure_config.specs.Jobs.{procure, subcommands}
+use Rattle.procure_config.specs.Jobs.{named, procure, subcommands}
 use Rattle.procure_config.proofs.CommandLine.{subcommand_added}
 use Rattle.procure_config.proofs.command_line.procure.Goals as goal
 
 pub returns : goal.returns
 unfolding procure
 returns c =
-    let alone = ap app_of_fields c.about.ensures ∙ c.new.ensures.app in
+    let alone : app_of c.version.result ≡ named =
+    ap app_of_fields c.version.ensures
+    ∙ ap (λ (a : App). let app : App = record a { top = record a.top { has_version = true } } in app) (ap app_of_fields c.about.ensures ∙ c.new.ensures.app) in
     let desk = subcommand_added _ _ _ _ _ c.in_ok-subcommand.ensures alone c.in_ok-desk.ensures.shape c.in_ok-desk.ensures.local in
     let serve = subcommand_added _ _ _ _ _ c.in_ok-subcommand-2.ensures desk c.in_ok-serve.ensures.shape c.in_ok-serve.ensures.local in
     let ledger = subcommand_added _ _ _ _ _ c.in_ok-subcommand-3.ensures serve c.in_ok-ledger.ensures.shape c.in_ok-ledger.ensures.local in

@@ -42,3 +42,19 @@ returns-clause-count_1000001 c = refl
 pub returns-clause-port_0_asks : goal.returns-clause-port_0_asks
 unfolding clap_on_literals procure
 returns-clause-port_0_asks c = refl
+
+pub returns-clause-help : goal.returns-clause-help
+unfolding clap_on_literals procure
+returns-clause-help c = refl
+
+pub returns-clause-version : goal.returns-clause-version
+unfolding clap_on_literals procure
+returns-clause-version c = refl
+
+pub returns-clause-version_short : goal.returns-clause-version_short
+unfolding clap_on_literals procure
+returns-clause-version_short c = refl
+
+pub returns-clause-version_of_a_job : goal.returns-clause-version_of_a_job
+unfolding clap_on_literals procure
+returns-clause-version_of_a_job c = refl

@@ -1,0 +1,184 @@
+"""The definitions of crates/*/specs/**/*.antt: their comments, their lines, the names that each uses, and where an imported name comes from.
+
+Read by tools/index and tools/reading; tools/calls and tools/check_promises take ROOT and Fault from here.
+"""
+import re
+from functools import lru_cache
+from pathlib import Path
+
+from crates import crates_of
+
+ROOT = Path(__file__).resolve().parent.parent
+
+NAMED = re.compile(r"\s*(?:(?:abbrev|unfoldable) (?:pub )?(?!mutual\b)(\S+) :|(?:pub )?(?:record|data) ([^\s{]+))")
+BARE = re.compile(r"pub (?!mod\b|use\b|record\b|data\b)(\S+) :")
+IN_MUTUAL = re.compile(r"  (?:pub )?(\S+) :")
+KEYWORD = re.compile(r"(?:abbrev|unfoldable|record|data|pub) (?!mod\b|use\b)")
+# What stands between definitions, and belongs to none.
+APART = re.compile(r"(?:use|pub use|pub mod|module|infix[lr]?|abbrev mutual)\b")
+WORD = re.compile(r"Rattle(?:\.[\w']+)+|[\w']+(?:\.[\w']+)*")
+IMPORT = re.compile(r"\buse Rattle\.([\w.]+?)(?:\.\{([^}]*)\}|\s+as\s+([\w']+))")
+CASE = re.compile(r"\s+(?:pub )?(\S+) :")
+
+
+class Fault(Exception):
+    """What can't be read, and where."""
+
+
+@lru_cache(maxsize=None)
+def text_of(path):
+    """A file's text, as it was when it was first asked for."""
+    try:
+        return path.read_text(encoding="utf-8")
+    except (OSError, UnicodeDecodeError) as fault:
+        raise Fault(f"{path}: {fault}") from fault
+
+
+def crates():
+    """The folders of the crates, in the order of their names."""
+    return sorted(path for path in (ROOT / "crates").glob("*") if path.is_dir())
+
+
+@lru_cache(maxsize=None)
+def crates_of_the_program():
+    """The names of the crates that the program `procure` is made of: itself, and what it stands on by crates.txt."""
+    return {"procure"} | crates_of(ROOT)["procure"]
+
+
+# ---- Comments.
+
+def words_of(lines):
+    """The text of a comment's lines; rules such as `-- ---- laws` are no comment."""
+    return " ".join(line.strip()[2:].strip() for line in lines if not line.strip().startswith("-- ----"))
+
+
+def comment_above(lines, at):
+    """The comment that stands directly above a line, as one text; empty where there is none."""
+    first = at
+    while first > 0 and lines[first - 1].strip().startswith("--"):
+        first -= 1
+    return words_of(lines[first:at])
+
+
+def heading_of(lines):
+    """The comment at the head of a file: what the file is about."""
+    last = 0
+    while last < len(lines) and lines[last].startswith("--"):
+        last += 1
+    return words_of(lines[:last])
+
+
+# ---- Definitions.
+
+class Definition:
+    """A definition: its name, the comment above it, and the lines of its text without comments."""
+
+    def __init__(self, name, comment):
+        self.name, self.comment, self.lines = name, comment, []
+
+    def words(self):
+        """The names that it uses, as they stand there; of a name with dots the whole."""
+        text = "\n".join(self.lines)
+        steps = {"◌>>=◌"} if re.search(r"\bdo\b|>>=", text) else set()
+        return set(WORD.findall(text)) | steps
+
+    def cases(self):
+        """The names of its cases, where it is of some: what stands in front of a colon in its further lines."""
+        is_of_cases = re.match(r"\s*(?:pub )?data\b", self.lines[0])
+        return {found[1] for found in map(CASE.match, self.lines[1:]) if found} if is_of_cases else set()
+
+
+def name_at(line, in_mutual):
+    """The name that a line defines, or None."""
+    found = (IN_MUTUAL.match(line) if in_mutual else None) or NAMED.match(line) or BARE.match(line)
+    return next(name for name in found.groups() if name) if found else None
+
+
+def definitions_of(path, lines):
+    """The definitions of a file, in its order, each with its lines."""
+    made, in_mutual, above, current = [], False, "", None
+    for at, line in enumerate(lines):
+        if line.startswith("abbrev mutual"):
+            in_mutual, above, current = True, comment_above(lines, at), None
+            continue
+        if line and not line[0].isspace():
+            in_mutual = False
+        name = name_at(line, in_mutual)
+        if name:
+            current = Definition(name, comment_above(lines, at) or above)
+            made.append(current)
+            above = ""
+        elif KEYWORD.match(line) and " = " not in line:
+            raise Fault(f"{path.relative_to(ROOT)}:{at + 1}: no definition that this script knows: {line}")
+        elif APART.match(line):
+            current = None
+        if current and line.strip() and not line.strip().startswith("--"):
+            current.lines.append(line)
+    return made
+
+
+class Source:
+    """A file of definitions: its crate, its module with dots for folders, what it is about, and its definitions."""
+
+    def __init__(self, path):
+        self.path, self.text = path, text_of(path)
+        lines = self.text.split("\n")
+        specs = next(above for above in path.parents if above.name == "specs")
+        self.crate, self.module = specs.parent.name, ".".join(path.relative_to(specs).with_suffix("").parts)
+        self.heading, self.definitions = heading_of(lines), definitions_of(path, lines)
+        self.imports = imports_of(self.text)
+        self.by_name = {case: each for each in self.definitions for case in each.cases()} | {each.name: each for each in self.definitions}
+
+    def defines(self, name):
+        """The definition of this name, or the one with this case; None where there is none."""
+        return self.by_name.get(name)
+
+
+@lru_cache(maxsize=None)
+def sources_of(crate):
+    """The files of definitions of a crate that have any, in the order of their paths."""
+    found = map(Source, sorted((ROOT / "crates" / crate / "specs").rglob("*.antt")))
+    return [source for source in found if source.definitions]
+
+
+@lru_cache(maxsize=None)
+def source_at(crate, module):
+    """The file of a crate with this module, or None."""
+    return next((source for source in sources_of(crate) if source.module == module), None)
+
+
+def definition_at(crate, module, name):
+    """(file, definition) of a name of a module; a module may be that of a definition's cases. (None, None) where there is none."""
+    source = source_at(crate, module)
+    if source:
+        return source, source.defines(name)
+    above, _, last = module.rpartition(".")
+    source = source_at(crate, above)
+    return source, source.defines(last) if source else None
+
+
+# ---- Imports.
+
+def imports_of(text):
+    """What a file calls each imported name: (name there, place, name in that place), a place as `office_base.specs.Tables`; a module has no name in it."""
+    found = {}
+    for place, names, alias in IMPORT.findall(text):
+        if alias:
+            found[alias] = (place, None)
+        for name in filter(None, (each.strip() for each in names.split(","))):
+            there, _, here = name.partition(" as ")
+            found[here.strip() or there] = (place, there)
+    return found
+
+
+def places_in(words, imports):
+    """(place, name) of each word that was imported, or that tells its whole place."""
+    for word in words:
+        if word.startswith("Rattle."):
+            place, _, name = word[len("Rattle."):].rpartition(".")
+            yield place, name
+            continue
+        first, *rest = word.split(".")
+        if first in imports:
+            place, name = imports[first]
+            yield (place, name) if name else (place, rest[0] if rest else "")
