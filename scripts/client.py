@@ -307,6 +307,6 @@ class Client(Generic[Told]):
 
 
 # The names of the methods that are commands and queries: as many as docs/API.md has routes.
-COMMANDS = ("import_budget", "register", "publish", "amend_notice", "cancel", "open", "examine", "award", "fail", "sign", "amend_contract", "pay", "end", "present",
-            "modify", "withdraw")
+COMMANDS = ("import_budget", "register", "publish", "amend_notice", "cancel", "open", "examine", "award", "fail", "sign", "amend_contract", "pay", "end",
+            "present", "modify", "withdraw")
 QUERIES = ("line", "ledger", "releases", "record", "minutes", "tender_register", "tender", "security", "performance_security")

@@ -56,7 +56,8 @@ class Front:
         self.folder, self.port, self.plain_port = folder, free_port(), free_port()
         self.key, self.certificate = os.path.join(folder, "key.pem"), os.path.join(folder, "certificate.pem")
         subprocess.run([need("openssl", "openssl"), "req", "-x509", "-newkey", "ec", "-pkeyopt", "ec_paramgen_curve:prime256v1", "-nodes", "-days", "2",
-                        "-subj", "/CN=office", "-addext", f"subjectAltName=IP:{HOST}", "-keyout", self.key, "-out", self.certificate], check=True, capture_output=True)
+                        "-subj", "/CN=office", "-addext", f"subjectAltName=IP:{HOST}", "-keyout", self.key, "-out", self.certificate],
+                       check=True, capture_output=True)
         self.context = ssl.create_default_context(cafile=self.certificate)
         with open(os.path.join(ROOT, "deploy", "nginx.conf")) as file:
             text = adapted(file.read(), self.changes(office))
