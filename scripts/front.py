@@ -57,15 +57,17 @@ class Front:
     def __init__(self, folder: str, office: int, more: Iterable[tuple[str, int, str]] = ()) -> None:
         self.folder, self.office, self.port, self.plain_port = folder, office, free_port(), free_port()
         self.key, self.certificate = os.path.join(folder, "key.pem"), os.path.join(folder, "certificate.pem")
-        subprocess.run([need("openssl", "openssl"), "req", "-x509", "-newkey", "ec", "-pkeyopt", "ec_paramgen_curve:prime256v1", "-nodes", "-days", "2", "-subj", "/CN=office",
-                        "-addext", f"subjectAltName=IP:{HOST}", "-keyout", self.key, "-out", self.certificate], check=True, capture_output=True)
+        subprocess.run([need("openssl", "openssl"), "req", "-x509", "-newkey", "ec", "-pkeyopt", "ec_paramgen_curve:prime256v1", "-nodes", "-days", "2",
+                        "-subj", "/CN=office", "-addext", f"subjectAltName=IP:{HOST}", "-keyout", self.key, "-out", self.certificate],
+                       check=True, capture_output=True)
         self.context = ssl.create_default_context(cafile=self.certificate)
         with open(os.path.join(ROOT, "deploy", "nginx.conf")) as file:
             text = adapted(adapted(file.read(), more), self.changes(office))
         for name, content in (("procure.conf", text), ("nginx.conf", MAIN.format(folder=folder) + ("user root;\n" if os.geteuid() == 0 else ""))):
             with open(os.path.join(folder, name), "w") as file:
                 file.write(content)
-        self.process = subprocess.Popen([need("nginx", "nginx"), "-p", folder, "-e", f"{folder}/errors.log", "-c", f"{folder}/nginx.conf"], stdin=subprocess.DEVNULL)
+        words = [need("nginx", "nginx"), "-p", folder, "-e", f"{folder}/errors.log", "-c", f"{folder}/nginx.conf"]
+        self.process = subprocess.Popen(words, stdin=subprocess.DEVNULL)
 
     def changes(self, office: int) -> list[tuple[str, int, str]]:
         """What of the file is adapted. (Of IPv6 not every machine has something.)"""

@@ -123,8 +123,9 @@ def many_tenderers(scene: Scene) -> None:
 
 def slow_clients(scene: Scene) -> None:
     """Whoever sends half a head or half a body, and then nothing, waits alone."""
+    half_body = b"POST /tenderers/T7 HTTP/1.1\r\nHost: office\r\nContent-Length: 1000\r\n\r\n" + b" " * 500
     with contextlib.ExitStack() as clients:
-        for sent in [b"POST /tenderers/T7 HTTP/1.1\r\nHost: office\r\nContent-Length: 1000\r\n\r\n" + b" " * 500] * 4 + [b"GET /ledger HTTP/1.1\r\nHost: of"] * 2:
+        for sent in [half_body] * 4 + [b"GET /ledger HTTP/1.1\r\nHost: of"] * 2:
             client = clients.enter_context(contextlib.closing(scene.front.connection()))
             client.connect()
             client.sock.sendall(sent)
@@ -139,7 +140,8 @@ def slow_clients(scene: Scene) -> None:
 def names_and_keys(scene: Scene) -> None:
     """Public routes are told nothing of who asks, so a wrong key is no matter there; and no log has a key or a security."""
     # (The last one wasn't asked before, so the front has no answer of it.)
-    for path, wanted in {"/ledger": 200, "/lines/1100": 200, "/notices/N1/record": 200, "/notices/N1/releases": 200, "/notices/N1/minutes": 409, "/lines/unseen": 404}.items():
+    statuses = {"/ledger": 200, "/lines/1100": 200, "/notices/N1/record": 200, "/notices/N1/releases": 200, "/notices/N1/minutes": 409, "/lines/unseen": 404}
+    for path, wanted in statuses.items():
         status = scene.front.ask("GET", path, caller=(b"T1", b"wrong")).status
         check(f"{path} with a wrong key: {status}", status == wanted)
     for name in ("access.log", "errors.log"):
