@@ -18,7 +18,7 @@ use std::rt::HostRuntime;
 /// How much of an office's file is kept at hand.
 #[derive(Clone, Copy, Debug)]
 pub struct Room {
-    /// How many of its pages stay in memory, of 4,096 bytes each. The memory is taken as the file is opened.
+    /// How many of its pages stay in memory. The memory is taken as the file is opened.
     pub pages: usize,
     /// How many pages the log grows by before they are copied into the file.
     pub frames: usize,

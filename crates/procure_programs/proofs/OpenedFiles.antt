@@ -16,11 +16,11 @@ use Rattle.office_base.specs.Tables.{Tables}
 use Rattle.office_sql.specs.Steps.{ShowsTables}
 use Rattle.office_desk.specs.Desks.{DeskOf}
 use Rattle.office_store.specs.Reopening.{HoldsOffice, OpensHeld}
-use Rattle.office_store.specs.SqlMeaning.{sql_meaning}
+use Rattle.office_store.specs.SqlMeaning.{LeavesNoOther, LeavesShown, sql_meaning}
 use Rattle.office_wire.specs.Runs.{Step, office_left}
 use Rattle.office_http.specs.Answering.{Held, office_answers}
 use Rattle.procure_programs.specs.Placed.{OpensEmpty}
-use Rattle.procure_programs.specs.Serving.{DayIn, DaysFollow, GoesOnIn, HaveOffice, MayBeFound, ServesFiles, StandsIn, StopsIn, WasServed}
+use Rattle.procure_programs.specs.Serving.{DayIn, DaysFollow, GoesOnIn, HaveOffice, MayBeFound, ServesFiles, ServesOpened, StandsIn, StopsIn, WasServed}
 use Rattle.procure_programs.proofs.ServingSteps.{office_on, served_none, served_still}
 
 module _ {D : Type 0} {g : Ghosts D} where
@@ -52,6 +52,15 @@ module _ {D : Type 0} {g : Ghosts D} where
       let shown = shows_files image old.0 held blank (before it.was_clean) h.tables has in
       let (steps, few, ((_, (in_order, shows)), left), _) = serves it.was_clean h ((sym are, (sorted, shown)), stands) in
       (steps, few, (in_order, inl (holds_found new.0 files it now found _ shows), left))
+
+  -- an office that was opened was served
+  pub opened_serves : {R E : Type 0} (image : Image) (settings : Settings) (most : ℕ) (opened : Connected (FileStore D g) × ℕ)
+      (result : Result ((Connected (FileStore D g) × ℕ) × R) E) → OpensHeld image opened.0 → OpensEmpty image opened.0
+      → (HasCleanDisk (file_state opened.0) → LeavesShown (file_state opened.0)) → (HasCleanDisk (file_state opened.0) → LeavesNoOther (file_state opened.0))
+      → IfOk result (λ left. WasServed (sql_meaning over_files) most settings opened left.0) → IfOk result (λ left. ServesOpened image settings most left.0)
+  opened_serves image settings most opened (Ok left) held empty sound alone served =
+      record { opened = opened; held = held; empty = empty; sound = sound; alone = alone; served = served }
+  opened_serves image settings most opened (Err fault) held empty sound alone served = tt
 
   -- so of what comes back, where the files do
   pub closes_ok : {R E : Type 0} (image : Image) (settings : Settings) (most : ℕ) (old new : Connected (FileStore D g) × ℕ) (result : Result (Files D × R) E)
@@ -86,7 +95,7 @@ days_closed settings first mid last n m before behind h are stands =
 
 -- a day of either end, as one that ends by a stop
 as_stopped : (settings : Settings) (first last : Image) (n : ℕ) → DayIn first settings n last → StopsIn first settings n last
-as_stopped settings first last n (inl closed) h are stands = ∣ closed h are stands ∣₁
+as_stopped settings first last n (inl closed) = λ h are stands. ∣ closed h are stands ∣₁
 as_stopped settings first last n (inr stopped) = stopped
 
 days_stopped : (settings : Settings) (first mid last : Image) (n m : ℕ) → DayIn first settings n mid → DayIn mid settings m last → StopsIn first settings (n + m) last
