@@ -9,11 +9,15 @@ and then these fill the lanes that are free; a proof gets the lanes that no othe
 a check takes of memory holds it back where the others' leave too little, a proof the wrong bodies behind it too. Not in it: other work on the machine.
 Printed are the wall minutes for each number, and the longest chain of crates. `bench/gate` prints them too, beside the minutes that the run took.
 """
-import json, os, shutil, sys
+import json
+import os
+import shutil
+import sys
 
 sys.dont_write_bytecode = True
 sys.path.insert(0, os.path.join(os.path.dirname(os.path.dirname(os.path.realpath(__file__))), "scripts"))
 from crates import crates_of
+from gate_table import is_raw
 
 ROOT = os.path.dirname(os.path.dirname(os.path.abspath(__file__)))
 # What a check takes of processor time where so many run side by side, to one that runs alone.
@@ -183,6 +187,8 @@ def main():
         sys.exit(__doc__)
     with open(sys.argv[1]) as file:
         table = json.load(file)
+    if not is_raw(table):
+        sys.exit(f"{sys.argv[1]} doesn't tell the minutes of each wrong body, which the model wants: it was written down from a printed table")
     tell(ROOT, table, [int(it) for it in sys.argv[2:]] or [4, 2])
 
 

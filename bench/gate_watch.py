@@ -2,7 +2,10 @@
 
 Processor seconds are those at the last look, so a process may have used half a second more than is told; what ends between two looks isn't seen here.
 """
-import os, re, threading, time
+import os
+import re
+import threading
+import time
 
 TICKS = os.sysconf("SC_CLK_TCK")
 EVERY = 0.5

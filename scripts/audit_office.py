@@ -1,5 +1,22 @@
-"""What `tools/audit` reads: a copy of an office's file, and answers of an office."""
-import datetime, glob, hashlib, http.client, json, os, shutil, sqlite3, urllib.parse
+"""What `tools/audit` reads of a copy of an office's file, and what its rules share."""
+import datetime
+import glob
+import hashlib
+import json
+import os
+import shutil
+import sqlite3
+import tempfile
+from collections.abc import Callable, Iterator
+from typing import Any
+
+Json = dict[str, Any]
+Row = dict[str, Any]
+# Parts of a file, each with its size and the time of the last change.
+Stamp = list[tuple[str, int, int]]
+# What a rule finds: a row, as its table and key, and what is wrong with it.
+Found = Iterator[tuple[str, str]]
+Check = Callable[..., Found]
 
 # The tables of an office: the columns of the key, and the others.
 TABLES = {
@@ -27,8 +44,16 @@ ON_DISK = {"notices": "notices_2"}
 # What makes the tables that an office of version 1 lacks until it is opened: the copy gets them.
 LATER = {name: f"CREATE TABLE {name} ({columns}) STRICT" for name, columns in (
     ("late_rules", "notice TEXT NOT NULL PRIMARY KEY CHECK (length(notice) BETWEEN 1 AND 32)"),
-    ("notices_2", "notice TEXT NOT NULL PRIMARY KEY CHECK (length(notice) BETWEEN 1 AND 32), title TEXT NOT NULL CHECK (length(title) BETWEEN 1 AND 200), published INTEGER NOT NULL CHECK (published BETWEEN 0 AND 4102444799), deadline INTEGER NOT NULL CHECK (deadline BETWEEN 0 AND 4102444799), validity INTEGER NOT NULL CHECK (validity BETWEEN 1 AND 365), standstill INTEGER NOT NULL CHECK (standstill BETWEEN 0 AND 90), weight INTEGER NOT NULL CHECK (weight BETWEEN 0 AND 100), state TEXT NOT NULL CHECK (state IN ('receiving', 'opened', 'cancelled')), opened INTEGER CHECK (opened BETWEEN 0 AND 4102444799), amendments INTEGER NOT NULL CHECK (amendments BETWEEN 0 AND 50), releases INTEGER NOT NULL CHECK (releases BETWEEN 0 AND 9999), performance INTEGER NOT NULL CHECK (performance BETWEEN 0 AND 1000000000000)"),
-    ("performance", "contract INTEGER NOT NULL PRIMARY KEY CHECK (contract BETWEEN 1 AND 1000000000), reference TEXT NOT NULL CHECK (length(reference) BETWEEN 1 AND 32), amount INTEGER NOT NULL CHECK (amount BETWEEN 1 AND 1000000000000), state TEXT NOT NULL CHECK (state IN ('held', 'returned', 'forfeited'))"),
+    ("notices_2",
+     "notice TEXT NOT NULL PRIMARY KEY CHECK (length(notice) BETWEEN 1 AND 32), title TEXT NOT NULL CHECK (length(title) BETWEEN 1 AND 200), "
+     "published INTEGER NOT NULL CHECK (published BETWEEN 0 AND 4102444799), deadline INTEGER NOT NULL CHECK (deadline BETWEEN 0 AND 4102444799), "
+     "validity INTEGER NOT NULL CHECK (validity BETWEEN 1 AND 365), standstill INTEGER NOT NULL CHECK (standstill BETWEEN 0 AND 90), "
+     "weight INTEGER NOT NULL CHECK (weight BETWEEN 0 AND 100), state TEXT NOT NULL CHECK (state IN ('receiving', 'opened', 'cancelled')), "
+     "opened INTEGER CHECK (opened BETWEEN 0 AND 4102444799), amendments INTEGER NOT NULL CHECK (amendments BETWEEN 0 AND 50), "
+     "releases INTEGER NOT NULL CHECK (releases BETWEEN 0 AND 9999), performance INTEGER NOT NULL CHECK (performance BETWEEN 0 AND 1000000000000)"),
+    ("performance",
+     "contract INTEGER NOT NULL PRIMARY KEY CHECK (contract BETWEEN 1 AND 1000000000), reference TEXT NOT NULL CHECK (length(reference) BETWEEN 1 AND 32), "
+     "amount INTEGER NOT NULL CHECK (amount BETWEEN 1 AND 1000000000000), state TEXT NOT NULL CHECK (state IN ('held', 'returned', 'forfeited'))"),
 )}
 
 # Each table and index of version 2, with the first digits of the SHA-256 of the SQL that makes it.
@@ -57,37 +82,40 @@ CREATE TEMP TABLE pots AS
 CREATE TEMP VIEW offers AS SELECT * FROM envelopes WHERE state = 'opened' AND reading = 'priced' AND responsive = 1;
 """
 
-# The rules, by what they are put to: the file; the releases of a notice; those that the file keeps; an office's answers on a notice; its ledger.
-RULES = {"file": [], "releases": [], "kept": [], "answers": [], "ledger": []}
+# The rules, by what they are put to: the file; the releases of a notice; those that the file keeps; an office's answers on a notice; its minutes, and the
+# ledger, with the file; a notice of the file that isn't answered; all answers together, without the file; an earlier copy of the file; answers on a notice that
+# may be from earlier, and those that are; what was handed out under a number; an earlier ledger.
+RULES: dict[str, list[Check]] = {it: [] for it in (
+    "file", "releases", "kept", "answers", "minutes", "ledger", "lacking", "outside", "copies", "witness", "saved", "held", "ledgers")}
 
 
 class Unreadable(Exception):
     """What can't be read, and why."""
 
 
-def rule(of):
+def rule(of: str) -> Callable[[Check], Check]:
     """Makes a function a rule. It gives a row, as its table and key, and what is wrong with it, for each finding."""
-    def add(check):
+    def add(check: Check) -> Check:
         RULES[of].append(check)
         return check
     return add
 
 
-def text_of(moment):
+def text_of(moment: Any) -> str | None:
     """The text of a second since 1970, as releases have it; None for none."""
     if not isinstance(moment, int) or not 0 <= moment < 1 << 36:
         return None if moment is None else str(moment)
     return (datetime.datetime(1970, 1, 1) + datetime.timedelta(seconds=moment)).strftime("%Y-%m-%dT%H:%M:%SZ")
 
 
-def once(pairs):
+def once(pairs: list[tuple[str, Any]]) -> Json:
     """An object none of whose members comes twice."""
     if len(dict(pairs)) != len(pairs):
         raise ValueError("a member twice")
     return dict(pairs)
 
 
-def json_object(text):
+def json_object(text: str) -> Json | None:
     """The JSON object that a text is, or None."""
     try:
         value = json.loads(text, object_pairs_hook=once)
@@ -96,13 +124,13 @@ def json_object(text):
     return value if isinstance(value, dict) else None
 
 
-def stamp(path):
+def stamp(path: str) -> Stamp:
     """The file, its log and its journal, as far as they are there, with size and time of the last change."""
     parts = [path + end for end in ("", "-wal", "-journal") if not end or os.path.exists(path + end)]
     return [(part, os.stat(part).st_size, os.stat(part).st_mtime_ns) for part in parts]
 
 
-def copied(path, folder):
+def copied(path: str, folder: str) -> Stamp:
     """The stamp of the file, which was copied into the folder while nobody wrote to it."""
     for _ in range(5):
         for old in glob.glob(os.path.join(glob.escape(folder), "office.db*")):
@@ -118,9 +146,11 @@ def copied(path, folder):
 class Office:
     """A copy of an office's file, which is only read. (SQLite tests no checks of tables in a file that is opened as read-only.)"""
 
-    def __init__(self, path, folder):
-        self.path, self.stamp, self.unread = path, copied(path, folder), 0
-        self.base = sqlite3.connect(os.path.join(folder, "office.db"))
+    def __init__(self, path: str, folder: str) -> None:
+        place = tempfile.mkdtemp(dir=folder)
+        self.path, self.stamp, self.unread = path, copied(path, place), 0
+        self.tables: dict[str, dict[tuple[Any, ...], Row]] = {}
+        self.base = sqlite3.connect(os.path.join(place, "office.db"))
         self.base.execute("PRAGMA trusted_schema = OFF")
         self.base.text_factory = lambda text: text.decode("utf-8", "surrogateescape")
         self.base.create_function("sha256", 1, lambda data: hashlib.sha256(data).digest() if isinstance(data, bytes) else b"", deterministic=True)
@@ -135,92 +165,50 @@ class Office:
             self.complete(table)
         self.base.executescript("CREATE TEMP VIEW notices AS SELECT * FROM notices_2;" + SUMS + "PRAGMA query_only = ON")
 
-    def columns(self, table):
+    def columns(self, table: str) -> set[str]:
         return {row[1] for row in self.rows(f"PRAGMA table_info({table})")}
 
-    def complete(self, table):
+    def complete(self, table: str) -> None:
         """Sees to it that the table is there with its columns."""
         name = ON_DISK.get(table, table)
         if not self.columns(name) >= set(" ".join(TABLES[table]).split()):
             raise Unreadable(f"{self.path}: it is no office: the table {name} isn't there, or lacks a column")
 
-    def migrate(self):
+    def migrate(self) -> None:
         """Makes of the copy what the program makes of an office of version 1 when it opens it."""
         for table, made in LATER.items():
             if not self.columns(table):
                 self.base.execute(made)
         if not self.columns("notices") >= set(" ".join(TABLES["notices"]).split()) - {"performance"}:
             raise Unreadable(f"{self.path}: it is no office: the table notices isn't there, or lacks a column")
-        self.base.executescript("INSERT INTO notices_2 SELECT notice, title, published, deadline, validity, standstill, weight, state, opened, amendments, releases, 0 "
-                                "FROM notices; DELETE FROM notices; UPDATE office SET version = 2")
+        self.base.executescript("""
+            INSERT INTO notices_2 SELECT notice, title, published, deadline, validity, standstill, weight, state, opened, amendments, releases, 0 FROM notices;
+            DELETE FROM notices; UPDATE office SET version = 2""")
 
-    def rows(self, sql, *values):
+    def rows(self, sql: str, *values: object) -> list[Any]:
         return self.base.execute(sql, values).fetchall()
 
-    def find(self, table, sql, *values):
+    def table(self, name: str) -> dict[tuple[Any, ...], Row]:
+        """The rows of a table by their keys, each as its values by column."""
+        if name not in self.tables:
+            keys, others = (columns.split() for columns in TABLES[name])
+            rows = self.rows(f"SELECT {', '.join(keys + others)} FROM {name}")
+            self.tables[name] = {row[:len(keys)]: dict(zip(keys + others, row)) for row in rows}
+        return self.tables[name]
+
+    def find(self, table: str, sql: str, *values: object) -> Found:
         """A finding for each row that is asked for: the key of a row of the table, and what is wrong with it."""
         for *key, what in self.rows(sql, *values):
             yield f"{table} {'/'.join(map(str, key))}", what
 
-    def notices(self):
+    def notices(self) -> list[str]:
         return [notice for notice, in self.rows("SELECT notice FROM notices ORDER BY notice")]
 
-    def releases(self, notice):
+    def releases(self, notice: str) -> list[Json]:
         """The releases of a notice that the file keeps and that are JSON objects, in sequence."""
         values = [json_object(text) for text, in self.rows("SELECT text FROM releases WHERE notice = ? ORDER BY seq", notice)]
         return [value for value in values if value is not None]
 
-    def has_changed(self):
+    def has_changed(self) -> bool:
         """Whether somebody wrote to the file since it was copied."""
         return stamp(self.path) != self.stamp
-
-
-class Answers:
-    """What an office answers to anybody: the files of a folder, or what a base address is asked for."""
-
-    def __init__(self, folder, base):
-        self.folder, self.base, self.place = folder, base, folder or base
-
-    def notices(self):
-        """The notices of which the folder has releases."""
-        names = [os.path.basename(path) for path in glob.glob(os.path.join(glob.escape(self.folder), "releases-*.json"))]
-        return sorted(name[len("releases-"):-len(".json")] for name in names)
-
-    def perhaps(self, path, name):
-        """The text that is answered, or None where there is none."""
-        if self.base:
-            return self.asked(path)
-        if not os.path.exists(os.path.join(self.folder, name)):
-            return None
-        with open(os.path.join(self.folder, name), encoding="utf-8", newline="") as file:
-            return file.read()
-
-    def text(self, path, name):
-        """The text that is answered, which must be there."""
-        text = self.perhaps(path, name)
-        if text is None:
-            raise Unreadable(f"{os.path.join(self.folder, name) if self.folder else self.base + path}: it isn't there")
-        return text
-
-    def package(self, notice, kind):
-        """A package of a notice, which must be a JSON object."""
-        package = json_object(self.text(f"/notices/{notice}/{kind}", f"{kind}-{notice}.json"))
-        if package is None:
-            raise Unreadable(f"{self.place}: the {kind} of {notice}: no JSON object")
-        return package
-
-    def asked(self, path):
-        """The body of the office's answer, or None where the office refuses it as not there or not yet there."""
-        parts = urllib.parse.urlsplit(self.base)
-        kind = http.client.HTTPSConnection if parts.scheme == "https" else http.client.HTTPConnection
-        try:
-            connection = kind(parts.hostname, parts.port, timeout=30)
-            connection.request("GET", parts.path.rstrip("/") + path)
-            response = connection.getresponse()
-            body = response.read().decode("utf-8")
-            connection.close()
-        except (OSError, http.client.HTTPException, ValueError) as why:
-            raise Unreadable(f"{self.base + path}: {why}")
-        if response.status not in (200, 404, 409):
-            raise Unreadable(f"{self.base + path}: status {response.status}: {body[:100]}")
-        return body if response.status == 200 else None

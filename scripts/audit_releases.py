@@ -1,7 +1,12 @@
 """The rules of `tools/audit` on releases: those that the file keeps, and what an office answers to anybody; and the merge of releases, written anew."""
-import collections, json, re
+import collections
+import json
+import re
+from collections.abc import Callable, Iterable
+from typing import Any
 
-from audit_office import json_object, rule, text_of
+from audit_answers import Answers
+from audit_office import Found, Json, Office, json_object, rule, text_of
 
 TAGS = [["tenderAmendment"], ["tenderUpdate"], ["award"], ["awardCancellation"], ["tenderCancellation"], ["tenderCancellation", "awardCancellation"],
         ["contract"], ["contractAmendment"], ["implementation"], ["contractTermination"]]
@@ -44,12 +49,12 @@ FACTS = """
 ABSENT = object()
 
 
-def is_id_list(value):
+def is_id_list(value: Any) -> bool:
     """A list, not empty, of objects that each have a text `id`."""
     return isinstance(value, list) and bool(value) and all(isinstance(item, dict) and isinstance(item.get("id"), str) for item in value)
 
 
-def last_run(column, fits):
+def last_run(column: list[Any], fits: Callable[[Any], bool]) -> list[Any]:
     """The longest run at the end of a column whose values all fit."""
     start = len(column)
     while start and fits(column[start - 1]):
@@ -57,7 +62,7 @@ def last_run(column, fits):
     return column[start:]
 
 
-def merged(column):
+def merged(column: list[Any]) -> Any:
     """What the values that releases give for one place, in order, leave there. The last decides: null leaves nothing; of objects each name is merged, of
     id lists each id, over the run of such at the end; anything else is taken whole."""
     if not column or column[-1] is None:
@@ -68,33 +73,34 @@ def merged(column):
         found = {name: merged([value[name] for value in run if name in value]) for name in names}
         return {name: value for name, value in found.items() if value is not ABSENT}
     if is_id_list(column[-1]):
-        items = {}
+        items: dict[str, list[Any]] = {}
         for item in [item for value in last_run(column, is_id_list) for item in value]:
             items.setdefault(item["id"], []).append(item)
         return [merged(alike) for alike in items.values()]
     return column[-1]
 
 
-def date_of(release):
+def date_of(release: Json) -> bytes:
     """The date of a release, as the bytes by which releases are ordered."""
     return str(release.get("date", "")).encode("utf-8", "surrogateescape")
 
 
-def merge_of(releases):
+def merge_of(releases: list[Json]) -> Any:
     """The merge of releases by date, without their own `id`, `date` and `tag`."""
     bodies = [{name: value for name, value in release.items() if name not in ("id", "date", "tag")} for release in sorted(releases, key=date_of)]
     return merged(bodies) if bodies else {}
 
 
-def compiled_of(releases):
+def compiled_of(releases: list[Json]) -> Json:
     """The compiled release: the merge, with the last date, an id of ocid and date, and the tag compiled."""
     last = max((str(release.get("date", "")) for release in releases), default="")
     merge = merge_of(releases)
     return {**merge, "id": f"{merge.get('ocid')}-{last}", "date": last, "tag": ["compiled"]}
 
 
-def difference(here, there, path=""):
+def difference(here: Any, there: Any, path: str = "") -> tuple[str, str, str] | None:
     """The first place where two JSON values differ, and both values there, or None."""
+    pairs: list[tuple[str, Any, Any]]
     if isinstance(here, dict) and isinstance(there, dict):
         pairs = [(f"{path}/{name}", here.get(name), there.get(name)) for name in sorted(here.keys() | there.keys())]
     elif isinstance(here, list) and isinstance(there, list) and len(here) == len(there):
@@ -102,13 +108,13 @@ def difference(here, there, path=""):
     else:
         texts = [json.dumps(value, sort_keys=True) for value in (here, there)]
         told = [f"a list of {len(value)}" if isinstance(value, list) else text[:60] for value, text in zip((here, there), texts)]
-        return None if texts[0] == texts[1] else (path or "/", *told)
-    return next((found for place, *values in pairs if (found := difference(*values, place))), None)
+        return None if texts[0] == texts[1] else (path or "/", told[0], told[1])
+    return next((found for place, one, other in pairs if (found := difference(one, other, place))), None)
 
 
 # ---- What releases tell.
 
-def events_told(release):
+def events_told(release: Json) -> list[str]:
     """What a release tells, a text for each event: its name, a colon and the rest."""
     try:
         return [event for tag in release["tag"] for event in told_by(tag, release)]
@@ -116,7 +122,7 @@ def events_told(release):
         return [f"unreadable: {json.dumps(release)[:80]}"]
 
 
-def told_by(tag, release):
+def told_by(tag: str, release: Json) -> list[str]:
     """What a release tells by one of its tags."""
     date, tender, awards, contracts = release["date"], release.get("tender", {}), release.get("awards", []), release.get("contracts", [])
     match tag:
@@ -144,7 +150,7 @@ def told_by(tag, release):
     return []
 
 
-def facts_told(merge):
+def facts_told(merge: Json) -> dict[str, Any]:
     """What a merge says of a notice: its terms, tenderers and items, and of its lots, awards and contracts how much and how far."""
     tender, period = merge["tender"], merge["tender"]["tenderPeriod"]
     told = {"terms": f"{period['startDate']} to {period['endDate']}, {tender['awardCriteria']}, {tender['title']}", "status": tender["status"]}
@@ -167,7 +173,7 @@ def facts_told(merge):
 # ---- Rules of the releases that the file keeps.
 
 @rule("file")
-def releases_are_counted(office):
+def releases_are_counted(office: Office) -> Found:
     """A notice counts a release for its publication, opening, cancellation, each amendment, award, failing, lot without winner, signing, entry, end."""
     yield from office.find("notices", """
         WITH counted AS (SELECT notice, 1 + amendments + (state = 'opened')
@@ -179,7 +185,7 @@ def releases_are_counted(office):
 
 
 @rule("file")
-def releases_are_numbered(office):
+def releases_are_numbered(office: Office) -> Found:
     """Of each notice the releases from 1 to its count are kept, and no other."""
     yield from office.find("releases", """
         WITH RECURSIVE number(n) AS (SELECT 1 UNION ALL SELECT n + 1 FROM number WHERE n < (SELECT max(releases) FROM notices))
@@ -190,7 +196,7 @@ def releases_are_numbered(office):
 
 
 @rule("kept")
-def kept_texts_are_releases(office, notice, releases):
+def kept_texts_are_releases(office: Office, notice: str, releases: list[Json]) -> Found:
     """The text of a kept release is a JSON object, dated by its row's moment."""
     for seq, moment, text in office.rows("SELECT seq, moment, text FROM releases WHERE notice = ? ORDER BY seq", notice):
         if (json_object(text) or {}).get("date") != text_of(moment):
@@ -198,7 +204,17 @@ def kept_texts_are_releases(office, notice, releases):
 
 
 @rule("kept")
-def rows_have_their_releases(office, notice, releases):
+def kept_texts_are_compact(office: Office, notice: str, releases: list[Json]) -> Found:
+    """The text of a release or a merge that is kept is written as the office writes JSON: compactly, members in the byte order of their names."""
+    for table in ("releases", "compiled"):
+        for *key, text in office.rows(f"SELECT {'notice, seq' if table == 'releases' else 'notice'}, text FROM {table} WHERE notice = ?", notice):
+            value = json_object(text)
+            if value is not None and text != json.dumps(value, ensure_ascii=False, separators=(",", ":"), sort_keys=True):
+                yield f"{table} {'/'.join(map(str, key))}", "isn't written as the office writes JSON"
+
+
+@rule("kept")
+def rows_have_their_releases(office: Office, notice: str, releases: list[Json]) -> Found:
     """The releases of a notice tell what its rows say that happened, each event once, and nothing else."""
     told = collections.Counter(event for release in releases for event in events_told(release))
     done = collections.Counter(event for event, in office.rows(EVENTS, notice))
@@ -210,7 +226,7 @@ def rows_have_their_releases(office, notice, releases):
 
 
 @rule("kept")
-def merges_are_of_their_releases(office, notice, releases):
+def merges_are_of_their_releases(office: Office, notice: str, releases: list[Json]) -> Found:
     """Where a merge of a notice's releases is kept, it is their merge."""
     for text, in office.rows("SELECT text FROM compiled WHERE notice = ?", notice):
         found = difference(json_object(text), merge_of(releases))
@@ -219,7 +235,7 @@ def merges_are_of_their_releases(office, notice, releases):
 
 
 @rule("kept")
-def merges_say_what_the_rows_say(office, notice, releases):
+def merges_say_what_the_rows_say(office: Office, notice: str, releases: list[Json]) -> Found:
     """Merged, the releases of a notice say of its terms, status, lots, tenderers, awards, contracts and payments what the rows say."""
     kept = dict(office.rows(FACTS, notice))
     try:
@@ -234,7 +250,7 @@ def merges_say_what_the_rows_say(office, notice, releases):
 # ---- Rules of releases, wherever they come from.
 
 @rule("releases")
-def heads_are_in_sequence(notice, releases):
+def heads_are_in_sequence(notice: str, releases: list[Json]) -> Found:
     """A release's ocid is a prefix, a dash and the notice, the same in all; its id is that with its number; its date isn't before the one in front of it."""
     ocid, date, due = releases[0].get("ocid") if releases else None, "", 1
     right = re.fullmatch(r"ocds-[0-9A-Za-z]{6}-" + re.escape(notice), str(ocid))
@@ -247,7 +263,7 @@ def heads_are_in_sequence(notice, releases):
 
 
 @rule("releases")
-def tags_are_of_events(notice, releases):
+def tags_are_of_events(notice: str, releases: list[Json]) -> Found:
     """The first release has the tags planning and tender, and each other those of an event of the office."""
     for seq, release in enumerate(releases, 1):
         if release.get("tag") not in (TAGS if seq > 1 else [["planning", "tender"]]):
@@ -255,7 +271,7 @@ def tags_are_of_events(notice, releases):
 
 
 @rule("releases")
-def events_come_once(notice, releases):
+def events_come_once(notice: str, releases: list[Json]) -> Found:
     """Each award, its end, each signing, entry and end of a contract is told by one release."""
     told = collections.Counter(event.split(":")[0] for release in releases for event in events_told(release) if ":" in event)
     for event, count in told.items():
@@ -265,20 +281,20 @@ def events_come_once(notice, releases):
 
 # ---- Rules of answers.
 
-def releases_in(package):
+def releases_in(package: Json) -> list[Json]:
     """The releases of a package that are objects."""
     releases = package.get("releases")
     return [release for release in releases if isinstance(release, dict)] if isinstance(releases, list) else []
 
 
-def record_in(package):
+def record_in(package: Json) -> Json:
     """The one record of a record package."""
     records = package.get("records")
     return records[0] if isinstance(records, list) and len(records) == 1 and isinstance(records[0], dict) else {}
 
 
 @rule("answers")
-def answered_releases_are_kept(office, answers, notice, package, record):
+def answered_releases_are_kept(office: Office | None, answers: Answers, notice: str, package: Json, record: Json) -> Found:
     """The releases that are answered are those that the file keeps."""
     found = office and difference(package.get("releases"), office.releases(notice))
     if found:
@@ -286,7 +302,7 @@ def answered_releases_are_kept(office, answers, notice, package, record):
 
 
 @rule("answers")
-def records_have_the_releases(office, answers, notice, package, record):
+def records_have_the_releases(office: Office | None, answers: Answers, notice: str, package: Json, record: Json) -> Found:
     """A record package has one record, of the notice's ocid, with the releases of the release package."""
     found = difference(record_in(record).get("releases"), package.get("releases"))
     if found:
@@ -296,7 +312,7 @@ def records_have_the_releases(office, answers, notice, package, record):
 
 
 @rule("answers")
-def compiled_is_the_merge(office, answers, notice, package, record):
+def compiled_is_the_merge(office: Office | None, answers: Answers, notice: str, package: Json, record: Json) -> Found:
     """The compiled release of a record is the merge of the releases, under its own head."""
     found = difference(record_in(record).get("compiledRelease"), compiled_of(releases_in(package)))
     if found:
@@ -304,7 +320,7 @@ def compiled_is_the_merge(office, answers, notice, package, record):
 
 
 @rule("answers")
-def packages_have_their_heads(office, answers, notice, package, record):
+def packages_have_their_heads(office: Office | None, answers: Answers, notice: str, package: Json, record: Json) -> Found:
     """A package is of version 1.1, of the address of its route, and of the date of its last release."""
     last = max((str(release.get("date")) for release in releases_in(package)), default=None)
     for kind, value in (("releases", package), ("record", record)):
@@ -312,40 +328,60 @@ def packages_have_their_heads(office, answers, notice, package, record):
             yield f"notices {notice}", f"the package of its {kind} is {value.get('version')}, {value.get('uri')}, {value.get('publishedDate')}"
 
 
-@rule("answers")
-def minutes_are_of_the_rows(office, answers, notice, package, record):
-    """The minutes of an opened notice say what the file says, and no others are answered."""
-    if not office:
-        return
-    path, name = f"/notices/{notice}/minutes", f"minutes-{notice}.txt"
+def text_with(lines: Iterable[Iterable[object]]) -> str:
+    """The text of lines whose fields have tabs between."""
+    return "".join("\t".join(str(field) for field in line if field is not None) + "\n" for line in lines)
+
+
+def minutes_of(office: Office, notice: str) -> str | None:
+    """The minutes of a notice, by the rows; None where it isn't opened."""
     title, deadline, opened = office.rows("SELECT title, text_of(deadline), text_of(opened) FROM notices WHERE notice = ?", notice)[0]
-    if opened is None:
-        if answers.perhaps(path, name) is not None:
-            yield f"notices {notice}", "minutes are answered, and it isn't opened"
-        return
     due = [("MINUTES", notice, title), ("deadline", deadline), ("opened", opened)]
     for lot in office.rows("SELECT 'lot', lot, title FROM lots WHERE notice = ? ORDER BY lot", notice):
         due += [lot] + office.rows("""SELECT 'tender', receipt, tenderer, name, address, reading, stated, corrected, corrections
             FROM envelopes JOIN tenderers USING (tenderer) WHERE notice = ? AND lot = ? AND state = 'opened' ORDER BY receipt""", notice, lot[1])
-    yield from unlike(f"notices {notice}", answers.text(path, name), due + [("END",)])
+    return None if opened is None else text_with(due + [("END",)])
+
+
+@rule("minutes")
+def minutes_are_of_the_rows(office: Office, answers: Answers, notice: str) -> Found:
+    """The minutes of an opened notice say what the file says, and no others are answered."""
+    due, text = minutes_of(office, notice), answers.of_notice(notice, "minutes")
+    if due is None:
+        yield from [(f"notices {notice}", "minutes are answered, and it isn't opened")] if text is not None else []
+    elif text is None:
+        yield from [(f"notices {notice}", "is opened, and no minutes are answered")] if answers.base else []
+    else:
+        yield from unlike(f"notices {notice}", text, due)
+
+
+@rule("lacking")
+def kept_notices_are_answered(office: Office | None, notice: str) -> Found:
+    """An address answers on each notice that the file has."""
+    if office and notice in office.notices():
+        yield f"notices {notice}", "is in the file, and nothing is answered of it"
 
 
 @rule("ledger")
-def ledger_is_of_the_rows(office, text):
+def ledger_is_of_the_rows(office: Office | None, text: str) -> Found:
     """The ledger that is answered adds up, line by line, and says what the file says."""
     for line in text.split("\n")[2:-1]:
         name, *numbers = line.split("\t")
         if len(numbers) != 5 or not all(number.isdigit() for number in numbers) or sum(map(int, numbers[1:])) != int(numbers[0]):
             yield f"lines {name}", f"the ledger says {numbers}: appropriation, free, reserved, contracted, paid"
     if office:
-        head = [("LEDGER",), ("line", "appropriation", "free", "reserved", "contracted", "paid")]
-        yield from unlike("office 1", text, head + office.rows("SELECT line, appropriation, free, reserved, contracted, paid FROM pots ORDER BY line"))
+        yield from unlike("office 1", text, ledger_of(office))
 
 
-def unlike(row, text, due):
-    """A finding where the lines of a text aren't those that are due, fields with tabs between."""
-    lines = text.split("\n")
-    due = ["\t".join(str(field) for field in line if field is not None) for line in due] + [""]
-    if lines != due:
-        place = next((place for place, (here, there) in enumerate(zip(lines, due)) if here != there), min(len(lines), len(due)))
-        yield row, f"line {place + 1} of the answer is {lines[place:place + 1]}, and the file says {due[place:place + 1]}"
+def ledger_of(office: Office) -> str:
+    """The ledger, by the rows."""
+    head = [("LEDGER",), ("line", "appropriation", "free", "reserved", "contracted", "paid")]
+    return text_with(head + office.rows("SELECT line, appropriation, free, reserved, contracted, paid FROM pots ORDER BY line"))
+
+
+def unlike(row: str, text: str, due: str) -> Found:
+    """A finding where a text isn't the one that is due."""
+    lines, wanted = text.split("\n"), due.split("\n")
+    if lines != wanted:
+        place = next((place for place, (here, there) in enumerate(zip(lines, wanted)) if here != there), min(len(lines), len(wanted)))
+        yield row, f"line {place + 1} of the answer is {lines[place:place + 1]}, and the file says {wanted[place:place + 1]}"

@@ -1,7 +1,9 @@
 """The rules of `tools/audit` that hold the rows of an office's file against one another. Each is named for what must hold, and says it in a sentence."""
-import hashlib, re
+import hashlib
+import re
+from typing import Any
 
-from audit_office import MADE, ON_DISK, TABLES, rule
+from audit_office import MADE, ON_DISK, TABLES, Found, Office, rule
 
 WORDS = {
     "notices state": "receiving opened cancelled",
@@ -17,12 +19,13 @@ WORDS = {
 PARENTS = (
     "lots notice notices, lots line lines, envelopes notice|lot lots, envelopes tenderer tenderers, envelopes security securities, seals receipt envelopes, "
     "securities notice|lot lots, securities tenderer tenderers, awards notice|lot lots, awards receipt envelopes, contracts notice|lot lots, "
-    "contracts tenderer tenderers, entries contract contracts, releases notice notices, compiled notice notices, late_rules notice notices, performance contract contracts")
+    "contracts tenderer tenderers, entries contract contracts, releases notice notices, compiled notice notices, late_rules notice notices, "
+    "performance contract contracts")
 MOMENTS = ("batches moment, notices published, notices opened, envelopes moment, awards moment, contracts moment, contracts ended, entries moment, "
            "releases moment")
 
 
-def key_of(table, before=""):
+def key_of(table: str, before: str = "") -> str:
     """The columns of a table's key, for a select."""
     return ", ".join(before + column for column in TABLES[table][0].split())
 
@@ -30,7 +33,7 @@ def key_of(table, before=""):
 # ---- The tables.
 
 @rule("file")
-def file_is_sound(office):
+def file_is_sound(office: Office) -> Found:
     """SQLite finds the file whole, each value of its column's type, and each check of the tables kept."""
     for what, in office.rows("PRAGMA integrity_check"):
         if what != "ok":
@@ -38,7 +41,7 @@ def file_is_sound(office):
 
 
 @rule("file")
-def tables_are_as_made(office):
+def tables_are_as_made(office: Office) -> Found:
     """The tables of an office and their indexes are made by the office's SQL, and have no other column, index or trigger. (Other tables may be beside them.)"""
     there = office.rows("SELECT name, type, sql, lower(tbl_name) FROM sqlite_master WHERE name NOT LIKE 'sqlite!_%' ESCAPE '!' ORDER BY name")
     there = [(name, kind, sql) for name, kind, sql, table in there if table in TABLES or table in ON_DISK.values()]
@@ -52,13 +55,13 @@ def tables_are_as_made(office):
 
 
 @rule("file")
-def notices_stand_in_one_table(office):
+def notices_stand_in_one_table(office: Office) -> Found:
     """No notice stands in the table of version 1, which version 2 keeps empty."""
     yield from office.find("notices", "SELECT notice, 'stands in the table of version 1' FROM main.notices ORDER BY notice")
 
 
 @rule("file")
-def keys_come_once(office):
+def keys_come_once(office: Office) -> Found:
     """No two rows of a table have the same key."""
     for table in TABLES:
         key = key_of(table)
@@ -66,7 +69,7 @@ def keys_come_once(office):
 
 
 @rule("file")
-def words_are_known(office):
+def words_are_known(office: Office) -> Found:
     """Each state, kind and reading is one of its words."""
     for place, words in WORDS.items():
         table, column = place.split()
@@ -74,7 +77,7 @@ def words_are_known(office):
 
 
 @rule("file")
-def parents_are_there(office):
+def parents_are_there(office: Office) -> Found:
     """Each row that a row speaks of is there, and each notice has a lot."""
     for place in PARENTS.split(", "):
         child, columns, parent = place.split()
@@ -87,7 +90,7 @@ def parents_are_there(office):
 
 
 @rule("file")
-def nothing_is_after_the_clock(office):
+def nothing_is_after_the_clock(office: Office) -> Found:
     """No row is of a later moment than the last accepted command, whose moment the table office has."""
     for place in MOMENTS.split(", "):
         table, column = place.split()
@@ -96,7 +99,7 @@ def nothing_is_after_the_clock(office):
 
 
 @rule("file")
-def numbers_are_given_in_turn(office):
+def numbers_are_given_in_turn(office: Office) -> Found:
     """Each receipt, and each number of an award, from 1 to the last that was given out, is there, and no other."""
     for table, key, last in (("envelopes", "receipt", "receipts"), ("awards", "award", "awards")):
         yield from office.find(table, f"""
@@ -106,7 +109,7 @@ def numbers_are_given_in_turn(office):
 
 
 @rule("file")
-def numbers_follow_time(office):
+def numbers_follow_time(office: Office) -> Found:
     """Along the numbers of tenders, of awards and of each notice's releases, moments never fall."""
     for table, group in (("envelopes", "1"), ("awards", "1"), ("releases", "notice")):
         key = key_of(table)
@@ -114,10 +117,34 @@ def numbers_follow_time(office):
             (SELECT {key}, moment, lag(moment) OVER (PARTITION BY {group} ORDER BY {key}) AS earlier FROM {table}) WHERE moment < earlier""")
 
 
+# Tables whose rows are never taken out, and have no number that is the row's place; the moment where there is one.
+PLACED = {"lines": None, "batches": "moment", "tenderers": None, "notices": None, "lots": None, "entries": "moment", "releases": "moment", "compiled": None,
+          "late_rules": None}
+
+
+@rule("file")
+def rows_came_one_after_another(office: Office) -> Found:
+    """Rows that are never taken out stand at the places (rowid) 1, 2, 3 and so on, and along them moments never fall."""
+    for table, moment in PLACED.items():
+        key, name = key_of(table), ON_DISK.get(table, table)
+        yield from office.find(table, f"""SELECT {key}, 'stands at place ' || place || ', behind ' || earlier || ': what was between is gone' FROM
+            (SELECT {key}, rowid AS place, lag(rowid, 1, 0) OVER (ORDER BY rowid) AS earlier FROM {name}) WHERE place <> earlier + 1""")
+        if moment:
+            yield from office.find(table, f"""SELECT {key}, 'is of ' || text_of(moment) || ', and was put in behind one of ' || text_of(earlier) FROM
+                (SELECT {key}, moment, lag(moment) OVER (ORDER BY rowid) AS earlier FROM {name}) WHERE moment < earlier""")
+
+
+@rule("file")
+def lines_come_from_batches(office: Office) -> Found:
+    """There are no more lines than rows of budget files that were taken in."""
+    yield from office.find("office", """SELECT version, printf('has %d lines, and its batches %d rows', lines, rows) FROM office,
+        (SELECT count(*) AS lines FROM lines), (SELECT coalesce(sum(rows), 0) AS rows FROM batches) WHERE lines > rows""")
+
+
 # ---- Money.
 
 @rule("file")
-def pots_add_up(office):
+def pots_add_up(office: Office) -> Found:
     """What is free, reserved, contracted and paid of a line, summed from joined rows, is its appropriation."""
     yield from office.find("lines", """
         SELECT line, printf('free %d, reserved %d, contracted %d and paid %d add up to %d, and its appropriation is %d',
@@ -126,7 +153,7 @@ def pots_add_up(office):
 
 
 @rule("file")
-def contracts_are_not_overdrawn(office):
+def contracts_are_not_overdrawn(office: Office) -> Found:
     """No more was cut, paid and released of a contract than was signed and raised."""
     yield from office.find("contracts", """
         SELECT contract, printf('signed %d and raised %d, but cut %d, paid %d and released %d', signed, raised, cut, paid, released)
@@ -134,7 +161,7 @@ def contracts_are_not_overdrawn(office):
 
 
 @rule("file")
-def contracts_end_settled(office):
+def contracts_end_settled(office: Office) -> Found:
     """A contract that runs has released nothing; of one that ended nothing is outstanding, and how it ended is told."""
     yield from office.find("contracts", """
         SELECT contract, 'when and how it ended don''t go together' FROM contracts WHERE (ended IS NULL) <> (how IS NULL)
@@ -144,7 +171,7 @@ def contracts_end_settled(office):
 
 
 @rule("file")
-def reservations_fit_their_lots(office):
+def reservations_fit_their_lots(office: Office) -> Found:
     """An undecided or awarded lot reserves the price of its last award, or else its estimate; any other lot reserves nothing."""
     yield from office.find("lots", """
         WITH due AS (SELECT notice, lot, CASE WHEN state IN ('undecided', 'awarded') THEN coalesce((SELECT price FROM awards AS a
@@ -155,7 +182,7 @@ def reservations_fit_their_lots(office):
 # ---- Notices, lots, awards and contracts.
 
 @rule("file")
-def notices_keep_their_time(office):
+def notices_keep_their_time(office: Office) -> Found:
     """A notice is published before its deadline; it has a moment of opening, not before the deadline, where it is opened and nowhere else."""
     yield from office.find("notices", """
         SELECT notice, 'published when its deadline had come' FROM notices WHERE published >= deadline
@@ -165,7 +192,7 @@ def notices_keep_their_time(office):
 
 
 @rule("file")
-def lots_fit_their_notices(office):
+def lots_fit_their_notices(office: Office) -> Found:
     """All lots of a notice that receives tenders are undecided, and all of a cancelled one are cancelled."""
     yield from office.find("lots", """
         SELECT l.notice, lot, printf('is %s, and its notice %s', l.state, n.state) FROM lots AS l JOIN notices AS n ON n.notice = l.notice
@@ -173,7 +200,7 @@ def lots_fit_their_notices(office):
 
 
 @rule("file")
-def lots_fit_their_awards(office):
+def lots_fit_their_awards(office: Office) -> Found:
     """The last award of an awarded lot is active, of a contracted one signed, of any other failed, or cancelled with the lot; earlier awards have failed."""
     yield from office.find("lots", """
         SELECT l.notice, l.lot, printf('is %s, and its last award is %s', l.state, coalesce(a.state, 'none')) FROM lots AS l
@@ -186,7 +213,7 @@ def lots_fit_their_awards(office):
 
 
 @rule("file")
-def contracts_are_signed_awards(office):
+def contracts_are_signed_awards(office: Office) -> Found:
     """Each signed award, and no other, has a contract of its number, for its lot, at its price and with its tender's tenderer."""
     yield from office.find("awards", """
         SELECT award, 'is ' || state || ', and a contract of its number ' || iif(contract IS NULL, 'isn''t', 'is') || ' there'
@@ -197,7 +224,7 @@ def contracts_are_signed_awards(office):
 
 
 @rule("file")
-def awards_keep_their_time(office):
+def awards_keep_their_time(office: Office) -> Found:
     """A lot is awarded once its notice is opened, and while tenders are in effect."""
     yield from office.find("awards", """
         SELECT award, 'awarded before the opening, or when tenders were no longer in effect' FROM awards AS a JOIN notices AS n ON n.notice = a.notice
@@ -205,7 +232,7 @@ def awards_keep_their_time(office):
 
 
 @rule("file")
-def contracts_keep_their_time(office):
+def contracts_keep_their_time(office: Office) -> Found:
     """A contract is signed behind the standstill and while tenders are in effect; its entries lie between its signing and its end."""
     yield from office.find("contracts", """
         SELECT contract, 'signed in the standstill, or when tenders were no longer in effect' FROM contracts AS c JOIN awards AS a ON award = contract
@@ -217,7 +244,7 @@ def contracts_keep_their_time(office):
 
 
 @rule("file")
-def awards_go_to_the_best(office):
+def awards_go_to_the_best(office: Office) -> Found:
     """An award is of the best tender of its lot that may win, hasn't failed before and wasn't withdrawn late, at that tender's corrected price."""
     for award, notice, lot, receipt, price, weight in office.rows(
             "SELECT award, a.notice, lot, receipt, price, weight FROM awards AS a JOIN notices AS n ON n.notice = a.notice ORDER BY award"):
@@ -230,11 +257,11 @@ def awards_go_to_the_best(office):
             yield f"awards {award}", f"went to tender {receipt} at {price}, and the best " + (f"is {best[1]} at {best[0]}" if best else "isn't there")
 
 
-def best_of(offers, weight):
+def best_of(offers: list[Any], weight: int) -> Any:
     """The best of offers (price, receipt, quality): where the weight isn't 0 that of most thousandths of points, then the lower price and receipt."""
     lowest = min((price for price, _, _ in offers), default=0)
 
-    def standing(offer):
+    def standing(offer: Any) -> tuple[int, int, int]:
         price, receipt, quality = offer
         points = (weight * 1000 * lowest // price if price else weight * 1000) + 1000 * quality
         return (-points if weight else 0, price, receipt)
@@ -242,7 +269,7 @@ def best_of(offers, weight):
 
 
 @rule("file")
-def lots_without_a_winner_have_no_offer(office):
+def lots_without_a_winner_have_no_offer(office: Office) -> Found:
     """An unsuccessful lot has no tender that may win."""
     yield from office.find("lots", """
         SELECT l.notice, l.lot, 'is unsuccessful, and tender ' || receipt || ' may win' FROM lots AS l
@@ -252,7 +279,7 @@ def lots_without_a_winner_have_no_offer(office):
 # ---- Tenders and their securities.
 
 @rule("file")
-def late_tenders_stay_shut(office):
+def late_tenders_stay_shut(office: Office) -> Found:
     """A tender that came behind the deadline was given back: it isn't sealed, and wasn't opened."""
     yield from office.find("envelopes", """
         SELECT receipt, printf('is %s, and came at %s, after the deadline %s', e.state, text_of(moment), text_of(deadline))
@@ -260,7 +287,7 @@ def late_tenders_stay_shut(office):
 
 
 @rule("file")
-def tenders_have_their_fate(office):
+def tenders_have_their_fate(office: Office) -> Found:
     """A tender is sealed while its notice receives, opened where that is, withdrawn if it came before the deadline, and returned if late or cancelled."""
     yield from office.find("envelopes", """
         SELECT receipt, printf('is %s, and its notice %s', e.state, n.state) FROM envelopes AS e JOIN notices AS n ON n.notice = e.notice
@@ -271,7 +298,7 @@ def tenders_have_their_fate(office):
 
 
 @rule("file")
-def tenderers_have_one_tender_a_lot(office):
+def tenderers_have_one_tender_a_lot(office: Office) -> Found:
     """A tenderer has at most one tender for a lot that is sealed or opened."""
     yield from office.find("envelopes", """
         SELECT max(receipt), printf('%s has %d tenders for %s/%s that are sealed or opened', tenderer, count(*), notice, lot)
@@ -279,7 +306,17 @@ def tenderers_have_one_tender_a_lot(office):
 
 
 @rule("file")
-def seals_fit_their_tenders(office):
+def tenders_of_a_lot_follow_each_other(office: Office) -> Found:
+    """A tenderer presents for a lot only while nothing of theirs is sealed for it: of those that came in time all but the last are withdrawn."""
+    yield from office.find("envelopes", """
+        SELECT later, printf('came while tender %d of %s, which is %s, was sealed for the lot', receipt, tenderer, state) FROM
+            (SELECT receipt, tenderer, e.state, lead(receipt) OVER (PARTITION BY e.notice, lot, tenderer ORDER BY receipt) AS later
+            FROM envelopes AS e JOIN notices AS n ON n.notice = e.notice WHERE moment <= deadline AND moment < coalesce(n.opened, moment + 1))
+        WHERE later IS NOT NULL AND state <> 'withdrawn'""")
+
+
+@rule("file")
+def seals_fit_their_tenders(office: Office) -> Found:
     """The bytes of a tender are kept where it is sealed or opened, and of no other."""
     yield from office.find("envelopes", """
         SELECT e.receipt, printf('is %s, and its bytes are %s', state, iif(bytes IS NULL, 'not kept', 'kept'))
@@ -287,7 +324,7 @@ def seals_fit_their_tenders(office):
 
 
 @rule("file")
-def digests_are_of_the_bytes(office):
+def digests_are_of_the_bytes(office: Office) -> Found:
     """The digest of a tender is the SHA-256 of the bytes that are kept (FIPS 180-4), and its length is theirs."""
     yield from office.find("seals", """
         SELECT s.receipt, 'the bytes aren''t of the digest, or not of the length, that the receipt has'
@@ -295,7 +332,7 @@ def digests_are_of_the_bytes(office):
 
 
 @rule("file")
-def readings_are_of_the_bytes(office):
+def readings_are_of_the_bytes(office: Office) -> Found:
     """A tender was read where it was opened, and as its bytes are read here; one with quotation marks is left out, and the last line counts it."""
     yield from office.find("envelopes", """
         SELECT receipt, 'is ' || state || ', and was read: ' || coalesce(reading, 'not') FROM envelopes WHERE (state = 'opened') <> (reading IS NOT NULL)""")
@@ -308,17 +345,17 @@ def readings_are_of_the_bytes(office):
             yield f"envelopes {receipt}", f"was read as {reading}, and its bytes say {list(again)}"
 
 
-def number_of(field):
+def number_of(field: bytes) -> int | None:
     """The number that 1 to 16 digits write, up to 10^15, or None."""
     return int(field) if re.fullmatch(rb"[0-9]{1,16}", field) and int(field) <= 10 ** 15 else None
 
 
-def reading_of(data, items):
+def reading_of(data: bytes, items: str) -> tuple[Any, ...]:
     """What a tender's file says for a lot of these items: a word, the price as stated, as corrected, and how many figures were corrected (RFC 4180)."""
     records = [line.split(b",") for line in re.split(rb"[\r\n]+", data.removeprefix(b"\xef\xbb\xbf")) if line]
     if len(records) < 2 or records[0] != [b"item", b"quantity", b"unit", b"total"] or any(len(record) != 4 for record in records):
         return "unreadable", None, None, None
-    rows = [(name, number_of(quantity), number_of(unit), number_of(total)) for name, quantity, unit, total in records[1:-1]]
+    rows: list[Any] = [(name, number_of(quantity), number_of(unit), number_of(total)) for name, quantity, unit, total in records[1:-1]]
     stated = number_of(records[-1][3])
     if records[-1][:3] != [b"TOTAL", b"", b""] or stated is None or any(None in row for row in rows):
         return "unreadable", None, None, None
@@ -331,8 +368,8 @@ def reading_of(data, items):
 
 
 @rule("file")
-def examinations_fit_their_tenders(office):
-    """Priced tenders alone are examined, all of a lot that haven't failed before it is decided; quality is given where points decide, within what the price leaves."""
+def examinations_fit_their_tenders(office: Office) -> Found:
+    """Priced tenders alone are examined, all that haven't failed before a lot is decided; quality is given where points decide, within what price leaves."""
     yield from office.find("envelopes", """
         SELECT receipt, 'was examined, and has no price' FROM envelopes WHERE responsive IS NOT NULL AND reading IS NOT 'priced'
         UNION ALL SELECT receipt, 'its quality isn''t what its notice asks for' FROM envelopes AS e JOIN notices AS n ON n.notice = e.notice
@@ -343,8 +380,8 @@ def examinations_fit_their_tenders(office):
 
 
 @rule("file")
-def failures_are_of_awards(office):
-    """A tender has failed where an award of it has, or where its notice lets tenders be withdrawn late, and nowhere else; an award is of a tender for its lot."""
+def failures_are_of_awards(office: Office) -> Found:
+    """A tender has failed where an award of it has, or its notice lets tenders be withdrawn late, and nowhere else; an award is of a tender for its lot."""
     yield from office.find("envelopes", """
         SELECT receipt, iif(failed, 'has failed, and no award of it has, nor may it be withdrawn late', 'hasn''t failed, and an award of it has') FROM envelopes
         WHERE failed <> (receipt IN (SELECT receipt FROM awards WHERE state = 'failed')) AND NOT (failed AND notice IN (SELECT notice FROM late_rules))""")
@@ -354,7 +391,7 @@ def failures_are_of_awards(office):
 
 
 @rule("file")
-def securities_come_with_tenders(office):
+def securities_come_with_tenders(office: Office) -> Found:
     """A security has the number of the receipt that it came with; the tenders that carry it are of its tenderer and lot, all but the last withdrawn."""
     yield from office.find("securities", """
         SELECT s.security, 'the tender of its number doesn''t carry it' FROM securities AS s LEFT JOIN envelopes AS e ON e.receipt = s.security
@@ -368,7 +405,7 @@ def securities_come_with_tenders(office):
 
 
 @rule("file")
-def securities_are_as_asked(office):
+def securities_are_as_asked(office: Office) -> Found:
     """A tender in time has a security of at least what its lot asks for, and none where that asks for none."""
     yield from office.find("envelopes", """
         SELECT receipt, printf('its lot asks for a security of %d, and it carries one of %d', l.security, coalesce(amount, 0)) FROM envelopes AS e
@@ -378,7 +415,7 @@ def securities_are_as_asked(office):
 
 
 @rule("file")
-def securities_have_their_fate(office):
+def securities_have_their_fate(office: Office) -> Found:
     """A security is forfeited where its tender failed, held while that is sealed or its lot undecided or awarded, and else returned."""
     yield from office.find("securities", """
         WITH last AS (SELECT security, max(receipt) AS receipt FROM envelopes WHERE security IS NOT NULL GROUP BY security),
@@ -389,16 +426,16 @@ def securities_have_their_fate(office):
 
 
 @rule("file")
-def performances_are_as_asked(office):
+def performances_are_as_asked(office: Office) -> Found:
     """A contract has a performance security of at least what its notice asks for, and none where that asks for none."""
     yield from office.find("contracts", """
-        SELECT contract, printf('its notice asks for a performance security of %d, and it has one of %d', n.performance, coalesce(amount, 0)) FROM contracts AS c
-        JOIN notices AS n ON n.notice = c.notice LEFT JOIN performance AS p USING (contract)
+        SELECT contract, printf('its notice asks for a performance security of %d, and it has one of %d', n.performance, coalesce(amount, 0))
+        FROM contracts AS c JOIN notices AS n ON n.notice = c.notice LEFT JOIN performance AS p USING (contract)
         WHERE coalesce(amount, 0) < n.performance OR (n.performance = 0 AND amount IS NOT NULL)""")
 
 
 @rule("file")
-def performances_have_their_fate(office):
+def performances_have_their_fate(office: Office) -> Found:
     """A performance security is held while its contract runs, forfeited where that ended by default, and else returned."""
     yield from office.find("performance", """
         WITH fate AS (SELECT contract, CASE WHEN ended IS NULL THEN 'held' WHEN how = 'default' THEN 'forfeited' ELSE 'returned' END AS due FROM contracts)

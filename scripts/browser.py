@@ -79,8 +79,8 @@ class Browser:
 
 
 class Page:
-    """A page in a context of its own: nothing is kept from another one. For the paths that `answers` has, it stands in the server's place: a status and a body, or
-    None for no answer."""
+    """A page in a context of its own: nothing is kept from another one. For the paths that `answers` has, it stands in the server's place: a status and a body,
+    or None for no answer."""
 
     def __init__(self, browser: Browser, width: int, height: int = 800, dark: bool = False) -> None:
         self.browser = browser

@@ -1,4 +1,5 @@
-"""The front of deploy/nginx.conf over an office, for tests: of the file only what its head names is adapted, and nginx runs in a folder as who runs the test."""
+"""The front of deploy/nginx.conf over an office, for tests: of the file only what its head names is adapted, and nginx runs in a folder as who runs the
+test."""
 import contextlib
 import http.client
 import os

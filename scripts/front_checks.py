@@ -55,8 +55,8 @@ def headers(scene: Scene) -> None:
 
 
 def sizes(scene: Scene) -> None:
-    """A body of 65,536 bytes passes, and is taken by the office; one more doesn't, nor does a body in chunks, a long head or a long path. No body is written to a
-    disk."""
+    """A body of 65,536 bytes passes, and is taken by the office; one more doesn't, nor does a body in chunks, a long head or a long path. No body is written to
+    a disk."""
     body = json.dumps({"name": "Epsilon", "address": "5 Row", "key": "0" * 64}).encode()
     answer = scene.front.ask("POST", "/tenderers/T5", body.ljust(MOST), CLERK)
     check(f"a body of {MOST} bytes is taken: {answer}", answer.status == 200)

@@ -170,7 +170,8 @@ def check(path: str, value: Any, table: Mapping[str, str]) -> None:
 
 
 def check_releases(package: Any, place: str) -> None:
-    """That each release at a place is one, and none a compiled one; that none is earlier than the one before it, and that the package is of the last one's date."""
+    """That each release at a place is one, and none a compiled one; that none is earlier than the one before it, and that the package is of the last one's
+    date."""
     for path, release in found_at("", package, place):
         check(path, release, RELEASE)
         if "compiled" in texts_at(release, "tag"):

@@ -103,7 +103,8 @@ def is_within(name: str, width: object, page: Page) -> None:
 
 
 def is_read_out(name: str, page: Page) -> None:
-    """What a screen reader is told: landmarks, one heading of the first level and none left out, a name for each thing, a text for each bar, headers of tables."""
+    """What a screen reader is told: landmarks, one heading of the first level and none left out, a name for each thing, a text for each bar, headers of
+    tables."""
     tree = page.tree()
     roles = [role for role, _, _ in tree]
     for role in ("banner", "navigation", "search", "main", "contentinfo", "status"):
@@ -120,7 +121,8 @@ def is_read_out(name: str, page: Page) -> None:
 
 
 def keeps_nothing(scene: Scene, page: Page) -> None:
-    """No cookie, nothing stored, nothing asked of another server; no error in the console but what the browser says of a refusal, and no breach of the policy."""
+    """No cookie, nothing stored, nothing asked of another server; no error in the console but what the browser says of a refusal, and no breach of the
+    policy."""
     check("there is a cookie", page.ask("Network.getAllCookies")["cookies"] == [])
     check("something is stored", page.run("localStorage.length + sessionStorage.length === 0 && indexedDB.databases().then((all) => all.length === 0)"))
     asked = {event["request"]["url"] for event in page.events("Network.requestWillBeSent")} - {"about:blank"}
@@ -226,7 +228,8 @@ def each_refusal(scene: Scene) -> None:
         page.wait("document.querySelector('h1').textContent.startsWith('What is bought')")
 
 
-# Of a lot decided by price with three tenders, A for 100, B for 90, C for 100: the lot's state, to whom awards were made and what became of them, what is said of each.
+# Of a lot decided by price with three tenders, A for 100, B for 90, C for 100: the lot's state, to whom awards were made and what became of them, what is said
+# of each.
 LOTS: list[tuple[str, list[tuple[str, str]], list[str]]] = [
     ("active", [], ["Waits", "Waits", "Waits"]),
     ("cancelled", [], ["Not decided", "Not decided", "Not decided"]),

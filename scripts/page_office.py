@@ -1,5 +1,5 @@
-"""The office that `tests/page` shows: six notices, and texts that no page may take for markup. N1 is paid and ended, N2 awarded, N3 open, N4 cancelled before its
-opening; N5 is cancelled after an award by points, and of N6 one lot waits and one is paid in part.
+"""The office that `tests/page` shows: six notices, and texts that no page may take for markup. N1 is paid and ended, N2 awarded, N3 open, N4 cancelled before
+its opening; N5 is cancelled after an award by points, and of N6 one lot waits and one is paid in part.
 
 All is asked through the front, with the keys of who asks. Most of its five seconds it waits for a deadline.
 """

@@ -1,9 +1,9 @@
 #!/bin/sh
 # The first run (`make run`): an import and a look, crates/procure/stdin, and the two responses to them, without waiting for proofs.
-# Where `make build` or `make test` left build/procure, the proved program answers them. Else a smaller program does, compiled from the same sources (`rt try`, which
-# proves nothing): an office in memory whose settings stand in office.rt.in, without the file store and the command line, whose libraries take longer to
-# compile than all of the office. It is no crate of the repository, so that the gate does not prove it; its files end in `.in`, since the gate refuses a `.rt` file
-# of no crate. On standard error it says which of the two it is. It ends with the program's status.
+# Where `make build` or `make test` left build/procure, the proved program answers them. Else a smaller program does, compiled from the same sources (`rt try`,
+# which proves nothing): an office in memory whose settings stand in office.rt.in, without the file store and the command line, whose libraries take longer to
+# compile than all of the office. It is no crate of the repository, so that the gate does not prove it; its files end in `.in`, since the gate refuses a `.rt`
+# file of no crate. On standard error it says which of the two it is. It ends with the program's status.
 set -eu
 here=$(cd "$(dirname "$0")" && pwd)
 root=$(cd "$here/../.." && pwd)

@@ -1,0 +1,141 @@
+"""What `tools/audit` reads of an office's answers: the files of a folder, or what an address is asked for.
+
+A front that is asked too often says so (429), and an office that can't answer now too (502, 503, 504): then the same is asked again, after as long as
+`Retry-After` says (RFC 9110, section 10.2.3), or after 1, 2, 4 .. seconds where it says nothing.
+"""
+import email.utils
+import glob
+import http.client
+import os
+import re
+import time
+import urllib.parse
+from collections.abc import Callable
+
+from audit_office import Json, Unreadable, json_object
+
+# The files of a folder, by the routes whose answers they are. Of a notice anybody may ask for all but the register, which is the clerk's; a receipt is what
+# presenting, changing or `GET /tenders/R` answers its tenderer; the securities are shown to the clerk and to their tenderer.
+OF_NOTICES = {"releases": ".json", "record": ".json", "minutes": ".txt", "register": ".txt"}
+HELD = ("receipt", "security", "performance")
+
+# Seconds that one answer is waited for in all, seconds of the longest wait that isn't asked for, and how often an office that can't answer is asked again.
+PATIENCE, LONGEST, AGAIN = 600, 30, 5
+TOO_MANY, NOT_NOW = 429, (502, 503, 504)
+
+
+def seconds_of(retry_after: str | None, tried: int, now: Callable[[], float] = time.time) -> float:
+    """How long to wait, by the field `Retry-After` of an answer, a count of seconds or a date; where that says nothing, twice as long each time."""
+    text = (retry_after or "").strip()
+    if re.fullmatch(r"[0-9]{1,9}", text):
+        return int(text)
+    try:
+        return max(0.0, email.utils.parsedate_to_datetime(text).timestamp() - now())
+    except (TypeError, ValueError, OverflowError):
+        return float(min(LONGEST, 1 << tried))
+
+
+class Answers:
+    """What an office answered: the files of a folder, or what an address is asked for, each once."""
+
+    def __init__(self, folder: str | None, base: str | None) -> None:
+        self.folder, self.base, self.place = folder or "", base or "", folder or base or ""
+        self.asked: dict[str, str | None] = {}
+
+    def names(self, kind: str, end: str) -> list[str]:
+        """What stands behind `kind-` in the names of the folder's files."""
+        paths = glob.glob(os.path.join(glob.escape(self.folder), f"{kind}-*{end}")) if self.folder else []
+        return sorted(os.path.basename(path)[len(kind) + 1:-len(end)] for path in paths)
+
+    def notices(self) -> list[str]:
+        """The notices of which the folder has anything."""
+        return sorted({notice for kind, end in OF_NOTICES.items() for notice in self.names(kind, end)})
+
+    def held(self, kind: str) -> list[tuple[str, Json]]:
+        """What was handed out under a number and that the folder has: the number, and the JSON object."""
+        return [(number, self.object(f"{kind}-{number}.json")) for number in self.names(kind, ".json")]
+
+    def perhaps(self, path: str, name: str) -> str | None:
+        """The text that is answered, or None where there is none."""
+        if not self.base:
+            return self.saved(name)
+        if path not in self.asked:
+            self.asked[path] = self.ask(path)
+        return self.asked[path]
+
+    def saved(self, name: str) -> str | None:
+        """The text of a file of the folder, or None where it isn't there."""
+        if not self.folder or not os.path.exists(os.path.join(self.folder, name)):
+            return None
+        with open(os.path.join(self.folder, name), encoding="utf-8", newline="") as file:
+            return file.read()
+
+    def of_notice(self, notice: str, kind: str) -> str | None:
+        """The text of a notice that is answered, or None."""
+        return self.perhaps(f"/notices/{notice}/{kind}", f"{kind}-{notice}{OF_NOTICES[kind]}")
+
+    def package(self, notice: str, kind: str) -> Json | None:
+        """A package of a notice, which must be a JSON object, or None where there is none."""
+        text = self.of_notice(notice, kind)
+        package = json_object(text) if text is not None else None
+        if text is not None and package is None:
+            raise Unreadable(f"{self.place}: the {kind} of {notice}: no JSON object")
+        return package
+
+    def object(self, name: str) -> Json:
+        """The JSON object of a file of the folder."""
+        value = json_object(self.saved(name) or "")
+        if value is None:
+            raise Unreadable(f"{os.path.join(self.folder, name)}: no JSON object")
+        return value
+
+    def packages(self, notice: str) -> tuple[Json | None, Json | None]:
+        """The releases and the record of a notice. Those of an address are asked for again where a command came in between."""
+        for _ in range(3):
+            package, record = self.package(notice, "releases"), self.package(notice, "record")
+            records = (record or {}).get("records")
+            if not self.base or (package or {}).get("releases") == (records[0].get("releases") if records and isinstance(records[0], dict) else None):
+                break
+            self.forget(f"/notices/{notice}/releases", f"/notices/{notice}/record")
+        return package, record
+
+    def forget(self, *paths: str) -> None:
+        """Asks for these anew when they are looked at again."""
+        for path in paths:
+            self.asked.pop(path, None)
+
+    def ask(self, path: str) -> str | None:
+        """The body of the office's answer, or None where the office refuses it as not there or not yet there."""
+        status, body = self.patient(path)
+        refused = status in (404, 409) and "refusal" in (json_object(body) or {})
+        if status != 200 and not refused:
+            raise Unreadable(f"{self.base + path}: status {status}: {body[:100]}")
+        return body if status == 200 else None
+
+    def patient(self, path: str) -> tuple[int, str]:
+        """Status and body of an answer, asked for again as long as the front or the office says that it is too busy."""
+        waited, tried, failed = 0.0, 0, 0
+        while True:
+            status, retry_after, body = self.exchange(path)
+            wait = seconds_of(retry_after, tried)
+            tried, failed = tried + 1, failed + (status in NOT_NOW)
+            if status != TOO_MANY and status not in NOT_NOW or failed > AGAIN:
+                return status, body
+            if waited + wait > PATIENCE:
+                raise Unreadable(f"{self.base + path}: status {status}, and to wait for {wait:.0f} s, after {waited:.0f} s")
+            waited += wait
+            time.sleep(wait)
+
+    def exchange(self, path: str) -> tuple[int, str | None, str]:
+        """Status, `Retry-After` and body of one answer."""
+        parts = urllib.parse.urlsplit(self.base)
+        kind = http.client.HTTPSConnection if parts.scheme == "https" else http.client.HTTPConnection
+        try:
+            connection = kind(str(parts.hostname), parts.port, timeout=60)
+            connection.request("GET", str(parts.path).rstrip("/") + path)
+            response = connection.getresponse()
+            body = response.read().decode("utf-8")
+            connection.close()
+        except (OSError, http.client.HTTPException, ValueError) as why:
+            raise Unreadable(f"{self.base + path}: {why!r}")
+        return response.status, response.getheader("Retry-After"), body

@@ -1,0 +1,208 @@
+"""The rules of `tools/audit` on witnesses: answers that were saved, and copies of the file that were made, before the file or the answers that are audited.
+
+What an office has told, and most of what its rows say, no command takes back. So a witness shows what was changed with everything that hangs together.
+"""
+from collections.abc import Callable, Collection, Iterator
+
+from audit_answers import Answers
+from audit_office import TABLES, Found, Json, Office, Row, rule, text_of
+from audit_releases import compiled_of, difference, record_in, releases_in
+from audit_rows import MOMENTS
+
+# What no command changes in a row that is there.
+FIXED = {
+    "batches": "moment rows", "tenderers": "name address key", "notices": "title published validity standstill weight performance",
+    "lots": "title line estimate security items", "envelopes": "notice lot tenderer moment length digest security", "seals": "bytes",
+    "securities": "tenderer notice lot reference amount", "awards": "notice lot receipt price moment", "contracts": "notice lot tenderer signed moment",
+    "entries": "kind amount moment rationale", "releases": "moment text", "performance": "reference amount", "lines": "", "compiled": "", "late_rules": ""}
+# What is none until it is set, once.
+ONCE = {"notices": "opened", "envelopes": "reading stated corrected corrections responsive quality", "contracts": "ended how"}
+# What only grows.
+GROWS = {"notices": "deadline amendments releases", "envelopes": "failed", "contracts": "released", "office": "moment receipts awards"}
+# The states from which a row may go on. From an awarded lot's every other may be reached, since its award may fail.
+GOES_ON = {"notices": "receiving", "lots": "undecided awarded", "envelopes": "sealed", "securities": "held", "awards": "active", "performance": "held"}
+# Rows that are put in with another row, and never into it later: the table of that, and its key as the columns of this one.
+WITH = {"lots": ("notices", "notice"), "late_rules": ("notices", "notice"), "seals": ("envelopes", "receipt"), "securities": ("envelopes", "security"),
+        "performance": ("contracts", "contract")}
+
+
+def both(table: str, later: Office, earlier: Office) -> Iterator[tuple[str, Row, Row | None]]:
+    """Of each row that an earlier copy has: its key as text, the row there, and the row here, or None."""
+    here = later.table(table)
+    for key, row in earlier.table(table).items():
+        yield f"{table} {'/'.join(map(str, key))}", row, here.get(key)
+
+
+def short(value: object) -> str:
+    return str(value)[:60]
+
+
+# ---- Earlier copies of the file.
+
+@rule("copies")
+def rows_of_an_earlier_copy_stay(later: Office, earlier: Office) -> Found:
+    """Each row of an earlier copy is there, with what no command changes in it; the bytes of a tender alone are taken out, when it is given back."""
+    for table, columns in FIXED.items():
+        for row, before, here in both(table, later, earlier):
+            if here is None:
+                yield from [(row, f"was there in {earlier.path}")] if table != "seals" else []
+                continue
+            for column in columns.split():
+                if here[column] != before[column]:
+                    yield row, f"{column} is {short(here[column])}, and was {short(before[column])} in {earlier.path}"
+
+
+@rule("copies")
+def what_is_decided_stays(later: Office, earlier: Office) -> Found:
+    """What an earlier copy had decided is so: states that are final, readings, examinations, openings and ends; deadlines, counts and the clock only grow."""
+    for table in TABLES:
+        for row, before, here in both(table, later, earlier):
+            for column in went_back(table, before, here) if here else []:
+                yield row, f"{column} is {short((here or {})[column])}, and was {short(before[column])} in {earlier.path}"
+
+
+def went_back(table: str, before: Row, here: Row) -> Iterator[str]:
+    """The columns of a row whose value can't have come after the one before."""
+    yield from (column for column in ONCE.get(table, "").split() if before[column] not in (None, here[column]))
+    yield from (column for column in GROWS.get(table, "").split() if before[column] > here[column])
+    if table in GOES_ON and before["state"] not in (here["state"], *GOES_ON[table].split()):
+        yield "state"
+
+
+@rule("copies")
+def nothing_is_put_in_behind(later: Office, earlier: Office) -> Found:
+    """What is put in with another row isn't there where an earlier copy has that row without it."""
+    for table, (parent, column) in WITH.items():
+        before, parents = earlier.table(table), earlier.table(parent)
+        for key, row in later.table(table).items():
+            if key not in before and (row[column],) in parents:
+                yield f"{table} {'/'.join(map(str, key))}", f"isn't in {earlier.path}, which has {parent} {row[column]}"
+
+
+@rule("copies")
+def what_is_new_is_later(later: Office, earlier: Office) -> Found:
+    """What an earlier copy hasn't is of its last moment or a later one."""
+    (clock,), = earlier.rows("SELECT moment FROM office")
+    for place in MOMENTS.split(", "):
+        table, column = place.split()
+        before = earlier.table(table)
+        for key, row in later.table(table).items():
+            if row[column] is not None and row[column] < clock and before.get(key, {}).get(column) is None:
+                yield f"{table} {'/'.join(map(str, key))}", f"{column} is {text_of(row[column])}, before {text_of(clock)}, and {earlier.path} hasn't it"
+
+
+@rule("copies")
+def appropriations_come_from_batches(later: Office, earlier: Office) -> Found:
+    """Since an earlier copy no more lines got another appropriation or title than rows of budget files came in."""
+    came = sum(row["rows"] for key, row in later.table("batches").items() if key not in earlier.table("batches"))
+    told, before = (({key: (row["title"], row["appropriation"]) for key, row in of.table("lines").items()}) for of in (later, earlier))
+    moved = [key for key, row in told.items() if row != before.get(key)]
+    for line, in moved if len(moved) > came else []:
+        yield f"lines {line}", f"{len(moved)} lines have another title or appropriation than in {earlier.path}, since which {came} rows of budget files came in"
+
+
+# ---- Answers that were saved.
+
+class Later:
+    """What is audited, by a notice: the releases and the minutes that the file has, or that were answered."""
+
+    def __init__(self, notices: Collection[str], releases: Callable[[str], list[Json]], minutes: Callable[[str], str | None]) -> None:
+        self.notices, self.releases, self.minutes = notices, releases, minutes
+
+
+@rule("witness")
+def saved_notices_are_there(later: Later, office: Office | None, saved: Answers, notice: str) -> Found:
+    """A notice of which somebody saved an answer is there."""
+    if notice not in later.notices:
+        yield f"notices {notice}", f"{saved.place} has answers of it, and it isn't there"
+
+
+@rule("saved")
+def saved_releases_stay(later: Later, office: Office | None, saved: Answers, notice: str) -> Found:
+    """Releases that were saved, alone or with a record, are still the first ones of their notice, each as it was."""
+    package, record = saved.package(notice, "releases"), saved.package(notice, "record")
+    for kind, releases in (("releases", releases_in(package or {})), ("record", releases_in(record_in(record or {})))):
+        found = difference(later.releases(notice)[:len(releases)], releases) if notice in later.notices else None
+        if found:
+            yield f"notices {notice}", "its releases at {} have {}, and had {} in the {} of {}".format(*found, kind, saved.place)
+
+
+@rule("saved")
+def saved_records_are_merges(later: Later, office: Office | None, saved: Answers, notice: str) -> Found:
+    """The compiled release of a record that was saved is the merge of its releases."""
+    record = saved.package(notice, "record")
+    if record is not None:
+        found = difference(record_in(record).get("compiledRelease"), compiled_of(releases_in(record_in(record))))
+        if found:
+            yield f"notices {notice}", "the compiled release of {} at {} is {}, and the merge of its releases {}".format(saved.place, *found)
+
+
+@rule("saved")
+def saved_minutes_stay(later: Later, office: Office | None, saved: Answers, notice: str) -> Found:
+    """Minutes that were saved are still the minutes: nothing changes them."""
+    before, here = saved.of_notice(notice, "minutes"), later.minutes(notice) if notice in later.notices else None
+    if before is not None and here is not None and before != here:
+        lines, there = before.split("\n"), here.split("\n")
+        place = next((place for place, (was, now) in enumerate(zip(lines, there)) if was != now), min(len(lines), len(there)))
+        yield f"notices {notice}", f"line {place + 1} of its minutes is {there[place:place + 1]}, and was {lines[place:place + 1]} in {saved.place}"
+
+
+@rule("witness")
+def registers_are_of_the_rows(later: Later, office: Office | None, saved: Answers, notice: str) -> Found:
+    """Each tender of a register that the clerk saved is there, of its lot, moment and length, its state such as follows, and none was put in between."""
+    text = saved.saved(f"register-{notice}.txt")
+    if office is None or text is None:
+        return
+    rows = {row["receipt"]: [row["lot"], text_of(row["moment"]), str(row["length"]), row["state"]]
+            for row in office.table("envelopes").values() if row["notice"] == notice}
+    told = {int(receipt): fields for receipt, *fields in (line.split("\t") for line in text.split("\n")[1:-1])}
+    for receipt, fields in told.items():
+        here = rows.get(receipt)
+        if here is None or fields[:-1] != here[:-1] or fields[-1] not in ("sealed", here[-1]):
+            yield f"envelopes {receipt}", f"is {here}, and was {fields} in the register of {saved.place}"
+    for receipt in sorted(rows.keys() - told.keys()):
+        if receipt < max(told, default=0):
+            yield f"envelopes {receipt}", f"isn't in the register of {saved.place}, which has later ones"
+
+
+@rule("held")
+def receipts_are_of_the_rows(office: Office, saved: Answers) -> Found:
+    """A receipt that was kept has its tender, of its digest, moment and security, given back if it came late, and else only by a cancellation."""
+    for number, receipt in saved.held("receipt"):
+        row = office.table("envelopes").get((receipt.get("receipt"),))
+        if row is None:
+            yield f"envelopes {receipt.get('receipt')}", f"{saved.place} has a receipt of it, and it isn't there"
+            continue
+        here = {**row, "moment": text_of(row["moment"]), "digest": row["digest"].hex()}
+        # (The answer to a withdrawal has its own moment, and no digest.)
+        names = ("notice", "lot", "moment", "length", "digest", "security") if "digest" in receipt else ()
+        unlike = [name for name in names if name in receipt and receipt[name] != here[name]]
+        for name in unlike:
+            yield f"envelopes {row['receipt']}", f"{name} is {here[name]}, and {receipt[name]} on the receipt of {saved.place}"
+        notice = office.table("notices")[(row["notice"],)]
+        in_time = row["state"] != "returned" or notice["state"] == "cancelled" and row["moment"] <= notice["deadline"]
+        if not (receipt.get("state") == row["state"] or receipt.get("state") == "sealed" and in_time):
+            yield f"envelopes {row['receipt']}", f"is {row['state']}, and {receipt.get('state')} on the receipt of {saved.place}"
+
+
+@rule("held")
+def securities_are_as_shown(office: Office, saved: Answers) -> Found:
+    """A security that the clerk or its tenderer was shown is there, of its amount, reference and tenderer, and in a state that follows; so is a contract's."""
+    for kind, table in (("security", "securities"), ("performance", "performance")):
+        for number, shown in saved.held(kind):
+            key = shown.get("security" if kind == "security" else "contract")
+            row = office.table(table).get((key,))
+            here = {**(row or {}), **({} if kind == "security" or row is None else {"tenderer": office.table("contracts")[(key,)]["tenderer"]})}
+            unlike = [name for name in ("amount", "reference", "tenderer") if shown.get(name) != here.get(name)]
+            if row is None or unlike or shown.get("state") not in ("held", row["state"]):
+                told = {name: here.get(name) for name in ("amount", "reference", "tenderer", "state")}
+                yield f"{table} {key}", f"is {told}, and was shown as {shown} in {saved.place}"
+
+
+@rule("ledgers")
+def paid_never_falls(here: str, before: str, place: str) -> Found:
+    """Each line of a ledger that was saved is there, and no less is paid of it."""
+    lines = {line.split("\t")[0]: line.split("\t") for line in here.split("\n")[2:-1]}
+    for name, *_, paid in (line.split("\t") for line in before.split("\n")[2:-1]):
+        if name not in lines or int(lines[name][-1]) < int(paid):
+            yield f"lines {name}", f"{paid} were paid in {place}, and {lines.get(name, ['', 'none: it is not there'])[-1]} now"

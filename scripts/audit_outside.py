@@ -1,0 +1,170 @@
+"""The rules of `tools/audit` on what anybody is answered, where there is no file: minutes and ledger against releases, notices against one another."""
+import re
+from collections.abc import Iterator
+
+from audit_answers import Answers
+from audit_office import Found, Json, rule
+from audit_story import Story
+
+POTS = ("reserved", "contracted", "paid")
+
+
+class Seen:
+    """What was answered of some notices: of each its story and its minutes, or None; the ledgers from before and from behind these looks, or None; whether
+    these are all notices of the office."""
+
+    def __init__(self, stories: dict[str, Story], minutes: dict[str, str | None], ledgers: tuple[str | None, str | None], complete: bool) -> None:
+        self.stories, self.minutes, self.ledgers, self.complete = stories, minutes, ledgers, complete
+
+
+class Minutes:
+    """What minutes say: the title, deadline and opening, of each lot its title, and of each tender its fields."""
+
+    def __init__(self, text: str) -> None:
+        lines = [line.split("\t") for line in text.split("\n")]
+        (self.notice, self.title), (self.deadline,), (self.opened,) = (line[1:] for line in lines[:3])
+        self.shape = [line[0] for line in lines]
+        self.lots: dict[str, str] = {}
+        self.tenders: list[Tender] = []
+        for line in lines[3:-2]:
+            if line[0] == "lot":
+                lot, self.lots[line[1]] = line[1], line[2]
+            else:
+                self.tenders.append(Tender(lot, *line[1:]))
+
+
+class Tender:
+    """A tender that minutes tell."""
+
+    def __init__(self, lot: str, receipt: str, tenderer: str, name: str, address: str, reading: str, *figures: str) -> None:
+        self.lot, self.receipt, self.tenderer, self.known, self.reading = lot, int(receipt), "T-" + tenderer, (name, address), reading
+        self.stated, self.corrected, self.corrections = map(int, figures) if reading == "priced" else (-1, -1, -1)
+
+    def is_read(self) -> bool:
+        """Whether its figures are such as a reading gives."""
+        return self.reading in ("unreadable", "nonconforming") or self.reading == "priced" and (self.corrections > 0 or self.stated == self.corrected)
+
+
+def read_minutes(text: str) -> Minutes | None:
+    """The minutes, or None where the text is of another form."""
+    try:
+        found = Minutes(text)
+    except (ValueError, TypeError, UnboundLocalError):
+        return None
+    middle = set(found.shape[3:-2])
+    return found if found.shape[:3] == ["MINUTES", "deadline", "opened"] and found.shape[-2:] == ["END", ""] and middle <= {"lot", "tender"} else None
+
+
+def pots_of(ledger: str) -> dict[str, int] | None:
+    """What a ledger says is reserved, contracted and paid, of all lines together; None where it has another form."""
+    lines = [line.split("\t") for line in ledger.split("\n")[2:-1]]
+    if not ledger.startswith("LEDGER\n") or not all(len(line) == 6 and all(re.fullmatch("[0-9]{1,16}", number) for number in line[1:]) for line in lines):
+        return None
+    return dict(zip(POTS, ([sum(int(line[place]) for line in lines) for place in (3, 4, 5)])))
+
+
+# ---- Minutes.
+
+def minutes_found(minutes: Minutes, story: Story) -> Iterator[str]:
+    """What doesn't go together in minutes and releases of a notice."""
+    said, told = [minutes.notice, minutes.title, minutes.deadline, minutes.opened], [story.notice, story.title, story.deadline, str(story.opened)]
+    if said != told:
+        yield f"the minutes say {', '.join(said)}, and the releases {', '.join(told)}"
+    if list(minutes.lots.items()) != sorted((lot, told["title"]) for lot, told in story.lots.items()):
+        yield f"the minutes have the lots {minutes.lots}, and the releases others"
+    there = {tender.tenderer: tender.known for tender in minutes.tenders}
+    for tenderer in sorted(there.keys() | story.tenderers.keys()):
+        if there.get(tenderer) != story.tenderers.get(tenderer):
+            yield f"{tenderer} is {there.get(tenderer)} in the minutes, and {story.tenderers.get(tenderer)} in the releases"
+    for tender in minutes.tenders:
+        if not tender.is_read():
+            yield f"tender {tender.receipt} is {tender.reading}, {tender.stated}, {tender.corrected}, {tender.corrections}"
+    for lot in minutes.lots:
+        here = [tender for tender in minutes.tenders if tender.lot == lot]
+        receipts = [tender.receipt for tender in here]
+        if sorted(set(receipts)) != receipts or len({tender.tenderer for tender in here}) < len(here):
+            yield f"the tenders of lot {lot} aren't in order, or two are of one tenderer"
+    for number, award in story.awards.items():
+        prices = [tender.corrected for tender in minutes.tenders if (tender.lot, tender.tenderer) == (award["lot"], award["tenderer"])]
+        if prices != [award["price"]]:
+            yield f"award {number} is of {award['price']} to {award['tenderer']}, and the minutes say {prices}"
+
+
+@rule("outside")
+def minutes_are_of_the_releases(seen: Seen) -> Found:
+    """Minutes say of title, deadline, opening, lots, tenderers and awarded prices what the releases say, and are answered of opened notices alone."""
+    for notice, story in seen.stories.items():
+        text = seen.minutes[notice]
+        if text is not None and story.opened is None:
+            yield f"notices {notice}", "minutes are answered, and no release tells of its opening"
+        elif text is not None:
+            minutes = read_minutes(text)
+            for what in ["the minutes have another form"] if minutes is None else minutes_found(minutes, story):
+                yield f"notices {notice}", what
+
+
+# ---- The ledger.
+
+@rule("outside")
+def ledger_covers_the_releases(seen: Seen) -> Found:
+    """No more is reserved, contracted or paid by the releases than the ledger has of all lines; where all notices are there, as much."""
+    before, after = (pots_of(ledger or "") for ledger in seen.ledgers)
+    if before is None or after is None:
+        return
+    sums = dict(zip(POTS, map(sum, zip(*(story.sums() for story in seen.stories.values())))))
+    for pot, told in sums.items():
+        # What is paid only grows; what is reserved and contracted comes and goes, so it's compared where nothing moved meanwhile.
+        if (pot == "paid" or before == after) and not (before[pot] if seen.complete else 0) <= told <= after[pot]:
+            yield "office 1", f"{pot}: the releases of {'all' if seen.complete else 'these'} notices tell of {told}, and the ledger of {after[pot]}"
+
+
+# ---- The notices together.
+
+@rule("outside")
+def awards_are_told_in_turn(seen: Seen) -> Found:
+    """Each award's number is told by one notice, and along the numbers dates never fall; where all notices are there, none is left out."""
+    told = sorted((int(number), award["date"], notice) for notice, story in seen.stories.items() for number, award in story.awards.items())
+    for (before, earlier, other), (number, date, notice) in zip(told, told[1:]):
+        if number == before or date < earlier:
+            yield f"notices {notice}", f"award {number} is of {date}, and award {before} of {other} of {earlier}"
+    numbers = {number for number, _, _ in told}
+    left = sorted(set(range(1, max(numbers, default=0))) - numbers)
+    if seen.complete and left:
+        yield "office 1", f"awards {left} are told by no notice"
+
+
+@rule("outside")
+def receipts_are_told_in_turn(seen: Seen) -> Found:
+    """Each receipt is in one notice's minutes; a later one isn't of a notice whose deadline came before the other's notice was published."""
+    minutes = {notice: read_minutes(text) for notice, text in seen.minutes.items() if text is not None}
+    told = sorted((tender.receipt, notice) for notice, found in minutes.items() if found for tender in found.tenders)
+    latest, last = ("", 0, ""), 0
+    for receipt, notice in told:
+        story = seen.stories[notice]
+        if receipt == last:
+            yield f"notices {notice}", f"receipt {receipt} is told twice"
+        if story.deadline < latest[0]:
+            yield f"notices {notice}", f"receipt {receipt} came by {story.deadline}, and receipt {latest[1]} of {latest[2]} from {latest[0]} on"
+        latest, last = max(latest, (story.published, receipt, notice)), receipt
+
+
+@rule("outside")
+def tenderers_are_known_alike(seen: Seen) -> Found:
+    """A tenderer has the same name and address in all notices: what was registered is never changed."""
+    known: dict[str, tuple[str, tuple[str, str]]] = {}
+    for notice, story in seen.stories.items():
+        for tenderer, what in story.tenderers.items():
+            first, there = known.setdefault(tenderer, (notice, what))
+            if there != what:
+                yield f"notices {notice}", f"{tenderer} is {what}, and {there} in {first}"
+
+
+def seen_of(notices: list[str], releases: dict[str, list[Json]], answers: Answers, ledgers: tuple[str | None, str | None], complete: bool) -> Seen:
+    """What was answered of these notices, with their releases."""
+    stories = {notice: Story(notice, releases[notice]) for notice in notices}
+    return Seen(stories, {notice: answers.of_notice(notice, "minutes") for notice in notices}, ledgers, complete)
+
+
+def lacks_minutes(answers: Answers, notice: str, releases: list[Json]) -> bool:
+    """Whether the releases of a notice tell of its opening, and there are no minutes."""
+    return Story(notice, releases).opened is not None and answers.of_notice(notice, "minutes") is None

@@ -1,0 +1,293 @@
+"""The faults that `tests/audit` plants in an office that `audit_life.py` made, and where `tools/audit` must find each.
+
+A plain fault is one change of the file, or of what was answered. A forgery changes all rows, releases and merges that hang together, so that the file alone
+shows nothing: that is tried too, and then which witnesses show it, and which don't. What docs/AUDITOR.md calls unseen is shown to be so by these.
+"""
+import hashlib
+import json
+import os
+from collections.abc import Callable
+from typing import Any
+
+from audit_life import AuditedLife, offer
+from audit_office import Json
+from audit_releases import compiled_of, releases_in
+from client import text_of
+
+def without(notice: str) -> str:
+    """Deletes a procurement whole, with all that it left in a file, where nobody took part."""
+    return "".join(f"DELETE FROM {table} WHERE notice = '{notice}'; " for table in ("releases", "compiled", "lots", "notices_2"))
+
+
+def said(notice: str, before: str, after: str) -> str:
+    """Says something else in all releases of a notice, and in their merge."""
+    return "".join(f"UPDATE {table} SET text = replace(text, '{before}', '{after}') WHERE notice = '{notice}'; " for table in ("releases", "compiled"))
+
+
+def in_places(*tables: str) -> str:
+    """Puts the rows of tables at the places 1, 2, 3 .. again, in their order."""
+    return "".join(f"CREATE TEMP TABLE t AS SELECT * FROM {table} ORDER BY rowid; DELETE FROM {table}; "
+                   f"INSERT INTO {table} SELECT * FROM t ORDER BY rowid; DROP TABLE t; " for table in tables)
+
+
+def other_bytes(receipt: int, body: str) -> str:
+    """Puts other bytes in the place of a tender's, with all that is said of them."""
+    data = body.encode()
+    return (f"UPDATE seals SET bytes = X'{data.hex()}' WHERE receipt = {receipt}; UPDATE envelopes SET digest = X'{hashlib.sha256(data).hexdigest()}', "
+            f"length = {len(data)} WHERE receipt = {receipt}; ")
+
+
+def faults_of_files(life: AuditedLife) -> list[tuple[str, str, str]]:
+    """Faults of the file: the rule, the row that it must name, and what is written into the file."""
+    r, contract, failed = life.receipt, life.contract, life.failed
+    paid = "SELECT seq FROM releases WHERE notice = 'N1' AND text LIKE '%\"P1\"%'"
+    unchecked = "PRAGMA ignore_check_constraints = ON; "
+    return [
+        # The pots, a release, a security, a compiled release, a late tender and a payment.
+        ("pots_add_up", "lines 1000", "UPDATE lines SET free = free + 1 WHERE line = '1000'"),
+        ("pots_add_up", "lines 2000", "UPDATE lots SET reserved = reserved - 1 WHERE notice = 'N6' AND lot = 'L2'"),
+        ("releases_are_numbered", "releases N1/5", "DELETE FROM releases WHERE notice = 'N1' AND seq = 5"),
+        ("rows_have_their_releases", "notices N1", "DELETE FROM releases WHERE notice = 'N1' AND seq = 5"),
+        ("securities_have_their_fate", f"securities {r['first']}", f"UPDATE securities SET state = 'returned' WHERE security = {r['first']}"),
+        ("securities_have_their_fate", f"securities {r['sealed']}", f"UPDATE securities SET state = 'forfeited' WHERE security = {r['sealed']}"),
+        ("failures_are_of_awards", f"envelopes {r['regretted']}", "DELETE FROM late_rules"),
+        ("securities_have_their_fate", f"securities {r['regretted']}", f"UPDATE securities SET state = 'returned' WHERE security = {r['regretted']}"),
+        ("merges_are_of_their_releases", "compiled N1", "UPDATE compiled SET text = (SELECT text FROM compiled WHERE notice = 'N2') WHERE notice = 'N1'"),
+        ("late_tenders_stay_shut", f"envelopes {r['late']}", f"UPDATE envelopes SET state = 'opened', reading = 'unreadable' WHERE receipt = {r['late']}"),
+        ("releases_are_counted", "notices N1", "INSERT INTO entries SELECT contract, 'P9', kind, amount, moment, rationale FROM entries "
+         f"WHERE entry = 'P2' AND contract = {contract}"),
+        ("rows_have_their_releases", "notices N2", f"INSERT INTO entries SELECT contract, 'P9', kind, amount, moment, rationale FROM entries "
+         f"WHERE contract = {life.running}; UPDATE notices_2 SET releases = releases + 1 WHERE notice = 'N2'"),
+        ("keys_come_once", f"entries {contract}/P1", "ALTER TABLE entries RENAME TO e; CREATE TABLE entries AS SELECT * FROM e; "
+         f"INSERT INTO entries SELECT * FROM e WHERE entry = 'P1' AND contract = {contract}; DROP TABLE e"),
+        ("events_come_once", "notices N1", f"INSERT INTO releases SELECT notice, (SELECT releases + 1 FROM notices_2 WHERE notice = 'N1'), moment, text "
+         f"FROM releases WHERE notice = 'N1' AND seq IN ({paid})"),
+        # One for each other rule.
+        ("file_is_sound", "file", unchecked + "UPDATE notices_2 SET validity = 999 WHERE notice = 'N5'"),
+        ("tables_are_as_made", "trigger taken", "CREATE TRIGGER taken AFTER INSERT ON entries BEGIN UPDATE lines SET free = free - 1; END"),
+        ("tables_are_as_made", "table lines", "ALTER TABLE lines ADD COLUMN note TEXT"),
+        ("tables_are_as_made", "table entries", "PRAGMA writable_schema = ON; UPDATE sqlite_master SET sql = replace(sql, ' CHECK (amount BETWEEN 1 AND "
+         "1000000000000)', '') WHERE name = 'entries'"),
+        ("tables_are_as_made", "index lots_of_line", "DROP INDEX lots_of_line"),
+        ("tables_are_as_made", "table notices", "DROP TABLE notices"),
+        ("notices_stand_in_one_table", "notices N1", "INSERT INTO notices SELECT notice, title, published, deadline, validity, standstill, weight, state, "
+         "opened, amendments, releases FROM notices_2 WHERE notice = 'N1'"),
+        ("words_are_known", "lots N5/L1", unchecked + "UPDATE lots SET state = 'won' WHERE notice = 'N5'"),
+        ("parents_are_there", f"envelopes {r['quoted']}", "DELETE FROM tenderers WHERE tenderer = 'T4'"),
+        ("nothing_is_after_the_clock", f"awards {failed}", "UPDATE office SET moment = moment - 100"),
+        ("numbers_are_given_in_turn", f"envelopes {r['taken']}", f"DELETE FROM envelopes WHERE receipt = {r['taken']}"),
+        ("numbers_follow_time", f"envelopes {r['cheap']}", f"UPDATE envelopes SET moment = moment - 100 WHERE receipt = {r['cheap']}"),
+        ("contracts_are_not_overdrawn", f"contracts {life.running}", f"UPDATE entries SET amount = 9999 WHERE contract = {life.running}"),
+        ("contracts_end_settled", f"contracts {contract}", f"UPDATE contracts SET released = 0 WHERE contract = {contract}"),
+        ("reservations_fit_their_lots", "lots N6/L1", "UPDATE lots SET reserved = reserved + 5 WHERE notice = 'N6' AND lot = 'L1'; "
+         "UPDATE lines SET free = free - 5 WHERE line = '2000'"),
+        ("notices_keep_their_time", "notices N2", "UPDATE notices_2 SET opened = deadline - 1 WHERE notice = 'N2'"),
+        ("lots_fit_their_notices", "lots N5/L1", "UPDATE lots SET state = 'unsuccessful' WHERE notice = 'N5'"),
+        ("lots_fit_their_awards", f"awards {failed}", f"UPDATE awards SET state = 'active' WHERE award = {failed}"),
+        ("contracts_are_signed_awards", f"contracts {contract}", f"UPDATE contracts SET tenderer = 'T3' WHERE contract = {contract}"),
+        ("awards_keep_their_time", f"awards {failed}", f"UPDATE awards SET moment = moment - 100 WHERE award = {failed}"),
+        ("contracts_keep_their_time", f"entries {contract}/P1", f"UPDATE entries SET moment = moment - 100 WHERE contract = {contract} AND entry = 'P1'"),
+        ("awards_go_to_the_best", f"awards {failed}", f"UPDATE awards SET receipt = {r['dear']}, price = 570 WHERE award = {failed}"),
+        ("awards_go_to_the_best", f"awards {life.running}", f"UPDATE awards SET receipt = {r['low']}, price = 200 WHERE award = {life.running}"),
+        ("lots_without_a_winner_have_no_offer", "lots N1/L2", "UPDATE envelopes SET reading = 'priced', stated = 1, corrected = 1, corrections = 0, "
+         f"responsive = 1 WHERE receipt = {r['nothing']}"),
+        ("tenders_have_their_fate", f"envelopes {r['nothing']}", f"UPDATE envelopes SET state = 'returned' WHERE receipt = {r['nothing']}"),
+        ("tenderers_have_one_tender_a_lot", f"envelopes {r['other']}", f"UPDATE envelopes SET state = 'sealed' WHERE receipt = {r['taken']}"),
+        ("seals_fit_their_tenders", f"envelopes {r['cheap']}", f"DELETE FROM seals WHERE receipt = {r['cheap']}"),
+        ("digests_are_of_the_bytes", f"seals {r['sealed']}", "UPDATE seals SET bytes = CAST(replace(bytes, '10', '11') AS BLOB) "
+         f"WHERE receipt = {r['sealed']}"),
+        ("readings_are_of_the_bytes", f"envelopes {r['open']}", f"UPDATE envelopes SET corrected = corrected - 1 WHERE receipt = {r['open']}"),
+        ("examinations_fit_their_tenders", f"envelopes {r['high']}", f"UPDATE envelopes SET quality = 41 WHERE receipt = {r['high']}"),
+        ("failures_are_of_awards", f"envelopes {r['cheap']}", f"UPDATE envelopes SET failed = 0 WHERE receipt = {r['cheap']}"),
+        ("securities_come_with_tenders", f"envelopes {r['sealed']}", f"UPDATE securities SET tenderer = 'T2' WHERE security = {r['sealed']}"),
+        ("securities_are_as_asked", f"envelopes {r['sealed']}", f"UPDATE securities SET amount = 9 WHERE security = {r['sealed']}"),
+        ("performances_are_as_asked", f"contracts {life.running}", f"UPDATE performance SET amount = 14 WHERE contract = {life.running}"),
+        ("performances_are_as_asked", f"contracts {life.running}", f"DELETE FROM performance WHERE contract = {life.running}"),
+        ("performances_have_their_fate", f"performance {life.running}", f"UPDATE performance SET state = 'returned' WHERE contract = {life.running}"),
+        ("performances_have_their_fate", f"performance {contract}", f"UPDATE performance SET state = 'held' WHERE contract = {contract}"),
+        ("performances_have_their_fate", f"performance {life.broken}", f"UPDATE performance SET state = 'returned' WHERE contract = {life.broken}"),
+        ("kept_texts_are_releases", "releases N2/1", "UPDATE releases SET text = 'no release' WHERE notice = 'N2' AND seq = 1"),
+        ("merges_say_what_the_rows_say", "notices N4", "UPDATE lots SET state = 'unsuccessful' WHERE notice = 'N4' AND lot = 'L1'"),
+        ("heads_are_in_sequence", "releases N1/2", "UPDATE releases SET text = replace(text, '-0002\"', '-0003\"') WHERE notice = 'N1' AND seq = 2"),
+        ("tags_are_of_events", "releases N1/2", "UPDATE releases SET text = replace(text, 'tenderAmendment', 'planning') WHERE notice = 'N1' AND seq = 2"),
+        # A procurement that is deleted whole, but for the places of rows; an entry from before its place; lines, tenders and texts that no office makes.
+        ("rows_came_one_after_another", "releases N8/1", without("N7")),
+        ("rows_came_one_after_another", f"entries {contract}/P2", "UPDATE entries SET moment = moment - 100 WHERE entry = 'P2'"),
+        ("lines_come_from_batches", "office 2", "UPDATE batches SET rows = 2"),
+        ("tenders_of_a_lot_follow_each_other", f"envelopes {r['late']}", "UPDATE envelopes SET tenderer = 'T1', state = 'withdrawn', "
+         f"moment = {life.deadline - 1} WHERE receipt IN ({r['later']}, {r['late']})"),
+        ("kept_texts_are_compact", "releases N2/1", "UPDATE releases SET text = replace(text, '\",\"', '\", \"') WHERE notice = 'N2' AND seq = 1"),
+        ("releases_follow_each_other", "releases N1/10", said("N1", '"amount":400,', '"amount":700,')),
+    ]
+
+
+def lose(package: Json, place: int) -> None:
+    """Loses the release of this place."""
+    del package["releases"][place]
+
+
+def take_over(record: Json, other: Json) -> None:
+    """Puts in the compiled release of another record."""
+    record["records"][0]["compiledRelease"] = other["records"][0]["compiledRelease"]
+
+
+def pay_twice(package: Json) -> None:
+    """Puts a payment a second time behind the releases, as a release of the next number."""
+    releases = package.get("releases") or package["records"][0]["releases"]
+    again = json.loads(json.dumps(next(release for release in releases if release["tag"] == ["implementation"])))
+    releases.append({**again, "id": again["id"][:-4] + f"{len(releases) + 1:04}", "date": releases[-1]["date"]})
+
+
+# Faults of answers beside the file: the rule, the row, the files, and what is done to their JSON (with that of N2) or text.
+FAULTS_OF_ANSWERS = [
+    ("answered_releases_are_kept", "notices N1", ["releases-N1.json"], lambda package, _: lose(package, -1)),
+    ("records_have_the_releases", "notices N1", ["record-N1.json"], lambda package, _: lose(package["records"][0], 4)),
+    ("compiled_is_the_merge", "notices N1", ["record-N1.json"], take_over),
+    ("packages_have_their_heads", "notices N1", ["record-N1.json"], lambda package, _: package.update(publishedDate="2026-01-01T00:00:00Z")),
+    ("minutes_are_of_the_rows", "notices N1", ["minutes-N1.txt"], lambda text, _: text.replace("\t570\t", "\t571\t")),
+    ("ledger_is_of_the_rows", "office 1", ["ledger.txt"], lambda text, _: text.replace("3000\t7\t7\t0\t", "3000\t7\t6\t1\t")),
+    ("ledger_is_of_the_rows", "lines 3000", ["ledger.txt"], lambda text, _: text.replace("3000\t7\t7\t", "3000\t7\t8\t")),
+]
+
+
+
+
+def rewrite(folder: str, notice: str, before: str, after: str) -> None:
+    """Says something else in the releases of a notice that were answered, in its record, and in their merge, so that these three fit."""
+    paths = [os.path.join(folder, f"{kind}-{notice}.json") for kind in ("releases", "record")]
+    texts = [read(path) for path in paths]
+    package, record = (json.loads(text.replace(before, after)) for text in texts)
+    record["records"][0]["compiledRelease"] = compiled_of(releases_in(package))
+    package["publishedDate"] = record["publishedDate"] = record["records"][0]["compiledRelease"]["date"]
+    for path, text, value in zip(paths, texts, (package, record)):
+        write(path, json.dumps(value, ensure_ascii=False), text)
+
+
+def replace(folder: str, name: str, before: str, after: str) -> None:
+    """Says something else in an answer."""
+    path = os.path.join(folder, name)
+    text = read(path)
+    write(path, text.replace(before, after), text)
+
+
+def read(path: str) -> str:
+    with open(path, newline="", encoding="utf-8") as file:
+        return file.read()
+
+
+def write(path: str, text: str, before: str) -> None:
+    """Writes a text that mustn't be the one before."""
+    if text == before:
+        raise ValueError(f"a fault changes nothing in {path}")
+    with open(path, "w", newline="", encoding="utf-8") as file:
+        file.write(text)
+
+
+def lose_notice(folder: str, notice: str) -> None:
+    """Loses all answers on a notice."""
+    for name in os.listdir(folder):
+        if f"-{notice}." in name:
+            os.remove(os.path.join(folder, name))
+
+
+def faults_outside(life: AuditedLife) -> list[tuple[Any, ...]]:
+    """Faults of answers without a file: the rule, the row, what is done to their folder, and further arguments."""
+    r, running = life.receipt, life.running
+    start = text_of(life.deadline + 20_000_000)
+    return [
+        ("heads_are_in_sequence", "releases N1/5", lambda folder: plant(folder, ["releases-N1.json"], lambda package, _: lose(package, 4))),
+        ("events_come_once", "notices N1", lambda folder: plant(folder, ["releases-N1.json", "record-N1.json"], lambda package, _: pay_twice(package))),
+        ("releases_follow_each_other", "releases N1/11", lambda folder: rewrite(folder, "N1", '"amount":150,', '"amount":250,')),
+        ("releases_follow_each_other", "releases N1/8", lambda folder: rewrite(folder, "N1", '"amount":630,', '"amount":640,')),
+        ("releases_follow_each_other", "releases N1/6", lambda folder: rewrite(folder, "N1", '"amount":570,', '"amount":530,')),
+        ("releases_follow_each_other", "releases N1/10", lambda folder: rewrite(folder, "N1", '"payee":{"id":"T-T1"', '"payee":{"id":"T-T3"')),
+        ("releases_follow_each_other", "releases N1/3", lambda folder: rewrite(folder, "N1", '"numberOfTenderers":4', '"numberOfTenderers":3')),
+        ("releases_follow_each_other", "releases N4/2", lambda folder: rewrite(folder, "N4", '"T-T2"', '"T-A2"')),
+        ("minutes_are_of_the_releases", "notices N1", lambda folder: replace(folder, "minutes-N1.txt", "\t570\t", "\t571\t")),
+        ("minutes_are_of_the_releases", "notices N1", lambda folder: replace(folder, "minutes-N1.txt", "Firm T4", "Firm T6")),
+        ("minutes_are_of_the_releases", "notices N2", lambda folder: rewrite(folder, "N2", '"amount":250,', '"amount":260,')),
+        ("minutes_are_of_the_releases", "notices N5", lambda folder: write(os.path.join(folder, "minutes-N5.txt"), "MINUTES\n", "")),
+        ("ledger_covers_the_releases", "office 1", lambda folder: rewrite(folder, "N2", '"amount":100,', '"amount":140,')),
+        ("ledger_covers_the_releases", "office 1", lambda folder: rewrite(folder, "N2", '"amount":100,', '"amount":60,'), "--complete"),
+        ("ledger_covers_the_releases", "office 1", lambda folder: lose_notice(folder, "N5"), "--complete"),
+        ("awards_are_told_in_turn", "office 1", lambda folder: lose_notice(folder, "N2"), "--complete"),
+        ("awards_are_told_in_turn", "notices N6", lambda folder: rewrite(folder, "N6", f'"id":"{life.active}"', f'"id":"{running}"')),
+        ("receipts_are_told_in_turn", "notices N2", lambda folder: replace(folder, "minutes-N1.txt", f"\t{r['other']}\t", f"\t{r['low']}\t")),
+        ("receipts_are_told_in_turn", "notices N2", lambda folder: rewrite(folder, "N1", '"startDate":"', f'"startDate":"{start}","is":"')),
+        ("tenderers_are_known_alike", "notices N4", lambda folder: rewrite(folder, "N4", "Firm T1", "Firm T6")),
+    ]
+
+
+# The witnesses: what anybody was answered, what the clerk and tenderers were, and an earlier copy of the file.
+PUBLIC, HELD, COPY = "earlier answers", "what was handed out", "an earlier copy"
+
+
+def forgeries(life: AuditedLife) -> list[tuple[Any, ...]]:
+    """Forgeries of the file that the file alone doesn't show: what is forged, how, and where it is found: by which witness, rule and row."""
+    r, broken, running = life.receipt, life.broken, life.running
+    low, sealed, late, taken = (f"envelopes {r[name]}" for name in ("low", "sealed", "late", "taken"))
+    moved, further = text_of(life.deadline + 90_000), text_of(life.deadline + 180_000)
+    stay, decided, receipts = "rows_of_an_earlier_copy_stay", "what_is_decided_stays", "receipts_are_of_the_rows"
+    return [
+        ("a procurement is deleted whole, and its places are filled", without("N7") + in_places("releases", "compiled", "lots", "notices_2"),
+         (PUBLIC, "saved_notices_are_there", "notices N7"), (HELD, "saved_notices_are_there", "notices N7"), (COPY, stay, "notices N7")),
+        ("a late tender is one in time, and withdrawn",
+         f"UPDATE envelopes SET state = 'withdrawn', moment = {life.deadline - 1} WHERE receipt = {r['late']}",
+         (HELD, receipts, late), (HELD, "registers_are_of_the_rows", late), (COPY, decided, late), (COPY, stay, late)),
+        ("a contract ended regularly, not by default, and its security went back",
+         f"UPDATE contracts SET how = 'regular' WHERE contract = {broken}; UPDATE performance SET state = 'returned' WHERE contract = {broken}",
+         (HELD, "securities_are_as_shown", f"performance {broken}"), (COPY, decided, f"contracts {broken}"), (COPY, decided, f"performance {broken}")),
+        ("less was paid", f"UPDATE entries SET amount = 90 WHERE contract = {running}; " + said("N2", '"amount":100,', '"amount":90,'),
+         (PUBLIC, "saved_releases_stay", "notices N2"), (PUBLIC, "paid_never_falls", "lines 2000"), (COPY, stay, f"entries {running}/P1")),
+        ("a contract was changed for another reason", "UPDATE entries SET rationale = 'Works' WHERE rationale = 'Kerbs'; " + said("N1", "Kerbs", "Works"),
+         (PUBLIC, "saved_releases_stay", "notices N1"), (COPY, stay, f"entries {life.contract}/A1")),
+        ("a tender asked another price", other_bytes(r["low"], offer(0, 21)) + f"UPDATE envelopes SET stated = 210, corrected = 210 WHERE receipt = {r['low']}",
+         (PUBLIC, "saved_minutes_stay", "notices N2"), (HELD, receipts, low), (COPY, stay, f"seals {r['low']}")),
+        ("a sealed tender is another one", other_bytes(r["sealed"], offer(9, 9)), (HELD, receipts, sealed), (COPY, stay, sealed)),
+        ("a tenderer has another name", "UPDATE tenderers SET name = 'Firm A4' WHERE tenderer = 'T4'; " + said("N1", "Firm T4", "Firm A4"),
+         (PUBLIC, "saved_releases_stay", "notices N1"), (PUBLIC, "saved_minutes_stay", "notices N1"), (COPY, stay, "tenderers T4")),
+        ("tenders may come for longer", "UPDATE notices_2 SET deadline = deadline + 90000 WHERE notice = 'N5'; " + said("N5", moved, further),
+         (PUBLIC, "saved_releases_stay", "notices N5"), (COPY, stay, "releases N5/2")),
+        ("a tenderer has another key", "UPDATE tenderers SET key = zeroblob(32) WHERE tenderer = 'T1'", (COPY, stay, "tenderers T1")),
+        ("a security has another reference", f"UPDATE securities SET reference = 'G0' WHERE security = {r['sealed']}",
+         (HELD, "securities_are_as_shown", f"securities {r['sealed']}"), (COPY, stay, f"securities {r['sealed']}")),
+        ("the standstill is longer", "UPDATE notices_2 SET standstill = 5 WHERE notice = 'N5'", (COPY, stay, "notices N5")),
+        ("a performance security is asked", "UPDATE notices_2 SET performance = 5 WHERE notice = 'N5'", (COPY, stay, "notices N5")),
+        ("tenders may be withdrawn late", "INSERT INTO late_rules VALUES ('N5')", (COPY, "nothing_is_put_in_behind", "late_rules N5")),
+        ("a withdrawn tender was another one", f"UPDATE envelopes SET digest = zeroblob(32) WHERE receipt = {r['taken']}",
+         (HELD, receipts, taken), (COPY, stay, taken)),
+        ("a tender was found not responsive", f"UPDATE envelopes SET responsive = 0, quality = NULL WHERE receipt = {r['low']}", (COPY, decided, low)),
+        ("a budget file came in", "INSERT INTO batches VALUES ('B0', (SELECT max(moment) FROM batches), 9)", (COPY, "what_is_new_is_later", "batches B0")),
+        ("a line has more money", "UPDATE lines SET appropriation = appropriation + 1, free = free + 1 WHERE line = '3000'",
+         (COPY, "appropriations_come_from_batches", "lines 3000")),
+        ("a line has another title", "UPDATE lines SET title = 'Woods' WHERE line = '3000'", (COPY, "appropriations_come_from_batches", "lines 3000")),
+        # What could have come since the last witness, none of them shows.
+        ("a line has another title and more money, as by a budget file that came since",
+         "UPDATE lines SET title = 'Woods', appropriation = 8, free = 8 WHERE line = '3000'; INSERT INTO batches SELECT 'B9', moment, 1 FROM office"),
+        ("a tenderer was registered since", "INSERT INTO tenderers VALUES ('T9', 'Firm T9', 'T9 Street', zeroblob(32))"),
+        ("a contract ended by default since", ended(life)),
+    ]
+
+
+def ended(life: AuditedLife) -> str:
+    """Ends the contract that runs, in all rows that hang together, at the last moment of the office, as the command does."""
+    text = (f'{{"buyer":{{"id":"B-city","name":"City Office"}},"contracts":[{{"awardID":"{life.running}","id":"{life.running}","status":"terminated"}}],'
+            '"date":"\' || strftime(\'%Y-%m-%dT%H:%M:%SZ\', moment, \'unixepoch\') || \'","id":"ocds-a1b2c3-N2-0006","initiationType":"tender",'
+            '"language":"en","ocid":"ocds-a1b2c3-N2","tag":["contractTermination"]}').replace("\'", "'")
+    return (f"UPDATE contracts SET ended = (SELECT moment FROM office), how = 'default', released = 150 WHERE contract = {life.running}; "
+            f"UPDATE performance SET state = 'forfeited' WHERE contract = {life.running}; UPDATE lines SET free = free + 150 WHERE line = '2000'; "
+            f"UPDATE notices_2 SET releases = 6 WHERE notice = 'N2'; INSERT INTO releases SELECT 'N2', 6, moment, '{text}' FROM office; "
+            """UPDATE compiled SET text = replace(text, ']},"status":"active","value"', ']},"status":"terminated","value"') WHERE notice = 'N2'""")
+
+
+def plant(folder: str, names: list[str], change: Callable[[Any, Any], Any]) -> None:
+    """Changes these answers of a folder: their JSON, with that of N2 beside it, or their text."""
+    for name in names:
+        path = os.path.join(folder, name)
+        text = read(path)
+        if name.endswith(".json"):
+            value = json.loads(text)
+            change(value, json.loads(read(os.path.join(folder, name.replace("N1", "N2")))))
+            write(path, json.dumps(value), text)
+        else:
+            write(path, change(text, None), text)

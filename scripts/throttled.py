@@ -1,0 +1,90 @@
+"""A front for tests that answers what is saved in a folder, and now and then that it is asked too often, or that no answer can be had."""
+import contextlib
+import http.server
+import os
+import re
+import threading
+import time
+from collections.abc import Iterator
+
+NOT_THERE = {404: b'{"name":"NoSuch","refusal":9,"what":"notice"}', 409: b'{"name":"NotOpened","refusal":22}'}
+
+
+class Front:
+    """What is answered: the files of a folder, of notices K0, K1 and so on those of the notice that is `copied`, of the notice that is `lacking` nothing. After
+    `burst` requests it says 429, and `wait` seconds later takes as many again; so many of the first requests as are `failing` get 503."""
+
+    def __init__(self, folder: str, copied: str = "", burst: int = 1 << 30, wait: int = 1, failing: int = 0, lacking: str = "") -> None:
+        self.folder, self.copied, self.burst, self.wait, self.failing, self.lacking = folder, copied, burst, wait, failing, lacking
+        self.left, self.until, self.refused, self.hasty, self.address, self.lock = burst, 0.0, 0, 0, "", threading.Lock()
+
+    def turn(self) -> tuple[int, str] | None:
+        """The status of a refusal and what it says of when to ask again, or None."""
+        now = time.monotonic()
+        with self.lock:
+            if self.failing > 0:
+                self.failing -= 1
+                return 503, "0"
+            if now < self.until:
+                self.hasty += 1
+                return 429, str(self.wait)
+            if self.left == 0:
+                # (A client that waits as long as it was told comes behind this moment.)
+                self.left, self.until, self.refused = self.burst, now + self.wait, self.refused + 1
+                return 429, str(self.wait)
+            self.left -= 1
+            return None
+
+    def body(self, path: str) -> bytes | None:
+        """What is saved of a path, or None."""
+        if path == "/ledger":
+            return self.read("ledger.txt")
+        found = re.fullmatch(r"/notices/([0-9A-Za-z_.-]+)/(releases|record|minutes)", path)
+        if not found or found[1] == self.lacking:
+            return None
+        copy = re.fullmatch("K[0-9]+", found[1])
+        data = self.read(f"{found[2]}-{self.copied if copy else found[1]}.{'txt' if found[2] == 'minutes' else 'json'}")
+        return data.replace(self.copied.encode(), found[1].encode()) if copy and data else data
+
+    def read(self, name: str) -> bytes | None:
+        path = os.path.join(self.folder, name)
+        if not os.path.exists(path):
+            return None
+        with open(path, "rb") as file:
+            return file.read()
+
+
+def handler_of(front: Front) -> type[http.server.BaseHTTPRequestHandler]:
+    """The class whose objects answer a request each."""
+    class Handler(http.server.BaseHTTPRequestHandler):
+        def do_GET(self) -> None:
+            refused = front.turn()
+            body = b'{"front":"wait a while"}' if refused else front.body(self.path)
+            status = refused[0] if refused else 200 if body is not None else 409 if self.path.endswith("/minutes") else 404
+            self.send_response(status)
+            if refused:
+                self.send_header("Retry-After", refused[1])
+            data = NOT_THERE[status] if body is None else body
+            self.send_header("Content-Length", str(len(data)))
+            self.end_headers()
+            self.wfile.write(data)
+
+        def log_message(self, *_: object) -> None:
+            pass
+    return Handler
+
+
+@contextlib.contextmanager
+def served(front: Front) -> Iterator[Front]:
+    """Serves a front at a port of its own, and gives it with its address."""
+    server = http.server.ThreadingHTTPServer(("127.0.0.1", 0), handler_of(front))
+    server.daemon_threads = True
+    front.address = f"http://127.0.0.1:{server.server_address[1]}"
+    thread = threading.Thread(target=server.serve_forever, kwargs={"poll_interval": 0.05})
+    thread.start()
+    try:
+        yield front
+    finally:
+        server.shutdown()
+        server.server_close()
+        thread.join()
