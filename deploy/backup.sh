@@ -1,27 +1,30 @@
 #!/bin/sh
-# Copies an office's file while the office is served, and checks the copy. Where no whole copy can be had so, it stops the service for as long as the copying takes.
+# Copies an office's file while the office is served, and checks the copy. Where no whole copy can be had so, it stops the service for as long as the copying
+# takes.
 #
 #     deploy/backup.sh CONFIG FILE FOLDER
 #     deploy/backup.sh /etc/procure/office.toml /var/lib/procure/office.db /var/backups/procure
 #
-# It reads the first 32 bytes of the log, FILE-wal; copies FILE, and then the log; and reads those bytes again. Where they are what they were, and begin with 0x37,
-# the two copies are what a stop at that time could have left. Else it waits and tries again, $TRIES times (5), a second longer each time; then it stops the
-# service, copies both, and starts it. What it can't write is no reason to stop anything.
-# It checks the copy: `procure ledger` reads a copy of it as an office, and sqlite3, which moves the log into it, finds no fault (`PRAGMA integrity_check`). It leaves
-# FOLDER/office-MOMENT.db, one file with the log in it, which `procure` hasn't opened, and its ledger as office-MOMENT.ledger. A copy that isn't good stays as
-# office-MOMENT.wrong, the newest three of them. Behind a good copy older ones go: the newest $KEEP stay (48), and of earlier ones the last of each day, for
-# $DAYS days (30).
-# The commands are $STOP, $START and $PROCURE where these are set, else `systemctl stop procure`, `systemctl start procure` and `procure`. With STOP=false nothing
-# is ever stopped.
+# It reads the first 32 bytes of the log, FILE-wal; copies FILE, and then the log; and reads those bytes again. Where they are what they were, and begin with
+# 0x37, the two copies are what a stop at that time could have left. Else it waits and tries again, $TRIES times (5), a second longer each time; then it stops
+# the service, copies both, and starts it. What it can't write is no reason to stop anything.
+#
+# It checks the copy: `procure ledger` reads a copy of it as an office, and sqlite3, which moves the log into it, finds no fault (`PRAGMA integrity_check`). It
+# leaves FOLDER/office-MOMENT.db, one file with the log in it, which `procure` hasn't opened, and its ledger as office-MOMENT.ledger. A copy that isn't good
+# stays as office-MOMENT.wrong, the newest three of them. Behind a good copy older ones go: the newest $KEEP stay (48), and of earlier ones the last of each
+# day, for $DAYS days (30).
+#
+# The commands are $STOP, $START and $PROCURE where these are set, else `systemctl stop procure`, `systemctl start procure` and `procure`. With STOP=false
+# nothing is ever stopped.
 # Exit status: 0 with a good copy and the service running, 1 without one of them, 2 for wrong arguments or a tool that is missing.
 #
-# Why equal heads are enough. The program writes to FILE only as it moves the log into it: pages that the log has, whole and synced. It keeps them in the log until
-# all are in FILE, and synced there too. Only then it begins the log anew: the first byte becomes 0, then come a head with other salts, which count up, and
-# the first byte, 0x37, last. As long as the head is the same, the log only grows: each command is written behind the last one, and one byte of its first page, the
-# gate, last, so that nobody takes the command before it is there. So what changed in FILE while it was copied stands in the log's copy, which was begun
-# later; and that copy, made from front to back, has each command that was answered before, and of later ones the first few, whole. (Of a command whose first page is
-# written at the very moment when it is read the checksum fails: then it isn't there.) With the log copied first, pages of FILE may be newer than the log that goes
-# with them; without the second look the log's copy may lack what was moved into FILE behind FILE's copy.
+# Why equal heads are enough. The program writes to FILE only as it moves the log into it: pages that the log has, whole and synced. It keeps them in the log
+# until all are in FILE, and synced there too. Only then it begins the log anew: the first byte becomes 0, then come a head with other salts, which count up,
+# and the first byte, 0x37, last. As long as the head is the same, the log only grows: each command is written behind the last one, and one byte of its first
+# page, the gate, last, so that nobody takes the command before it is there. So what changed in FILE while it was copied stands in the log's copy, which was
+# begun later; and that copy, made from front to back, has each command that was answered before, and of later ones the first few, whole. (Of a command whose
+# first page is written at the very moment when it is read the checksum fails: then it isn't there.) With the log copied first, pages of FILE may be newer
+# than the log that goes with them; without the second look the log's copy may lack what was moved into FILE behind FILE's copy.
 set -eu
 umask 077
 # cron's PATH is shorter than a shell's.
