@@ -231,6 +231,12 @@ def peak(process: "subprocess.Popen[bytes]", before: int) -> int:
         return before
 
 
+def processor(process: "subprocess.Popen[bytes]") -> float:
+    """The seconds of processor that a process took so far, without the kernel's work for it."""
+    with open(f"/proc/{process.pid}/stat") as stat:
+        return int(stat.read().rpartition(")")[2].split()[11]) / os.sysconf("SC_CLK_TCK")
+
+
 def run_blocks(command: Sequence[str], path: str) -> tuple[float, int, bytes, list[tuple[int, float]]]:
     """Runs a command over an input: seconds, peak memory in KiB, the output, and when how many bytes of it were there."""
     marks: list[tuple[int, float]] = []

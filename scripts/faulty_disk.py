@@ -11,6 +11,7 @@ import os
 import shutil
 import subprocess
 import sys
+from collections.abc import Callable
 
 from common import made_shim
 
@@ -179,10 +180,11 @@ class SmallDisk:
         self.folder, self.ballast = folder, os.path.join(folder, "ballast")
         subprocess.run(["mount", "-t", "tmpfs", "-o", f"size={self.SIZE}", "tmpfs", folder], check=True)
 
-    def leave(self, pages: int) -> None:
-        """Empties it, and leaves room for so many pages."""
+    def leave(self, pages: int, begin: Callable[[], None] = lambda: None) -> None:
+        """Empties it, has it begun, and leaves room for so many pages."""
         for name in os.listdir(self.folder):
             os.remove(os.path.join(self.folder, name))
+        begin()
         with open(self.ballast, "wb") as file:
             os.posix_fallocate(file.fileno(), 0, shutil.disk_usage(self.folder).free - pages * self.PAGE)
 

@@ -25,7 +25,7 @@ use Rattle.office_plans.specs.Replies.{text_of}
 use Rattle.office_desk.specs.Steps.{IsPlan, IsPut, IsSeen, Needs}
 use Rattle.office_requests.specs.declared.route.Allow.{Allow}
 use Rattle.office_http.specs.Meaning.{Meant, Gives, Sees}
-use Rattle.office_http.specs.Answering.{StopsAfter, is_accepted, told_as, seen_as, reply_to, tables_after, unavailable_text}
+use Rattle.office_http.specs.Answering.{IsWholeAfter, StopsAfter, is_accepted, told_as, seen_as, reply_to, tables_after, unavailable_text}
 use Rattle.office_http.specs.Inside.Meant.{Answered, HoldsStanding}
 use Rattle.office_http.specs.Response.{response_of}
 use Rattle.office_http.specs.declared.reply.Reply as replies
@@ -101,7 +101,30 @@ module _ {S : Type 0} (M : Meaning S) (settings : Settings) (old new : S) (s : T
       let x : Given = given s moment caller command in
       ap (λ (ps : List Put). after_puts ps s) (plan.put stands.keeps).puts ∙ ap (λ (o : Option Refusal). office_kept o settings x) (sym plan.allowed)
 
-  -- a command that is done: it joins those that led to the office before it, and its release is kept
+  -- the office after a command that was planned: the command joins those that led to the office before it, and its release is kept
+  stands_after : KeptStepsReach → ReleasesStayKept → (caller : Caller) (command : Command) (planned : Plan)
+      → IsPlan settings (given s moment caller command) planned → IsRegistered caller s.tenderers → Stands settings s
+      → Stands settings (kept_next settings (given s moment caller command))
+  stands_after reach stay caller command planned plan registered stands =
+      let x : Given = given s moment caller command in
+      record {
+        commands = x ∷ stands.commands;
+        reaches = reach settings stands.commands x stands.reaches (plan.given, registered) plan.allowed;
+        keeps = stay settings stands.commands x stands.reaches (plan.given, registered) plan.allowed (plan.put stands.keeps).reads stands.keeps;
+      }
+
+  -- and it is what a stop leaves of it
+  whole_after : KeptStepsReach → ReleasesStayKept → (caller : Caller) (command : Command) (planned : Plan)
+      → IsPlan settings (given s moment caller command) planned → IsRegistered caller s.tenderers → Stands settings s
+      → (u : Tables) → u ≡ after_puts planned.puts s → IsWholeAfter settings s moment (Gives caller command) u
+  whole_after reach stay caller command planned plan registered stands u is =
+      let x : Given = given s moment caller command in
+      let same : u ≡ kept_next settings x = is ∙ ap (λ (ps : List Put). after_puts ps s) (plan.put stands.keeps).puts in (
+        is ∙ planned_after caller command planned plan stands,
+        subst (Stands settings) (sym same) (stands_after reach stay caller command planned plan registered stands),
+      )
+
+  -- a command that is done
   pub command_done : KeptStepsReach → ReleasesStayKept → (caller : Caller) (command : Command) (planned : Plan)
       → IsPlan settings (given s moment caller command) planned → IsRegistered caller s.tenderers → Stands settings s
       → text ≡ response_of (Json planned.reply) → M.holds new (after_puts planned.puts s) → ((u : Tables) → M.may_leave new u → u ≡ after_puts planned.puts s)
@@ -111,29 +134,25 @@ module _ {S : Type 0} (M : Meaning S) (settings : Settings) (old new : S) (s : T
       let put : IsPut settings x planned = plan.put stands.keeps in
       let after : HoldsStanding M settings new (kept_next settings x) = (
         subst (λ (ps : List Put). M.holds new (after_puts ps s)) put.puts held,
-        record {
-          commands = x ∷ stands.commands;
-          reaches = reach settings stands.commands x stands.reaches (plan.given, registered) plan.allowed;
-          keeps = stay settings stands.commands x stands.reaches (plan.given, registered) plan.allowed put.reads stands.keeps;
-        },
+        stands_after reach stay caller command planned plan registered stands,
       ) in
       is_told (kept_next settings x) (Gives caller command) (Json planned.reply)
       (ap (λ (o : Option Refusal). told_as (reply_by o (publishing settings) x)) plan.allowed ∙ accepted_as x plan.allowed ∙ ap Json (sym plan.reply))
       (ap (λ (o : Option Refusal). office_kept o settings x) plan.allowed)
       is after
       (leaves_accepted M settings old new s moment (Gives caller command) (ap (λ (o : Option Refusal). is_none o) plan.allowed)
-      (λ u left. leaves u left ∙ planned_after caller command planned plan stands))
+      (λ u left. whole_after reach stay caller command planned plan registered stands u (leaves u left)))
 
   -- a command that was planned and isn't done: the office stays, and a stop may leave the whole command
-  pub command_undone : (caller : Caller) (command : Command) (planned : Plan) → IsPlan settings (given s moment caller command) planned
-      → text ≡ unavailable_text → HoldsStanding M settings new s → ((u : Tables) → M.may_leave new u → M.may_leave old u ⊎ (u ≡ after_puts planned.puts s))
+  pub command_undone : KeptStepsReach → ReleasesStayKept → (caller : Caller) (command : Command) (planned : Plan)
+      → IsPlan settings (given s moment caller command) planned → IsRegistered caller s.tenderers → text ≡ unavailable_text → HoldsStanding M settings new s → ((u : Tables) → M.may_leave new u → M.may_leave old u ⊎ (u ≡ after_puts planned.puts s))
       → Answered M settings old new s moment (Gives caller command) text
-  command_undone caller command planned plan is held leaves = (
+  command_undone reach stay caller command planned plan registered is held leaves = (
     true,
     is,
     held,
     leaves_either M settings old new s moment (Gives caller command) (ap (λ (o : Option Refusal). is_none o) plan.allowed)
-        (λ u left. elim (leaves u left) [ inl before ↦ inl before | inr whole ↦ inr (whole ∙ planned_after caller command planned plan held.1) ]),
+        (λ u left. elim (leaves u left) [ inl before ↦ inl before | inr whole ↦ inr (whole_after reach stay caller command planned plan registered held.1 u whole) ]),
   )
 
   -- a query that is refused

@@ -4,7 +4,7 @@ use Rattle.office_values.specs.declared.settings.Settings.{Settings}
 use Rattle.office_base.specs.Tables.{Tables}
 use Rattle.office_base.specs.Shelves.{Meaning}
 use Rattle.office_http.specs.Meaning.{Meant}
-use Rattle.office_http.specs.Answering.{LeftAfter, StopsAfter, is_accepted, tables_after}
+use Rattle.office_http.specs.Answering.{IsWholeAfter, LeftAfter, StopsAfter, is_accepted}
 
 -- what could be left before may be left of an answer that changes nothing
 left_before : (accepted : Bool) (Before IsAfter : Type 0) → Before → LeftAfter accepted true Before IsAfter
@@ -24,23 +24,23 @@ module _ {S : Type 0} (M : Meaning S) (settings : Settings) (old new : S) (s : T
   Stays = (u : Tables) → M.may_leave new u → M.may_leave old u
 
   abbrev left_with : Bool → Bool → Tables → Type 0
-  left_with busy accepted u = LeftAfter accepted busy (M.may_leave old u) (u ≡ tables_after settings s moment m)
+  left_with busy accepted u = LeftAfter accepted busy (M.may_leave old u) (IsWholeAfter settings s moment m u)
 
   pub stays_unavailable : Stays → StopsAfter M settings old new true s moment m
-  stays_unavailable stays u left = left_before (is_accepted s moment m) (M.may_leave old u) (u ≡ tables_after settings s moment m) (stays u left)
+  stays_unavailable stays u left = left_before (is_accepted s moment m) (M.may_leave old u) (IsWholeAfter settings s moment m u) (stays u left)
 
   pub stays_refused : is_accepted s moment m ≡ false → Stays → StopsAfter M settings old new false s moment m
   stays_refused refused stays u left = subst (λ (b : Bool). left_with false b u) (sym refused) (stays u left)
 
-  pub leaves_accepted : is_accepted s moment m ≡ true → ((u : Tables) → M.may_leave new u → u ≡ tables_after settings s moment m)
+  pub leaves_accepted : is_accepted s moment m ≡ true → ((u : Tables) → M.may_leave new u → IsWholeAfter settings s moment m u)
       → StopsAfter M settings old new false s moment m
   leaves_accepted accepted leaves u left = subst (λ (b : Bool). left_with false b u) (sym accepted) (leaves u left)
 
-  pub leaves_either : is_accepted s moment m ≡ true → ((u : Tables) → M.may_leave new u → M.may_leave old u ⊎ (u ≡ tables_after settings s moment m))
+  pub leaves_either : is_accepted s moment m ≡ true → ((u : Tables) → M.may_leave new u → M.may_leave old u ⊎ IsWholeAfter settings s moment m u)
       → StopsAfter M settings old new true s moment m
   leaves_either accepted leaves u left = subst (λ (b : Bool). left_with true b u) (sym accepted) (leaves u left)
 
 -- of two calls, one after the other, the first of which adds nothing
 pub stops_then : {S : Type 0} (M : Meaning S) (settings : Settings) (old mid new : S) (busy : Bool) (s : Tables) (moment : ℕ) (m : Meant)
     → ((u : Tables) → M.may_leave mid u → M.may_leave old u) → StopsAfter M settings mid new busy s moment m → StopsAfter M settings old new busy s moment m
-stops_then M settings old mid new busy s moment m stays stops u left = left_weaker (is_accepted s moment m) busy (M.may_leave old u) (M.may_leave mid u) (u ≡ tables_after settings s moment m) (stays u) (stops u left)
+stops_then M settings old mid new busy s moment m stays stops u left = left_weaker (is_accepted s moment m) busy (M.may_leave old u) (M.may_leave mid u) (IsWholeAfter settings s moment m u) (stays u) (stops u left)

@@ -9,7 +9,7 @@ use Rattle.office_wire.specs.Blocks.{Block}
 use Rattle.office_wire.specs.Runs.{Ran, Served, Step, office_left}
 use Rattle.office_wire.specs.declared.fault.RunFault.{RunFault}
 use Rattle.office_http.specs.Meaning.{meant}
-use Rattle.office_http.specs.Answering.{Held, IsAnswered, LeftAfter, StandsAs, is_accepted, meant_in, office_answers, tables_after}
+use Rattle.office_http.specs.Answering.{Held, IsAnswered, IsWholeAfter, LeftAfter, StandsAs, is_accepted, meant_in, office_answers}
 use Rattle.office_http.specs.Stops.{LeftBySteps, StandsWatched, StopsBy, Watched, office_now, watched_answers}
 use Rattle.office_http.proofs.LeftSteps.{left_weaker}
 use Rattle.office_http.proofs.ViewedAnswers.{ran_as, served_as}
@@ -24,7 +24,7 @@ office_push h (y ∷ steps) x = office_push (office_answers.after y.busy h y.blo
 -- what a stop may leave after it, by what it could leave before it
 abbrev LeftByStep : (Tables → Type 0) → Held → Step → Tables → Type 0
 LeftByStep Before h x u =
-    LeftAfter (is_accepted h.tables x.block.moment (meant_in h x.block)) x.busy (Before u) (u ≡ tables_after h.settings h.tables x.block.moment (meant_in h x.block))
+    LeftAfter (is_accepted h.tables x.block.moment (meant_in h x.block)) x.busy (Before u) (IsWholeAfter h.settings h.tables x.block.moment (meant_in h x.block) u)
 
 left_push : (Before : Tables → Type 0) (h : Held) (steps : List Step) (x : Step) (u : Tables)
     → LeftByStep (LeftBySteps Before h steps) (office_left office_answers h steps) x u → LeftBySteps Before h (steps ++ x ∷ []) u
@@ -50,7 +50,7 @@ module _ {S : Type 0} (M : Meaning S) where
       record {
         left = λ u left. left_push (M.may_leave w.shelf) w.first w.steps (record { busy = busy; block = b }) u
             (left_weaker (is_accepted here.tables b.moment (meant_in here b)) busy (LeftBySteps (M.may_leave w.shelf) w.first w.steps u) (M.may_leave old.shelf u)
-            (u ≡ tables_after here.settings here.tables b.moment (meant_in here b)) (stops.left u) (leaves u left));
+            (IsWholeAfter here.settings here.tables b.moment (meant_in here b) u) (stops.left u) (leaves u left));
         sound = λ was. whole (stops.sound was);
       },
     )

@@ -79,10 +79,14 @@ LeftAfter false busy Before IsAfter = Before
 LeftAfter true false Before IsAfter = IsAfter
 LeftAfter true true Before IsAfter = Before ⊎ IsAfter
 
+-- the office after what was meant, which stands as its commands left it
+abbrev pub IsWholeAfter : Settings → Tables → ℕ → Meant → Tables → Type 0
+IsWholeAfter settings s moment m u = (u ≡ tables_after settings s moment m) × Stands settings u
+
 -- so a stop leaves it of a shelf that is answered from; the test says that the answer is Unavailable
 abbrev pub StopsAfter : {S : Type 0} → Meaning S → Settings → S → S → Bool → Tables → ℕ → Meant → Type 0
 StopsAfter M settings old new busy s moment m =
-    (u : Tables) → M.may_leave new u → LeftAfter (is_accepted s moment m) busy (M.may_leave old u) (u ≡ tables_after settings s moment m)
+    (u : Tables) → M.may_leave new u → LeftAfter (is_accepted s moment m) busy (M.may_leave old u) (IsWholeAfter settings s moment m u)
 
 -- the refusal of what can't be read as a request
 abbrev pub fault_refusal : ReadFault → Refusal
@@ -125,14 +129,15 @@ abbrev pub StandsAs : {S : Type 0} → Meaning S → DeskOf S → Held → Type 
 StandsAs M desk h = IsHeld M desk h × Stands h.settings h.tables
 
 -- what is meant was answered with this text, perhaps with Unavailable; the shelf holds the office after it, which stands as its commands left
--- it; and a stop leaves the tables after an accepted command and no others, and nothing new after anything else
+-- it. A stop leaves the tables after an accepted command and no others, and nothing new after a refusal or a look; where a command that isn't refused was answered
+-- Unavailable, what it could leave before, or the tables after that command
 abbrev pub IsAnswered : {S : Type 0} → Meaning S → Settings → S → S → ℕ → (Tables → Meant) → List ℕ → Type 0
 IsAnswered M settings old new moment m text =
     M.honest new → (s : Tables) → M.holds old s → Stands settings s
     → (busy : Bool) × (text ≡ answer_bytes settings busy s moment (m s)) × M.holds new (tables_left settings busy s moment (m s))
     × Stands settings (tables_left settings busy s moment (m s)) × StopsAfter M settings old new busy s moment (m s)
 
--- whatever the shelf held, it holds it still, unless a command was accepted
+-- whatever the shelf held, it holds it still, or the answer is a 200 in JSON, as that to an accepted command and to most queries; what it holds then isn't said here
 abbrev pub ChangesOnlyAccepting : {S : Type 0} → Meaning S → S → S → List ℕ → Type 0
 ChangesOnlyAccepting M old new text =
     M.honest new → (s : Tables) → M.holds old s → M.holds new s ⊎ ((reply : List ℕ) × (text ≡ response_of (Json reply)))
@@ -145,7 +150,7 @@ pub record AnswersRequest {S : Type 0} (M : Meaning S) (settings : Settings) (ol
   pub answered : IsAnswered M settings old new moment (meant settings request) text
   pub changes : ChangesOnlyAccepting M old new text
 
--- the bytes were refused, and nothing changed
+-- the bytes were refused, perhaps for want of memory, which may be so of any bytes; and nothing changed
 pub record RefusesBytes {S : Type 0} (M : Meaning S) (old new : S) (input text : List ℕ) : Type 0 where
   pub why : ReadFault
   pub refused : IsRefused input why

@@ -4,14 +4,14 @@ use Rattle.office_base.specs.Tables.{Tables}
 use Rattle.office_base.specs.Shelves.{Meaning}
 use Rattle.office_desk.specs.Desks.{DeskOf}
 use Rattle.office_wire.specs.Runs.{Answers, Step, IsOneAtMost, office_left}
-use Rattle.office_http.specs.Answering.{Held, LeftAfter, StandsAs, is_accepted, meant_in, office_answers, tables_after}
+use Rattle.office_http.specs.Answering.{Held, IsWholeAfter, LeftAfter, StandsAs, is_accepted, meant_in, office_answers}
 
--- after the steps of a run from an office, by what it could leave before them
+-- after the steps of a run from an office, by what it could leave before them; what an accepted command leaves stands as its commands left it
 abbrev pub LeftBySteps : (Tables → Type 0) → Held → List Step → Tables → Type 0
 LeftBySteps Before h [] u = Before u
 LeftBySteps Before h (x ∷ steps) u =
     LeftBySteps
-    (λ v. LeftAfter (is_accepted h.tables x.block.moment (meant_in h x.block)) x.busy (Before v) (v ≡ tables_after h.settings h.tables x.block.moment (meant_in h x.block)))
+    (λ v. LeftAfter (is_accepted h.tables x.block.moment (meant_in h x.block)) x.busy (Before v) (IsWholeAfter h.settings h.tables x.block.moment (meant_in h x.block) v))
     (office_answers.after x.busy h x.block) steps u
 
 -- so it leaves it of a shelf, and whole offices alone where it left whole offices alone before

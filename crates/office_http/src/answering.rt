@@ -152,8 +152,8 @@ fn answer_read<H: Shelf + Drop>(
 }
 
 /// Answers a request that was read. The response is built whole before anything changes; where memory or the store is wanting, it
-/// is the constant response to `Unavailable`, and nothing changes. An office that stands as its commands left it stands so again; whatever
-/// the shelf holds, only an accepted command changes it.
+/// is the constant response to `Unavailable`, and the tables stay as they are; a stop right then may leave an accepted command whole. An office
+/// that stands as its commands left it stands so again; whatever the shelf holds, it holds it still unless the answer is a 200 in JSON.
 pub fn answer_request<H: Shelf + Drop>(
     alloc: Global,
     routes: &Routes,
@@ -185,7 +185,7 @@ pub fn fault_response(fault: ReadFault) -> &'static [u8]
 }
 
 /// Answers the request at the front of these bytes. Bytes behind it are ignored, and bytes that hold no request are refused. Where
-/// memory or the store is wanting, the answer is the constant response to `Unavailable`, and nothing changes.
+/// memory or the store is wanting, the answer is the constant response to `Unavailable`, and the tables stay as they are.
 pub fn answer<H: Shelf + Drop>(
     alloc: Global,
     routes: &Routes,

@@ -78,6 +78,13 @@ impl OfficeOnDisks {
         }
     }
 
+    /// Its files as a stop leaves them: nothing is closed.
+    pub fn stop(self) -> Disks {
+        Disks {
+            files: self.into_shelf().put_down().close(),
+        }
+    }
+
     /// Whether it could be closed, and its files, whether or not it could.
     pub fn put_down(self) -> (bool, Disks) {
         match self.into_shelf().into_connection().close_files() {

@@ -1,19 +1,21 @@
 -- The last commit, found again, files with no database, and what a refused opening leaves.
 use Rattle.std.proofs.Common.{arith, ◌≡◌, inl, inr, [], refl, sym, ap, subst, ◌∙◌}
-use Rattle.std.proofs.Math.Logic.{∥∥₁_elim}
-use Rattle.std.specs.Prelude.{length}
+use Rattle.std.proofs.Math.Logic.{∥∥₁_elim, ∥∥₁_map}
+use Rattle.std.specs.Prelude.{length, IsTrue}
 use Rattle.sqlite_disk.specs.declared.Disk.{Ghosts}
 use Rattle.sqlite_disk.specs.declared.Files.{Files}
 use Rattle.sqlite_wal.specs.Recovery.{Image}
 use Rattle.sqlite_wal.proofs.LogLemmas.{SeenMayStay}
 use Rattle.sqlite_store.specs.declared.store.FileStore.{FileStore}
+use Rattle.sqlite_store.specs.FileStore.{recovers, view, faults, is_shielded}
 use Rattle.sqlite_store.specs.Laws.{settled_at}
 use Rattle.sqlite_trees.specs.Objects.{catalog_tree}
 use Rattle.sqlite_trees.specs.Props.{Trees-set}
 use Rattle.sqlite_trees.specs.Tree.{Trees}
+use Rattle.sqlite_trees.specs.View.{IsClean, IsQuiet}
 use Rattle.sqlite_trees.proofs.Doubt.{no_doubt}
 use Rattle.sqlite.specs.Effect.{Database, IsDatabase}
-use Rattle.sqlite.specs.Held.{Held}
+use Rattle.sqlite.specs.Held.{Held, AreDatabases}
 use Rattle.sqlite.specs.State.{HasCleanDisk, Survives}
 use Rattle.sqlite.specs.Files.{file_state, over_files, image_of, IsOpened, Finds, IsCleanLeft}
 use Rattle.sqlite.specs.Start.{FindsIn}
@@ -21,11 +23,14 @@ use Rattle.sqlite.specs.Closing.{HoldsAlone, IsCopied}
 use Rattle.sqlite.specs.declared.file.Leftover.{Leftover}
 use Rattle.sqlite.specs.declared.file.Leftover.TheVariants as left
 use Rattle.sqlite.proofs.ListingLemmas.{empty_is_sound}
+use Rattle.sqlite.proofs.Theorems.{opens_again}
 use Rattle.office_base.specs.Tables.{Tables}
 use Rattle.office_sql.specs.First.{ShowsOffice, HoldsOffice as HasOffice}
+use Rattle.office_sql.specs.Laws.{TreesTellOneOffice}
 use Rattle.office_sql.specs.Steps.{Refused}
 use Rattle.office_store.specs.Founding.{LeavesOffice, IsNoOffice}
-use Rattle.office_store.specs.Reopening.{Found, HoldsOffice, HoldStill, IsLeftOf, IsReason, IsUsableLeft, LeavesFound, MayCommit}
+use Rattle.office_store.specs.SqlMeaning.{LeavesNoOther}
+use Rattle.office_store.specs.Reopening.{Found, HoldsOffice, HoldStill, IsLeftOf, IsPutDown, IsReason, IsUsableLeft, LeavesFound, MayCommit}
 use Rattle.office_store.specs.declared.found.OpenFault.{OpenFault}
 use Rattle.office_store.specs.declared.found.OpenFault.TheVariants as fault
 use Rattle.office_store.proofs.Founding.{no_schema}
@@ -69,6 +74,28 @@ bare_schema image new none opened found =
 pub found_now : {D : Type 0} {g : Ghosts D} (image : Image) (now : Held (FileStore D g)) → SeenMayStay g → IsOpened now → FindsIn image (file_state now) → Found image now
 found_now image now stays opened found =
     record { opened = opened; finds = found; only = λ db may. settled_at now.store stays db opened.0.is_open may }
+
+-- a stop of an open store leaves what it shows
+pub leaves_no_other : {D : Type 0} {g : Ghosts D} (now : Held (FileStore D g)) → TreesTellOneOffice → SeenMayStay g → IsTrue (file_state now).is_open
+    → LeavesNoOther (file_state now)
+leaves_no_other now once stays is_open t shows u (db, may, holds) =
+    once db (file_state now).committed u t holds (shows is_open) (settled_at now.store stays db.trees is_open may)
+
+-- ---- an office that is put down
+
+pub put_down : {D : Type 0} {g : Ghosts D} (last : Held (FileStore D g)) (store : FileStore D g) → (IsClean (view store) → IsTrue (view store).is_numbered)
+    → (IsClean (view store) → AreDatabases (recovers store)) → IsQuiet view faults recovers is_shielded last.store store → IsPutDown last store
+put_down last store numbered sound quiet = record {
+  clean = λ clean. omega (arith, clean, quiet.clean);
+  left = λ clean offices image may. ∥∥₁_map (opens_again store (numbered clean) (sound clean) image may) (λ found.
+      let was = quiet.outcomes found.0 found.1 in
+      let office = offices found.0 was in
+      let at = office.1 in (
+        office.0,
+        (at.0, subst (file_state last).may_leave at.1 was, at.2),
+        (found.0, ∣ found.2 ∣₁, (at.0, at.1, inl at.2)),
+      ));
+}
 
 -- ---- a refused opening
 

@@ -6,8 +6,10 @@ use Rattle.sqlite_wal.specs.Files.{outcomes}
 use Rattle.sqlite_wal.specs.Reads.{AreClean}
 use Rattle.sqlite_wal.specs.Recovery.{Image}
 use Rattle.sqlite_store.specs.declared.store.FileStore.{FileStore}
-use Rattle.sqlite_store.specs.FileStore.{recovers}
+use Rattle.sqlite_store.specs.FileStore.{recovers, view}
+use Rattle.sqlite_store.specs.FileStore.{state as store_state}
 use Rattle.sqlite_trees.specs.Tree.{Trees}
+use Rattle.sqlite_trees.specs.View.{IsClean}
 use Rattle.sqlite_trees.specs.declared.store.Store.{Ghosts as StoreGhosts}
 use Rattle.sqlite.specs.Effect.{Database}
 use Rattle.sqlite.specs.Held.{Held, state}
@@ -19,8 +21,9 @@ use Rattle.sqlite.specs.declared.file.Leftover.{Leftover}
 use Rattle.sqlite.specs.declared.file.Leftover.TheVariants as left
 use Rattle.office_base.specs.Tables.{Tables, no_tables}
 use Rattle.office_sql.specs.First.{ShowsOffice, HoldsOffice as HasOffice}
-use Rattle.office_sql.specs.Steps.{ShowsTables}
+use Rattle.office_sql.specs.Steps.{ShowsTables, MayLeave}
 use Rattle.office_store.specs.Founding.{Enters, IsNoOffice, LeavesOffice}
+use Rattle.office_store.specs.SqlMeaning.{LeavesOffices}
 use Rattle.office_store.specs.declared.found.OpenFault.{OpenFault}
 use Rattle.office_store.specs.declared.found.OpenFault.TheVariants as fault
 
@@ -99,6 +102,13 @@ module _ {D : Type 0} {g : Ghosts D} where
   IsLeftOf now (left.Files files) = AreUsable g files × (AreClean g files.log files.db → IsCopied now files)
   IsLeftOf now (left.Unopened files) = ⊥
   IsLeftOf now (left.Store store) = IsClosed now store
+
+  -- A shelf was put down without being closed, as by a stop: its disk was as clean as its store's. Where a stop could leave whole offices alone, each pair of files
+  -- that a stop may leave of the store holds an office that it could leave of the shelf.
+  pub record IsPutDown (last : Held (FileStore D g)) (store : FileStore D g) : Type 0 where
+    pub clean : IsClean (view store) → HasCleanDisk (file_state last)
+    pub left : IsClean (view store) → LeavesOffices (file_state last) → (image : Image) → (store_state store).may_leave image
+        → ∥ ((u : Tables) × MayLeave (file_state last) u × HoldsOffice image u) ∥₁
 
   -- What was found stays: the files hold it, or, where they couldn't be closed, a stop leaves it or what the opening committed.
   abbrev pub LeavesFound : (Trees → Type 0) → Held (FileStore D g) → Leftover D g → Type 0

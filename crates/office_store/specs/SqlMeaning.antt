@@ -1,5 +1,5 @@
 -- How to read an office in SQL: its connection, and its count of faults.
-use Rattle.std.specs.Prelude.{ℕ, ⊤}
+use Rattle.std.specs.Prelude.{◌≡◌, ℕ, ⊤}
 use Rattle.sqlite_trees.specs.Tree.{Trees}
 use Rattle.sqlite_trees.specs.declared.store.Store.{Ghosts}
 use Rattle.sqlite.specs.Held.{Held, state}
@@ -16,6 +16,10 @@ LeavesOffices s = (db : Trees) → s.may_leave db → (u : Tables) × Leaves u d
 -- they do where the last commit shows the tables of an office
 abbrev pub LeavesShown : State → Type 0
 LeavesShown s = (t : Tables) → ShowsTables s t → LeavesOffices s
+
+-- where the last commit shows the tables of an office, a stop leaves these and no others
+abbrev pub LeavesNoOther : State → Type 0
+LeavesNoOther s = (t : Tables) → ShowsTables s t → (u : Tables) → MayLeave s u → u ≡ t
 
 -- A store that was shut shows no tables; what it held is in the order of its keys in any case. A question may break at any time; a change fails for
 -- causes of its own.

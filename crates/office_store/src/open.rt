@@ -8,13 +8,14 @@ ghost use Rattle.sqlite.specs.State.{HasCleanDisk};
 ghost use Rattle.sqlite.specs.Steps.{over_memory};
 ghost use Rattle.office_base.specs.Tables.{no_tables};
 ghost use Rattle.office_sql.specs.Steps.{ShowsTables};
-ghost use Rattle.office_store.specs.Reopening.{AreUsable, EntersFound, IsLeftOf, IsUsableLeft, OpensAgain, OpensBlank, OpensHeld, RefusesFiles};
-ghost use Rattle.office_store.specs.SqlMeaning.{LeavesOffices, LeavesShown};
+ghost use Rattle.office_store.specs.Reopening.{AreUsable, EntersFound, IsLeftOf, IsPutDown, IsUsableLeft, OpensAgain, OpensBlank, OpensHeld, RefusesFiles};
+ghost use Rattle.office_store.specs.SqlMeaning.{LeavesNoOther, LeavesOffices, LeavesShown};
 
 use crate::found::{OpenFault, enter, open_fault};
 use crate::shelf::SqlShelf;
 use office_base::shelf::ShelfFault;
 use office_sql::faults::fault;
+use office_sql::laws::trees_tell_one_office;
 use sqlite::{Connection, FileStore, Files, Leftover, MemStore, Options};
 use sqlite_disk::Disk;
 use std::alloc::Global;
@@ -65,6 +66,7 @@ impl<D: Disk + Drop> SqlShelf<FileStore<D>> {
         requires db { IsTrue (D.Disk.is_usable files.db) }
         ensures is_open { IfOk result (λ shelf. HasCleanDisk (file_state shelf.0) → IsTrue (file_state shelf.0).is_open) }
         ensures sound { IfOk result (λ shelf. HasCleanDisk (file_state shelf.0) → LeavesShown (file_state shelf.0)) }
+        ensures alone { IfOk result (λ shelf. HasCleanDisk (file_state shelf.0) → LeavesNoOther (file_state shelf.0)) }
         ensures held { IfOk result (λ shelf. OpensHeld (image_of D.Disk files) shelf.0) }
         ensures again { IfOk result (λ shelf. OpensAgain files shelf.0) }
         ensures blank { IfOk result (λ shelf. OpensBlank (image_of D.Disk files) shelf.0) }
@@ -73,6 +75,7 @@ impl<D: Disk + Drop> SqlShelf<FileStore<D>> {
         ensures refused { IfErr result (λ refusal. RefusesFiles files refusal.0 refusal.1) }
         ensures usable { IfErr result (λ refusal. refusal.0 ≡ OpenFault.NotAnOffice → IsUsableLeft refusal.1) }
     {
+        trees_tell_one_office();
         let mut conn = match Connection::open_files(alloc, files, options) {
             Ok(conn) => conn,
             Err((error, left)) => return Err((open_fault(error), left)),
@@ -85,6 +88,14 @@ impl<D: Disk + Drop> SqlShelf<FileStore<D>> {
             }),
             Err(fault) => Err((fault, let_go(conn))),
         }
+    }
+
+    /// Puts the office down without closing it, as a stop of the program does, and gives its store back. Nothing is written. Whatever a stop
+    /// then leaves of the store's files holds an office that a stop could leave of the shelf: so the next opening finds one.
+    pub fn put_down(self) -> FileStore<D>
+        ensures left { IsPutDown self.0 result }
+    {
+        self.into_connection().into_store()
     }
 
     /// Closes the office, and gives its files back. A refusal gives nothing back.

@@ -5,7 +5,7 @@ ghost use Rattle.sqlite_std_file.specs.File.{file_is_usable, IsFresh};
 ghost use Rattle.sqlite.specs.Files.{file_state};
 ghost use Rattle.sqlite.specs.State.{HasCleanDisk};
 ghost use Rattle.office_store.specs.Reopening.{EntersFound, OpensBlank, OpensHeld, RefusesImage};
-ghost use Rattle.office_store.specs.SqlMeaning.{LeavesShown};
+ghost use Rattle.office_store.specs.SqlMeaning.{LeavesNoOther, LeavesShown};
 
 use crate::found::OpenFault;
 use crate::shelf::SqlShelf;
@@ -18,7 +18,7 @@ use std::rt::HostRuntime;
 /// How much of an office's file is kept at hand.
 #[derive(Clone, Copy, Debug)]
 pub struct Room {
-    /// How many of its pages stay in memory, of 4,096 bytes each. The memory is taken as the file is opened.
+    /// How many of its pages stay in memory. The memory is taken as the file is opened.
     pub pages: usize,
     /// How many pages the log grows by before they are copied into the file.
     pub frames: usize,
@@ -72,6 +72,7 @@ impl<S: Start> SqlShelf<FileStore<FileFrom<S>>> {
     ) -> Result<SqlShelf<FileStore<FileFrom<S>>>, (OpenFault, Option<Leftover<FileFrom<S>>>)>
         ensures is_open { IfOk result (λ shelf. HasCleanDisk (file_state shelf.0) → IsTrue (file_state shelf.0).is_open) }
         ensures sound { IfOk result (λ shelf. HasCleanDisk (file_state shelf.0) → LeavesShown (file_state shelf.0)) }
+        ensures alone { IfOk result (λ shelf. HasCleanDisk (file_state shelf.0) → LeavesNoOther (file_state shelf.0)) }
         ensures count { IfOk result (λ shelf. shelf.1 ≡ 0) }
         ensures held { IfOk result (λ shelf. OpensHeld (image_at S.Start) shelf.0) }
         ensures blank { IfOk result (λ shelf. OpensBlank (image_at S.Start) shelf.0) }

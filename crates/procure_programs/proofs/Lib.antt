@@ -1,3 +1,6 @@
 pub mod ServingSteps
+mod EmptyFile
+mod EmptyOpened
 mod OpenedFiles
+mod StoppedFiles
 mod Turns

@@ -1,5 +1,6 @@
 -- An office that was opened in files goes on from what they had, in what is found of them once they are closed.
 use Rattle.std.proofs.Common.{◌≡◌, inl, inr, Result, Ok, Err, IfOk, ℕ, ◌+◌, ◌≤◌, List, [], ◌∷◌, ◌++◌, length, refl, sym, subst, ◌∙◌, arith, length-append}
+use Rattle.std.proofs.Math.Logic.{∥∥₁_elim, ∥∥₁_map}
 use Rattle.sqlite_disk.specs.declared.Disk.{Ghosts}
 use Rattle.sqlite_disk.specs.declared.Files.{Files}
 use Rattle.sqlite_wal.specs.Recovery.{Image}
@@ -14,16 +15,17 @@ use Rattle.office_base.specs.Shelves.{Keeps, Meaning}
 use Rattle.office_base.specs.Tables.{Tables}
 use Rattle.office_sql.specs.Steps.{ShowsTables}
 use Rattle.office_desk.specs.Desks.{DeskOf}
-use Rattle.office_store.specs.Reopening.{HoldsOffice, OpensBlank, OpensHeld}
-use Rattle.office_store.specs.SqlMeaning.{sql_meaning}
+use Rattle.office_store.specs.Reopening.{HoldsOffice, OpensHeld}
+use Rattle.office_store.specs.SqlMeaning.{LeavesNoOther, LeavesShown, sql_meaning}
 use Rattle.office_wire.specs.Runs.{Step, office_left}
 use Rattle.office_http.specs.Answering.{Held, office_answers}
-use Rattle.procure_programs.specs.Serving.{DaysFollow, HaveOffice, MayBeFound, ServesFiles, StandsIn, WasServed}
+use Rattle.procure_programs.specs.Placed.{OpensEmpty}
+use Rattle.procure_programs.specs.Serving.{DayIn, DaysFollow, GoesOnIn, HaveOffice, MayBeFound, ServesFiles, ServesOpened, StandsIn, StopsIn, WasServed}
 use Rattle.procure_programs.proofs.ServingSteps.{office_on, served_none, served_still}
 
 module _ {D : Type 0} {g : Ghosts D} where
   -- what files have is shown by what was opened there
-  shows_files : (image : Image) (now : Connected (FileStore D g)) → OpensHeld image now → OpensBlank image now → HasCleanDisk (file_state now)
+  pub shows_files : (image : Image) (now : Connected (FileStore D g)) → OpensHeld image now → OpensEmpty image now → HasCleanDisk (file_state now)
       → (t : Tables) → HaveOffice image t → ShowsTables (file_state now) t
   shows_files image now held blank clean t (inl it) = held clean t it
   shows_files image now held blank clean t (inr (none, is)) = subst (ShowsTables (file_state now)) (sym is) (blank clean none)
@@ -43,7 +45,7 @@ module _ {D : Type 0} {g : Ghosts D} where
       ]
 
   pub closes : (image : Image) (settings : Settings) (most : ℕ) (old new : Connected (FileStore D g) × ℕ) (files : Files D)
-      → OpensHeld image old.0 → OpensBlank image old.0 → WasServed (sql_meaning over_files) most settings old new
+      → OpensHeld image old.0 → OpensEmpty image old.0 → WasServed (sql_meaning over_files) most settings old new
       → (AreClean g files.log files.db → IsCopied new.0 files) → ServesFiles g image settings most files
   closes image settings most old new files held blank (before, (_, serves)) copied clean now found h are (sorted, has, stands) =
       let it = copied clean in
@@ -51,9 +53,18 @@ module _ {D : Type 0} {g : Ghosts D} where
       let (steps, few, ((_, (in_order, shows)), left), _) = serves it.was_clean h ((sym are, (sorted, shown)), stands) in
       (steps, few, (in_order, inl (holds_found new.0 files it now found _ shows), left))
 
+  -- an office that was opened was served
+  pub opened_serves : {R E : Type 0} (image : Image) (settings : Settings) (most : ℕ) (opened : Connected (FileStore D g) × ℕ)
+      (result : Result ((Connected (FileStore D g) × ℕ) × R) E) → OpensHeld image opened.0 → OpensEmpty image opened.0
+      → (HasCleanDisk (file_state opened.0) → LeavesShown (file_state opened.0)) → (HasCleanDisk (file_state opened.0) → LeavesNoOther (file_state opened.0))
+      → IfOk result (λ left. WasServed (sql_meaning over_files) most settings opened left.0) → IfOk result (λ left. ServesOpened image settings most left.0)
+  opened_serves image settings most opened (Ok left) held empty sound alone served =
+      record { opened = opened; held = held; empty = empty; sound = sound; alone = alone; served = served }
+  opened_serves image settings most opened (Err fault) held empty sound alone served = tt
+
   -- so of what comes back, where the files do
   pub closes_ok : {R E : Type 0} (image : Image) (settings : Settings) (most : ℕ) (old new : Connected (FileStore D g) × ℕ) (result : Result (Files D × R) E)
-      → OpensHeld image old.0 → OpensBlank image old.0 → WasServed (sql_meaning over_files) most settings old new
+      → OpensHeld image old.0 → OpensEmpty image old.0 → WasServed (sql_meaning over_files) most settings old new
       → IfOk result (λ left. AreClean g left.0.log left.0.db → IsCopied new.0 left.0) → IfOk result (λ left. ServesFiles g image settings most left.0)
   closes_ok image settings most old new (Ok left) held blank served copied = closes image settings most old new left.0 held blank served copied
   closes_ok image settings most old new (Err fault) held blank served copied = tt
@@ -64,13 +75,34 @@ kept_served {S = S} M settings old new keeps =
     let first : DeskOf S = record { shelf = old; settings = settings } in
     (keeps.before, (settings, served_still M 0 first first (record { shelf = new; settings = settings }) (served_none M 0 first) keeps refl))
 
-settings_stay : (steps : List Step) (h : Held) → (office_left office_answers h steps).settings ≡ h.settings
+pub settings_stay : (steps : List Step) (h : Held) → (office_left office_answers h steps).settings ≡ h.settings
 settings_stay [] h = refl
 settings_stay (x ∷ steps) h = settings_stay steps (office_answers.after x.busy h x.block)
 
-pub days_follow : DaysFollow
-days_follow settings first mid last n m before behind h are stands =
-    let (xs, few, there) = before h are stands in
-    let (ys, more, left) = behind (office_left office_answers h xs) (settings_stay xs h ∙ are) there in
+-- what is left after so many steps, on two days
+abbrev LeftIn : Image → ℕ → Held → Type 0
+LeftIn last most h = (steps : List Step) × (length steps ≤ most) × StandsIn last (office_left office_answers h steps)
+
+both_days : (last : Image) (n m : ℕ) (h : Held) (xs : List Step) → length xs ≤ n → LeftIn last m (office_left office_answers h xs) → LeftIn last (n + m) h
+both_days last n m h xs few (ys, more, left) =
     let bound : length (xs ++ ys) ≤ n + m = rw (length-append xs ys) (omega (arith, few, more)) in
     (xs ++ ys, bound, subst (StandsIn last) (sym (office_on office_answers xs ys h)) left)
+
+days_closed : (settings : Settings) (first mid last : Image) (n m : ℕ) → GoesOnIn first settings n mid → GoesOnIn mid settings m last → GoesOnIn first settings (n + m) last
+days_closed settings first mid last n m before behind h are stands =
+    let (xs, few, there) = before h are stands in
+    both_days last n m h xs few (behind (office_left office_answers h xs) (settings_stay xs h ∙ are) there)
+
+-- a day of either end, as one that ends by a stop
+as_stopped : (settings : Settings) (first last : Image) (n : ℕ) → DayIn first settings n last → StopsIn first settings n last
+as_stopped settings first last n (inl closed) = λ h are stands. ∣ closed h are stands ∣₁
+as_stopped settings first last n (inr stopped) = stopped
+
+days_stopped : (settings : Settings) (first mid last : Image) (n m : ℕ) → DayIn first settings n mid → DayIn mid settings m last → StopsIn first settings (n + m) last
+days_stopped settings first mid last n m before behind h are stands =
+    ∥∥₁_elim (as_stopped settings first mid n before h are stands) squash₁ (λ (one : LeftIn mid n h).
+    ∥∥₁_map (as_stopped settings mid last m behind (office_left office_answers h one.0) (settings_stay one.0 h ∙ are) one.2)
+    (λ (other : LeftIn last m (office_left office_answers h one.0)). both_days last n m h one.0 one.1 other))
+
+pub days_follow : DaysFollow
+days_follow = record { closed = days_closed; stopped = days_stopped }

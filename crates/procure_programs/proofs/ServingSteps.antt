@@ -5,7 +5,7 @@ use Rattle.office_base.specs.Shelves.{Keeps, Meaning}
 use Rattle.office_base.specs.Tables.{Tables}
 use Rattle.office_desk.specs.Desks.{DeskOf}
 use Rattle.office_wire.specs.Runs.{Answers, IsOneAtMost, Step, office_left}
-use Rattle.office_http.specs.Answering.{Held, LeftAfter, StandsAs, is_accepted, meant_in, office_answers, tables_after}
+use Rattle.office_http.specs.Answering.{Held, IsWholeAfter, LeftAfter, StandsAs, is_accepted, meant_in, office_answers}
 use Rattle.office_http.specs.Joined.{StepsAreKept}
 use Rattle.office_http.specs.Stops.{LeftBySteps, StopsBy, StopsOnce}
 use Rattle.procure_programs.specs.Serving.{KeepsServing, Serves, WasServed}
@@ -30,15 +30,15 @@ left_weaker true true First Before IsAfter more (inl left) = inl (more left)
 left_weaker true true First Before IsAfter more (inr whole) = inr whole
 
 -- of one step, by what it could leave before
-abbrev left_by : (Tables → Type 0) → Held → Step → Tables → Type 0
-left_by Before h x v = LeftAfter (is_accepted h.tables x.block.moment (meant_in h x.block)) x.busy (Before v) (v ≡ tables_after h.settings h.tables x.block.moment (meant_in h x.block))
+abbrev pub left_by : (Tables → Type 0) → Held → Step → Tables → Type 0
+left_by Before h x v = LeftAfter (is_accepted h.tables x.block.moment (meant_in h x.block)) x.busy (Before v) (IsWholeAfter h.settings h.tables x.block.moment (meant_in h x.block) v)
 
 left_more : (steps : List Step) (h : Held) (First Before : Tables → Type 0) → ((v : Tables) → Before v → First v)
     → (u : Tables) → LeftBySteps Before h steps u → LeftBySteps First h steps u
 left_more [] h First Before more u it = more u it
 left_more (x ∷ steps) h First Before more u it =
     left_more steps (office_answers.after x.busy h x.block) (left_by First h x) (left_by Before h x)
-    (λ v. left_weaker (is_accepted h.tables x.block.moment (meant_in h x.block)) x.busy (First v) (Before v) (v ≡ tables_after h.settings h.tables x.block.moment (meant_in h x.block)) (more v))
+    (λ v. left_weaker (is_accepted h.tables x.block.moment (meant_in h x.block)) x.busy (First v) (Before v) (IsWholeAfter h.settings h.tables x.block.moment (meant_in h x.block) v) (more v))
     u it
 
 left_on : (xs ys : List Step) (h : Held) (Before : Tables → Type 0) (u : Tables)

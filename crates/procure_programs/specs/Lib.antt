@@ -1,3 +1,6 @@
 pub mod Turns
 pub mod Showing
 pub mod Serving
+pub mod Blank
+pub mod PageSize
+pub mod Placed

@@ -5,7 +5,12 @@ use Rattle.sqlite_disk.specs.declared.Files.{Files}
 use Rattle.sqlite_wal.specs.Files.{outcomes}
 use Rattle.sqlite_wal.specs.Reads.{AreClean}
 use Rattle.sqlite_wal.specs.Recovery.{Image}
-use Rattle.sqlite.specs.Files.{image_of}
+use Rattle.sqlite_store.specs.declared.store.FileStore.{FileStore}
+use Rattle.sqlite_store.specs.FileStore.{state, view}
+use Rattle.sqlite_trees.specs.View.{IsClean}
+use Rattle.sqlite.specs.Files.{file_state, image_of, over_files}
+use Rattle.sqlite.specs.Held.{Held as Connected}
+use Rattle.sqlite.specs.State.{HasCleanDisk}
 use Rattle.office_values.specs.declared.settings.Settings.{Settings}
 use Rattle.office_base.specs.Shelves.{Meaning}
 use Rattle.office_base.specs.Tables.{Tables, IsSorted, no_tables}
@@ -14,11 +19,13 @@ use Rattle.office_publications.specs.Publishing.{publishing}
 use Rattle.office_publications.specs.Standing.{Stands}
 use Rattle.office_desk.specs.Desks.{DeskOf}
 use Rattle.office_desk.specs.Steps.{IsKept}
-use Rattle.office_store.specs.Reopening.{HoldsOffice}
+use Rattle.office_store.specs.Reopening.{HoldsOffice, OpensHeld}
+use Rattle.office_store.specs.SqlMeaning.{LeavesNoOther, LeavesShown, sql_meaning}
 use Rattle.office_wire.specs.Runs.{Step, office_left}
 use Rattle.office_http.specs.Answering.{Held, StandsAs, office_answers}
 use Rattle.office_http.specs.Joined.{joined_steps}
 use Rattle.office_http.specs.Stops.{StopsBy}
+use Rattle.procure_programs.specs.Placed.{HoldNothing, OpensEmpty}
 
 -- the office after so many steps at most, and what a stop may leave of it by then
 abbrev pub Serves : {S : Type 0} → Meaning S → ℕ → DeskOf S → DeskOf S → Type 0
@@ -32,6 +39,16 @@ WasServed M most settings old new =
     (M.honest new → M.honest old)
     × ((now : Settings) × Serves M most (record { shelf = old; settings = settings }) (record { shelf = new; settings = now }))
 
+-- an office was opened in two files with these bytes and served under these settings, and this shelf is left: what they had was shown, and a stop could leave that
+-- and nothing else
+pub record ServesOpened {D : Type 0} {g : Ghosts D} (image : Image) (settings : Settings) (most : ℕ) (left : Connected (FileStore D g) × ℕ) : Type 0 where
+  pub opened : Connected (FileStore D g) × ℕ
+  pub held : OpensHeld image opened.0
+  pub empty : OpensEmpty image opened.0
+  pub sound : HasCleanDisk (file_state opened.0) → LeavesShown (file_state opened.0)
+  pub alone : HasCleanDisk (file_state opened.0) → LeavesNoOther (file_state opened.0)
+  pub served : WasServed (sql_meaning over_files) most settings opened left
+
 -- so it is, and all accepted commands, these joined, are kept
 abbrev pub KeepsServing : {S : Type 0} → Meaning S → ℕ → DeskOf S → DeskOf S → Type 0
 KeepsServing M most old new =
@@ -39,9 +56,9 @@ KeepsServing M most old new =
     → (steps : List Step) × (length steps ≤ most) × StandsAs M new (office_left office_answers h steps)
     × IsKept h.settings (joined_steps h steps xs) (office_left office_answers h steps).tables
 
--- two files with these bytes have an office with this content: they hold it, or there is no byte in the file, and it is the empty one
+-- two files with these bytes have an office with this content: they hold it, or they hold nothing yet, and it is the empty one
 abbrev pub HaveOffice : Image → Tables → Type 0
-HaveOffice image t = HoldsOffice image t ⊎ ((length image.db ≡ 0) × (t ≡ no_tables))
+HaveOffice image t = HoldsOffice image t ⊎ (HoldNothing image × (t ≡ no_tables))
 
 -- an office stands in two files with these bytes, as its commands left it
 abbrev pub StandsIn : Image → Held → Type 0
@@ -52,6 +69,16 @@ abbrev pub GoesOnIn : Image → Settings → ℕ → Image → Type 0
 GoesOnIn first settings most last =
     (h : Held) → h.settings ≡ settings → StandsIn first h
     → (steps : List Step) × (length steps ≤ most) × StandsIn last (office_left office_answers h steps)
+
+-- Under these settings an office goes on from one pair of files to another that a stop left, by so many steps at most, each of them whole.
+abbrev pub StopsIn : Image → Settings → ℕ → Image → Type 0
+StopsIn first settings most last =
+    (h : Held) → h.settings ≡ settings → StandsIn first h
+    → ∥ ((steps : List Step) × (length steps ≤ most) × StandsIn last (office_left office_answers h steps)) ∥₁
+
+-- a day goes from one pair of files to the other: these were closed in the end, or a stop left them
+abbrev pub DayIn : Image → Settings → ℕ → Image → Type 0
+DayIn first settings most last = GoesOnIn first settings most last ⊎ StopsIn first settings most last
 
 -- what is found of two files: what they read as, or what a stop leaves of them, with the log or without it
 abbrev pub MayBeFound : {D : Type 0} → Ghosts D → Files D → Image → Type 0
@@ -64,8 +91,14 @@ abbrev pub ServesFiles : {D : Type 0} → Ghosts D → Image → Settings → �
 ServesFiles g image settings most files =
     AreClean g files.log files.db → (now : Image) → MayBeFound g files now → GoesOnIn image settings most now
 
--- Where a run finds the files as another left them, both are one run.
-abbrev pub DaysFollow : Type 0
-DaysFollow =
-    (settings : Settings) (first mid last : Image) (n m : ℕ) → GoesOnIn first settings n mid → GoesOnIn mid settings m last
-    → GoesOnIn first settings (n + m) last
+-- The office in two files was served by so many steps at most, and a stop came before they were closed. Where the disk gave back what was written, the office goes
+-- on in whatever the stop leaves of these files: the log and the database file together.
+abbrev pub StopsFiles : {D : Type 0} {g : Ghosts D} → Image → Settings → ℕ → FileStore D g → Type 0
+StopsFiles image settings most store = IsClean (view store) → (now : Image) → (state store).may_leave now → StopsIn image settings most now
+
+-- Where a day finds the files as another left them, both are one; and so it is of days that end by a stop, whichever of them do.
+pub record DaysFollow : Type 0 where
+  pub closed : (settings : Settings) (first mid last : Image) (n m : ℕ) → GoesOnIn first settings n mid → GoesOnIn mid settings m last
+      → GoesOnIn first settings (n + m) last
+  pub stopped : (settings : Settings) (first mid last : Image) (n m : ℕ) → DayIn first settings n mid → DayIn mid settings m last
+      → StopsIn first settings (n + m) last

@@ -1,11 +1,14 @@
 //! What the programs do: they answer the standard input, serve an office that is kept over connections, and show what the public may see of it.
 #![tactic(auto)]
 
+pub mod blank;
 pub mod clock;
 pub mod config;
 pub mod desk;
 mod kept;
 pub mod laws;
+pub mod placing;
+pub mod room;
 pub mod serving;
 pub mod showing;
 pub mod store;

@@ -3,39 +3,42 @@ ghost use Rattle.std.specs.Prelude.{IfOk};
 ghost use Rattle.sqlite_wal.specs.Files.{image_at};
 ghost use Rattle.sqlite_wal.specs.Reads.{AreClean};
 ghost use Rattle.sqlite.specs.Closing.{IsCopied};
+ghost use Rattle.sqlite.specs.Files.{file_state};
+ghost use Rattle.sqlite.specs.State.{HasCleanDisk};
 ghost use Rattle.office_base.specs.Shelves.{Keeps};
-ghost use Rattle.office_store.specs.Reopening.{OpensBlank, OpensHeld};
-ghost use Rattle.office_store.specs.SqlMeaning.{sql_meaning};
-ghost use Rattle.procure_programs.specs.Serving.{ServesFiles, WasServed};
+ghost use Rattle.office_store.specs.Reopening.{OpensHeld};
+ghost use Rattle.office_store.specs.SqlMeaning.{LeavesNoOther, LeavesShown, sql_meaning};
+ghost use Rattle.procure_programs.specs.Placed.{OpensEmpty};
+ghost use Rattle.procure_programs.specs.Serving.{ServesFiles, ServesOpened, StopsFiles, WasServed};
 
 use crate::config::no_memory;
 use crate::kept::{print_office, serve_office};
+use crate::placing::place_empty;
+use crate::room::{page_size_at, room_for};
 use office_acts::queries::Query;
 use office_base::shelf::ShelfFault;
+use office_machine::laws::order;
 use office_store::found::OpenFault;
-use office_store::path::Room;
 use office_store::shelf::SqlShelf;
 use office_values::settings::Settings;
 use procure_config::fault::ProgramFault;
 use sqlite::{Alter, FileFrom, FileStore, Files, Start, Unknown};
 use sqlite_disk::Disk;
 
-/// How much of the office's file is kept in memory: 32 MiB of its pages; and how long its log grows: by 16 MiB.
-pub const ROOM: Room = Room {
-    pages: 8_192,
-    frames: 4_096,
-};
-
-// The office in a file, or a new one where nothing of an office stands there.
+// The office in a file, or a new one where nothing of an office stands there: in a new file, whose pages are small, where there is none.
 fn open_office<S: Start>(
     rt: &HostRuntime,
     path: &str,
     start: S,
 ) -> Result<SqlShelf<FileStore<FileFrom<S>>>, ProgramFault>
     ensures held { IfOk result (λ shelf. OpensHeld (image_at S.Start) shelf.0) }
-    ensures blank { IfOk result (λ shelf. OpensBlank (image_at S.Start) shelf.0) }
+    ensures empty { IfOk result (λ shelf. OpensEmpty (image_at S.Start) shelf.0) }
+    ensures sound { IfOk result (λ shelf. HasCleanDisk (file_state shelf.0) → LeavesShown (file_state shelf.0)) }
+    ensures alone { IfOk result (λ shelf. HasCleanDisk (file_state shelf.0) → LeavesNoOther (file_state shelf.0)) }
 {
-    match SqlShelf::open_from(rt, path, start, ROOM) {
+    place_empty(rt, path)?;
+    let room = room_for(page_size_at(rt, path));
+    match SqlShelf::open_from(rt, path, start, room) {
         Ok(shelf) => Ok(shelf),
         Err((OpenFault::NoMemory, _)) => Err(no_memory()),
         Err((OpenFault::Store | OpenFault::NotAnOffice, _)) => Err(ProgramFault::Store),
@@ -74,7 +77,7 @@ fn serve_shelf<A: Alter + Drop>(
     serve_office(rt, settings, shelf, port, count)
 }
 
-// For the same reason.
+// Generic in the store as `serve_shelf` is, and for the same reason.
 fn print_shelf<A: Alter + Drop>(
     rt: &HostRuntime,
     settings: Settings,
@@ -86,8 +89,40 @@ fn print_shelf<A: Alter + Drop>(
     print_office(rt, settings, shelf, query)
 }
 
+// Opens the office in a file and serves so many connections from it.
+fn serve_open<S: Start>(
+    rt: &HostRuntime,
+    settings: Settings,
+    path: &str,
+    start: S,
+    port: u16,
+    count: u32,
+) -> Result<(SqlShelf<FileStore<FileFrom<S>>>, Result<(), ProgramFault>), ProgramFault>
+    ensures { IfOk result (λ left. ServesOpened (image_at S.Start) settings count left.0) }
+{
+    let shelf = open_office(rt, path, start)?;
+    serve_shelf(rt, settings, shelf, port, count)
+}
+
+/// What a stop leaves of `serve_from`, be it between two connections or, where the disk takes nothing from some call on, at any write of a
+/// command: it goes as far as that, and its files aren't closed. From whatever then stands in them the next day goes on.
+pub fn stop_from<S: Start>(
+    rt: &HostRuntime,
+    settings: Settings,
+    path: &str,
+    start: S,
+    port: u16,
+    count: u32,
+) -> Result<(FileStore<FileFrom<S>>, Result<(), ProgramFault>), ProgramFault>
+    ensures stops { IfOk result (λ left. StopsFiles (image_at S.Start) settings count left.0) }
+{
+    order();
+    let (shelf, served) = serve_open(rt, settings, path, start, port, count)?;
+    Ok((shelf.put_down(), served))
+}
+
 /// Serves so many connections from the office in a file, whatever its two files held: `S` stands for that. Gives the files back, which are
-/// closed, and what serving came to; or tells why there are none.
+/// closed, and what serving came to; or tells why there are none. What a stop leaves before they are closed is told of `stop_from`.
 pub fn serve_from<S: Start>(
     rt: &HostRuntime,
     settings: Settings,
@@ -98,8 +133,7 @@ pub fn serve_from<S: Start>(
 ) -> Result<(Files<FileFrom<S>>, Result<(), ProgramFault>), ProgramFault>
     ensures serves { IfOk result (λ left. ServesFiles ⟦<FileFrom<S> as Disk>⟧ (image_at S.Start) settings count left.0) }
 {
-    let shelf = open_office(rt, path, start)?;
-    let (shelf, served) = serve_shelf(rt, settings, shelf, port, count)?;
+    let (shelf, served) = serve_open(rt, settings, path, start, port, count)?;
     close_office(shelf, served)
 }
 

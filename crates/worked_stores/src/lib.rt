@@ -4,6 +4,8 @@
 #[cfg(test)]
 mod changes;
 #[cfg(test)]
+mod days;
+#[cfg(test)]
 mod earlier;
 #[cfg(test)]
 mod earlier_file;

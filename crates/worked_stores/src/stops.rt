@@ -5,6 +5,7 @@ use crate::life::{LIFE, NO_LINE, TWO_LINES};
 use crate::stores::{all_changed, ledger_in, made, opened, rows_in};
 use office_base::puts::Put;
 use office_on_disks::disks::Disks;
+use office_on_disks::office::{OfficeOnDisks, Unopened};
 use std::alloc::Global;
 use transcripts::session::Wrong;
 
@@ -24,18 +25,26 @@ struct Ending {
     disks: Disks,
 }
 
-// Opens an office, and makes a command's changes. None where it can't even be opened.
-fn ended(alloc: Global, disks: Disks, puts: &[Put]) -> Result<Option<Ending>, Wrong> {
-    let Ok(mut office) = opened(alloc, disks) else {
-        return Ok(None);
+// Opens an office, and makes a command's changes. Where it can't even be opened, its files are as that left them.
+fn ended(alloc: Global, disks: Disks, puts: &[Put]) -> Result<Ending, Wrong> {
+    let mut office = match OfficeOnDisks::open(alloc, disks) {
+        Ok(office) => office,
+        Err(Unopened::NotAnOffice(_)) => return Err(Wrong::NotAnOffice),
+        Err(Unopened::Unusable(disks)) => {
+            return Ok(Ending {
+                is_done: false,
+                is_closed: false,
+                disks,
+            });
+        }
     };
     let is_done = office.apply(copied(alloc, puts)?);
     let (is_closed, disks) = office.put_down();
-    Ok(Some(Ending {
+    Ok(Ending {
         is_done,
         is_closed,
         disks,
-    }))
+    })
 }
 
 // All rows of the office that a process leaves on these disks.
@@ -45,10 +54,11 @@ fn rows_left(alloc: Global, disks: &Disks) -> Result<Vec<u8>, Wrong> {
 
 // All rows of the office in these files behind these changes.
 fn rows_behind(alloc: Global, disks: &Disks, puts: &[Put]) -> Result<Vec<u8>, Wrong> {
-    match ended(alloc, disks.left_by_the_process(alloc)?, puts)? {
-        Some(whole) => rows_left(alloc, &whole.disks),
-        None => Err(Wrong::Unopened),
+    let whole = ended(alloc, disks.left_by_the_process(alloc)?, puts)?;
+    if !whole.is_closed {
+        return Err(Wrong::Unopened);
     }
+    rows_left(alloc, &whole.disks)
 }
 
 // What these changes make of the office in these files.
@@ -108,9 +118,7 @@ fn is_whole(
     disks: Disks,
     calls: u64,
 ) -> Result<bool, Wrong> {
-    let Some(ending) = ended(alloc, disks, change.puts)? else {
-        return Ok(false);
-    };
+    let ending = ended(alloc, disks, change.puts)?;
     let is_whole = ending.is_closed;
     if look_at(alloc, found, change, ending)? {
         Ok(is_whole)

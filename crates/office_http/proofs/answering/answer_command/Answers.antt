@@ -1,7 +1,7 @@
-use Rattle.std.proofs.Common.{◌∙◌, ap, ℕ, List, inr}
+use Rattle.std.proofs.Common.{◌∙◌, ap, ℕ, List, inl, inr}
 use Rattle.office_http.specs.Response.{response_of}
 use Rattle.office_http.specs.declared.reply.Reply.TheVariants.{Json}
-use Rattle.office_http.proofs.AnswerSteps.{command_done, command_refused}
+use Rattle.office_http.proofs.AnswerSteps.{command_done, command_refused, command_undone}
 use Rattle.office_http.proofs.answering.answer_command.Goals as goal
 
 pub returns-in-Err-clause-answered : goal.returns-in-Err-clause-answered
@@ -21,3 +21,13 @@ returns-in-Ok-commit-clause-answered g c honest s held stands can =
 
 pub returns-in-Ok-commit-clause-changes : goal.returns-in-Ok-commit-clause-changes
 returns-in-Ok-commit-clause-changes g c honest s held = inr (_, c.built.ensures ∙ c.in-Ok-accepted_response.ensures)
+
+pub returns-in-Err-commit-clause-answered : goal.returns-in-Err-commit-clause-answered
+returns-in-Err-commit-clause-answered g c honest s held stands can =
+    let before = c.in-Err-commit.ensures.alters.before honest in
+    let looks = c.in-Ok.ensures.looks in
+    let here = looks.0.same before s held in
+    command_undone g.H.Lookups.meaning c.args.desk.now.settings c.args.desk.now.shelf c.commit.new.self.shelf s c.args.moment c.constant-in-Err-commit.result
+    c.keeping.ensures.reaches c.keeping.ensures.stays c.args.caller.now c.args.command c.in-Ok.planned (looks.1 before s held) can.1
+    (c.constant-in-Err-commit.ensures ∙ c.unavailable-in-Err-commit.ensures) (c.in-Err-commit.ensures.alters.none honest s here, stands)
+    (λ u left. elim (c.in-Err-commit.ensures.alters.stop_none honest u left) [ inl was ↦ inl (looks.0.stop before u was) | inr done ↦ inr (done s here) ])

@@ -9,6 +9,6 @@ returns g c =
     let opened = c.in_ok-shelf.shelf in
     let left = c.print_shelf-shelf.result.0 in
     record {
-      keeps = closes_ok (image_at g.S.Start) c.args.settings 0 opened left c.close_office.result c.in_ok-shelf.ensures.held c.in_ok-shelf.ensures.blank
+      keeps = closes_ok (image_at g.S.Start) c.args.settings 0 opened left c.close_office.result c.in_ok-shelf.ensures.held c.in_ok-shelf.ensures.empty
           (kept_served (sql_meaning over_files) c.args.settings opened left c.print_shelf-shelf.ensures) c.close_office.ensures;
     }

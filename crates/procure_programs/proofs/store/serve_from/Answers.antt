@@ -3,7 +3,8 @@ use Rattle.procure_programs.proofs.OpenedFiles.{closes_ok}
 use Rattle.procure_programs.proofs.store.serve_from.Goals as goal
 
 pub returns : goal.returns
-returns g c = record {
-  serves = closes_ok (image_at g.S.Start) c.args.settings c.args.count c.in_ok-shelf.shelf c.in_ok-shelf-2.shelf c.close_office.result
-      c.in_ok-shelf.ensures.held c.in_ok-shelf.ensures.blank c.in_ok-shelf-2.ensures c.close_office.ensures;
-}
+returns g c =
+    let it = c.in_ok-shelf.ensures in
+    record {
+      serves = closes_ok (image_at g.S.Start) c.args.settings c.args.count it.opened c.in_ok-shelf.shelf c.close_office.result it.held it.empty it.served c.close_office.ensures;
+    }

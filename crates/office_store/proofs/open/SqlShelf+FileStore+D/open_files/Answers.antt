@@ -2,7 +2,7 @@ use Rattle.std.proofs.Common.{arith, inl, inr}
 use Rattle.sqlite.specs.Files.{file_state, over_files}
 use Rattle.sqlite.specs.State.{HasCleanDisk}
 use Rattle.office_store.proofs.Founding.{enters_bare}
-use Rattle.office_store.proofs.Reopening.{bare_schema, closed_holds, finds_in, found_now, held_shown, turned_away, usable_left}
+use Rattle.office_store.proofs.Reopening.{bare_schema, closed_holds, finds_in, found_now, held_shown, leaves_no_other, turned_away, usable_left}
 use Rattle.office_store.proofs.open.SqlShelf+FileStore+D.open_files.Goals as goal
 
 pub returns-in-Ok-enter-clause-is_open : goal.returns-in-Ok-enter-clause-is_open
@@ -10,6 +10,10 @@ returns-in-Ok-enter-clause-is_open g c clean = c.in-Ok-enter.ensures.is_open cle
 
 pub returns-in-Ok-enter-clause-sound : goal.returns-in-Ok-enter-clause-sound
 returns-in-Ok-enter-clause-sound g c clean t shows = c.in-Ok-enter.ensures.sound clean t shows
+
+pub returns-in-Ok-enter-clause-alone : goal.returns-in-Ok-enter-clause-alone
+returns-in-Ok-enter-clause-alone g c clean =
+    leaves_no_other c.enter.new.conn c.trees_tell_one_office.ensures g.met.D.Disk.seen_may_stay (c.in-Ok-enter.ensures.is_open clean)
 
 pub returns-in-Ok-enter-clause-held : goal.returns-in-Ok-enter-clause-held
 returns-in-Ok-enter-clause-held g c clean t holds =

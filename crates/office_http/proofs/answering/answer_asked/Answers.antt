@@ -1,0 +1,23 @@
+use Rattle.std.proofs.Common.{rules, ◌≡◌, None, Result, Ok, Err, refl, subst}
+use Rattle.office_values.specs.declared.refusal.Refusal.{Refusal}
+use Rattle.office_requests.specs.declared.asked.Asked.{Asked}
+use Rattle.office_requests.specs.declared.asked.Asked.TheVariants.{Does}
+use Rattle.office_http.specs.Inside.Meant.{AnswersMeant}
+use Rattle.office_http.specs.Meaning.{Refuses, meant_asked}
+use Rattle.office_http.proofs.AnswerSteps.{is_refused}
+use Rattle.office_http.proofs.answering.answer_asked.Goals as goal
+
+pub returns-in-Ok-Does-clause-answered : goal.returns-in-Ok-Does-clause-answered
+returns-in-Ok-Does-clause-answered g c =
+    let is : Ok (Does c.in-Ok-Does.command) ≡ c.args.asked = search rules in
+    subst (λ (a : Result Asked Refusal). AnswersMeant g.H.Lookups.meaning c.args.desk.now.settings c.args.desk.now.shelf c.answer_command.new.desk.shelf c.args.moment
+    (λ s. meant_asked c.args.caller.now a) c.answer_command.result) is c.answer_command.ensures.answered
+
+pub returns-in-Err-clause-answered : goal.returns-in-Err-clause-answered
+returns-in-Err-clause-answered g c =
+    let is : Err c.in-Err.refusal ≡ c.args.asked = search rules in
+    subst (λ (a : Result Asked Refusal). AnswersMeant g.H.Lookups.meaning c.args.desk.now.settings c.args.desk.now.shelf c.args.desk.now.shelf c.args.moment
+    (λ s. meant_asked c.args.caller.now a) c.refuse.result) is
+    (λ honest s held stands can.
+    is_refused g.H.Lookups.meaning c.args.desk.now.settings c.args.desk.now.shelf c.args.desk.now.shelf s c.args.moment c.refuse.result (Refuses c.in-Err.refusal None)
+    c.in-Err.refusal None refl refl refl c.refuse.ensures (held, stands) (λ u left. left))

@@ -1,0 +1,85 @@
+-- An office that was served from files goes on from what a stop leaves of them.
+use Rattle.std.proofs.Common.{◌≡◌, ◌⊎◌, inl, inr, Bool, true, false, ℕ, ◌≤◌, List, [], ◌∷◌, length, sym, subst, arith}
+use Rattle.std.proofs.Math.Logic.{∥∥₁_map}
+use Rattle.sqlite_disk.specs.declared.Disk.{Ghosts}
+use Rattle.sqlite_wal.specs.Recovery.{Image}
+use Rattle.sqlite_store.specs.declared.store.FileStore.{FileStore}
+use Rattle.sqlite.specs.Held.{Held as Connected}
+use Rattle.sqlite.specs.Files.{file_state, over_files}
+use Rattle.sqlite.specs.State.{HasCleanDisk}
+use Rattle.office_values.specs.declared.settings.Settings.{Settings}
+use Rattle.office_base.specs.Tables.{Tables}
+use Rattle.office_machine.specs.Accounts.{TablesAreInOrder}
+use Rattle.office_publications.specs.Publishing.{publishing}
+use Rattle.office_publications.specs.Standing.{Stands}
+use Rattle.office_sql.specs.Steps.{MayLeave}
+use Rattle.office_store.specs.Reopening.{HoldsOffice, IsPutDown, OpensHeld}
+use Rattle.office_store.specs.SqlMeaning.{LeavesNoOther, LeavesShown, sql_meaning}
+use Rattle.office_wire.specs.Runs.{Step, office_left}
+use Rattle.office_http.specs.Answering.{Held, IsWholeAfter, LeftAfter, is_accepted, meant_in, office_answers}
+use Rattle.office_http.specs.Stops.{LeftBySteps}
+use Rattle.procure_programs.specs.Placed.{OpensEmpty}
+use Rattle.procure_programs.specs.Serving.{StandsIn, StopsFiles, WasServed}
+use Rattle.procure_programs.proofs.OpenedFiles.{settings_stay, shows_files}
+use Rattle.procure_programs.proofs.ServingSteps.{left_by}
+
+-- ---- what is left by steps
+
+-- these tables are those of an office after so many of its steps, and stand as their commands left them
+record IsLeftWhole (h : Held) (most : ℕ) (u : Tables) : Type 0 where
+  done : List Step
+  few : length done ≤ most
+  is : u ≡ (office_left office_answers h done).tables
+  stands : Stands h.settings u
+
+-- one step leaves what was before it, or what is after it
+left_or_whole : (accepted busy : Bool) (Before IsAfter : Type 0) → LeftAfter accepted busy Before IsAfter → Before ⊎ IsAfter
+left_or_whole false busy Before IsAfter left = inl left
+left_or_whole true false Before IsAfter left = inr left
+left_or_whole true true Before IsAfter left = left
+
+whole_step : (x : Step) (steps : List Step) (h : Held) (u : Tables) → IsWholeAfter h.settings h.tables x.block.moment (meant_in h x.block) u → IsLeftWhole h (length (x ∷ steps)) u
+whole_step x steps h u (is, stands) = record { done = record x { busy = false } ∷ []; few = omega arith; is = is; stands = stands }
+
+step_on : (x : Step) (steps : List Step) (h : Held) (u : Tables) → IsLeftWhole (office_answers.after x.busy h x.block) (length steps) u → IsLeftWhole h (length (x ∷ steps)) u
+step_on x steps h u it = record { done = x ∷ it.done; few = omega (arith, it.few); is = it.is; stands = it.stands }
+
+-- what steps leave was left before them, or is whole
+left_whole : (steps : List Step) (h : Held) (Before : Tables → Type 0) (u : Tables) → LeftBySteps Before h steps u → Before u ⊎ IsLeftWhole h (length steps) u
+left_whole [] h Before u left = inl left
+left_whole (x ∷ steps) h Before u left = elim (left_whole steps (office_answers.after x.busy h x.block) (left_by Before h x) u left) [
+  | inl here ↦ elim (left_or_whole (is_accepted h.tables x.block.moment (meant_in h x.block)) x.busy (Before u) (IsWholeAfter h.settings h.tables x.block.moment (meant_in h x.block) u) here) [
+    | inl before ↦ inl before
+    | inr whole ↦ inr (whole_step x steps h u whole)
+  ]
+  | inr more ↦ inr (step_on x steps h u more)
+]
+
+-- ---- in files
+
+module _ {D : Type 0} {g : Ghosts D} (image : Image) (settings : Settings) (most : ℕ) (old new : Connected (FileStore D g) × ℕ) (store : FileStore D g) where
+  pub stops : TablesAreInOrder → OpensHeld image old.0 → OpensEmpty image old.0 → (HasCleanDisk (file_state old.0) → LeavesShown (file_state old.0))
+      → (HasCleanDisk (file_state old.0) → LeavesNoOther (file_state old.0)) → WasServed (sql_meaning over_files) most settings old new → IsPutDown new.0 store
+      → StopsFiles image settings most store
+  stops order held empty shown alone (before, (_, serves)) put clean now may h are (sorted, has, stands) =
+      let honest : HasCleanDisk (file_state new.0) = put.clean clean in
+      let early : HasCleanDisk (file_state old.0) = before honest in
+      let shows = shows_files image old.0 held empty early h.tables has in
+      let (steps, few, _, stop) = serves honest h ((sym are, (sorted, shows)), stands) in
+      ∥∥₁_map (put.left clean (stop.sound (shown early h.tables shows)) now may) (λ found.
+      let u : Tables = found.0 in
+      elim (left_whole steps h (λ t. MayLeave (file_state old.0) t) u (stop.left u found.1)) [
+        | inl was ↦ (
+          [],
+          omega arith,
+          (sorted, inl (subst (HoldsOffice now) (alone early h.tables shows u was) found.2), stands),
+        )
+        | inr whole ↦
+            let k : Held = office_left office_answers h whole.done in
+            let same : k.settings ≡ h.settings = settings_stay whole.done h in
+            let there : Stands k.settings k.tables = subst (λ (s : Settings). Stands s k.tables) (sym same) (subst (Stands h.settings) whole.is whole.stands) in (
+              whole.done,
+              omega (arith, whole.few, few),
+              (order (publishing k.settings) there.commands k.tables there.reaches, inl (subst (HoldsOffice now) whole.is found.2), there),
+            )
+      ])

@@ -1,0 +1,8 @@
+use Rattle.sqlite_wal.specs.Files.{image_at}
+use Rattle.procure_programs.proofs.OpenedFiles.{opened_serves}
+use Rattle.procure_programs.proofs.store.serve_open.Goals as goal
+
+pub returns : goal.returns
+returns g c =
+    let it = c.in_ok-shelf.ensures in
+    opened_serves (image_at g.S.Start) c.args.settings c.args.count c.in_ok-shelf.shelf c.serve_shelf.result it.held it.empty it.sound it.alone c.serve_shelf.ensures
