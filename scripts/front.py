@@ -52,7 +52,8 @@ def adapted(text: str, changes: Iterable[tuple[str, int, str]]) -> str:
 
 
 class Front:
-    """nginx over the office at a port, with a certificate that it signed itself; ended behind a `with`. More of its file may be changed than what is adapted."""
+    """nginx over the office at a port, with a certificate that it signed itself; ended behind a `with`. More of its file may be changed than what is
+    adapted."""
 
     def __init__(self, folder: str, office: int, more: Iterable[tuple[str, int, str]] = ()) -> None:
         self.folder, self.office, self.port, self.plain_port = folder, office, free_port(), free_port()
