@@ -16,10 +16,10 @@ import sys
 
 sys.dont_write_bytecode = True
 sys.path.insert(0, os.path.join(os.path.dirname(os.path.dirname(os.path.realpath(__file__))), "scripts"))
+from common import ROOT
 from crates import crates_of
 from gate_table import is_raw
 
-ROOT = os.path.dirname(os.path.dirname(os.path.abspath(__file__)))
 # What a check takes of processor time where so many run side by side, to one that runs alone.
 SLOWER = {1: 1.0, 2: 1.12, 3: 1.19, 4: 1.25}
 # The part of a check that only one of its jobs can do, where the table doesn't tell it.

@@ -181,6 +181,19 @@ def exchange(port: int, text: bytes, patience: float = 0, ends: bool = False) ->
         return read_all(stream), time.perf_counter() - begun
 
 
+def what_came(port: int, text: bytes) -> bytes:
+    """The response to these bytes, or what came of it before the connection broke: nothing where there was none."""
+    parts = []
+    try:
+        with socket.create_connection((HOST, port)) as stream:
+            stream.sendall(text)
+            while part := stream.recv(1 << 16):
+                parts.append(part)
+    except OSError:
+        pass
+    return b"".join(parts)
+
+
 def timed_exchange(port: int, text: bytes, patience: float = 0) -> tuple[bytes, float]:
     """The body of a response, whose status must be 200, and the seconds that it took."""
     response, took = exchange(port, text, patience)

@@ -3,7 +3,9 @@
 Read by tools/calls, tools/reading and tools/check_promises.
 """
 import re
+from collections.abc import Sequence
 from functools import lru_cache
+from pathlib import Path
 
 from definitions import ROOT, text_of
 
@@ -14,32 +16,36 @@ CLAUSE = re.compile(r"^( *)(requires|ensures)(?: (\w+))? \{", re.MULTILINE)
 HANDED_ON = re.compile(r"^pub use (?:crate::)?(\w+)::(?:\{([^}]*)\}|(\w+));", re.MULTILINE)
 MODULE = re.compile(r"^(pub(?:\([^)]*\))? )?mod (\w+);", re.MULTILINE)
 
+# An owner, whether it is a trait, and whether it is an `impl` of a trait.
+Block = tuple[str, bool, bool]
+
 
 class Clause:
     """A clause: `ensures` or `requires`, its name or an empty text, and what it says."""
 
-    def __init__(self, kind, name, text):
+    def __init__(self, kind: str, name: str, text: str) -> None:
         self.kind, self.name, self.text = kind, name, text
 
 
 class Call:
     """A function: its name, the type or trait that it is of (or an empty text), whether it is public, its comment, its text, and its clauses."""
 
-    def __init__(self, name, owner, is_public, doc):
+    def __init__(self, name: str, owner: str, is_public: bool, doc: str) -> None:
         self.name, self.owner, self.is_public, self.doc = name, owner, is_public, doc
-        self.text, self.clauses = "", []
+        self.text = ""
+        self.clauses: list[Clause] = []
 
-    def full_name(self):
+    def full_name(self) -> str:
         """As `Id::read`, or `best`."""
         return f"{self.owner}::{self.name}" if self.owner else self.name
 
 
-def folded(text):
+def folded(text: str) -> str:
     """A text with each run of spaces and line ends as one space."""
     return " ".join(text.split())
 
 
-def behind_brace(text, at):
+def behind_brace(text: str, at: int) -> int:
     """Where the block ends whose brace opens in front of this place."""
     depth = 1
     while depth and at < len(text):
@@ -48,7 +54,7 @@ def behind_brace(text, at):
     return at
 
 
-def clauses_in(text, indent):
+def clauses_in(text: str, indent: int) -> list[Clause]:
     """The clauses of a function's text: those that stand one step further in than the function."""
     found = []
     for clause in CLAUSE.finditer(text):
@@ -58,7 +64,7 @@ def clauses_in(text, indent):
     return found
 
 
-def without_generics(text):
+def without_generics(text: str) -> str:
     """A text without what stands in angle brackets; an arrow has none."""
     depth, made = 0, ""
     for at, letter in enumerate(text):
@@ -68,7 +74,7 @@ def without_generics(text):
     return made
 
 
-def owner_of(line):
+def owner_of(line: str) -> Block | None:
     """(owner, whether it is a trait, whether it is an `impl` of a trait) of a line that begins a block; None where it begins none."""
     found = BLOCK.match(line)
     if not found:
@@ -81,7 +87,7 @@ def owner_of(line):
     return name.split("::")[-1], False, of_trait
 
 
-def doc_above(lines, at):
+def doc_above(lines: Sequence[str], at: int) -> str:
     """The first paragraph of the `///` comment above a line, attributes left out."""
     first = at
     while first and re.match(r"\s*(?:///|#\[)", lines[first - 1]):
@@ -91,10 +97,11 @@ def doc_above(lines, at):
 
 
 @lru_cache(maxsize=None)
-def calls_of(path):
+def calls_of(path: Path) -> list[Call]:
     """The functions of a source, in their order, those in functions left out."""
     lines = text_of(path).split("\n")
-    starts, block = [], ("", False, False)
+    starts: list[tuple[int, re.Match[str], Block]] = []
+    block: Block = ("", False, False)
     for at, line in enumerate(lines):
         if line and not line[0].isspace():
             block = owner_of(line) or (("", False, False) if line[0] in "}" or FUNCTION.match(line) else block)
@@ -105,7 +112,7 @@ def calls_of(path):
     return [call_at(lines, at, end, found, block) for (at, found, block), end in zip(starts, ends)]
 
 
-def call_at(lines, at, end, found, block):
+def call_at(lines: Sequence[str], at: int, end: int, found: re.Match[str], block: Block) -> Call:
     """The function that begins at a line and ends before another."""
     owner, in_public_trait, of_trait = block
     call = Call(found[3], owner, not of_trait and (in_public_trait or found[2] == "pub "), doc_above(lines, at))
@@ -115,12 +122,12 @@ def call_at(lines, at, end, found, block):
 
 
 @lru_cache(maxsize=None)
-def sources_of(crate):
+def sources_of(crate: str) -> list[Path]:
     """The Rust sources of a crate."""
     return sorted((ROOT / "crates" / crate / "src").rglob("*.rt"))
 
 
-def is_reached(crate, path):
+def is_reached(crate: str, path: Path) -> bool:
     """Whether the module of a source is public from the crate's top."""
     folder = ROOT / "crates" / crate / "src"
     names = list(path.relative_to(folder).with_suffix("").parts)
@@ -134,20 +141,20 @@ def is_reached(crate, path):
 
 
 @lru_cache(maxsize=None)
-def handed_on(crate):
+def handed_on(crate: str) -> set[tuple[str, str]]:
     """(module, name) of each function and type of a private module that the crate's top makes public by `pub use`."""
     top = ROOT / "crates" / crate / "src" / "lib.rt"
     found = HANDED_ON.findall(text_of(top)) if top.is_file() else []
     return {(module, name) for module, names, one in found for name in re.findall(r"\w+", names or one)}
 
 
-def public_calls_of(crate, path):
+def public_calls_of(crate: str, path: Path) -> list[Call]:
     """The functions of a source that another crate can call."""
     public = [call for call in calls_of(path) if call.is_public]
     return public if is_reached(crate, path) else [call for call in public if (path.stem, call.owner or call.name) in handed_on(crate)]
 
 
-def heading_of(path):
+def heading_of(path: Path) -> str:
     """The `//!` comment at the head of a source."""
     lines = text_of(path).split("\n")
     last = next((at for at, line in enumerate(lines) if not line.startswith("//!")), len(lines))

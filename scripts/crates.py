@@ -1,15 +1,17 @@
 """The crates of the repository, as crates.txt lists them."""
 import os
 
+Root = str | os.PathLike[str]
 
-def named_in(root: str) -> dict[str, list[str]]:
+
+def named_in(root: Root) -> dict[str, list[str]]:
     """The crates of crates.txt in its order, each with the libraries that its line names."""
     with open(os.path.join(root, "crates.txt")) as file:
         lines = [line.split("#")[0].partition(":") for line in file]
     return {name.strip(): rest.split() for name, colon, rest in lines if colon}
 
 
-def crates_of(root: str) -> dict[str, set[str]]:
+def crates_of(root: Root) -> dict[str, set[str]]:
     """The crates of crates.txt, each with those that it names and all that stand below it."""
     named = named_in(root)
     below: dict[str, set[str]] = {}

@@ -3,6 +3,7 @@
 Read by tools/index and tools/reading; tools/calls and tools/check_promises take ROOT and Fault from here.
 """
 import re
+from collections.abc import Iterable, Iterator, Mapping, Sequence
 from functools import lru_cache
 from pathlib import Path
 
@@ -20,13 +21,16 @@ WORD = re.compile(r"Rattle(?:\.[\w']+)+|[\w']+(?:\.[\w']+)*")
 IMPORT = re.compile(r"\buse Rattle\.([\w.]+?)(?:\.\{([^}]*)\}|\s+as\s+([\w']+))")
 CASE = re.compile(r"\s+(?:pub )?(\S+) :")
 
+# The place of an imported name, and the name there; a module has none.
+Imported = tuple[str, str | None]
+
 
 class Fault(Exception):
     """What can't be read, and where."""
 
 
 @lru_cache(maxsize=None)
-def text_of(path):
+def text_of(path: Path) -> str:
     """A file's text, as it was when it was first asked for."""
     try:
         return path.read_text(encoding="utf-8")
@@ -34,25 +38,25 @@ def text_of(path):
         raise Fault(f"{path}: {fault}") from fault
 
 
-def crates():
+def crates() -> list[Path]:
     """The folders of the crates, in the order of their names."""
     return sorted(path for path in (ROOT / "crates").glob("*") if path.is_dir())
 
 
 @lru_cache(maxsize=None)
-def crates_of_the_program():
+def crates_of_the_program() -> set[str]:
     """The names of the crates that the program `procure` is made of: itself, and what it stands on by crates.txt."""
     return {"procure"} | crates_of(ROOT)["procure"]
 
 
 # ---- Comments.
 
-def words_of(lines):
+def words_of(lines: Iterable[str]) -> str:
     """The text of a comment's lines; rules such as `-- ---- laws` are no comment."""
     return " ".join(line.strip()[2:].strip() for line in lines if not line.strip().startswith("-- ----"))
 
 
-def comment_above(lines, at):
+def comment_above(lines: Sequence[str], at: int) -> str:
     """The comment that stands directly above a line, as one text; empty where there is none."""
     first = at
     while first > 0 and lines[first - 1].strip().startswith("--"):
@@ -60,7 +64,7 @@ def comment_above(lines, at):
     return words_of(lines[first:at])
 
 
-def heading_of(lines):
+def heading_of(lines: Sequence[str]) -> str:
     """The comment at the head of a file: what the file is about."""
     last = 0
     while last < len(lines) and lines[last].startswith("--"):
@@ -73,30 +77,33 @@ def heading_of(lines):
 class Definition:
     """A definition: its name, the comment above it, and the lines of its text without comments."""
 
-    def __init__(self, name, comment):
-        self.name, self.comment, self.lines = name, comment, []
+    def __init__(self, name: str, comment: str) -> None:
+        self.name, self.comment = name, comment
+        self.lines: list[str] = []
 
-    def words(self):
+    def words(self) -> set[str]:
         """The names that it uses, as they stand there; of a name with dots the whole."""
         text = "\n".join(self.lines)
         steps = {"◌>>=◌"} if re.search(r"\bdo\b|>>=", text) else set()
         return set(WORD.findall(text)) | steps
 
-    def cases(self):
+    def cases(self) -> set[str]:
         """The names of its cases, where it is of some: what stands in front of a colon in its further lines."""
         is_of_cases = re.match(r"\s*(?:pub )?data\b", self.lines[0])
         return {found[1] for found in map(CASE.match, self.lines[1:]) if found} if is_of_cases else set()
 
 
-def name_at(line, in_mutual):
+def name_at(line: str, in_mutual: bool) -> str | None:
     """The name that a line defines, or None."""
     found = (IN_MUTUAL.match(line) if in_mutual else None) or NAMED.match(line) or BARE.match(line)
     return next(name for name in found.groups() if name) if found else None
 
 
-def definitions_of(path, lines):
+def definitions_of(path: Path, lines: Sequence[str]) -> list[Definition]:
     """The definitions of a file, in its order, each with its lines."""
-    made, in_mutual, above, current = [], False, "", None
+    made: list[Definition] = []
+    current: Definition | None = None
+    in_mutual, above = False, ""
     for at, line in enumerate(lines):
         if line.startswith("abbrev mutual"):
             in_mutual, above, current = True, comment_above(lines, at), None
@@ -120,7 +127,7 @@ def definitions_of(path, lines):
 class Source:
     """A file of definitions: its crate, its module with dots for folders, what it is about, and its definitions."""
 
-    def __init__(self, path):
+    def __init__(self, path: Path) -> None:
         self.path, self.text = path, text_of(path)
         lines = self.text.split("\n")
         specs = next(above for above in path.parents if above.name == "specs")
@@ -129,25 +136,25 @@ class Source:
         self.imports = imports_of(self.text)
         self.by_name = {case: each for each in self.definitions for case in each.cases()} | {each.name: each for each in self.definitions}
 
-    def defines(self, name):
+    def defines(self, name: str) -> Definition | None:
         """The definition of this name, or the one with this case; None where there is none."""
         return self.by_name.get(name)
 
 
 @lru_cache(maxsize=None)
-def sources_of(crate):
+def sources_of(crate: str) -> list[Source]:
     """The files of definitions of a crate that have any, in the order of their paths."""
     found = map(Source, sorted((ROOT / "crates" / crate / "specs").rglob("*.antt")))
     return [source for source in found if source.definitions]
 
 
 @lru_cache(maxsize=None)
-def source_at(crate, module):
+def source_at(crate: str, module: str) -> Source | None:
     """The file of a crate with this module, or None."""
     return next((source for source in sources_of(crate) if source.module == module), None)
 
 
-def definition_at(crate, module, name):
+def definition_at(crate: str, module: str, name: str) -> tuple[Source | None, Definition | None]:
     """(file, definition) of a name of a module; a module may be that of a definition's cases. (None, None) where there is none."""
     source = source_at(crate, module)
     if source:
@@ -159,19 +166,19 @@ def definition_at(crate, module, name):
 
 # ---- Imports.
 
-def imports_of(text):
+def imports_of(text: str) -> dict[str, Imported]:
     """What a file calls each imported name: (name there, place, name in that place), a place as `office_base.specs.Tables`; a module has no name in it."""
-    found = {}
+    found: dict[str, Imported] = {}
     for place, names, alias in IMPORT.findall(text):
         if alias:
             found[alias] = (place, None)
-        for name in filter(None, (each.strip() for each in names.split(","))):
+        for name in (each.strip() for each in names.split(",") if each.strip()):
             there, _, here = name.partition(" as ")
             found[here.strip() or there] = (place, there)
     return found
 
 
-def places_in(words, imports):
+def places_in(words: Iterable[str], imports: Mapping[str, Imported]) -> Iterator[tuple[str, str]]:
     """(place, name) of each word that was imported, or that tells its whole place."""
     for word in words:
         if word.startswith("Rattle."):
@@ -180,5 +187,5 @@ def places_in(words, imports):
             continue
         first, *rest = word.split(".")
         if first in imports:
-            place, name = imports[first]
-            yield (place, name) if name else (place, rest[0] if rest else "")
+            place, known = imports[first]
+            yield (place, known) if known else (place, rest[0] if rest else "")

@@ -19,7 +19,8 @@ POLICY = ["default-src 'none'", "script-src 'self'", "style-src 'self'", "connec
           "frame-ancestors 'none'", "require-trusted-types-for 'script'", "trusted-types 'none'"]
 # What is asked for, its type, and whether it may be kept.
 KINDS = {"/": ("text/html", "no-cache"), "/page.css": ("text/css", "no-cache"), "/page.js": ("application/javascript", "no-cache"),
-         "/icon.svg": ("image/svg+xml", "no-cache"), "/ledger": ("text/plain; charset=utf-8", "no-store"), "/notices/N9/record": ("application/json", "no-store"),
+         "/icon.svg": ("image/svg+xml", "no-cache"), "/ledger": ("text/plain; charset=utf-8", "no-store"),
+         "/notices/N9/record": ("application/json", "no-store"),
          "/openapi.yaml": ("application/yaml", "no-cache"), "/nothing": ("application/json", "no-store")}
 FOR_ALL_SITES = ("/ledger", "/notices/N9/record", "/openapi.yaml")
 # Ways to write a path that the office doesn't know, and that a location of the front might take for another.
