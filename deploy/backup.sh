@@ -1,26 +1,42 @@
 #!/bin/sh
-# Copies an office's file while nobody serves it, and checks the copy.
+# Copies an office's file while the office is served, and checks the copy. Where no whole copy can be had so, it stops the service for as long as the copying
+# takes.
 #
 #     deploy/backup.sh CONFIG FILE FOLDER
 #     deploy/backup.sh /etc/procure/office.toml /var/lib/procure/office.db /var/backups/procure
 #
-# It stops the service, copies FILE and its log FILE-wal, and starts the service; then it checks the copy: sqlite3 finds no fault in it (`PRAGMA integrity_check`),
-# and `procure ledger` reads it as an office. It leaves FOLDER/office-MOMENT.db, one file with the log in it, and its ledger beside it as office-MOMENT.ledger, and
-# says how long the service was stopped; then the service opens the file, and serves from then on. It is started whatever failed, and also where it was stopped
-# before. A copy that is not good stays, named office-MOMENT.wrong.
-# The commands are $STOP, $START and $PROCURE where these are set, else `systemctl stop procure`, `systemctl start procure` and `procure`.
-# Exit status: 0 with a good copy and the service started, 1 without one of them, 2 for wrong arguments or a tool that is missing.
+# It reads the first 32 bytes of the log, FILE-wal; copies FILE, and then the log; and reads those bytes again. Where they are what they were, and begin with
+# 0x37, the two copies are what a stop at that time could have left. Else it waits and tries again, $TRIES times (5), a second longer each time; then it stops
+# the service, copies both, and starts it. What it can't write is no reason to stop anything.
+#
+# It checks the copy: `procure ledger` reads a copy of it as an office, and sqlite3, which moves the log into it, finds no fault (`PRAGMA integrity_check`). It
+# leaves FOLDER/office-MOMENT.db, one file with the log in it, which `procure` hasn't opened, and its ledger as office-MOMENT.ledger. A copy that isn't good
+# stays as office-MOMENT.wrong, the newest three of them. Behind a good copy older ones go: the newest $KEEP stay (48), and of earlier ones the last of each
+# day, for $DAYS days (30).
+#
+# The commands are $STOP, $START and $PROCURE where these are set, else `systemctl stop procure`, `systemctl start procure` and `procure`. With STOP=false
+# nothing is ever stopped.
+# Exit status: 0 with a good copy and the service running, 1 without one of them, 2 for wrong arguments or a tool that is missing.
+#
+# Why equal heads are enough. The program writes to FILE only as it moves the log into it: pages that the log has, whole and synced. It keeps them in the log
+# until all are in FILE, and synced there too. Only then it begins the log anew: the first byte becomes 0, then come a head with other salts, which count up,
+# and the first byte, 0x37, last. As long as the head is the same, the log only grows: each command is written behind the last one, and one byte of its first
+# page, the gate, last, so that nobody takes the command before it is there. So what changed in FILE while it was copied stands in the log's copy, which was
+# begun later; and that copy, made from front to back, has each command that was answered before, and of later ones the first few, whole. (Of a command whose
+# first page is written at the very moment when it is read the checksum fails: then it isn't there.) With the log copied first, pages of FILE may be newer
+# than the log that goes with them; without the second look the log's copy may lack what was moved into FILE behind FILE's copy.
 set -eu
 umask 077
 # cron's PATH is shorter than a shell's.
 PATH=$PATH:/usr/local/bin
 
 if [ $# != 3 ]; then
-    sed -n '2,13s/^# \{0,1\}//p' "$0" >&2
+    sed -n '2,/^# Exit status/s/^# \{0,1\}//p' "$0" >&2
     exit 2
 fi
 config=$1 file=$2 folder=$3
 stop=${STOP:-systemctl stop procure} start=${START:-systemctl start procure} procure=${PROCURE:-procure}
+tries=${TRIES:-5} keep=${KEEP:-48} days=${DAYS:-30}
 
 fail() {
     echo "backup: $1" >&2
@@ -31,46 +47,100 @@ fail() {
 [ -f "$file" ] || fail "there is no file $file" 2
 [ -r "$config" ] || fail "the settings $config can't be read" 2
 [ -d "$folder" ] || fail "there is no folder $folder" 2
-for tool in sqlite3 "$procure"; do
+for tool in sqlite3 od "$procure"; do
     command -v "$tool" >/dev/null || fail "there is no $tool here" 2
 done
 
 copy=$folder/office-$(date -u +%Y%m%dT%H%M%SZ)
-is_stopped='' is_whole=''
+is_stopped='' is_whole='' is_started=yes
 
 milliseconds() { echo $(($(date +%s%N) / 1000000)); }
 
-# What is done however this ends: the service runs, and a half copy is gone.
+# What is done however this ends: the service runs, and what is no whole copy is gone.
 settle() {
     if [ -n "$is_stopped" ]; then
-        is_stopped=
+        is_stopped=''
         $start || echo "backup: the service could not be started: $start" >&2
     fi
     [ -n "$is_whole" ] || rm -f "$copy.part" "$copy.part-wal"
+    rm -f "$copy.trial" "$copy.trial-wal"
 }
 trap settle EXIT
 trap 'exit 130' INT
 trap 'exit 143' TERM HUP
 
-before=$(milliseconds)
-is_stopped=yes
-$stop || fail "the service could not be stopped: $stop" 1
-cp --reflink=auto "$file" "$copy.part" || fail "the copy can't be written: $copy" 1
-[ ! -e "$file-wal" ] || cp --reflink=auto "$file-wal" "$copy.part-wal" || fail "the copy can't be written: $copy" 1
-is_whole=yes
-is_stopped=
-is_started=yes
-$start || is_started=
-echo "backup: the service was stopped for $(($(milliseconds) - before)) ms"
+# The first 32 bytes of the log, in hexadecimal digits; nothing where it has fewer, or isn't there.
+head_of_log() {
+    head=$(head -c 32 "$file-wal" 2>/dev/null | od -An -v -tx1 | tr -d ' \n')
+    [ ${#head} != 64 ] || echo "$head"
+}
+
+# Both files, FILE first. The log is read from front to back.
+copy_both() {
+    cp --reflink=auto "$file" "$copy.part" || fail "the copy can't be written: $copy" 1
+    rm -f "$copy.part-wal"
+    [ ! -e "$file-wal" ] || cat "$file-wal" > "$copy.part-wal" || fail "the copy can't be written: $copy" 1
+}
+
+# Whether both files were copied while the log had one head.
+copy_served() {
+    before=$(head_of_log)
+    case $before in 37*) ;; *) return 1 ;; esac
+    copy_both
+    [ "$(head_of_log)" = "$before" ]
+}
+
+copy_stopped() {
+    since=$(milliseconds)
+    is_stopped=yes
+    $stop || fail "the service could not be stopped: $stop" 1
+    copy_both
+    is_stopped=''
+    $start || is_started=''
+    echo "backup: the service was stopped for $(($(milliseconds) - since)) ms, since the log was moved, or had no head, at each of $tries tries"
+}
+
+try=1
+while [ "$try" -le "$tries" ] && [ -z "$is_whole" ]; do
+    if copy_served; then
+        is_whole=yes
+        echo "backup: the copy was whole at try $try; nothing was stopped"
+    elif [ "$try" -lt "$tries" ]; then
+        sleep "$try"
+    fi
+    try=$((try + 1))
+done
+if [ -z "$is_whole" ]; then
+    copy_stopped
+    is_whole=yes
+fi
+
+# Deletes the copies of this ending whose names come, each on a line.
+delete() {
+    while read -r name; do
+        rm -f "$folder/$name" "$folder/$name-wal" "$folder/${name%.*}.ledger"
+    done
+}
+
+named() { (cd "$folder" && find . -maxdepth 1 -name "office-*T*Z.$1" | sed 's/^..//' | sort -r); }
 
 wrong() {
     mv "$copy.part" "$copy.wrong"
     [ ! -e "$copy.part-wal" ] || mv "$copy.part-wal" "$copy.wrong-wal"
+    named wrong | tail -n +4 | delete
     fail "$1: $copy.wrong" 1
 }
 
-# sqlite3 comes last: as it closes the file it moves the log into it.
-"$procure" ledger "$config" "$copy.part" > "$copy.ledger" || wrong 'the copy is no office'
+# An opening moves the log, and makes an office of an earlier version one of this: so it has a copy of its own.
+no_room() {
+    is_whole=''
+    fail "the copy can't be tried, and is deleted: there must be room for two" 1
+}
+cp --reflink=auto "$copy.part" "$copy.trial" || no_room
+[ ! -e "$copy.part-wal" ] || cp --reflink=auto "$copy.part-wal" "$copy.trial-wal" || no_room
+"$procure" ledger "$config" "$copy.trial" > "$copy.ledger" || wrong 'the copy is no office'
+rm -f "$copy.trial" "$copy.trial-wal"
+# As sqlite3 closes the file it moves the log into it.
 told=$(sqlite3 "$copy.part" 'PRAGMA integrity_check; PRAGMA foreign_key_check;') || wrong 'sqlite3 cannot read the copy'
 [ "$told" = ok ] || wrong "the copy is broken: $told"
 [ ! -s "$copy.part-wal" ] || wrong 'the log could not be moved into the copy'
@@ -79,4 +149,11 @@ sync "$copy.part" "$copy.ledger"
 mv "$copy.part" "$copy.db"
 sync "$folder"
 echo "backup: $copy.db, $(stat -c %s "$copy.db") bytes, is good"
+
+# (newest first; a day is eight digits behind `office-`)
+named db | awk -v keep="$keep" -v days="$days" '
+    { day = substr($0, 8, 8) }
+    NR <= keep { last = day; next }
+    day != last && days > 0 { last = day; days--; next }
+    { print }' | delete
 [ -n "$is_started" ] || fail "the service could not be started: $start" 1

@@ -176,7 +176,8 @@ def decide(asker: Asker, receipts: Receipts) -> int:
     office.fail(failing)
     contract = int(office.award("N5")["award"])
     secured = sent("sign", "secured")
-    refused(asker, "sign", "clerk", ("SecurityMissing", [contract]), ("SecurityTooSmall", [contract], {**secured, "amount": 69}), ("BadBody body", [contract], b" "),
+    refused(asker, "sign", "clerk", ("SecurityMissing", [contract]), ("SecurityTooSmall", [contract], {**secured, "amount": 69}),
+            ("BadBody body", [contract], b" "),
             ("BadBody security", [contract], {"amount": 70}), ("BadBody amount", [contract], {"security": "P1"}))
     office.clerk(f"/awards/{contract}/sign", secured)
     office.performance_security("clerk", contract)

@@ -70,6 +70,16 @@ def went_back(table: str, before: Row, here: Row) -> Iterator[str]:
 
 
 @rule("copies")
+def tenders_stay_from_the_deadline_on(later: Office, earlier: Office) -> Found:
+    """A tender that was sealed in an earlier copy, at its notice's deadline or behind it, isn't withdrawn."""
+    (clock,), = earlier.rows("SELECT moment FROM office")
+    for row, before, here in both("envelopes", later, earlier):
+        deadline = later.table("notices").get((before["notice"],), {}).get("deadline")
+        if here and deadline is not None and clock >= deadline and (before["state"], here["state"]) == ("sealed", "withdrawn"):
+            yield row, f"is withdrawn, and was sealed at {text_of(clock)}, behind the deadline {text_of(deadline)}, in {earlier.path}"
+
+
+@rule("copies")
 def nothing_is_put_in_behind(later: Office, earlier: Office) -> Found:
     """What is put in with another row isn't there where an earlier copy has that row without it."""
     for table, (parent, column) in WITH.items():

@@ -152,6 +152,7 @@ class Office:
         self.tables: dict[str, dict[tuple[Any, ...], Row]] = {}
         self.base = sqlite3.connect(os.path.join(place, "office.db"))
         self.base.execute("PRAGMA trusted_schema = OFF")
+        self.base.execute("PRAGMA synchronous = OFF")
         self.base.text_factory = lambda text: text.decode("utf-8", "surrogateescape")
         self.base.create_function("sha256", 1, lambda data: hashlib.sha256(data).digest() if isinstance(data, bytes) else b"", deterministic=True)
         self.base.create_function("text_of", 1, text_of, deterministic=True)

@@ -161,7 +161,8 @@ class Page:
     def press(self, name: str) -> None:
         code, text = KEYS[name]
         for kind in ("keyDown", "keyUp"):
-            self.ask("Input.dispatchKeyEvent", type=kind, key=name, code=name, windowsVirtualKeyCode=code, **({"text": text} if text and kind == "keyDown" else {}))
+            typed = {"text": text} if text and kind == "keyDown" else {}
+            self.ask("Input.dispatchKeyEvent", type=kind, key=name, code=name, windowsVirtualKeyCode=code, **typed)
 
     def type(self, text: str) -> None:
         self.ask("Input.insertText", text=text)

@@ -16,7 +16,7 @@ import ssl
 import subprocess
 import time
 import urllib.parse
-from collections.abc import Callable, Mapping, Sequence
+from collections.abc import Callable, Mapping
 from dataclasses import dataclass
 from typing import Any, Generic, Protocol, TypeVar
 
@@ -307,6 +307,6 @@ class Client(Generic[Told]):
 
 
 # The names of the methods that are commands and queries: as many as docs/API.md has routes.
-COMMANDS: Sequence[str] = ("import_budget", "register", "publish", "amend_notice", "cancel", "open", "examine", "award", "fail", "sign", "amend_contract", "pay", "end",
-                           "present", "modify", "withdraw")
-QUERIES: Sequence[str] = ("line", "ledger", "releases", "record", "minutes", "tender_register", "tender", "security", "performance_security")
+COMMANDS = ("import_budget", "register", "publish", "amend_notice", "cancel", "open", "examine", "award", "fail", "sign", "amend_contract", "pay", "end",
+            "present", "modify", "withdraw")
+QUERIES = ("line", "ledger", "releases", "record", "minutes", "tender_register", "tender", "security", "performance_security")

@@ -1,8 +1,8 @@
 """The documents of the repository: their fenced blocks, which are run and compared, and their links. Read by tools/check_docs and tests/walk.
 
-A block fenced as ```sh run is run; where the next block of the document is fenced as ```text, it is what the run prints, its last line feeds apart. The blocks of
-a document run in turn in one bash, in an empty folder, with `procure`, `procure-backup`, `audit` and `check_tender` on the PATH; each must end with status 0. curl
-shows no meter there. What a document left running is ended behind its last block.
+A block fenced as ```sh run is run; where the next block of the document is fenced as ```text, it is what the run prints, its last line feeds apart. The blocks
+of a document run in turn in one bash, in an empty folder, with `procure`, `procure-backup`, `procure-check`, `audit` and `check_tender` on the PATH; each must
+end with status 0. curl shows no meter there. What a document left running is ended behind its last block.
 """
 import difflib
 import functools
@@ -107,7 +107,7 @@ class Shell:
         self.home, self.tools = os.path.join(folder, "home"), os.path.join(folder, "tools")
         os.makedirs(self.home)
         os.makedirs(self.tools)
-        files = {"procure": program, "procure-backup": os.path.join(ROOT, "deploy", "backup.sh")}
+        files = {"procure": program, "procure-backup": os.path.join(ROOT, "deploy", "backup.sh"), "procure-check": os.path.join(ROOT, "deploy", "check")}
         files.update({name: os.path.join(ROOT, "tools", name) for name in ("audit", "check_tender")})
         for name, place in files.items():
             os.symlink(place, os.path.join(self.tools, name))

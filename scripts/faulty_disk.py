@@ -52,7 +52,10 @@ __attribute__((constructor)) static void begin(void) {
     close(fd);
 }
 
-static ssize_t put(int fd, const void *bytes, size_t size, off_t at) { REAL(ssize_t, "pwrite", int, const void *, size_t, off_t); return real(fd, bytes, size, at); }
+static ssize_t put(int fd, const void *bytes, size_t size, off_t at) {
+    REAL(ssize_t, "pwrite", int, const void *, size_t, off_t);
+    return real(fd, bytes, size, at);
+}
 static int cut(int fd, off_t length) { REAL(int, "ftruncate", int, off_t); return real(fd, length); }
 
 static int fail(int fd) {

@@ -5,13 +5,15 @@ import http.client
 import os
 import ssl
 import subprocess
-from collections.abc import Iterable
+from collections.abc import Iterable, Mapping
 from typing import NamedTuple
 
 from common import FIELDS, HOST, ROOT, Caller, connect, fail, free_port, need
 
 # An address of this machine from which, by the adapted file, no clerk asks.
 OUTSIDE = "127.0.0.2"
+# Addresses from which a clerk may ask, each as 127.0.1.N.
+CLERKS = "127.0.1.0/24"
 PATIENCE = 60
 MAIN = """
 daemon off;
@@ -50,29 +52,32 @@ def adapted(text: str, changes: Iterable[tuple[str, int, str]]) -> str:
 
 
 class Front:
-    """nginx over the office at a port, with a certificate that it signed itself; ended behind a `with`."""
+    """nginx over the office at a port, with a certificate that it signed itself; ended behind a `with`. More of its file may be changed than what is adapted."""
 
-    def __init__(self, folder: str, office: int) -> None:
-        self.folder, self.port, self.plain_port = folder, free_port(), free_port()
+    def __init__(self, folder: str, office: int, more: Iterable[tuple[str, int, str]] = ()) -> None:
+        self.folder, self.office, self.port, self.plain_port = folder, office, free_port(), free_port()
         self.key, self.certificate = os.path.join(folder, "key.pem"), os.path.join(folder, "certificate.pem")
-        subprocess.run([need("openssl", "openssl"), "req", "-x509", "-newkey", "ec", "-pkeyopt", "ec_paramgen_curve:prime256v1", "-nodes", "-days", "2", "-subj", "/CN=office",
-                        "-addext", f"subjectAltName=IP:{HOST}", "-keyout", self.key, "-out", self.certificate], check=True, capture_output=True)
+        subprocess.run([need("openssl", "openssl"), "req", "-x509", "-newkey", "ec", "-pkeyopt", "ec_paramgen_curve:prime256v1", "-nodes", "-days", "2",
+                        "-subj", "/CN=office", "-addext", f"subjectAltName=IP:{HOST}", "-keyout", self.key, "-out", self.certificate],
+                       check=True, capture_output=True)
         self.context = ssl.create_default_context(cafile=self.certificate)
         with open(os.path.join(ROOT, "deploy", "nginx.conf")) as file:
-            text = adapted(file.read(), self.changes(office))
+            text = adapted(adapted(file.read(), more), self.changes(office))
         for name, content in (("procure.conf", text), ("nginx.conf", MAIN.format(folder=folder) + ("user root;\n" if os.geteuid() == 0 else ""))):
             with open(os.path.join(folder, name), "w") as file:
                 file.write(content)
-        self.process = subprocess.Popen([need("nginx", "nginx"), "-p", folder, "-e", f"{folder}/errors.log", "-c", f"{folder}/nginx.conf"], stdin=subprocess.DEVNULL)
+        words = [need("nginx", "nginx"), "-p", folder, "-e", f"{folder}/errors.log", "-c", f"{folder}/nginx.conf"]
+        self.process = subprocess.Popen(words, stdin=subprocess.DEVNULL)
 
     def changes(self, office: int) -> list[tuple[str, int, str]]:
         """What of the file is adapted. (Of IPv6 not every machine has something.)"""
-        return [("listen [::]:80;", 1, ""), ("listen [::]:443 ssl;", 1, ""), ("listen 80;", 1, f"listen {HOST}:{self.plain_port};"),
-                ("listen 443 ssl;", 1, f"listen {HOST}:{self.port} ssl;"), ("server_name office.example;", 2, f"server_name {HOST};"),
-                ("server 127.0.0.1:8080 ", 1, f"server {HOST}:{office} "), ("127.0.0.0/8 1;", 1, f"{HOST} 1;"),
-                ("/usr/share/procure/web;", 1, f"{ROOT}/web;"), ("/etc/procure/tls/certificate.pem;", 1, f"{self.certificate};"),
-                ("/etc/procure/tls/key.pem;", 1, f"{self.key};"), ("/var/cache/nginx/procure ", 1, f"{self.folder}/answers "),
-                ("/var/log/nginx/procure.log ", 2, f"{self.folder}/access.log ")]
+        return [("listen [::]:80;", 1, ""), ("listen [::]:443 ssl", 1, "# "), ("listen 80;", 1, f"listen {HOST}:{self.plain_port};"),
+                ("listen 443 ssl", 1, f"listen {HOST}:{self.port} ssl"), ("server_name office.example;", 2, f"server_name {HOST};"),
+                ("server 127.0.0.1:8080 ", 1, f"server {HOST}:{office} "), ("127.0.0.0/8 1;", 1, f"{HOST} 1; {CLERKS} 1;"),
+                ("/usr/share/procure/web;", 1, f"{ROOT}/web;"), ("/usr/share/procure;", 1, f"{ROOT}/docs;"),
+                ("/etc/procure/tls/certificate.pem;", 1, f"{self.certificate};"), ("/etc/procure/tls/key.pem;", 1, f"{self.key};"),
+                ("/var/cache/nginx/procure ", 1, f"{self.folder}/answers "), ("/var/cache/nginx/procure-wrong ", 1, f"{self.folder}/wrong "),
+                ("/var/log/nginx/procure.log ", 2, f"{self.folder}/access.log "), ("/var/log/nginx/procure-counts.log ", 2, f"{self.folder}/counts.log ")]
 
     def __enter__(self) -> "Front":
         connect(self.port, PATIENCE).close()
@@ -89,19 +94,20 @@ class Front:
     def connection(self, source: str = HOST) -> http.client.HTTPSConnection:
         return http.client.HTTPSConnection(HOST, self.port, context=self.context, source_address=(source, 0), timeout=PATIENCE)
 
-    def ask(self, method: str, target: str, body: bytes = b"", caller: Caller | None = None, source: str = HOST) -> Answer:
-        """The answer to a request by TLS. A caller is a name and a key."""
+    def ask(self, method: str, target: str, body: bytes = b"", caller: Caller | None = None, source: str = HOST, **fields: str) -> Answer:
+        """The answer to a request by TLS. A caller is a name and a key; further fields are named with `_` for `-`."""
         with contextlib.closing(self.connection(source)) as connection:
-            return exchange(connection, method, target, body, caller)
+            return exchange(connection, method, target, body, caller, {name.replace("_", "-"): value for name, value in fields.items()})
 
     def logged(self, name: str) -> str:
         with open(os.path.join(self.folder, name), encoding="utf-8", errors="replace") as file:
             return file.read()
 
 
-def exchange(connection: http.client.HTTPConnection, method: str, target: str, body: bytes = b"", caller: Caller | None = None) -> Answer:
+def exchange(connection: http.client.HTTPConnection, method: str, target: str, body: bytes = b"", caller: Caller | None = None,
+             more: Mapping[str, str] | None = None) -> Answer:
     """The answer to a request on a connection, which may stay open."""
-    connection.request(method, target, body, fields_of(caller))
+    connection.request(method, target, body, fields_of(caller) | dict(more or {}))
     answer = connection.getresponse()
     return Answer(answer.status, answer.headers, answer.read())
 

@@ -1,24 +1,27 @@
 """What `tests/page` asks of the front by itself: what it says beside the office, what it lets through, and whom it makes wait."""
 import contextlib
+import hashlib
 import http.client
 import json
 import os
 import re
 import time
+from concurrent.futures import ThreadPoolExecutor
 
-from common import CLERK, HOST, ROOT, check
+from common import CLERK, HOST, ROOT, Caller, check, connect, read_all, request
 from front import OUTSIDE, PATIENCE, Answer, exchange, fields_of
 from page_office import SECURITY, key_of
 from scene import Scene
 
 HEADERS = {"Strict-Transport-Security": "max-age=15768000", "X-Content-Type-Options": "nosniff", "Referrer-Policy": "no-referrer", "Set-Cookie": None,
-           "Cross-Origin-Opener-Policy": "same-origin", "Cross-Origin-Resource-Policy": "same-origin", "Server": "nginx"}
+           "Cross-Origin-Opener-Policy": "same-origin", "Server": "nginx"}
 POLICY = ["default-src 'none'", "script-src 'self'", "style-src 'self'", "connect-src 'self'", "img-src 'self'", "base-uri 'none'", "form-action 'none'",
           "frame-ancestors 'none'", "require-trusted-types-for 'script'", "trusted-types 'none'"]
 # What is asked for, its type, and whether it may be kept.
 KINDS = {"/": ("text/html", "no-cache"), "/page.css": ("text/css", "no-cache"), "/page.js": ("application/javascript", "no-cache"),
          "/icon.svg": ("image/svg+xml", "no-cache"), "/ledger": ("text/plain; charset=utf-8", "no-store"), "/notices/N9/record": ("application/json", "no-store"),
-         "/nothing": ("application/json", "no-store")}
+         "/openapi.yaml": ("application/yaml", "no-cache"), "/nothing": ("application/json", "no-store")}
+FOR_ALL_SITES = ("/ledger", "/notices/N9/record", "/openapi.yaml")
 # Ways to write a path that the office doesn't know, and that a location of the front might take for another.
 ODD_PATHS = ["/%6cedger", "//ledger", "/notices/N1%2frecord", "/notices/%4e1/record", "/notices/../ledger", "/notices/N1/../../ledger", "/./ledger",
              "/notices/%2e%2e/ledger", "/lines/x/%2e%2e/%2e%2e/notices/N1/register", "/lines//1100", "/notices/N1/record/.", "/notices/N1//open"]
@@ -49,7 +52,8 @@ def headers(scene: Scene) -> None:
     """Each answer has the front's headers, no version and no cookie, and its own type; what may be kept is told."""
     for path, (media, keeping) in KINDS.items():
         head = scene.front.ask("GET", path).head
-        for name, value in [*HEADERS.items(), ("Content-Type", media), ("Cache-Control", keeping)]:
+        policy = "cross-origin" if path in FOR_ALL_SITES else "same-origin"
+        for name, value in [*HEADERS.items(), ("Content-Type", media), ("Cache-Control", keeping), ("Cross-Origin-Resource-Policy", policy)]:
             check(f"{path} has {name}: {head[name]}, and not {value}", head[name] == value)
         check(f"{path} has Content-Security-Policy: {head['Content-Security-Policy']}", (head["Content-Security-Policy"] or "").split("; ") == POLICY)
 
@@ -84,18 +88,44 @@ def odd_paths(scene: Scene) -> None:
 
 def networks(scene: Scene) -> None:
     """From elsewhere the clerk's routes are refused, with the right key too, and all others reach the office."""
-    for method, path, who in routes():
+    for number, (method, path, who) in enumerate(routes(), 1):
         answer = scene.front.ask(method, path, source=OUTSIDE, caller=CLERK if who == "clerk" else None)
         check(f"{method} {path} from {OUTSIDE}: {answer}", is_own(answer, 403) if who == "clerk" else b'"front"' not in answer.body)
         if who == "clerk":
-            answer = scene.front.ask(method, path, caller=(b"clerk", b"wrong"))
-            check(f"{method} {path} with a wrong key: {answer}", answer.status == 401 and refusal(answer) == "BadKey")
+            # (from another address each time: a wrong key makes its own wait)
+            answer = scene.front.ask(method, path, caller=(b"clerk", b"wrong"), source=f"127.0.1.{number}")
+            told = exchange_with_office(scene, method, path, (b"clerk", b"wrong"))
+            check(f"{method} {path} with a wrong key: {answer}, and from the office {told!r}", answer.status == 401 and answer.body == told)
+            check(f"{path} with a wrong key: {answer.head['WWW-Authenticate']}", answer.head["WWW-Authenticate"])
+
+
+def exchange_with_office(scene: Scene, method: str, path: str, caller: Caller) -> bytes:
+    """The body of the office's own answer."""
+    text = request(method.encode(), path.encode(), b"", caller)
+    with connect(scene.front.office, PATIENCE) as stream:
+        stream.sendall(text)
+        return read_all(stream).partition(b"\r\n\r\n")[2]
+
+
+def many_tenderers(scene: Scene) -> None:
+    """Sixty tenderers behind one address present at once, each for two lots, and all are taken by the office."""
+    names = [f"M{number}" for number in range(60)]
+    for name in names:
+        body = json.dumps({"name": name, "address": "1 Park", "key": hashlib.sha256(key_of(name).encode()).hexdigest()}).encode()
+        check(f"{name} is registered", scene.front.ask("POST", f"/tenderers/{name}", body, CLERK).status == 200)
+
+    def present(name: str, lot: str) -> Answer:
+        return scene.front.ask("POST", f"/notices/N3/lots/{lot}/tenders", b"An offer", (name.encode(), key_of(name).encode()))
+    with ThreadPoolExecutor(60) as pool:
+        answers = list(pool.map(present, names * 2, ["L1"] * 60 + ["L2"] * 60))
+    check(f"all are taken: {[it for it in answers if it.status != 200][:3]}", all(it.status == 200 for it in answers))
 
 
 def slow_clients(scene: Scene) -> None:
     """Whoever sends half a head or half a body, and then nothing, waits alone."""
+    half_body = b"POST /tenderers/T7 HTTP/1.1\r\nHost: office\r\nContent-Length: 1000\r\n\r\n" + b" " * 500
     with contextlib.ExitStack() as clients:
-        for sent in [b"POST /tenderers/T7 HTTP/1.1\r\nHost: office\r\nContent-Length: 1000\r\n\r\n" + b" " * 500] * 4 + [b"GET /ledger HTTP/1.1\r\nHost: of"] * 2:
+        for sent in [half_body] * 4 + [b"GET /ledger HTTP/1.1\r\nHost: of"] * 2:
             client = clients.enter_context(contextlib.closing(scene.front.connection()))
             client.connect()
             client.sock.sendall(sent)
@@ -110,7 +140,8 @@ def slow_clients(scene: Scene) -> None:
 def names_and_keys(scene: Scene) -> None:
     """Public routes are told nothing of who asks, so a wrong key is no matter there; and no log has a key or a security."""
     # (The last one wasn't asked before, so the front has no answer of it.)
-    for path, wanted in {"/ledger": 200, "/lines/1100": 200, "/notices/N1/record": 200, "/notices/N1/releases": 200, "/notices/N1/minutes": 409, "/lines/unseen": 404}.items():
+    statuses = {"/ledger": 200, "/lines/1100": 200, "/notices/N1/record": 200, "/notices/N1/releases": 200, "/notices/N1/minutes": 409, "/lines/unseen": 404}
+    for path, wanted in statuses.items():
         status = scene.front.ask("GET", path, caller=(b"T1", b"wrong")).status
         check(f"{path} with a wrong key: {status}", status == wanted)
     for name in ("access.log", "errors.log"):
@@ -131,4 +162,4 @@ def without_tls(scene: Scene) -> None:
         check(f"in the clear at the port of TLS: {answer}", answer.status == 400)
 
 
-CHECKS = [headers, sizes, odd_paths, networks, slow_clients, names_and_keys, without_tls]
+CHECKS = [headers, sizes, odd_paths, networks, slow_clients, many_tenderers, names_and_keys, without_tls]

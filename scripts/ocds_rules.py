@@ -1,7 +1,8 @@
 """What OCDS 1.1 asks of what the office publishes: members, types and codes, as tables, and what joins one place to another.
 
-Source: the Open Contracting Data Standard 1.1, `release-schema.json`, `release-package-schema.json`, `record-package-schema.json`, its codelists, and its
-extension for lots (standard.open-contracting.org/1.1/en/schema). There these are required: of a release `ocid`, `id`, `date`, `tag` and `initiationType`;
+Source: the Open Contracting Data Standard 1.1, `release-schema.json`, `release-package-schema.json`, `record-package-schema.json` and its codelists
+(standard.open-contracting.org/1.1/en/schema), and its extension for lots, whose members are known where a package's `extensions` name it, and nowhere else.
+There these are required: of a release `ocid`, `id`, `date`, `tag` and `initiationType`;
 of a tender, an item, a lot, an award and a transaction `id`; of a contract `id` and `awardID`; of a package `uri`, `publishedDate`, `publisher` with its
 `name`, `version`, and `releases` or `records`; of a record `ocid` and `releases`. What else must be there here is what the office gives whenever it gives the
 object at all. Members of OCDS that the office never gives, as `milestones` and `documents`, stand in no table, and neither do codes that it never uses.
@@ -50,16 +51,14 @@ RELEASE = {
     "planning/budget/amount": VALUE,
     "tender": "id text, title? text, status? code:tender-status, procuringEntity? object, items? objects, value? object, procurementMethod? code:method, "
               "awardCriteria? code:criteria, submissionMethod? codes:submission, tenderPeriod? object, numberOfTenderers? number, tenderers? objects, "
-              "amendments? objects, lots? objects",
+              "amendments? objects",
     "tender/procuringEntity": REFERENCE,
-    "tender/items": "id text, description text, quantity number, relatedLot text",
+    "tender/items": "id text, description text, quantity number",
     "tender/value": VALUE,
     "tender/tenderPeriod": "startDate? moment, endDate moment",
     "tender/tenderers": REFERENCE,
     "tender/amendments": AMENDMENT,
-    "tender/lots": "id text, title? text, status code:tender-status, value? object",
-    "tender/lots/value": VALUE,
-    "awards": "id text, status code:award-status, date? moment, value? object, suppliers? objects, relatedLots? texts",
+    "awards": "id text, status code:award-status, date? moment, value? object, suppliers? objects",
     "awards/value": VALUE,
     "awards/suppliers": REFERENCE,
     "contracts": "id text, awardID text, status? code:contract-status, value? object, dateSigned? moment, amendments? objects, implementation? object",
@@ -72,7 +71,19 @@ RELEASE = {
     "contracts/implementation/transactions/payee": REFERENCE,
 }
 
-PACKAGE = "uri address, version code:version, publishedDate moment, publisher object"
+# The extension for lots, by a part of its address: what it adds at a place, and its own places.
+LOTS_EXTENSION = "/ocds_lots_extension/"
+LOTS = {
+    "tender": "lots? objects",
+    "tender/items": "relatedLot text",
+    "tender/lots": "id text, title? text, status code:tender-status, value? object",
+    "tender/lots/value": VALUE,
+    "awards": "relatedLots? texts",
+}
+RELEASE_WITH_LOTS = RELEASE | {place: ", ".join(filter(None, (RELEASE.get(place), members))) for place, members in LOTS.items()}
+
+# An extension is named by the address of its description.
+PACKAGE = "uri address, version code:version, publishedDate moment, publisher object, extensions? addresses"
 RELEASE_PACKAGE = {"": PACKAGE + ", releases objects", "publisher": "name text"}
 # The record's compiled release is an option of OCDS, which the office always takes.
 RECORD_PACKAGE = {"": PACKAGE + ", records objects", "publisher": "name text", "records": "ocid text, releases objects, compiledRelease object"}
@@ -130,7 +141,9 @@ def is_kind(value: Any, kind: str) -> bool:
         case "moment":  # RFC 3339, date-time, as 2026-02-01T09:00:00Z
             return isinstance(value, str) and bool(re.fullmatch(r"[0-9]{4}-[0-9]{2}-[0-9]{2}T[0-9]{2}:[0-9]{2}:[0-9]{2}Z", value))
         case "address":
-            return isinstance(value, str) and value.startswith("http://")
+            return isinstance(value, str) and value.startswith(("http://", "https://"))
+        case "addresses":
+            return are_texts(value) and all(is_kind(item, "address") for item in value)
         case "number":  # a whole number of 0 or more
             return type(value) is int and 0 <= value < 2 ** 64
         case "code":
@@ -169,11 +182,16 @@ def check(path: str, value: Any, table: Mapping[str, str]) -> None:
             check_members(path_there, found, members)
 
 
+def release_of(package: Any) -> Mapping[str, str]:
+    """The table of a release in this package, by the extensions that it names."""
+    return RELEASE_WITH_LOTS if any(LOTS_EXTENSION in address for address in package.get("extensions", [])) else RELEASE
+
+
 def check_releases(package: Any, place: str) -> None:
     """That each release at a place is one, and none a compiled one; that none is earlier than the one before it, and that the package is of the last one's
     date."""
     for path, release in found_at("", package, place):
-        check(path, release, RELEASE)
+        check(path, release, release_of(package))
         if "compiled" in texts_at(release, "tag"):
             raise Flaw(below(path, "tag"))
     dates = texts_at(package, place + "/date")
@@ -204,7 +222,7 @@ def check_record_package(package: Any) -> None:
     check_last(package, "records/releases/ocid", "records/ocid")
     check_last(package, "records/compiledRelease/ocid", "records/ocid")
     for path, compiled in found_at("", package, "records/compiledRelease"):
-        check(path, compiled, RELEASE)
+        check(path, compiled, release_of(package))
         for place, others in REFERENCES:
             known = texts_at(compiled, others)
             for path_there, text in found_at(path, compiled, place):

@@ -57,7 +57,8 @@ KINDS = {
     "media": thing(schema=SCHEMA, example=ANYTHING, examples=table(or_reference("example"), ".")),
     "example": thing(summary=TEXT, description=TEXT, value=ANYTHING, externalValue=TEXT),
     "response": thing("description", description=TEXT, headers=table(or_reference("header"), "."), content=table(of("media"), "^[^/]+/[^/]+$")),
-    "securityScheme": {"oneOf": [thing("type name in", type={"const": "apiKey"}, name=TEXT, **{"in": {"enum": ["query", "header", "cookie"]}}, description=TEXT),
+    "securityScheme": {"oneOf": [thing("type name in", type={"const": "apiKey"}, name=TEXT, description=TEXT,
+                                       **{"in": {"enum": ["query", "header", "cookie"]}}),
                                  thing("type scheme", type={"const": "http"}, scheme=TEXT, bearerFormat=TEXT, description=TEXT)]},
     "components": thing(schemas=table(SCHEMA), responses=table(or_reference("response")), parameters=table(or_reference("parameter")),
                         examples=table(or_reference("example")), requestBodies=table(or_reference("body")), headers=table(or_reference("header")),
@@ -128,5 +129,6 @@ def flaws_of(tree: Any) -> list[str]:
     error = best_match(jsonschema.Draft202012Validator(META).iter_errors(tree))
     if error:
         return [f"{error.json_path}: {error.message[:200]}"]
-    lost = [f"{'/'.join(way)}: nothing at {node['$ref']}" for way, node in nodes_of(tree) if isinstance(node.get("$ref"), str) and target_of(tree, node["$ref"]) is None]
+    references = [(way, node["$ref"]) for way, node in nodes_of(tree) if isinstance(node.get("$ref"), str)]
+    lost = [f"{'/'.join(way)}: nothing at {reference}" for way, reference in references if target_of(tree, reference) is None]
     return [*lost, *flaws_of_schemas(tree), *([] if lost else flaws_of_operations(tree))]

@@ -18,6 +18,8 @@ SITE = "Public procurement"
 VIEWS = {"begin": "", "open": "#notice/N3", "awarded": "#notice/N2", "paid": "#notice/N1", "cancelled": "#notice/N4", "stopped": "#notice/N5",
          "running": "#notice/N6", "budget": "#ledger", "missing": "#notice/N99"}
 WIDTHS, NARROWEST = {"narrow": 375, "wide": 1280}, 320
+# What must have a name.
+NAMED = ("link", "button", "textbox", "image", "table", "region", "article", "navigation", "search")
 # How many looks are more than the front takes from one address at a time, whatever the machine.
 MANY = 2000
 MOMENT = re.compile(r"\d{1,2} [A-Z][a-z]+ \d{4}, \d\d:\d\d:\d\d UTC")
@@ -26,7 +28,10 @@ PALE = """(() => {
   const parts = (text) => text.match(/[\\d.]+/g).map(Number);
   const channel = (value) => value <= 10.31475 ? value / 3294.6 : ((value / 255 + 0.055) / 1.055) ** 2.4;
   const light = ([r, g, b]) => 0.2126 * channel(r) + 0.7152 * channel(g) + 0.0722 * channel(b);
-  const ground = (at) => { const own = parts(getComputedStyle(at).backgroundColor); return own[3] === 0 ? (at.parentElement ? ground(at.parentElement) : [255, 255, 255]) : own; };
+  const ground = (at) => {
+    const own = parts(getComputedStyle(at).backgroundColor);
+    return own[3] === 0 ? (at.parentElement ? ground(at.parentElement) : [255, 255, 255]) : own;
+  };
   const ratio = (one, other) => { const [low, high] = [light(one), light(other)].sort((a, b) => a - b); return (high + 0.05) / (low + 0.05); };
   const found = [];
   for (const at of document.querySelectorAll("body *")) {
@@ -110,14 +115,17 @@ def is_read_out(name: str, page: Page) -> None:
     for role in ("banner", "navigation", "search", "main", "contentinfo", "status"):
         check(f"{name} has {roles.count(role)} of {role}", roles.count(role) == 1)
     levels = [more["level"] for role, _, more in tree if role == "heading"]
-    check(f"{name} has headings of the levels {levels}", levels[0] == 1 and levels.count(1) == 1 and all(next_ <= level + 1 for level, next_ in zip(levels, levels[1:])))
-    nameless = [role for role, text, _ in tree if not text and role in ("link", "button", "textbox", "image", "table", "region", "article", "navigation", "search")]
+    in_order = all(below <= level + 1 for level, below in zip(levels, levels[1:]))
+    check(f"{name} has headings of the levels {levels}", levels[0] == 1 and levels.count(1) == 1 and in_order)
+    nameless = [role for role, text, _ in tree if not text and role in NAMED]
     check(f"{name} has {nameless} without a name", not nameless)
     bars = [text for role, text, _ in tree if role == "image"]
-    check(f"{name} has bars that tell {bars}", len(bars) == page.run("document.querySelectorAll('.bar').length") and all(re.search(r"\d", text) for text in bars))
+    are_all = len(bars) == page.run("document.querySelectorAll('.bar').length")
+    check(f"{name} has bars that tell {bars}", are_all and all(re.search(r"\d", text) for text in bars))
     check(f"{name} has a table without headers", "table" not in roles or {"columnheader", "rowheader"} <= set(roles))
     patterns = [pattern.split(" ", 1) for pattern in page.run(PATTERNS)]
-    check(f"{name} has bars that colour alone tells apart: {patterns}", len(patterns) == len({kind for kind, _ in patterns}) == len({how for _, how in patterns}))
+    kinds, ways = {kind for kind, _ in patterns}, {how for _, how in patterns}
+    check(f"{name} has bars that colour alone tells apart: {patterns}", len(patterns) == len(kinds) == len(ways))
 
 
 def keeps_nothing(scene: Scene, page: Page) -> None:
@@ -167,7 +175,8 @@ def keyboard(scene: Scene) -> None:
     page.press("Tab")
     page.press("Enter")
     check(f"the button for more lines leads to {focused(page)}", focused(page)[0].startswith("Line 3100"))
-    check("the other lines are shown, and the button is gone", page.run("document.querySelectorAll('main h3').length === 22 && !document.querySelector('.more').checkVisibility()"))
+    are_shown = page.run("document.querySelectorAll('main h3').length === 22 && !document.querySelector('.more').checkVisibility()")
+    check("the other lines are shown, and the button is gone", are_shown)
     page.go(scene.front.address())
     page.press("Tab")
     page.press("Enter")
@@ -252,7 +261,8 @@ STATES: list[tuple[str, bool, list[Contract], str]] = [
 def inferences(scene: Scene) -> None:
     """What the page infers where no notice of this office shows it."""
     page = page_of(scene, "")
-    tenders = [{"receipt": at, "tenderer": name, "reading": "priced", "corrected": price} for at, (name, price) in enumerate((("A", 100), ("B", 90), ("C", 100)), 1)]
+    prices = (("A", 100), ("B", 90), ("C", 100))
+    tenders = [{"receipt": at, "tenderer": name, "reading": "priced", "corrected": price} for at, (name, price) in enumerate(prices, 1)]
     for status, made, words in LOTS:
         awards = [{"id": str(at), "relatedLots": ["L1"], "suppliers": [{"id": f"T-{name}"}], "status": state} for at, (name, state) in enumerate(made)]
         told = [{"awards": awards, "tender": {"awardCriteria": "priceOnly"}}, {"id": "L1", "status": status}, tenders]
@@ -260,9 +270,10 @@ def inferences(scene: Scene) -> None:
         said = page.run(f"import('/findings.js').then(({{ findings }}) => findings(...{json.dumps(told)}, new Set({passed})).map(([, , word]) => word))")
         check(f"of a lot that is {status} with the awards {made} is said {said}, and not {words}", said == words)
     for status, opened, contracts, word in STATES:
-        of_them = [{"value": value, "status": "terminated" if ended else "active", "implementation": {"transactions": [{"value": {"amount": it}} for it in paid]}}
-                   for value, paid, ended in contracts]
-        tender: dict[str, Any] = {"status": status, "lots": [], "tenderPeriod": {"endDate": "2026-01-05T09:00:00Z"}, **({"numberOfTenderers": 1} if opened else {})}
+        of_them = [{"value": value, "status": "terminated" if ended else "active",
+                    "implementation": {"transactions": [{"value": {"amount": it}} for it in paid]}} for value, paid, ended in contracts]
+        tender: dict[str, Any] = {"status": status, "lots": [], "tenderPeriod": {"endDate": "2026-01-05T09:00:00Z"}}
+        tender.update({"numberOfTenderers": 1} if opened else {})
         said = page.run(f"import('/findings.js').then(({{ stateOf }}) => stateOf({json.dumps({'tender': tender, 'contracts': of_them})})[1])")
         check(f"a process that is {status}, with {contracts}, is called {said}, and not {word}", said == word)
     is_quiet(page)
@@ -275,7 +286,8 @@ def long_texts(scene: Scene) -> None:
         text = scene.front.ask("GET", f"/notices/N1/{name}").body.decode()
         text = re.sub(r'"(title|name|rationale|description|streetAddress)":"(?:[^"\\]|\\.)*"', lambda found: f'"{found[1]}":"\u202e{"W" * 197}"', text)
         text = re.sub(r'"amount":\d+', '"amount":999999999999', text)
-        answers[f"/notices/N9/{name}"] = (200, re.sub(r"^(tender\t\d+\tT\d)\t[^\t]*\t[^\t]*", r"\1\t" + "W" * 200 + r"\t" + "M" * 200, text, flags=re.M).encode())
+        text = re.sub(r"^(tender\t\d+\tT\d)\t[^\t]*\t[^\t]*", r"\1\t" + "W" * 200 + r"\t" + "M" * 200, text, flags=re.M)
+        answers[f"/notices/N9/{name}"] = (200, text.encode())
     answers["/ledger"] = (200, b"LEDGER\nline\n" + b"".join(b"%s\t999999999999999\t1\t2\t3\t999999999999993\n" % (b"W" * 32) for _ in range(3)))
     answers["/lines/" + "W" * 32] = (200, json.dumps({"title": "M" * 200}).encode())
     page = page_of(scene, "")
@@ -306,10 +318,10 @@ def injected(scene: Scene) -> None:
     """What would be done to the page by a fault of it: no markup is made of texts, no script within the page runs, and nothing is asked of another server."""
     page = page_of(scene, "")
     elsewhere = f"https://{OUTSIDE}:{scene.front.port}/ledger"
+    styled = "Object.assign(document.createElement('style'), {onload: yes, onerror: no, textContent: '*{}'})"
     harms = {"document.body.innerHTML = '<img src=x onerror=hurt()>'": "require-trusted-types-for",
              "document.body.append(Object.assign(document.createElement('script'), {textContent: 'hurt()'}))": "require-trusted-types-for",
-             "await new Promise((yes, no) => document.body.append(Object.assign(document.createElement('style'), {onload: yes, onerror: no, textContent: '*{}'})))":
-             "style-src-elem", f"await fetch('{elsewhere}')": "connect-src",
+             f"await new Promise((yes, no) => document.body.append({styled}))": "style-src-elem", f"await fetch('{elsewhere}')": "connect-src",
              f"await new Promise((yes, no) => Object.assign(new Image(), {{onload: yes, onerror: no}}).src = '{elsewhere}')": "img-src"}
     for harm, directive in harms.items():
         check(f"{harm} is done", page.run(f"(async () => {{ {harm}; }})().then(() => false, () => true)"))

@@ -75,7 +75,8 @@ class Procurements(Client[Answer]):
     def announce_all(self) -> None:
         by_points = {"criteria": "points", "price_weight": 60}
         self.announce("N1", "Road repair in the north", self.deadline - 1,
-                      lot("L1", "1100", 600_000, 5000, PAVING, KERBS, title='North <b>&amp;</b> "East"'), lot("L2", "1100", 30_000, 0, ("Signs", 120), title="Signs"))
+                      lot("L1", "1100", 600_000, 5000, PAVING, KERBS, title='North <b>&amp;</b> "East"'),
+                      lot("L2", "1100", 30_000, 0, ("Signs", 120), title="Signs"))
         self.amend_notice("N1", text_of(self.deadline), 'More time <b>for all</b> &amp; "everybody"')
         self.announce("N2", SCRIPT, self.deadline, lot("L1", "1200", 90_000, 0, DESKS, title="Desks for two schools"))
         self.announce("N3", "A footbridge over the river", self.deadline + DAY, lot("L1", "1100", 2_400_000, 0, ("Footbridge", 1), title="Bridge"),

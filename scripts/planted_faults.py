@@ -261,12 +261,34 @@ def forgeries(life: AuditedLife) -> list[tuple[Any, ...]]:
         ("a line has more money", "UPDATE lines SET appropriation = appropriation + 1, free = free + 1 WHERE line = '3000'",
          (COPY, "appropriations_come_from_batches", "lines 3000")),
         ("a line has another title", "UPDATE lines SET title = 'Woods' WHERE line = '3000'", (COPY, "appropriations_come_from_batches", "lines 3000")),
-        # What could have come since the last witness, none of them shows.
+        ("a budget file came in at another time", "UPDATE batches SET moment = moment - 100", (COPY, stay, "batches B1")),
+        ("a lot asks for another security", "UPDATE lots SET security = 15 WHERE notice = 'N5'", (COPY, stay, "lots N5/L1")),
+        ("a lot is of another line", "UPDATE lots SET line = '2000' WHERE notice = 'N5'; UPDATE lines SET free = free + 900 WHERE line = '1000'; "
+         "UPDATE lines SET free = free - 900 WHERE line = '2000'", (COPY, stay, "lots N5/L1")),
+        ("a withdrawn tender was another tenderer's", f"UPDATE envelopes SET tenderer = 'T5' WHERE receipt = {r['taken']}; "
+         f"UPDATE securities SET tenderer = 'T5' WHERE security = {r['taken']}",
+         (HELD, "securities_are_as_shown", f"securities {r['taken']}"), (COPY, stay, taken)),
+        ("the last tender never came", f"DELETE FROM envelopes WHERE receipt = {r['later']}; UPDATE office SET receipts = receipts - 1",
+         (HELD, receipts, f"envelopes {r['later']}"), (HELD, "registers_are_of_the_rows", f"envelopes {r['later']}"), (COPY, stay, f"envelopes {r['later']}"),
+         (COPY, decided, "office 2")),
+        ("the last event never was", unended(life), (PUBLIC, "saved_releases_stay", "notices N8"), (HELD, "securities_are_as_shown", f"performance {broken}"),
+         (COPY, stay, "releases N8/5")),
+        # What a command could have done, since the last witness or within what a witness leaves open, none of them shows.
+        ("a sealed tender was withdrawn before the deadline", f"UPDATE envelopes SET state = 'withdrawn' WHERE receipt = {r['sealed']}; "
+         f"DELETE FROM seals WHERE receipt = {r['sealed']}; UPDATE securities SET state = 'returned' WHERE security = {r['sealed']}"),
         ("a line has another title and more money, as by a budget file that came since",
          "UPDATE lines SET title = 'Woods', appropriation = 8, free = 8 WHERE line = '3000'; INSERT INTO batches SELECT 'B9', moment, 1 FROM office"),
         ("a tenderer was registered since", "INSERT INTO tenderers VALUES ('T9', 'Firm T9', 'T9 Street', zeroblob(32))"),
         ("a contract ended by default since", ended(life)),
     ]
+
+
+def unended(life: AuditedLife) -> str:
+    """Takes the last end of a contract back, in all rows that hang together."""
+    return (f"UPDATE lines SET free = free - (SELECT released FROM contracts WHERE contract = {life.broken}) WHERE line = '1000'; "
+            f"UPDATE contracts SET ended = NULL, how = NULL, released = 0 WHERE contract = {life.broken}; "
+            f"UPDATE performance SET state = 'held' WHERE contract = {life.broken}; UPDATE notices_2 SET releases = 4 WHERE notice = 'N8'; "
+            "DELETE FROM releases WHERE notice = 'N8' AND seq = 5; UPDATE compiled SET text = replace(text, 'terminated', 'active') WHERE notice = 'N8'")
 
 
 def ended(life: AuditedLife) -> str:
