@@ -388,8 +388,7 @@ fn leaves(alloc: Global, target: &mut Value, value: &Value) -> bool {
     is_printed(alloc, target, want)
 }
 
-// `rt try --test --fail-alloc N` refuses the Nth allocation; `bench/merge/refused.sh` does so for
-// each.
+// `rt try --test --fail-alloc N` refuses the Nth allocation; `tests/merge_refused.sh` does so for each.
 #[test]
 fn refused_memory_leaves_the_target(rt: HostRuntime) -> Result<(), Fail> {
     let alloc = rt.alloc();
