@@ -8,6 +8,7 @@ It plays the schedule of `rt ci` on paper: proofs and tests first, those with mo
 and then these fill the lanes that are free; a proof gets the lanes that no other proof waits for, four at most, fixed for its life; and what rt reckons that
 a check takes of memory holds it back where the others' leave too little, a proof the wrong bodies behind it too. Not in it: other work on the machine.
 Printed are the wall minutes for each number, and the longest chain of crates. `bench/gate` prints them too, beside the minutes that the run took.
+Exit status: 0 where they are told, 1 where the table can't be read or lacks what the model wants, 2 for wrong arguments.
 """
 import json
 import os
@@ -16,7 +17,7 @@ import sys
 
 sys.dont_write_bytecode = True
 sys.path.insert(0, os.path.join(os.path.dirname(os.path.dirname(os.path.realpath(__file__))), "scripts"))
-from common import ROOT
+from common import ROOT, fail, options_of
 from crates import crates_of
 from gate_table import is_raw
 
@@ -183,14 +184,19 @@ def tell(root, table, numbers):
 
 
 def main():
-    if len(sys.argv) < 2 or sys.argv[1].startswith("-"):
-        sys.exit(__doc__)
-    with open(sys.argv[1]) as file:
-        table = json.load(file)
+    options = options_of(__doc__)
+    options.add_argument("table", metavar="TABLE", help="what `bench/gate --save TABLE` left")
+    options.add_argument("numbers", nargs="*", type=int, metavar="NUMBER", help="how many processors (4, and 2)")
+    choice = options.parse_args()
+    try:
+        with open(choice.table) as file:
+            table = json.load(file)
+    except (OSError, ValueError) as error:
+        fail(f"{choice.table}: {error}")
     if not is_raw(table):
-        sys.exit(f"{sys.argv[1]} doesn't tell the minutes of each wrong body, which the model wants: it was written down from a printed table")
-    tell(ROOT, table, [int(it) for it in sys.argv[2:]] or [4, 2])
+        fail(f"{choice.table} doesn't tell the minutes of each wrong body, which the model wants: it was written down from a printed table")
+    tell(ROOT, table, choice.numbers or [4, 2])
 
 
 if __name__ == "__main__":
-    main()
+    sys.exit(main())

@@ -4,7 +4,7 @@ import difflib
 import json
 import os
 import re
-from collections.abc import Iterator
+from collections.abc import Callable, Iterator
 from typing import Any
 
 from browser import Page
@@ -79,8 +79,7 @@ def views(scene: Scene) -> None:
             for dark in (False, True):
                 page.shape(width, dark=dark)
                 page.picture(os.path.join(scene.pictures, f"{name}-{shape}-{'dark' if dark else 'light'}.png"))
-                pale = page.run(PALE)
-                check(f"{name}, {shape}, {'dark' if dark else 'light'}: too little contrast: {pale}", not pale)
+                has_contrast(f"{name}, {shape}, {'dark' if dark else 'light'}", page)
         for width in (*WIDTHS.values(), NARROWEST):
             page.shape(width)
             is_within(name, width, page)
@@ -89,16 +88,31 @@ def views(scene: Scene) -> None:
 
 
 def difference(scene: Scene, name: str, page: Page) -> str:
-    """Where the text of a view is another than that of `page_texts/`, moments apart. Markup in it is text."""
+    """Where a view says something else than `page_texts/`; what it says is left with the pictures. Its title is its own, and markup in a text is text."""
     text = MOMENT.sub("MOMENT", page.text())
     with open(os.path.join(scene.pictures, f"{name}.txt"), "w") as file:
         file.write(text)
-    with open(os.path.join(ROOT, "tests", "page_texts", f"{name}.txt")) as file:
-        wanted = file.read()
+    has_its_own(name, page)
+    return otherwise(name, text)
+
+
+def has_its_own(name: str, page: Page) -> None:
+    """The title is that of the view, and nothing in the page is a script or a mark that came with a text."""
     title = page.run("document.title")
     check(f"{name} has the title {title}", title.endswith(SITE) and (name != "awarded" or title.startswith(SCRIPT)))
     check(f"{name} has a script or a mark from a text", page.run("document.scripts.length === 1 && !document.querySelector('main :is(script, i, img, style)')"))
+
+
+def otherwise(name: str, text: str) -> str:
+    """Where a text is another than that of `page_texts/`, moments apart."""
+    with open(os.path.join(ROOT, "tests", "page_texts", f"{name}.txt")) as file:
+        wanted = file.read()
     return "".join(difflib.unified_diff(wanted.splitlines(True), text.splitlines(True), f"page_texts/{name}.txt", "the page", n=1))
+
+
+def has_contrast(name: str, page: Page) -> None:
+    pale = page.run(PALE)
+    check(f"{name}: too little contrast: {pale}", not pale)
 
 
 def is_within(name: str, width: object, page: Page) -> None:
@@ -190,6 +204,56 @@ def keyboard(scene: Scene) -> None:
     check(f"the form leads to {focused(page)}", focused(page)[0] == "Road repair in the north")
     check(f"behind it is {focused(page)}", tab(page, 1) == [["/notices/N1/record", True]])
     is_quiet(page)
+
+
+# Faults that are planted in a view: what is done to the page, and which of the checks above must find it.
+PLANTS: list[tuple[str, Callable[[Scene, Page], None]]] = [
+    ("document.querySelector('main h2').append(' x')", lambda _, page: says_what_it_should(page)),
+    ("document.querySelector('main dd, main td').remove()", lambda _, page: says_what_it_should(page)),
+    ("document.title = 'Another'", lambda _, page: has_its_own("paid", page)),
+    ("document.body.append(document.createElement('script'))", lambda _, page: has_its_own("paid", page)),
+    ("document.querySelector('main').append(document.createElement('i'))", lambda _, page: has_its_own("paid", page)),
+    ("document.querySelector('main').append(Object.assign(document.createElement('h1'), {textContent: 'x'}))", lambda _, page: is_read_out("paid", page)),
+    ("document.querySelector('main').append(document.createElement('button'))", lambda _, page: is_read_out("paid", page)),
+    ("document.querySelectorAll('th').forEach((at) => at.replaceWith(document.createElement('td')))", lambda _, page: is_read_out("paid", page)),
+    ("document.querySelectorAll('.part, .swatch').forEach((at) => { at.style.background = '#333'; })", lambda _, page: is_read_out("paid", page)),
+    ("document.querySelector('main h2').style.color = '#ddd'", lambda _, page: has_contrast("paid", page)),
+    ("document.querySelector('main').style.width = '2000px'", lambda _, page: is_within("paid", 1280, page)),
+    ("document.styleSheets[0].insertRule('* { outline: none !important; }')", lambda _, page: is_seen(page)),
+    ("new Promise((done) => { setTimeout(() => { throw new Error('x'); }); setTimeout(done, 50); })", lambda _, page: is_quiet(page)),
+    ("console.log('x')", lambda _, page: is_quiet(page)),
+    ("localStorage.setItem('x', 'y')", lambda scene, page: keeps_nothing(scene, page)),
+    ("new Promise((done) => { indexedDB.open('x').onsuccess = done; }).then(() => 0)", lambda scene, page: keeps_nothing(scene, page)),
+    ("document.cookie = 'x=y'", lambda scene, page: keeps_nothing(scene, page)),
+]
+
+
+def says_what_it_should(page: Page) -> None:
+    differences = otherwise("paid", MOMENT.sub("MOMENT", page.text()))
+    check(differences, not differences)
+
+
+def is_seen(page: Page) -> None:
+    """Where the first tabs lead is seen."""
+    order = tab(page, 3)
+    check(f"tabs lead to {order}", all(seen for _, seen in order))
+
+
+def plants(scene: Scene) -> None:
+    """A fault in a page is found by the check that is for it, and nothing where none is planted."""
+    passed_over = []
+    page = page_of(scene, VIEWS["paid"])
+    for _, judge in PLANTS:
+        judge(scene, page)
+    for fault, judge in PLANTS:
+        page = page_of(scene, VIEWS["paid"])
+        page.run(fault if fault.startswith("new ") else f"void ({fault})")
+        try:
+            judge(scene, page)
+            passed_over.append(fault)
+        except AssertionError:
+            pass
+    check(f"these are passed over: {passed_over}", not passed_over)
 
 
 def refusals() -> Iterator[tuple[int, bytes]]:
@@ -363,4 +427,4 @@ def too_often(scene: Scene) -> None:
     check(f"the page says {page.text()!r}", page.text() == "Not shown\nToo many requests came from here. Wait a minute and try again.\n")
 
 
-CHECKS = [views, keyboard, each_refusal, inferences, long_texts, without_scripts, injected, office_away, too_often]
+CHECKS = [views, keyboard, plants, each_refusal, inferences, long_texts, without_scripts, injected, office_away, too_often]

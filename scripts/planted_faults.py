@@ -6,13 +6,15 @@ shows nothing: that is tried too, and then which witnesses show it, and which do
 import hashlib
 import json
 import os
-from collections.abc import Callable
+import re
+from collections.abc import Callable, Iterable
 from typing import Any
 
 from audit_life import AuditedLife, offer
 from audit_office import Json
 from audit_releases import compiled_of, releases_in
 from client import text_of
+
 
 def without(notice: str) -> str:
     """Deletes a procurement whole, with all that it left in a file, where nobody took part."""
@@ -30,95 +32,109 @@ def in_places(*tables: str) -> str:
                    f"INSERT INTO {table} SELECT * FROM t ORDER BY rowid; DROP TABLE t; " for table in tables)
 
 
-def other_bytes(receipt: int, body: str) -> str:
+def other_bytes(receipt: str, body: str) -> str:
     """Puts other bytes in the place of a tender's, with all that is said of them."""
     data = body.encode()
     return (f"UPDATE seals SET bytes = X'{data.hex()}' WHERE receipt = {receipt}; UPDATE envelopes SET digest = X'{hashlib.sha256(data).hexdigest()}', "
             f"length = {len(data)} WHERE receipt = {receipt}; ")
 
 
-def faults_of_files(life: AuditedLife) -> list[tuple[str, str, str]]:
-    """Faults of the file: the rule, the row that it must name, and what is written into the file."""
-    r, contract, failed = life.receipt, life.contract, life.failed
-    paid = "SELECT seq FROM releases WHERE notice = 'N1' AND text LIKE '%\"P1\"%'"
-    unchecked = "PRAGMA ignore_check_constraints = ON; "
-    return [
-        # The pots, a release, a security, a compiled release, a late tender and a payment.
-        ("pots_add_up", "lines 1000", "UPDATE lines SET free = free + 1 WHERE line = '1000'"),
-        ("pots_add_up", "lines 2000", "UPDATE lots SET reserved = reserved - 1 WHERE notice = 'N6' AND lot = 'L2'"),
-        ("releases_are_numbered", "releases N1/5", "DELETE FROM releases WHERE notice = 'N1' AND seq = 5"),
-        ("rows_have_their_releases", "notices N1", "DELETE FROM releases WHERE notice = 'N1' AND seq = 5"),
-        ("securities_have_their_fate", f"securities {r['first']}", f"UPDATE securities SET state = 'returned' WHERE security = {r['first']}"),
-        ("securities_have_their_fate", f"securities {r['sealed']}", f"UPDATE securities SET state = 'forfeited' WHERE security = {r['sealed']}"),
-        ("failures_are_of_awards", f"envelopes {r['regretted']}", "DELETE FROM late_rules"),
-        ("securities_have_their_fate", f"securities {r['regretted']}", f"UPDATE securities SET state = 'returned' WHERE security = {r['regretted']}"),
-        ("merges_are_of_their_releases", "compiled N1", "UPDATE compiled SET text = (SELECT text FROM compiled WHERE notice = 'N2') WHERE notice = 'N1'"),
-        ("late_tenders_stay_shut", f"envelopes {r['late']}", f"UPDATE envelopes SET state = 'opened', reading = 'unreadable' WHERE receipt = {r['late']}"),
-        ("releases_are_counted", "notices N1", "INSERT INTO entries SELECT contract, 'P9', kind, amount, moment, rationale FROM entries "
-         f"WHERE entry = 'P2' AND contract = {contract}"),
-        ("rows_have_their_releases", "notices N2", f"INSERT INTO entries SELECT contract, 'P9', kind, amount, moment, rationale FROM entries "
-         f"WHERE contract = {life.running}; UPDATE notices_2 SET releases = releases + 1 WHERE notice = 'N2'"),
-        ("keys_come_once", f"entries {contract}/P1", "ALTER TABLE entries RENAME TO e; CREATE TABLE entries AS SELECT * FROM e; "
-         f"INSERT INTO entries SELECT * FROM e WHERE entry = 'P1' AND contract = {contract}; DROP TABLE e"),
-        ("events_come_once", "notices N1", f"INSERT INTO releases SELECT notice, (SELECT releases + 1 FROM notices_2 WHERE notice = 'N1'), moment, text "
-         f"FROM releases WHERE notice = 'N1' AND seq IN ({paid})"),
-        # One for each other rule.
-        ("file_is_sound", "file", unchecked + "UPDATE notices_2 SET validity = 999 WHERE notice = 'N5'"),
-        ("tables_are_as_made", "trigger taken", "CREATE TRIGGER taken AFTER INSERT ON entries BEGIN UPDATE lines SET free = free - 1; END"),
-        ("tables_are_as_made", "table lines", "ALTER TABLE lines ADD COLUMN note TEXT"),
-        ("tables_are_as_made", "table entries", "PRAGMA writable_schema = ON; UPDATE sqlite_master SET sql = replace(sql, ' CHECK (amount BETWEEN 1 AND "
-         "1000000000000)', '') WHERE name = 'entries'"),
-        ("tables_are_as_made", "index lots_of_line", "DROP INDEX lots_of_line"),
-        ("tables_are_as_made", "table notices", "DROP TABLE notices"),
-        ("notices_stand_in_one_table", "notices N1", "INSERT INTO notices SELECT notice, title, published, deadline, validity, standstill, weight, state, "
-         "opened, amendments, releases FROM notices_2 WHERE notice = 'N1'"),
-        ("words_are_known", "lots N5/L1", unchecked + "UPDATE lots SET state = 'won' WHERE notice = 'N5'"),
-        ("parents_are_there", f"envelopes {r['quoted']}", "DELETE FROM tenderers WHERE tenderer = 'T4'"),
-        ("nothing_is_after_the_clock", f"awards {failed}", "UPDATE office SET moment = moment - 100"),
-        ("numbers_are_given_in_turn", f"envelopes {r['taken']}", f"DELETE FROM envelopes WHERE receipt = {r['taken']}"),
-        ("numbers_follow_time", f"envelopes {r['cheap']}", f"UPDATE envelopes SET moment = moment - 100 WHERE receipt = {r['cheap']}"),
-        ("contracts_are_not_overdrawn", f"contracts {life.running}", f"UPDATE entries SET amount = 9999 WHERE contract = {life.running}"),
-        ("contracts_end_settled", f"contracts {contract}", f"UPDATE contracts SET released = 0 WHERE contract = {contract}"),
-        ("reservations_fit_their_lots", "lots N6/L1", "UPDATE lots SET reserved = reserved + 5 WHERE notice = 'N6' AND lot = 'L1'; "
-         "UPDATE lines SET free = free - 5 WHERE line = '2000'"),
-        ("notices_keep_their_time", "notices N2", "UPDATE notices_2 SET opened = deadline - 1 WHERE notice = 'N2'"),
-        ("lots_fit_their_notices", "lots N5/L1", "UPDATE lots SET state = 'unsuccessful' WHERE notice = 'N5'"),
-        ("lots_fit_their_awards", f"awards {failed}", f"UPDATE awards SET state = 'active' WHERE award = {failed}"),
-        ("contracts_are_signed_awards", f"contracts {contract}", f"UPDATE contracts SET tenderer = 'T3' WHERE contract = {contract}"),
-        ("awards_keep_their_time", f"awards {failed}", f"UPDATE awards SET moment = moment - 100 WHERE award = {failed}"),
-        ("contracts_keep_their_time", f"entries {contract}/P1", f"UPDATE entries SET moment = moment - 100 WHERE contract = {contract} AND entry = 'P1'"),
-        ("awards_go_to_the_best", f"awards {failed}", f"UPDATE awards SET receipt = {r['dear']}, price = 570 WHERE award = {failed}"),
-        ("awards_go_to_the_best", f"awards {life.running}", f"UPDATE awards SET receipt = {r['low']}, price = 200 WHERE award = {life.running}"),
-        ("lots_without_a_winner_have_no_offer", "lots N1/L2", "UPDATE envelopes SET reading = 'priced', stated = 1, corrected = 1, corrections = 0, "
-         f"responsive = 1 WHERE receipt = {r['nothing']}"),
-        ("tenders_have_their_fate", f"envelopes {r['nothing']}", f"UPDATE envelopes SET state = 'returned' WHERE receipt = {r['nothing']}"),
-        ("tenderers_have_one_tender_a_lot", f"envelopes {r['other']}", f"UPDATE envelopes SET state = 'sealed' WHERE receipt = {r['taken']}"),
-        ("seals_fit_their_tenders", f"envelopes {r['cheap']}", f"DELETE FROM seals WHERE receipt = {r['cheap']}"),
-        ("digests_are_of_the_bytes", f"seals {r['sealed']}", "UPDATE seals SET bytes = CAST(replace(bytes, '10', '11') AS BLOB) "
-         f"WHERE receipt = {r['sealed']}"),
-        ("readings_are_of_the_bytes", f"envelopes {r['open']}", f"UPDATE envelopes SET corrected = corrected - 1 WHERE receipt = {r['open']}"),
-        ("examinations_fit_their_tenders", f"envelopes {r['high']}", f"UPDATE envelopes SET quality = 41 WHERE receipt = {r['high']}"),
-        ("failures_are_of_awards", f"envelopes {r['cheap']}", f"UPDATE envelopes SET failed = 0 WHERE receipt = {r['cheap']}"),
-        ("securities_come_with_tenders", f"envelopes {r['sealed']}", f"UPDATE securities SET tenderer = 'T2' WHERE security = {r['sealed']}"),
-        ("securities_are_as_asked", f"envelopes {r['sealed']}", f"UPDATE securities SET amount = 9 WHERE security = {r['sealed']}"),
-        ("performances_are_as_asked", f"contracts {life.running}", f"UPDATE performance SET amount = 14 WHERE contract = {life.running}"),
-        ("performances_are_as_asked", f"contracts {life.running}", f"DELETE FROM performance WHERE contract = {life.running}"),
-        ("performances_have_their_fate", f"performance {life.running}", f"UPDATE performance SET state = 'returned' WHERE contract = {life.running}"),
-        ("performances_have_their_fate", f"performance {contract}", f"UPDATE performance SET state = 'held' WHERE contract = {contract}"),
-        ("performances_have_their_fate", f"performance {life.broken}", f"UPDATE performance SET state = 'returned' WHERE contract = {life.broken}"),
-        ("kept_texts_are_releases", "releases N2/1", "UPDATE releases SET text = 'no release' WHERE notice = 'N2' AND seq = 1"),
-        ("merges_say_what_the_rows_say", "notices N4", "UPDATE lots SET state = 'unsuccessful' WHERE notice = 'N4' AND lot = 'L1'"),
-        ("heads_are_in_sequence", "releases N1/2", "UPDATE releases SET text = replace(text, '-0002\"', '-0003\"') WHERE notice = 'N1' AND seq = 2"),
-        ("tags_are_of_events", "releases N1/2", "UPDATE releases SET text = replace(text, 'tenderAmendment', 'planning') WHERE notice = 'N1' AND seq = 2"),
-        # A procurement that is deleted whole, but for the places of rows; an entry from before its place; lines, tenders and texts that no office makes.
-        ("rows_came_one_after_another", "releases N8/1", without("N7")),
-        ("rows_came_one_after_another", f"entries {contract}/P2", "UPDATE entries SET moment = moment - 100 WHERE entry = 'P2'"),
-        ("lines_come_from_batches", "office 2", "UPDATE batches SET rows = 2"),
-        ("tenders_of_a_lot_follow_each_other", f"envelopes {r['late']}", "UPDATE envelopes SET tenderer = 'T1', state = 'withdrawn', "
-         f"moment = {life.deadline - 1} WHERE receipt IN ({r['later']}, {r['late']})"),
-        ("kept_texts_are_compact", "releases N2/1", "UPDATE releases SET text = replace(text, '\",\"', '\", \"') WHERE notice = 'N2' AND seq = 1"),
-        ("releases_follow_each_other", "releases N1/10", said("N1", '"amount":400,', '"amount":700,')),
-    ]
+def names_of(life: AuditedLife) -> dict[str, object]:
+    """What an office gave the names that the faults below have in braces: numbers of tenders, awards and contracts, and moments."""
+    numbers = {name: getattr(life, name) for name in ("contract", "failed", "running", "broken", "active")}
+    return {**life.receipt, **numbers, "in_time": life.deadline - 1, "moved": text_of(life.deadline + 90_000), "further": text_of(life.deadline + 180_000)}
+
+
+def filled(texts: Iterable[str], life: AuditedLife) -> tuple[str, ...]:
+    """Texts with what an office gave in the place of each name in braces."""
+    names = names_of(life)
+    return tuple(re.sub(r"\{(\w+)\}", lambda found: str(names[str(found[1])]), text) for text in texts)
+
+
+UNCHECKED = "PRAGMA ignore_check_constraints = ON; "
+# Faults of the file: the rule, the row that it must name, and what is written into the file.
+FAULTS_OF_FILES = [
+    # The pots, a release, a security, a compiled release, a late tender and a payment.
+    ("pots_add_up", "lines 1000", "UPDATE lines SET free = free + 1 WHERE line = '1000'"),
+    ("pots_add_up", "lines 2000", "UPDATE lots SET reserved = reserved - 1 WHERE notice = 'N6' AND lot = 'L2'"),
+    ("releases_are_numbered", "releases N1/5", "DELETE FROM releases WHERE notice = 'N1' AND seq = 5"),
+    ("rows_have_their_releases", "notices N1", "DELETE FROM releases WHERE notice = 'N1' AND seq = 5"),
+    ("securities_have_their_fate", "securities {first}", "UPDATE securities SET state = 'returned' WHERE security = {first}"),
+    ("securities_have_their_fate", "securities {sealed}", "UPDATE securities SET state = 'forfeited' WHERE security = {sealed}"),
+    ("failures_are_of_awards", "envelopes {regretted}", "DELETE FROM late_rules"),
+    ("securities_have_their_fate", "securities {regretted}", "UPDATE securities SET state = 'returned' WHERE security = {regretted}"),
+    ("merges_are_of_their_releases", "compiled N1", "UPDATE compiled SET text = (SELECT text FROM compiled WHERE notice = 'N2') WHERE notice = 'N1'"),
+    ("late_tenders_stay_shut", "envelopes {late}", "UPDATE envelopes SET state = 'opened', reading = 'unreadable' WHERE receipt = {late}"),
+    ("releases_are_counted", "notices N1", "INSERT INTO entries SELECT contract, 'P9', kind, amount, moment, rationale FROM entries "
+     "WHERE entry = 'P2' AND contract = {contract}"),
+    ("rows_have_their_releases", "notices N2", "INSERT INTO entries SELECT contract, 'P9', kind, amount, moment, rationale FROM entries "
+     "WHERE contract = {running}; UPDATE notices_2 SET releases = releases + 1 WHERE notice = 'N2'"),
+    ("keys_come_once", "entries {contract}/P1", "ALTER TABLE entries RENAME TO e; CREATE TABLE entries AS SELECT * FROM e; "
+     "INSERT INTO entries SELECT * FROM e WHERE entry = 'P1' AND contract = {contract}; DROP TABLE e"),
+    ("events_come_once", "notices N1", "INSERT INTO releases SELECT notice, (SELECT releases + 1 FROM notices_2 WHERE notice = 'N1'), moment, text "
+     "FROM releases WHERE notice = 'N1' AND seq IN (SELECT seq FROM releases WHERE notice = 'N1' AND text LIKE '%\"P1\"%')"),
+    # One for each other rule.
+    ("file_is_sound", "file", UNCHECKED + "UPDATE notices_2 SET validity = 999 WHERE notice = 'N5'"),
+    ("tables_are_as_made", "trigger taken", "CREATE TRIGGER taken AFTER INSERT ON entries BEGIN UPDATE lines SET free = free - 1; END"),
+    ("tables_are_as_made", "table lines", "ALTER TABLE lines ADD COLUMN note TEXT"),
+    ("tables_are_as_made", "table entries", "PRAGMA writable_schema = ON; UPDATE sqlite_master SET sql = replace(sql, ' CHECK (amount BETWEEN 1 AND "
+     "1000000000000)', '') WHERE name = 'entries'"),
+    ("tables_are_as_made", "index lots_of_line", "DROP INDEX lots_of_line"),
+    ("tables_are_as_made", "table notices", "DROP TABLE notices"),
+    ("notices_stand_in_one_table", "notices N1", "INSERT INTO notices SELECT notice, title, published, deadline, validity, standstill, weight, state, "
+     "opened, amendments, releases FROM notices_2 WHERE notice = 'N1'"),
+    ("words_are_known", "lots N5/L1", UNCHECKED + "UPDATE lots SET state = 'won' WHERE notice = 'N5'"),
+    ("parents_are_there", "envelopes {quoted}", "DELETE FROM tenderers WHERE tenderer = 'T4'"),
+    ("nothing_is_after_the_clock", "awards {failed}", "UPDATE office SET moment = moment - 100"),
+    ("numbers_are_given_in_turn", "envelopes {taken}", "DELETE FROM envelopes WHERE receipt = {taken}"),
+    ("numbers_follow_time", "envelopes {cheap}", "UPDATE envelopes SET moment = moment - 100 WHERE receipt = {cheap}"),
+    ("contracts_are_not_overdrawn", "contracts {running}", "UPDATE entries SET amount = 9999 WHERE contract = {running}"),
+    ("contracts_end_settled", "contracts {contract}", "UPDATE contracts SET released = 0 WHERE contract = {contract}"),
+    ("reservations_fit_their_lots", "lots N6/L1", "UPDATE lots SET reserved = reserved + 5 WHERE notice = 'N6' AND lot = 'L1'; "
+     "UPDATE lines SET free = free - 5 WHERE line = '2000'"),
+    ("notices_keep_their_time", "notices N2", "UPDATE notices_2 SET opened = deadline - 1 WHERE notice = 'N2'"),
+    ("lots_fit_their_notices", "lots N5/L1", "UPDATE lots SET state = 'unsuccessful' WHERE notice = 'N5'"),
+    ("lots_fit_their_awards", "awards {failed}", "UPDATE awards SET state = 'active' WHERE award = {failed}"),
+    ("contracts_are_signed_awards", "contracts {contract}", "UPDATE contracts SET tenderer = 'T3' WHERE contract = {contract}"),
+    ("awards_keep_their_time", "awards {failed}", "UPDATE awards SET moment = moment - 100 WHERE award = {failed}"),
+    ("contracts_keep_their_time", "entries {contract}/P1", "UPDATE entries SET moment = moment - 100 WHERE contract = {contract} AND entry = 'P1'"),
+    ("awards_go_to_the_best", "awards {failed}", "UPDATE awards SET receipt = {dear}, price = 570 WHERE award = {failed}"),
+    ("awards_go_to_the_best", "awards {running}", "UPDATE awards SET receipt = {low}, price = 200 WHERE award = {running}"),
+    ("lots_without_a_winner_have_no_offer", "lots N1/L2", "UPDATE envelopes SET reading = 'priced', stated = 1, corrected = 1, corrections = 0, "
+     "responsive = 1 WHERE receipt = {nothing}"),
+    ("tenders_have_their_fate", "envelopes {nothing}", "UPDATE envelopes SET state = 'returned' WHERE receipt = {nothing}"),
+    ("tenderers_have_one_tender_a_lot", "envelopes {other}", "UPDATE envelopes SET state = 'sealed' WHERE receipt = {taken}"),
+    ("seals_fit_their_tenders", "envelopes {cheap}", "DELETE FROM seals WHERE receipt = {cheap}"),
+    ("digests_are_of_the_bytes", "seals {sealed}", "UPDATE seals SET bytes = CAST(replace(bytes, '10', '11') AS BLOB) "
+     "WHERE receipt = {sealed}"),
+    ("readings_are_of_the_bytes", "envelopes {open}", "UPDATE envelopes SET corrected = corrected - 1 WHERE receipt = {open}"),
+    ("examinations_fit_their_tenders", "envelopes {high}", "UPDATE envelopes SET quality = 41 WHERE receipt = {high}"),
+    ("failures_are_of_awards", "envelopes {cheap}", "UPDATE envelopes SET failed = 0 WHERE receipt = {cheap}"),
+    ("securities_come_with_tenders", "envelopes {sealed}", "UPDATE securities SET tenderer = 'T2' WHERE security = {sealed}"),
+    ("securities_are_as_asked", "envelopes {sealed}", "UPDATE securities SET amount = 9 WHERE security = {sealed}"),
+    ("performances_are_as_asked", "contracts {running}", "UPDATE performance SET amount = 14 WHERE contract = {running}"),
+    ("performances_are_as_asked", "contracts {running}", "DELETE FROM performance WHERE contract = {running}"),
+    ("performances_have_their_fate", "performance {running}", "UPDATE performance SET state = 'returned' WHERE contract = {running}"),
+    ("performances_have_their_fate", "performance {contract}", "UPDATE performance SET state = 'held' WHERE contract = {contract}"),
+    ("performances_have_their_fate", "performance {broken}", "UPDATE performance SET state = 'returned' WHERE contract = {broken}"),
+    ("kept_texts_are_releases", "releases N2/1", "UPDATE releases SET text = 'no release' WHERE notice = 'N2' AND seq = 1"),
+    ("merges_say_what_the_rows_say", "notices N4", "UPDATE lots SET state = 'unsuccessful' WHERE notice = 'N4' AND lot = 'L1'"),
+    ("heads_are_in_sequence", "releases N1/2", "UPDATE releases SET text = replace(text, '-0002\"', '-0003\"') WHERE notice = 'N1' AND seq = 2"),
+    ("tags_are_of_events", "releases N1/2", "UPDATE releases SET text = replace(text, 'tenderAmendment', 'planning') WHERE notice = 'N1' AND seq = 2"),
+    # A procurement that is deleted whole, but for the places of rows; an entry from before its place; lines, tenders and texts that no office makes.
+    ("rows_came_one_after_another", "releases N8/1", without("N7")),
+    ("rows_came_one_after_another", "entries {contract}/P2", "UPDATE entries SET moment = moment - 100 WHERE entry = 'P2'"),
+    ("lines_come_from_batches", "office 2", "UPDATE batches SET rows = 2"),
+    ("tenders_of_a_lot_follow_each_other", "envelopes {late}", "UPDATE envelopes SET tenderer = 'T1', state = 'withdrawn', "
+     "moment = {in_time} WHERE receipt IN ({later}, {late})"),
+    ("kept_texts_are_compact", "releases N2/1", "UPDATE releases SET text = replace(text, '\",\"', '\", \"') WHERE notice = 'N2' AND seq = 1"),
+    ("releases_follow_each_other", "releases N1/10", said("N1", '"amount":400,', '"amount":700,')),
+]
+
+
+def faults_of_files(life: AuditedLife) -> list[tuple[str, ...]]:
+    """The faults of the file in this office."""
+    return [filled(fault, life) for fault in FAULTS_OF_FILES]
 
 
 def lose(package: Json, place: int) -> None:
@@ -148,8 +164,6 @@ FAULTS_OF_ANSWERS = [
     ("ledger_is_of_the_rows", "office 1", ["ledger.txt"], lambda text, _: text.replace("3000\t7\t7\t0\t", "3000\t7\t6\t1\t")),
     ("ledger_is_of_the_rows", "lines 3000", ["ledger.txt"], lambda text, _: text.replace("3000\t7\t7\t", "3000\t7\t8\t")),
 ]
-
-
 
 
 def rewrite(folder: str, notice: str, before: str, after: str) -> None:
@@ -222,84 +236,81 @@ def faults_outside(life: AuditedLife) -> list[tuple[Any, ...]]:
 PUBLIC, HELD, COPY = "earlier answers", "what was handed out", "an earlier copy"
 
 
+STAY, DECIDED, RECEIPTS = "rows_of_an_earlier_copy_stay", "what_is_decided_stays", "receipts_are_of_the_rows"
+# Takes the last end of a contract back, in all rows that hang together.
+UNENDED = ("UPDATE lines SET free = free - (SELECT released FROM contracts WHERE contract = {broken}) WHERE line = '1000'; "
+           "UPDATE contracts SET ended = NULL, how = NULL, released = 0 WHERE contract = {broken}; "
+           "UPDATE performance SET state = 'held' WHERE contract = {broken}; UPDATE notices_2 SET releases = 4 WHERE notice = 'N8'; "
+           "DELETE FROM releases WHERE notice = 'N8' AND seq = 5; UPDATE compiled SET text = replace(text, 'terminated', 'active') WHERE notice = 'N8'")
+# The release of that end, at the last moment of the office.
+RELEASE_OF_END = ('{"buyer":{"id":"B-city","name":"City Office"},"contracts":[{"awardID":"{running}","id":"{running}","status":"terminated"}],'
+                  '"date":"\' || strftime(\'%Y-%m-%dT%H:%M:%SZ\', moment, \'unixepoch\') || \'","id":"ocds-a1b2c3-N2-0006","initiationType":"tender",'
+                  '"language":"en","ocid":"ocds-a1b2c3-N2","tag":["contractTermination"]}')
+# Ends the contract that runs, in all rows that hang together, as the command does.
+ENDED = ("UPDATE contracts SET ended = (SELECT moment FROM office), how = 'default', released = 150 WHERE contract = {running}; "
+         "UPDATE performance SET state = 'forfeited' WHERE contract = {running}; UPDATE lines SET free = free + 150 WHERE line = '2000'; "
+         "UPDATE notices_2 SET releases = 6 WHERE notice = 'N2'; INSERT INTO releases SELECT 'N2', 6, moment, '" + RELEASE_OF_END + "' FROM office; "
+         """UPDATE compiled SET text = replace(text, ']},"status":"active","value"', ']},"status":"terminated","value"') WHERE notice = 'N2'""")
+# Forgeries of the file that the file alone doesn't show: what is forged, how, and where it is found: by which witness, rule and row.
+FORGERIES: list[tuple[Any, ...]] = [
+    ("a procurement is deleted whole, and its places are filled", without("N7") + in_places("releases", "compiled", "lots", "notices_2"),
+     (PUBLIC, "saved_notices_are_there", "notices N7"), (HELD, "saved_notices_are_there", "notices N7"), (COPY, STAY, "notices N7")),
+    ("a late tender is one in time, and withdrawn",
+     "UPDATE envelopes SET state = 'withdrawn', moment = {in_time} WHERE receipt = {late}",
+     (HELD, RECEIPTS, "envelopes {late}"), (HELD, "registers_are_of_the_rows", "envelopes {late}"), (COPY, DECIDED, "envelopes {late}"),
+     (COPY, STAY, "envelopes {late}")),
+    ("a contract ended regularly, not by default, and its security went back",
+     "UPDATE contracts SET how = 'regular' WHERE contract = {broken}; UPDATE performance SET state = 'returned' WHERE contract = {broken}",
+     (HELD, "securities_are_as_shown", "performance {broken}"), (COPY, DECIDED, "contracts {broken}"), (COPY, DECIDED, "performance {broken}")),
+    ("less was paid", "UPDATE entries SET amount = 90 WHERE contract = {running}; " + said("N2", '"amount":100,', '"amount":90,'),
+     (PUBLIC, "saved_releases_stay", "notices N2"), (PUBLIC, "paid_never_falls", "lines 2000"), (COPY, STAY, "entries {running}/P1")),
+    ("a contract was changed for another reason", "UPDATE entries SET rationale = 'Works' WHERE rationale = 'Kerbs'; " + said("N1", "Kerbs", "Works"),
+     (PUBLIC, "saved_releases_stay", "notices N1"), (COPY, STAY, "entries {contract}/A1")),
+    ("a tender asked another price", other_bytes("{low}", offer(0, 21)) + "UPDATE envelopes SET stated = 210, corrected = 210 WHERE receipt = {low}",
+     (PUBLIC, "saved_minutes_stay", "notices N2"), (HELD, RECEIPTS, "envelopes {low}"), (COPY, STAY, "seals {low}")),
+    ("a sealed tender is another one", other_bytes("{sealed}", offer(9, 9)), (HELD, RECEIPTS, "envelopes {sealed}"), (COPY, STAY, "envelopes {sealed}")),
+    ("a tenderer has another name", "UPDATE tenderers SET name = 'Firm A4' WHERE tenderer = 'T4'; " + said("N1", "Firm T4", "Firm A4"),
+     (PUBLIC, "saved_releases_stay", "notices N1"), (PUBLIC, "saved_minutes_stay", "notices N1"), (COPY, STAY, "tenderers T4")),
+    ("tenders may come for longer", "UPDATE notices_2 SET deadline = deadline + 90000 WHERE notice = 'N5'; " + said("N5", "{moved}", "{further}"),
+     (PUBLIC, "saved_releases_stay", "notices N5"), (COPY, STAY, "releases N5/2")),
+    ("a tenderer has another key", "UPDATE tenderers SET key = zeroblob(32) WHERE tenderer = 'T1'", (COPY, STAY, "tenderers T1")),
+    ("a security has another reference", "UPDATE securities SET reference = 'G0' WHERE security = {sealed}",
+     (HELD, "securities_are_as_shown", "securities {sealed}"), (COPY, STAY, "securities {sealed}")),
+    ("the standstill is longer", "UPDATE notices_2 SET standstill = 5 WHERE notice = 'N5'", (COPY, STAY, "notices N5")),
+    ("a performance security is asked", "UPDATE notices_2 SET performance = 5 WHERE notice = 'N5'", (COPY, STAY, "notices N5")),
+    ("tenders may be withdrawn late", "INSERT INTO late_rules VALUES ('N5')", (COPY, "nothing_is_put_in_behind", "late_rules N5")),
+    ("a withdrawn tender was another one", "UPDATE envelopes SET digest = zeroblob(32) WHERE receipt = {taken}",
+     (HELD, RECEIPTS, "envelopes {taken}"), (COPY, STAY, "envelopes {taken}")),
+    ("a tender was found not responsive", "UPDATE envelopes SET responsive = 0, quality = NULL WHERE receipt = {low}", (COPY, DECIDED, "envelopes {low}")),
+    ("a budget file came in", "INSERT INTO batches VALUES ('B0', (SELECT max(moment) FROM batches), 9)", (COPY, "what_is_new_is_later", "batches B0")),
+    ("a line has more money", "UPDATE lines SET appropriation = appropriation + 1, free = free + 1 WHERE line = '3000'",
+     (COPY, "appropriations_come_from_batches", "lines 3000")),
+    ("a line has another title", "UPDATE lines SET title = 'Woods' WHERE line = '3000'", (COPY, "appropriations_come_from_batches", "lines 3000")),
+    ("a budget file came in at another time", "UPDATE batches SET moment = moment - 100", (COPY, STAY, "batches B1")),
+    ("a lot asks for another security", "UPDATE lots SET security = 15 WHERE notice = 'N5'", (COPY, STAY, "lots N5/L1")),
+    ("a lot is of another line", "UPDATE lots SET line = '2000' WHERE notice = 'N5'; UPDATE lines SET free = free + 900 WHERE line = '1000'; "
+     "UPDATE lines SET free = free - 900 WHERE line = '2000'", (COPY, STAY, "lots N5/L1")),
+    ("a withdrawn tender was another tenderer's", "UPDATE envelopes SET tenderer = 'T5' WHERE receipt = {taken}; "
+     "UPDATE securities SET tenderer = 'T5' WHERE security = {taken}",
+     (HELD, "securities_are_as_shown", "securities {taken}"), (COPY, STAY, "envelopes {taken}")),
+    ("the last tender never came", "DELETE FROM envelopes WHERE receipt = {later}; UPDATE office SET receipts = receipts - 1",
+     (HELD, RECEIPTS, "envelopes {later}"), (HELD, "registers_are_of_the_rows", "envelopes {later}"), (COPY, STAY, "envelopes {later}"),
+     (COPY, DECIDED, "office 2")),
+    ("the last event never was", UNENDED, (PUBLIC, "saved_releases_stay", "notices N8"), (HELD, "securities_are_as_shown", "performance {broken}"),
+     (COPY, STAY, "releases N8/5")),
+    # What a command could have done, since the last witness or within what a witness leaves open, none of them shows.
+    ("a sealed tender was withdrawn before the deadline", "UPDATE envelopes SET state = 'withdrawn' WHERE receipt = {sealed}; "
+     "DELETE FROM seals WHERE receipt = {sealed}; UPDATE securities SET state = 'returned' WHERE security = {sealed}"),
+    ("a line has another title and more money, as by a budget file that came since",
+     "UPDATE lines SET title = 'Woods', appropriation = 8, free = 8 WHERE line = '3000'; INSERT INTO batches SELECT 'B9', moment, 1 FROM office"),
+    ("a tenderer was registered since", "INSERT INTO tenderers VALUES ('T9', 'Firm T9', 'T9 Street', zeroblob(32))"),
+    ("a contract ended by default since", ENDED),
+]
+
+
 def forgeries(life: AuditedLife) -> list[tuple[Any, ...]]:
-    """Forgeries of the file that the file alone doesn't show: what is forged, how, and where it is found: by which witness, rule and row."""
-    r, broken, running = life.receipt, life.broken, life.running
-    low, sealed, late, taken = (f"envelopes {r[name]}" for name in ("low", "sealed", "late", "taken"))
-    moved, further = text_of(life.deadline + 90_000), text_of(life.deadline + 180_000)
-    stay, decided, receipts = "rows_of_an_earlier_copy_stay", "what_is_decided_stays", "receipts_are_of_the_rows"
-    return [
-        ("a procurement is deleted whole, and its places are filled", without("N7") + in_places("releases", "compiled", "lots", "notices_2"),
-         (PUBLIC, "saved_notices_are_there", "notices N7"), (HELD, "saved_notices_are_there", "notices N7"), (COPY, stay, "notices N7")),
-        ("a late tender is one in time, and withdrawn",
-         f"UPDATE envelopes SET state = 'withdrawn', moment = {life.deadline - 1} WHERE receipt = {r['late']}",
-         (HELD, receipts, late), (HELD, "registers_are_of_the_rows", late), (COPY, decided, late), (COPY, stay, late)),
-        ("a contract ended regularly, not by default, and its security went back",
-         f"UPDATE contracts SET how = 'regular' WHERE contract = {broken}; UPDATE performance SET state = 'returned' WHERE contract = {broken}",
-         (HELD, "securities_are_as_shown", f"performance {broken}"), (COPY, decided, f"contracts {broken}"), (COPY, decided, f"performance {broken}")),
-        ("less was paid", f"UPDATE entries SET amount = 90 WHERE contract = {running}; " + said("N2", '"amount":100,', '"amount":90,'),
-         (PUBLIC, "saved_releases_stay", "notices N2"), (PUBLIC, "paid_never_falls", "lines 2000"), (COPY, stay, f"entries {running}/P1")),
-        ("a contract was changed for another reason", "UPDATE entries SET rationale = 'Works' WHERE rationale = 'Kerbs'; " + said("N1", "Kerbs", "Works"),
-         (PUBLIC, "saved_releases_stay", "notices N1"), (COPY, stay, f"entries {life.contract}/A1")),
-        ("a tender asked another price", other_bytes(r["low"], offer(0, 21)) + f"UPDATE envelopes SET stated = 210, corrected = 210 WHERE receipt = {r['low']}",
-         (PUBLIC, "saved_minutes_stay", "notices N2"), (HELD, receipts, low), (COPY, stay, f"seals {r['low']}")),
-        ("a sealed tender is another one", other_bytes(r["sealed"], offer(9, 9)), (HELD, receipts, sealed), (COPY, stay, sealed)),
-        ("a tenderer has another name", "UPDATE tenderers SET name = 'Firm A4' WHERE tenderer = 'T4'; " + said("N1", "Firm T4", "Firm A4"),
-         (PUBLIC, "saved_releases_stay", "notices N1"), (PUBLIC, "saved_minutes_stay", "notices N1"), (COPY, stay, "tenderers T4")),
-        ("tenders may come for longer", "UPDATE notices_2 SET deadline = deadline + 90000 WHERE notice = 'N5'; " + said("N5", moved, further),
-         (PUBLIC, "saved_releases_stay", "notices N5"), (COPY, stay, "releases N5/2")),
-        ("a tenderer has another key", "UPDATE tenderers SET key = zeroblob(32) WHERE tenderer = 'T1'", (COPY, stay, "tenderers T1")),
-        ("a security has another reference", f"UPDATE securities SET reference = 'G0' WHERE security = {r['sealed']}",
-         (HELD, "securities_are_as_shown", f"securities {r['sealed']}"), (COPY, stay, f"securities {r['sealed']}")),
-        ("the standstill is longer", "UPDATE notices_2 SET standstill = 5 WHERE notice = 'N5'", (COPY, stay, "notices N5")),
-        ("a performance security is asked", "UPDATE notices_2 SET performance = 5 WHERE notice = 'N5'", (COPY, stay, "notices N5")),
-        ("tenders may be withdrawn late", "INSERT INTO late_rules VALUES ('N5')", (COPY, "nothing_is_put_in_behind", "late_rules N5")),
-        ("a withdrawn tender was another one", f"UPDATE envelopes SET digest = zeroblob(32) WHERE receipt = {r['taken']}",
-         (HELD, receipts, taken), (COPY, stay, taken)),
-        ("a tender was found not responsive", f"UPDATE envelopes SET responsive = 0, quality = NULL WHERE receipt = {r['low']}", (COPY, decided, low)),
-        ("a budget file came in", "INSERT INTO batches VALUES ('B0', (SELECT max(moment) FROM batches), 9)", (COPY, "what_is_new_is_later", "batches B0")),
-        ("a line has more money", "UPDATE lines SET appropriation = appropriation + 1, free = free + 1 WHERE line = '3000'",
-         (COPY, "appropriations_come_from_batches", "lines 3000")),
-        ("a line has another title", "UPDATE lines SET title = 'Woods' WHERE line = '3000'", (COPY, "appropriations_come_from_batches", "lines 3000")),
-        ("a budget file came in at another time", "UPDATE batches SET moment = moment - 100", (COPY, stay, "batches B1")),
-        ("a lot asks for another security", "UPDATE lots SET security = 15 WHERE notice = 'N5'", (COPY, stay, "lots N5/L1")),
-        ("a lot is of another line", "UPDATE lots SET line = '2000' WHERE notice = 'N5'; UPDATE lines SET free = free + 900 WHERE line = '1000'; "
-         "UPDATE lines SET free = free - 900 WHERE line = '2000'", (COPY, stay, "lots N5/L1")),
-        ("a withdrawn tender was another tenderer's", f"UPDATE envelopes SET tenderer = 'T5' WHERE receipt = {r['taken']}; "
-         f"UPDATE securities SET tenderer = 'T5' WHERE security = {r['taken']}",
-         (HELD, "securities_are_as_shown", f"securities {r['taken']}"), (COPY, stay, taken)),
-        ("the last tender never came", f"DELETE FROM envelopes WHERE receipt = {r['later']}; UPDATE office SET receipts = receipts - 1",
-         (HELD, receipts, f"envelopes {r['later']}"), (HELD, "registers_are_of_the_rows", f"envelopes {r['later']}"), (COPY, stay, f"envelopes {r['later']}"),
-         (COPY, decided, "office 2")),
-        ("the last event never was", unended(life), (PUBLIC, "saved_releases_stay", "notices N8"), (HELD, "securities_are_as_shown", f"performance {broken}"),
-         (COPY, stay, "releases N8/5")),
-        # What a command could have done, since the last witness or within what a witness leaves open, none of them shows.
-        ("a sealed tender was withdrawn before the deadline", f"UPDATE envelopes SET state = 'withdrawn' WHERE receipt = {r['sealed']}; "
-         f"DELETE FROM seals WHERE receipt = {r['sealed']}; UPDATE securities SET state = 'returned' WHERE security = {r['sealed']}"),
-        ("a line has another title and more money, as by a budget file that came since",
-         "UPDATE lines SET title = 'Woods', appropriation = 8, free = 8 WHERE line = '3000'; INSERT INTO batches SELECT 'B9', moment, 1 FROM office"),
-        ("a tenderer was registered since", "INSERT INTO tenderers VALUES ('T9', 'Firm T9', 'T9 Street', zeroblob(32))"),
-        ("a contract ended by default since", ended(life)),
-    ]
-
-
-def unended(life: AuditedLife) -> str:
-    """Takes the last end of a contract back, in all rows that hang together."""
-    return (f"UPDATE lines SET free = free - (SELECT released FROM contracts WHERE contract = {life.broken}) WHERE line = '1000'; "
-            f"UPDATE contracts SET ended = NULL, how = NULL, released = 0 WHERE contract = {life.broken}; "
-            f"UPDATE performance SET state = 'held' WHERE contract = {life.broken}; UPDATE notices_2 SET releases = 4 WHERE notice = 'N8'; "
-            "DELETE FROM releases WHERE notice = 'N8' AND seq = 5; UPDATE compiled SET text = replace(text, 'terminated', 'active') WHERE notice = 'N8'")
-
-
-def ended(life: AuditedLife) -> str:
-    """Ends the contract that runs, in all rows that hang together, at the last moment of the office, as the command does."""
-    text = (f'{{"buyer":{{"id":"B-city","name":"City Office"}},"contracts":[{{"awardID":"{life.running}","id":"{life.running}","status":"terminated"}}],'
-            '"date":"\' || strftime(\'%Y-%m-%dT%H:%M:%SZ\', moment, \'unixepoch\') || \'","id":"ocds-a1b2c3-N2-0006","initiationType":"tender",'
-            '"language":"en","ocid":"ocds-a1b2c3-N2","tag":["contractTermination"]}').replace("\'", "'")
-    return (f"UPDATE contracts SET ended = (SELECT moment FROM office), how = 'default', released = 150 WHERE contract = {life.running}; "
-            f"UPDATE performance SET state = 'forfeited' WHERE contract = {life.running}; UPDATE lines SET free = free + 150 WHERE line = '2000'; "
-            f"UPDATE notices_2 SET releases = 6 WHERE notice = 'N2'; INSERT INTO releases SELECT 'N2', 6, moment, '{text}' FROM office; "
-            """UPDATE compiled SET text = replace(text, ']},"status":"active","value"', ']},"status":"terminated","value"') WHERE notice = 'N2'""")
+    """The forgeries in this office."""
+    return [(what, filled([script], life)[0], *(filled(found, life) for found in found_by)) for what, script, *found_by in FORGERIES]
 
 
 def plant(folder: str, names: list[str], change: Callable[[Any, Any], Any]) -> None:
