@@ -219,6 +219,13 @@ def running(words: Sequence[str], **how: Any) -> Iterator["subprocess.Popen[byte
         process.wait()
 
 
+def stand_in(path: str, script: str) -> str:
+    """The path, where this script of the shell stands then as a program that a test runs in place of another. (Another process writes it: a program that one's
+    own threads still hold open, in processes that they just begin, can't be run.)"""
+    subprocess.run(["install", "-m", "755", "/dev/stdin", path], input=f"#!/bin/sh\n{script}\n", text=True, check=True)
+    return path
+
+
 def made_shim(source: str, folder: str) -> str:
     """A library that is made of this C in the folder, to stand before the C library (LD_PRELOAD)."""
     need("cc", "gcc")
