@@ -17,7 +17,7 @@ use Rattle.office_base.specs.declared.puts.Put.TheVariants as puts
 use Rattle.office_base.specs.declared.records.ClockRow.{ClockRow}
 use Rattle.office_base.specs.declared.records.NoticeRow.{NoticeRow}
 use Rattle.office_rows.specs.declared.stored.FormerNotice.{FormerNotice}
-use Rattle.office_sql.specs.Apart.{LeadsInside}
+use Rattle.office_sql.specs.Apart.{AddsNoReference, LeadsInside}
 use Rattle.office_sql.specs.First.{AreApart, IsMigrated, Begins}
 use Rattle.office_sql.specs.Known.{IsIn}
 use Rattle.office_sql.specs.Schema.{notices as version_two}
@@ -100,6 +100,7 @@ module _ (late : Bool) (clock : ClockRow) (notices : List FormerNotice) where
                     let before : AreApart first.now.schema marked = subst (λ s. AreApart s marked) kept.0 apart in
                     kept.1 marked before.inside (before.others Notices (inr (inr (inl refl))) n at) u one.0 is_marked ∙ one.1 marked before is_marked,
               );
+          added = subst (AddsNoReference old.now.schema) (sym kept.0) blank.added;
         };
   }
 

@@ -4,6 +4,7 @@ use office_base::ledger::LedgerRow;
 use office_base::puts::Put;
 use office_base::shelf::{Lookups, Shelf};
 use office_store::found::OpenFault;
+use office_store::opened::Opened;
 use office_store::shelf::SqlShelf;
 use sqlite::{FileStore, Options};
 use sqlite_disk::{Fuse, Memory};
@@ -37,7 +38,7 @@ impl OfficeOnDisks {
             return Err(Unopened::Unusable(Disks { files }));
         }
         match SqlShelf::open_files(alloc, files, Options::new(7)) {
-            Ok(shelf) => Ok(OfficeOnDisks { shelf }),
+            Ok(Opened { shelf, origin: _ }) => Ok(OfficeOnDisks { shelf }),
             Err((OpenFault::NotAnOffice, left)) => Err(Unopened::NotAnOffice(Disks {
                 files: left.into_files(),
             })),

@@ -33,7 +33,7 @@ use Rattle.office_rows.specs.Releases.{clock_row, clock_row_of, clock_read, cloc
 use Rattle.office_rows.specs.declared.stored.FormerClock.{FormerClock}
 use Rattle.office_rows.specs.declared.stored.FormerNotice.{FormerNotice}
 use Rattle.office_sql.specs.Clock.{clock_key, clock_cmp}
-use Rattle.office_sql.specs.Apart.{LeadsInside}
+use Rattle.office_sql.specs.Apart.{AddsNoReference, LeadsInside}
 use Rattle.office_sql.specs.First.{lacking, has_table, has_late, drop_notices, drop_version, StandForFirst, IsNothing, StandsFirst, HoldsFirst, IsMigrated, Renews, Begins}
 use Rattle.office_sql.specs.Kept.{table_of as records_of, behind, by_rowid, read_by_rowid}
 use Rattle.office_sql.specs.Known.{IsIn, Places, HasTables, at_tree}
@@ -268,6 +268,7 @@ module _ {S : Type 0} (g : Ghosts S) (late : Bool) (clock : ClockRow) (old : Sta
                   ∙ one.apart marked inside (apart.others FormerNotices (inl refl) (p FormerNotices) (tables_3 FormerNotices)) u first_kept.0 is_marked
                   ∙ first_kept.1,
             );
+        added = subst (AddsNoReference old.now.schema) (sym (done.schema ∙ schema_2)) made.added;
       }
 
 pub begins : {S : Type 0} (g : Ghosts S) (late : Bool) (clock : ClockRow) (old : State) (from to : Held S) → ComesBack clock_row clock_read clock_in → Makes old (state g from) (lacking late) → Renews g clock from to

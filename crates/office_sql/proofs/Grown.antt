@@ -33,7 +33,7 @@ get-append [] ys i a h = absurd (cc)
 get-append (x ∷ xs) ys zero a h = h
 get-append (x ∷ xs) ys (suc i) a h = get-append xs ys i a h
 
-has-append : {A : Type 0} (xs : List A) (x y : A) → Has (xs ++ y ∷ []) x → Has xs x ⊎ (x ≡ y)
+pub has-append : {A : Type 0} (xs : List A) (x y : A) → Has (xs ++ y ∷ []) x → Has xs x ⊎ (x ≡ y)
 has-append [] x y (inl e) = inr e
 has-append [] x y (inr none) = absurd none
 has-append (z ∷ xs) x y (inl e) = inl (inl e)

@@ -4,6 +4,7 @@ use Rattle.std.specs.Prelude.{is_some}
 use Rattle.std.specs.List.{AllByRecursion}
 use Rattle.std.proofs.lemmas.Bool.{cases_Bool, MatchBool-at_true, MatchBool-at_false}
 use Rattle.sqlite_schema.specs.declared.schema.Schema.{Schema}
+use Rattle.sqlite_schema.specs.declared.schema.Reference.{Reference}
 use Rattle.sqlite_schema.specs.declared.schema.Table.{Table}
 use Rattle.sqlite_schema.specs.declared.schema.Index.{Index}
 use Rattle.sqlite_schema.specs.declared.command.Command.{Command}
@@ -24,12 +25,14 @@ use Rattle.sqlite.specs.Listing.{understood}
 use Rattle.sqlite.proofs.Callers.{runs_as, command_of, statement_of, IsPlain}
 use Rattle.office_sql.specs.Schema.{OfficeTable, table_of}
 use Rattle.office_sql.specs.Schema.OfficeTable.{Lines, Batches, Tenderers, Notices, Lots, Envelopes, Seals, Securities, Awards, Contracts, Entries, Releases, Compiled as Merges, Office, LateRules, FormerNotices, Performances}
+use Rattle.office_sql.specs.Apart.{AddsNoReference}
 use Rattle.office_sql.specs.Known.{IsIn, at_tree}
 use Rattle.office_sql.specs.Making.{Says, IsCreate, IsIndexing, AreMade, KeepsOthers, KeepsOffice, AreNew}
 use Rattle.sqlite_catalog.proofs.ListFacts.{none_placed}
 use Rattle.office_sql.proofs.Keyed.{keyed}
 use Rattle.office_sql.proofs.Upserted.{went, same_value}
-use Rattle.office_sql.proofs.Grown.{created_keeps, indexed_keeps, created_is, low_tree, has_last, has_front}
+use Rattle.office_sql.proofs.Stored.{bare}
+use Rattle.office_sql.proofs.Grown.{created_keeps, indexed_keeps, created_is, low_tree, has-append, has_last, has_front}
 
 -- ---- the statement
 
@@ -50,6 +53,7 @@ record Grows (old new : Database) : Type 0 where
   schema : new.schema ≡ created old.schema more
   empty : new.trees (next_tree old.schema) ≡ []
   others : KeepsRows old.schema.tables old.trees new.trees
+  childless : more.references ≡ []
   key : List ℕ
   one : (more.uniques ≡ key ∷ []) ⊎ (more.uniques ≡ [])
 
@@ -109,9 +113,13 @@ abbrev uniques_in : Result Table CompileError → List (List ℕ)
 uniques_in (Ok t) = t.uniques
 uniques_in (Err e) = []
 
-sequence_bare : (t : Table) → table_defined_by sequence_text ≡ Ok t → t.uniques ≡ []
+abbrev references_in : Result Table CompileError → List Reference
+references_in (Ok t) = t.references
+references_in (Err e) = []
+
+sequence_bare : (t : Table) → table_defined_by sequence_text ≡ Ok t → (t.uniques ≡ []) × (t.references ≡ [])
 unfolding everything
-sequence_bare t h = ap uniques_in (sym h)
+sequence_bare t h = (ap uniques_in (sym h), ap references_in (sym h))
 
 record IsOneMore (k : OfficeTable) (old after : Database) : Type 0 where
   mid : Database
@@ -126,11 +134,11 @@ one_more k text old after defined mid made sequence =
     let same : made.table ≡ table_of k = cc in
     record {
       mid = mid;
-      first = record { more = made.table; schema = made.is; empty = made.empty; others = made.others; key = (table_of k).primary; one = subst (λ (t : Table). (t.uniques ≡ (table_of k).primary ∷ []) ⊎ (t.uniques ≡ [])) (sym same) (one_key k) };
+      first = record { more = made.table; schema = made.is; empty = made.empty; others = made.others; childless = subst (λ (t : Table). t.references ≡ []) (sym same) (bare k).childless; key = (table_of k).primary; one = subst (λ (t : Table). (t.uniques ≡ (table_of k).primary ∷ []) ⊎ (t.uniques ≡ [])) (sym same) (one_key k) };
       is = same;
       unnamed = ap (λ (t : Table). table_named old.schema t.name) (sym same) ∙ first_unused _ (index_named old.schema made.table.name) (view_named old.schema made.table.name) made.free;
       then = elim (cases_Bool (lacks_sequence mid.schema)) [
-        | inl lacks ↦ (let more = MatchBool-at_true _ _ lacks sequence in inr (record { more = more.table; schema = more.is; empty = more.empty; others = more.others; key = []; one = inr (sequence_bare more.table more.defined) }))
+        | inl lacks ↦ (let more = MatchBool-at_true _ _ lacks sequence in let plain = sequence_bare more.table more.defined in inr (record { more = more.table; schema = more.is; empty = more.empty; others = more.others; childless = plain.1; key = []; one = inr plain.0 }))
         | inr has ↦ inl (same_value (MatchBool-at_false _ _ has sequence))
       ];
     }
@@ -180,9 +188,24 @@ one_more_others k old after it =
     let first = grows_others old it.mid it.first in
     elim it.then [ inl same ↦ subst (KeepsOthers old) (sym same) first | inr more ↦ others_then old it.mid after first (grows_others it.mid after more) ]
 
--- what is there stays, and the name was none of its
+-- what came refers to none
+grows_added : (old new : Database) → Grows old new → AddsNoReference old.schema new.schema
+grows_added old new it t h = elim (has-append old.schema.tables t (at_tree it.more (next_tree old.schema)) (subst (λ (s : Schema). Has s.tables t) it.schema h)) [
+  | inl there ↦ inl there
+  | inr last ↦ inr (ap (λ (u : Table). u.references) last ∙ it.childless)
+]
+
+pub added_then : (a b c : Schema) → AddsNoReference a b → AddsNoReference b c → AddsNoReference a c
+added_then a b c p q t h = elim (q t h) [ inl there ↦ p t there | inr none ↦ inr none ]
+
+one_more_added : (k : OfficeTable) (old after : Database) → IsOneMore k old after → AddsNoReference old.schema after.schema
+one_more_added k old after it =
+    let first = grows_added old it.mid it.first in
+    elim it.then [ inl same ↦ subst (λ (d : Database). AddsNoReference old.schema d.schema) (sym same) first | inr more ↦ added_then old.schema it.mid.schema after.schema first (grows_added it.mid after more) ]
+
+-- what is there stays, the name was none of its, and what came refers to none
 pub table_others : (old new : State) (text : List ℕ) (k : OfficeTable) (count : ℕ) → IsCreate text (table_of k) → Executes text [] old new (Ok count)
-    → KeepsOthers old.now new.now × AreNew old.now (k ∷ []) × KeepsOffice old.now new.now
+    → KeepsOthers old.now new.now × AreNew old.now (k ∷ []) × KeepsOffice old.now new.now × AddsNoReference old.now.schema new.now.schema
 table_others old new text k count it h =
     let u = was_understood text old new count h in
     let says = wrote text old new count u.0 CreateTable u.1 (it.means old.now.schema u.0 u.1) in
@@ -197,6 +220,7 @@ table_others old new text k count it h =
         tt,
       ),
       subst (KeepsOffice old.now) (sym now) (one_more_stays k old.now all.0 one),
+      subst (λ (d : Database). AddsNoReference old.now.schema d.schema) (sym now) (one_more_added k old.now all.0 one),
     )
 
 pub index_others : (old new : State) (text : List ℕ) (k : OfficeTable) (index : Index) (count : ℕ) → IsIndexing text (table_of k) index → Stands old.now k → Executes text [] old new (Ok count) → KeepsOthers old.now new.now

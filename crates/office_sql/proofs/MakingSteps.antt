@@ -11,7 +11,7 @@ use Rattle.office_sql.specs.Steps.{Goes, Refused}
 use Rattle.office_sql.specs.Making.{IsCreate, IsIndexing, AreMade, Makes, Indexes, Founds, all_tables}
 use Rattle.office_sql.proofs.Held.{goes_on}
 use Rattle.office_sql.proofs.Childless.{all-append}
-use Rattle.office_sql.proofs.Makes.{makes_table, makes_index, table_others, index_others, others_then, stays_then, all_so}
+use Rattle.office_sql.proofs.Makes.{makes_table, makes_index, table_others, index_others, others_then, stays_then, added_then, all_so}
 use Rattle.office_sql.proofs.Founds.{found, founds, first_others}
 use Rattle.office_sql.proofs.PutTexts.{put_office}
 
@@ -22,13 +22,14 @@ pub goes_refused : (a b c : State) → Goes a b → Refused b c → Refused a c
 goes_refused a b c p q = record { was_open = λ o. p.was_open; committed = λ o. q.committed o ∙ p.committed }
 
 pub made_one : (old new : State) (text : List ℕ) (k : OfficeTable) (count : ℕ) → IsCreate text (table_of k) → ExecutesInside 0 text [] old new (Ok count) → Makes old new (k ∷ [])
-made_one old new text k count it h = let kept = table_others old new text k count it h.0 in record { goes = goes_on old new h.1; others = kept.0; fresh = kept.1; stays = kept.2; made = λ done was. makes_table old new text k done count it was h.0 }
+made_one old new text k count it h = let kept = table_others old new text k count it h.0 in record { goes = goes_on old new h.1; others = kept.0; fresh = kept.1; stays = kept.2; added = kept.3; made = λ done was. makes_table old new text k done count it was h.0 }
 
 pub makes_then : (a b c : State) (ks js : List OfficeTable) → Makes a b ks → Makes b c js → Makes a c (js ++ ks)
 makes_then a b c ks js p q = record {
   goes = goes_then a b c p.goes q.goes;
   others = others_then a.now b.now c.now p.others q.others;
   stays = stays_then a.now b.now c.now p.stays q.stays;
+  added = added_then a.now.schema b.now.schema c.now.schema p.added q.added;
   fresh = all-append _ js ks (all_so _ _ js (λ k new t there. new t (p.others t there).0) q.fresh) p.fresh;
   made = λ done was. subst (λ l. AreMade l c.now) (sym (append_assoc js ks done)) (q.made (ks ++ done) (p.made done was));
 }

@@ -1,5 +1,5 @@
 -- Tables of others that stand apart from those that change.
-use Rattle.std.specs.Prelude.{◌≡◌, ℕ, Bool, true, Some}
+use Rattle.std.specs.Prelude.{◌≡◌, ◌⊎◌, ℕ, Bool, true, Some, []}
 use Rattle.sqlite_schema.specs.declared.schema.Reference.{Reference}
 use Rattle.sqlite_schema.specs.declared.schema.Schema.{Schema}
 use Rattle.sqlite_schema.specs.declared.schema.Table.{Table}
@@ -11,6 +11,10 @@ use Rattle.sqlite_trees.specs.Tree.{Trees}
 abbrev pub LeadsInside : Schema → (ℕ → Bool) → Type 0
 LeadsInside schema marked =
     (t : Table) (r : Reference) (key : ParentKey) → Has schema.tables t → marked t.tree ≡ true → Has t.references r → parent_key schema.tables r ≡ Some key → marked key.0 ≡ true
+
+-- a table that came refers to none
+abbrev pub AddsNoReference : Schema → Schema → Type 0
+AddsNoReference old new = (t : Table) → Has new.tables t → Has old.tables t ⊎ (t.references ≡ [])
 
 -- those tables keep their rows
 abbrev pub KeepsMarked : Schema → (ℕ → Bool) → Trees → Trees → Type 0

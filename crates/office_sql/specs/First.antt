@@ -14,7 +14,7 @@ use Rattle.office_base.specs.Tables.{Tables, notice_key}
 use Rattle.office_base.specs.declared.records.ClockRow.{ClockRow}
 use Rattle.office_rows.specs.Notices.{former_row, former_in}
 use Rattle.office_rows.specs.Releases.{clock_row, clock_row_of, clock_read}
-use Rattle.office_sql.specs.Apart.{LeadsInside}
+use Rattle.office_sql.specs.Apart.{AddsNoReference, LeadsInside}
 use Rattle.office_sql.specs.Clock.{clock_key, clock_cmp}
 use Rattle.office_sql.specs.Kept.{behind, by_rowid, read_by_rowid}
 use Rattle.office_sql.specs.Schema.{OfficeTable, table_of, late_rules, put_office}
@@ -95,6 +95,7 @@ KeepsApart old new =
 pub record IsMigrated (t : Tables) (old new : Database) : Type 0 where
   pub held : Holds new t
   pub others : KeepsApart old new
+  pub added : AddsNoReference old.schema new.schema
 
 -- the texts that drop what stood in the two tables that version 2 uses otherwise
 abbrev pub drop_notices : List ℕ

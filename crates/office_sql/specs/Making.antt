@@ -13,6 +13,7 @@ use Rattle.sqlite.specs.Listing.{understood}
 use Rattle.sqlite.specs.State.{State, text_of}
 use Rattle.sqlite.specs.Effect.{Database, IsDatabase}
 use Rattle.office_base.specs.Tables.{no_tables}
+use Rattle.office_sql.specs.Apart.{AddsNoReference}
 use Rattle.office_sql.specs.Schema.{OfficeTable, table_of}
 use Rattle.office_sql.specs.Schema.OfficeTable.{Lines, Batches, Tenderers, Notices, Lots, Envelopes, Seals, Securities, Awards, Contracts, Entries, Releases, Compiled as Merges, Office, LateRules, FormerNotices, Performances}
 use Rattle.office_sql.specs.Known.{IsIn, at_tree}
@@ -62,6 +63,7 @@ pub record Makes (old new : State) (more : List OfficeTable) : Type 0 where
   pub goes : Goes old new
   pub others : KeepsOthers old.now new.now
   pub fresh : AreNew old.now more
+  pub added : AddsNoReference old.now.schema new.now.schema
   -- what stood of an office stands as it did
   pub stays : KeepsOffice old.now new.now
   pub made : (done : List OfficeTable) → AreMade done old.now → AreMade (more ++ done) new.now

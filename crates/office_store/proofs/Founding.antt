@@ -18,6 +18,8 @@ use Rattle.office_sql.specs.Making.{Founds, KeepsOthers}
 use Rattle.office_sql.specs.Standing.{Holds}
 use Rattle.office_sql.specs.Steps.{Refused, ShowsTables}
 use Rattle.office_sql.specs.Version.{get_version, HasNoVersion}
+use Rattle.office_store.specs.declared.opened.Origin.{Origin}
+use Rattle.office_store.specs.declared.opened.Origin.TheVariants as from
 use Rattle.office_store.specs.Founding.{Founded, LeavesNew, LeavesOffice, IsSoundOpen, is_version_one, is_version_two, Answered, Enters, takes_a_name}
 use Rattle.office_store.specs.SqlMeaning.{LeavesShown}
 
@@ -84,10 +86,10 @@ no_version : {S : Type 0} (g : Ghosts S) (old : Held S) (passes : List Row → B
 unfolding Shown is_understood
 no_version g old passes none (rows, asked, is) = true≢false (sym (ap is_understood asked.shown.1.is) ∙ ap (λ s. is_understood (understood s get_version)) none ∙ unanswered)
 
-pub enters_bare : {S : Type 0} (g : Ghosts S) (old new : Held S) → old.schema ≡ no_schema → Enters g old new → ShowsTables (state g new) no_tables
-enters_bare g old new bare (inl entered) = absurd (no_version g old is_version_two bare entered.0)
-enters_bare g old new bare (inr (inl entered)) = absurd (no_version g old is_version_one bare entered.0)
-enters_bare g old new bare (inr (inr made)) = λ is_open. made.2.tables
+pub enters_bare : {S : Type 0} (g : Ghosts S) (origin : Origin) (old new : Held S) → old.schema ≡ no_schema → Enters g origin old new → ShowsTables (state g new) no_tables
+enters_bare g from.Found old new bare entered = absurd (no_version g old is_version_two bare entered.0)
+enters_bare g from.Migrated old new bare entered = absurd (no_version g old is_version_one bare entered.0)
+enters_bare g from.Made old new bare made = λ is_open. made.2.tables
 
-pub enters_empty : (old new : Held MemStore) → IsEmpty (state over_memory old) → Enters over_memory old new → ShowsTables (state over_memory new) no_tables
-enters_empty old new empty = enters_bare over_memory old new empty.2
+pub enters_empty : (origin : Origin) (old new : Held MemStore) → IsEmpty (state over_memory old) → Enters over_memory origin old new → ShowsTables (state over_memory new) no_tables
+enters_empty origin old new empty = enters_bare over_memory origin old new empty.2

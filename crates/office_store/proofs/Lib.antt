@@ -1,7 +1,9 @@
 mod Kept
 mod Once
 mod Shelves
-mod Founding
+mod Forms
+mod Others
+pub mod Founding
 mod Migrating
 mod Reopening
 mod Paths

@@ -17,6 +17,10 @@ use Rattle.office_sql.specs.Making.{KeepsOthers}
 use Rattle.office_sql.specs.Standing.{Holds}
 use Rattle.office_sql.specs.Steps.{Leaves, Refused, IsAsked}
 use Rattle.office_sql.specs.Version.{get_version, HasNoVersion}
+use Rattle.office_store.specs.Forms.{HasForms}
+use Rattle.office_store.specs.Others.{KeepsRest, leads_there}
+use Rattle.office_store.specs.declared.opened.Origin.{Origin}
+use Rattle.office_store.specs.declared.opened.Origin.TheVariants as from
 
 -- the names of the office's tables; those of indexes are none
 abbrev pub table_names : List (List ℕ)
@@ -68,22 +72,28 @@ IsSoundOpen s = IsTrue s.is_open → IsDatabase s.committed
 abbrev pub LeavesNew : State → Trees → Type 0
 LeavesNew old trees = IsTrue old.is_open × (IsDatabase old.committed → Leaves no_tables trees)
 
--- an office of version 1 became one of version 2, with its content, beside what others had there
+-- An office of version 1 became one of version 2, with its content, beside what others had there: of that nothing led to what was changed, and it has its rows.
 pub record Migrated (old new : State) : Type 0 where
   pub was_open : IsTrue old.is_open
   pub is_open : IsTrue new.is_open
   pub tables : (t : Tables) → HoldsFirst old.committed t → IsMigrated t old.committed new.committed
+  pub free : leads_there old.committed.schema ≡ false
+  pub rest : (t : Tables) → HoldsFirst old.committed t → KeepsRest old.committed new.committed
   -- a stop leaves this and nothing else
   pub only : (db : Trees) → new.may_leave db → db ≡ new.committed.trees
 
 -- what the commit of a migration leaves: the whole of an office of version 2, with the content that stood there, beside what others had
 abbrev pub LeavesMigrated : State → Trees → Type 0
-LeavesMigrated old trees = IsTrue old.is_open × ((t : Tables) → HoldsFirst old.committed t → (db : Database) × (trees ≡ db.trees) × IsMigrated t old.committed db)
+LeavesMigrated old trees = IsTrue old.is_open × ((t : Tables) → HoldsFirst old.committed t → (db : Database) × (trees ≡ db.trees) × IsMigrated t old.committed db × KeepsRest old.committed db)
 
--- an office of version 1 was migrated; of one of version 2 the last commit is as it was
+-- Each table of the office stood there in its form. One of version 1 was migrated; of one of version 2 the last commit is as it was.
 abbrev pub Readied : Bool → State → State → Type 0
-Readied true old new = Migrated old new
-Readied false old new = Refused old new
+Readied true old new = HasForms true old.committed.schema × Migrated old new
+Readied false old new = (IsTrue new.is_open → HasForms false old.committed.schema) × Refused old new
+
+abbrev pub origin_of : Bool → Origin
+origin_of true = from.Migrated
+origin_of false = from.Found
 
 -- what that may commit
 abbrev pub LeavesReadied : Bool → State → Trees → Type 0
@@ -96,13 +106,12 @@ LeavesOffice g old trees =
     (IsTrue (state g old).is_open × HasNoVersion g old × (takes_a_name old.schema ≡ false) × Leaves no_tables trees)
     ⊎ (Answered g old is_version_one × LeavesMigrated (state g old) trees)
 
--- an office of version 2 was there, and is as it was; or one of version 1 was, and it was migrated; or nothing answered, no name of a table was taken, and an office
--- was made
-abbrev pub Enters : {S : Type 0} → Ghosts S → Held S → Held S → Type 0
-Enters g old new =
-    (Answered g old is_version_two × Refused (state g old) (state g new))
-    ⊎ ((Answered g old is_version_one × Migrated (state g old) (state g new))
-    ⊎ (HasNoVersion g old × (takes_a_name old.schema ≡ false) × Founded (state g old) (state g new)))
+-- an office of version 2 was there, in its form, and is as it was; or one of version 1 was, in its form, and it was migrated; or nothing answered, no name of a table
+-- was taken, and an office was made
+abbrev pub Enters : {S : Type 0} → Ghosts S → Origin → Held S → Held S → Type 0
+Enters g from.Found old new = Answered g old is_version_two × Readied false (state g old) (state g new)
+Enters g from.Migrated old new = Answered g old is_version_one × Readied true (state g old) (state g new)
+Enters g from.Made old new = HasNoVersion g old × (takes_a_name old.schema ≡ false) × Founded (state g old) (state g new)
 
 -- what answered is another version or no single row; or nothing answered, and the name of a table is taken
 abbrev pub IsNoOffice : {S : Type 0} → Ghosts S → Held S → Type 0

@@ -1,4 +1,6 @@
 pub mod SqlMeaning
+pub mod Forms
+pub mod Others
 pub mod Founding
 pub mod Reopening
 pub mod LedgerRows

@@ -25,6 +25,7 @@ use Rattle.office_sql.specs.Steps.{ShowsTables, MayLeave}
 use Rattle.office_store.specs.Founding.{Enters, IsNoOffice, LeavesOffice}
 use Rattle.office_store.specs.SqlMeaning.{LeavesOffices}
 use Rattle.office_store.specs.declared.found.OpenFault.{OpenFault}
+use Rattle.office_store.specs.declared.opened.Origin.{Origin}
 use Rattle.office_store.specs.declared.found.OpenFault.TheVariants as fault
 
 -- trees that stand for an office with this content, as this program makes its tables or as an earlier one did, under the schema that they list
@@ -40,8 +41,8 @@ abbrev pub HoldsNoOffice : Image → Type 0
 HoldsNoOffice image = (t : Tables) → HoldsOffice image t → ⊥
 
 -- what stood there was entered: its content is kept, be it of this program or of an earlier one, and a stop leaves what was or what an opening may commit
-pub record Entered {S : Type 0} (g : StoreGhosts S) (before now : Held S) : Type 0 where
-  pub enters : Enters g before now
+pub record Entered {S : Type 0} (g : StoreGhosts S) (origin : Origin) (before now : Held S) : Type 0 where
+  pub enters : Enters g origin before now
   pub kept : (t : Tables) → ShowsOffice (state g before) t → ShowsTables (state g now) t
   pub stops : Survives (state g before) (state g now) (LeavesOffice g before)
 
@@ -94,8 +95,8 @@ module _ {D : Type 0} {g : Ghosts D} where
   OpensBlank image now = HasCleanDisk (file_state now) → length image.db ≡ 0 → ShowsTables (file_state now) no_tables
 
   -- what was found in the files was entered
-  abbrev pub EntersFound : Image → Held (FileStore D g) → Type 0
-  EntersFound image now = (before : Held (FileStore D g)) × Found image before × Entered over_files before now
+  abbrev pub EntersFound : Image → Origin → Held (FileStore D g) → Type 0
+  EntersFound image origin now = (before : Held (FileStore D g)) × Found image before × Entered over_files origin before now
 
   -- what a closing leaves of a connection: its files, or, where it failed, its store
   abbrev pub IsLeftOf : Held (FileStore D g) → Leftover D g → Type 0

@@ -1,5 +1,5 @@
 //! Entering an office that is there, and making one.
-ghost use Rattle.std.specs.Prelude.{◌≡◌, IsTrue, OnOk, OnErr, IfErr};
+ghost use Rattle.std.specs.Prelude.{◌≡◌, IsTrue, OnOk, OnErr, IfOk, IfErr};
 ghost use Rattle.std.specs.List.{list_any};
 ghost use Rattle.sqlite_catalog.specs.Change.{is_used};
 ghost use Rattle.sqlite.specs.Held.{state};
@@ -7,10 +7,11 @@ ghost use Rattle.sqlite.specs.State.{HasCleanDisk, Survives};
 ghost use Rattle.office_base.specs.Tables.{Tables};
 ghost use Rattle.office_sql.specs.First.{ShowsOffice};
 ghost use Rattle.office_sql.specs.Steps.{Refused, ShowsTables};
-ghost use Rattle.office_store.specs.Founding.{Founded, LeavesNew, LeavesOffice, Enters, IsNoOffice, IsSoundOpen, takes_a_name, has_rowids, is_version_one, is_version_two, is_other_version};
+ghost use Rattle.office_store.specs.Founding.{Founded, LeavesNew, LeavesOffice, Enters, IsNoOffice, IsSoundOpen, takes_a_name, has_rowids, is_version_one, is_version_two, is_other_version, origin_of};
 ghost use Rattle.office_store.specs.SqlMeaning.{LeavesShown};
 
 use crate::migrate::ready;
+use crate::opened::Origin;
 use office_base::shelf::ShelfFault;
 use office_sql::faults::fault;
 use office_sql::make::make;
@@ -27,8 +28,9 @@ use std::alloc::Global;
 pub enum OpenFault {
     /// Memory was refused.
     NoMemory,
-    /// The store failed, or keeps its tables in another form than this program makes, or the name of an index of the office's is taken, or, in
-    /// an office of version 1, that of a table which it lacks.
+    /// The store failed; or a table of the office's is missing, in another form than this program makes, or has a trigger or a unique index of others;
+    /// or the name of an index of the office's is taken; or, in an office of version 1, the name of a table which it lacks is, or something of others
+    /// leads to a table that a migration changes.
     Store,
     /// What stands there is no office of version 1 or 2: it has another version or no single row of one, or its schema takes no question for
     /// the version, and has the name of a table of the office's for a table, an index or a view.
@@ -53,7 +55,7 @@ pub(crate) fn open_fault(error: Error) -> OpenFault
 }
 
 /// Makes an office, in one transaction.
-fn found<S: Alter>(conn: &mut Connection<S>) -> Result<(), Error>
+pub(crate) fn found<S: Alter>(conn: &mut Connection<S>) -> Result<(), Error>
     ensures founded { HasCleanDisk (state S.Store conn.new) → IsSoundOpen (state S.Store conn.old) → OnOk result (Founded (state S.Store conn.old) (state S.Store conn.new)) }
     ensures refused { HasCleanDisk (state S.Store conn.new) → OnErr result (Refused (state S.Store conn.old) (state S.Store conn.new)) }
     ensures survives { Survives (state S.Store conn.old) (state S.Store conn.new) (LeavesNew (state S.Store conn.old)) }
@@ -149,10 +151,20 @@ pub(crate) fn still_open<S: Alter>(conn: &mut Connection<S>) -> Result<(), OpenF
     Ok(())
 }
 
+fn origin_of(is_first: bool) -> Origin
+    ensures { result ≡ origin_of is_first }
+{
+    if is_first {
+        Origin::Migrated
+    } else {
+        Origin::Found
+    }
+}
+
 /// Enters the office that is there, where one of version 1 becomes one of version 2; or makes an office where no name of its tables is taken. The
 /// store is open then.
-pub(crate) fn enter<S: Alter>(alloc: Global, conn: &mut Connection<S>) -> Result<(), OpenFault>
-    ensures enters { HasCleanDisk (state S.Store conn.new) → OnOk result (Enters S.Store conn.old conn.new) }
+pub(crate) fn enter<S: Alter>(alloc: Global, conn: &mut Connection<S>) -> Result<Origin, OpenFault>
+    ensures enters { HasCleanDisk (state S.Store conn.new) → IfOk result (λ origin. Enters S.Store origin conn.old conn.new) }
     ensures none { HasCleanDisk (state S.Store conn.new) → IfErr result (λ e. e ≡ OpenFault.NotAnOffice → IsNoOffice S.Store conn.old) }
     ensures found { HasCleanDisk (state S.Store conn.new) → (t : Tables) → ShowsOffice (state S.Store conn.old) t → OnOk result (ShowsTables (state S.Store conn.new) t) }
     ensures known { HasCleanDisk (state S.Store conn.new) → (t : Tables) → ShowsOffice (state S.Store conn.old) t → IfErr result (λ e. e ≡ OpenFault.NotAnOffice → ⊥) }
@@ -177,7 +189,7 @@ pub(crate) fn enter<S: Alter>(alloc: Global, conn: &mut Connection<S>) -> Result
             }
             let is_first = is_version_one(rows.as_slice());
             match ready(alloc, conn, is_first) {
-                Ok(()) => Ok(()),
+                Ok(()) => Ok(origin_of(is_first)),
                 Err(fault) => Err(fault),
             }
         }
@@ -186,7 +198,7 @@ pub(crate) fn enter<S: Alter>(alloc: Global, conn: &mut Connection<S>) -> Result
                 return Err(OpenFault::NotAnOffice);
             }
             match found(conn) {
-                Ok(()) => Ok(()),
+                Ok(()) => Ok(Origin::Made),
                 Err(error) => Err(open_fault(error)),
             }
         }

@@ -1,12 +1,16 @@
 //! An office in SQL, in memory or in files: the shelf over its tables, and how it is made, opened and closed.
 #![tactic(auto)]
 
+mod forms;
 pub mod found;
 mod joined_rows;
 pub mod ledger_rows;
 mod migrate;
 pub mod open;
+pub mod opened;
+mod others;
 pub mod path;
+mod same;
 pub mod shelf;
 pub mod shut;
 pub mod stored;

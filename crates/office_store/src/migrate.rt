@@ -7,7 +7,9 @@ ghost use Rattle.office_sql.specs.First.{TellsFirst};
 ghost use Rattle.office_sql.specs.Steps.{Refused};
 ghost use Rattle.office_store.specs.Founding.{Migrated, LeavesMigrated, Readied, LeavesReadied};
 
+use crate::forms::check_forms;
 use crate::found::{OpenFault, opening, still_open};
+use crate::others::leads_there;
 use office_base::records::ClockRow;
 use office_base::shelf::ShelfFault;
 use office_changes::migrate::migrate;
@@ -36,13 +38,17 @@ fn former<S: Alter>(alloc: Global, conn: &mut Connection<S>) -> Result<FirstCont
 }
 
 // Of an office of version 1 makes one of version 2, with its content, in one transaction. A name of a table that it lacks, taken by something else,
-// lets it be refused; then nothing is committed.
+// lets it be refused, and so does what of others leads to the tables that it changes: their rows would go with those, or their views show nothing.
+// Then nothing is committed.
 fn migrated<S: Alter>(alloc: Global, conn: &mut Connection<S>) -> Result<(), ShelfFault>
     ensures migrated { HasCleanDisk (state S.Store conn.new) → OnOk result (Migrated (state S.Store conn.old) (state S.Store conn.new)) }
     ensures kept { HasCleanDisk (state S.Store conn.new) → OnErr result (Refused (state S.Store conn.old) (state S.Store conn.new)) }
     ensures survives { Survives (state S.Store conn.old) (state S.Store conn.new) (LeavesMigrated (state S.Store conn.old)) }
 {
     if !conn.is_autocommit() {
+        return Err(ShelfFault::Store);
+    }
+    if leads_there(conn.schema()) {
         return Err(ShelfFault::Store);
     }
     let has_table = has_late(conn.schema());
@@ -53,7 +59,8 @@ fn migrated<S: Alter>(alloc: Global, conn: &mut Connection<S>) -> Result<(), She
     }
 }
 
-/// Makes an office of version 2 of one of version 1; one of version 2 is used as it is. The store is open then.
+/// Makes an office of version 2 of one of version 1; one of version 2 is used as it is. Where its tables don't stand in their form, neither is done.
+/// The store is open then.
 pub(crate) fn ready<S: Alter>(
     alloc: Global,
     conn: &mut Connection<S>,
@@ -65,6 +72,9 @@ pub(crate) fn ready<S: Alter>(
     ensures kept { HasCleanDisk (state S.Store conn.new) → OnErr result (Refused (state S.Store conn.old) (state S.Store conn.new)) }
     ensures survives { Survives (state S.Store conn.old) (state S.Store conn.new) (LeavesReadied is_first (state S.Store conn.old)) }
 {
+    if let Err(fault) = check_forms(alloc, conn, is_first) {
+        return Err(fault);
+    }
     if is_first {
         match migrated(alloc, conn) {
             Ok(()) => Ok(()),

@@ -12,6 +12,7 @@ ghost use Rattle.office_store.specs.Reopening.{AreUsable, EntersFound, IsLeftOf,
 ghost use Rattle.office_store.specs.SqlMeaning.{LeavesNoOther, LeavesOffices, LeavesShown};
 
 use crate::found::{OpenFault, enter, open_fault};
+use crate::opened::Opened;
 use crate::shelf::SqlShelf;
 use office_base::shelf::ShelfFault;
 use office_sql::faults::fault;
@@ -42,7 +43,7 @@ impl SqlShelf<MemStore> {
             return Err(OpenFault::NoMemory);
         };
         match enter(alloc, &mut conn) {
-            Ok(()) => Ok(SqlShelf {
+            Ok(_) => Ok(SqlShelf {
                 alloc,
                 conn,
                 faults: 0,
@@ -53,25 +54,26 @@ impl SqlShelf<MemStore> {
 }
 
 impl<D: Disk + Drop> SqlShelf<FileStore<D>> {
-    /// The office in two files, or a new one where no name of the office's tables is taken there. Other tables stay. An office of version 1
-    /// becomes one of version 2, with its content; then rows of others stay but for such as their foreign keys tie to `notices` or `office`.
-    /// Where it shows the tables of an office, a stop leaves one. A refusal comes with what is left of the files: they are closed, or, where
-    /// they can't be, it is their store.
+    /// The office in two files, or a new one where no name of the office's tables is taken there; and which of these. Other tables stay, with
+    /// their rows. An office of version 1 becomes one of version 2, with its content. Each table of an office that is opened stands in its form:
+    /// else it is refused, and so is one of version 1 to whose `notices` or `office` a foreign key or a view of others leads. Where it shows the
+    /// tables of an office, a stop leaves one. A refusal comes with what is left of the files: they are closed, or, where they can't be, it is
+    /// their store.
     pub fn open_files(
         alloc: Global,
         files: Files<D>,
         options: Options,
-    ) -> Result<SqlShelf<FileStore<D>>, (OpenFault, Leftover<D>)>
+    ) -> Result<Opened<D>, (OpenFault, Leftover<D>)>
         requires log { IsTrue (D.Disk.is_usable files.log) }
         requires db { IsTrue (D.Disk.is_usable files.db) }
-        ensures is_open { IfOk result (λ shelf. HasCleanDisk (file_state shelf.0) → IsTrue (file_state shelf.0).is_open) }
-        ensures sound { IfOk result (λ shelf. HasCleanDisk (file_state shelf.0) → LeavesShown (file_state shelf.0)) }
-        ensures alone { IfOk result (λ shelf. HasCleanDisk (file_state shelf.0) → LeavesNoOther (file_state shelf.0)) }
-        ensures held { IfOk result (λ shelf. OpensHeld (image_of D.Disk files) shelf.0) }
-        ensures again { IfOk result (λ shelf. OpensAgain files shelf.0) }
-        ensures blank { IfOk result (λ shelf. OpensBlank (image_of D.Disk files) shelf.0) }
-        ensures enters { IfOk result (λ shelf. HasCleanDisk (file_state shelf.0) → EntersFound (image_of D.Disk files) shelf.0) }
-        ensures count { IfOk result (λ shelf. shelf.1 ≡ 0) }
+        ensures is_open { IfOk result (λ opened. HasCleanDisk (file_state opened.shelf.0) → IsTrue (file_state opened.shelf.0).is_open) }
+        ensures sound { IfOk result (λ opened. HasCleanDisk (file_state opened.shelf.0) → LeavesShown (file_state opened.shelf.0)) }
+        ensures alone { IfOk result (λ opened. HasCleanDisk (file_state opened.shelf.0) → LeavesNoOther (file_state opened.shelf.0)) }
+        ensures held { IfOk result (λ opened. OpensHeld (image_of D.Disk files) opened.shelf.0) }
+        ensures again { IfOk result (λ opened. OpensAgain files opened.shelf.0) }
+        ensures blank { IfOk result (λ opened. OpensBlank (image_of D.Disk files) opened.shelf.0) }
+        ensures enters { IfOk result (λ opened. HasCleanDisk (file_state opened.shelf.0) → EntersFound (image_of D.Disk files) opened.origin opened.shelf.0) }
+        ensures count { IfOk result (λ opened. opened.shelf.1 ≡ 0) }
         ensures refused { IfErr result (λ refusal. RefusesFiles files refusal.0 refusal.1) }
         ensures usable { IfErr result (λ refusal. refusal.0 ≡ OpenFault.NotAnOffice → IsUsableLeft refusal.1) }
     {
@@ -81,10 +83,13 @@ impl<D: Disk + Drop> SqlShelf<FileStore<D>> {
             Err((error, left)) => return Err((open_fault(error), left)),
         };
         match enter(alloc, &mut conn) {
-            Ok(()) => Ok(SqlShelf {
-                alloc,
-                conn,
-                faults: 0,
+            Ok(origin) => Ok(Opened {
+                shelf: SqlShelf {
+                    alloc,
+                    conn,
+                    faults: 0,
+                },
+                origin,
             }),
             Err(fault) => Err((fault, let_go(conn))),
         }

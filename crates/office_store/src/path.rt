@@ -8,6 +8,7 @@ ghost use Rattle.office_store.specs.Reopening.{EntersFound, OpensBlank, OpensHel
 ghost use Rattle.office_store.specs.SqlMeaning.{LeavesNoOther, LeavesShown};
 
 use crate::found::OpenFault;
+use crate::opened::Opened;
 use crate::shelf::SqlShelf;
 use sqlite::{FileFrom, FileStore, Files, Leftover, Options, Start};
 use sqlite_std_file::OpenError;
@@ -69,14 +70,14 @@ impl<S: Start> SqlShelf<FileStore<FileFrom<S>>> {
         path: &str,
         start: S,
         room: Room,
-    ) -> Result<SqlShelf<FileStore<FileFrom<S>>>, (OpenFault, Option<Leftover<FileFrom<S>>>)>
-        ensures is_open { IfOk result (λ shelf. HasCleanDisk (file_state shelf.0) → IsTrue (file_state shelf.0).is_open) }
-        ensures sound { IfOk result (λ shelf. HasCleanDisk (file_state shelf.0) → LeavesShown (file_state shelf.0)) }
-        ensures alone { IfOk result (λ shelf. HasCleanDisk (file_state shelf.0) → LeavesNoOther (file_state shelf.0)) }
-        ensures count { IfOk result (λ shelf. shelf.1 ≡ 0) }
-        ensures held { IfOk result (λ shelf. OpensHeld (image_at S.Start) shelf.0) }
-        ensures blank { IfOk result (λ shelf. OpensBlank (image_at S.Start) shelf.0) }
-        ensures enters { IfOk result (λ shelf. HasCleanDisk (file_state shelf.0) → EntersFound (image_at S.Start) shelf.0) }
+    ) -> Result<Opened<FileFrom<S>>, (OpenFault, Option<Leftover<FileFrom<S>>>)>
+        ensures is_open { IfOk result (λ opened. HasCleanDisk (file_state opened.shelf.0) → IsTrue (file_state opened.shelf.0).is_open) }
+        ensures sound { IfOk result (λ opened. HasCleanDisk (file_state opened.shelf.0) → LeavesShown (file_state opened.shelf.0)) }
+        ensures alone { IfOk result (λ opened. HasCleanDisk (file_state opened.shelf.0) → LeavesNoOther (file_state opened.shelf.0)) }
+        ensures count { IfOk result (λ opened. opened.shelf.1 ≡ 0) }
+        ensures held { IfOk result (λ opened. OpensHeld (image_at S.Start) opened.shelf.0) }
+        ensures blank { IfOk result (λ opened. OpensBlank (image_at S.Start) opened.shelf.0) }
+        ensures enters { IfOk result (λ opened. HasCleanDisk (file_state opened.shelf.0) → EntersFound (image_at S.Start) opened.origin opened.shelf.0) }
         ensures refused { IfErr result (λ refusal. IfSome refusal.1 (λ left. RefusesImage (image_at S.Start) refusal.0 left)) }
         ensures unopened { IfErr result (λ refusal. refusal.1 ≡ None → refusal.0 ≡ OpenFault.NotAnOffice → ⊥) }
     {
@@ -89,7 +90,7 @@ impl<S: Start> SqlShelf<FileStore<FileFrom<S>>> {
             Err(fault) => return Err((fault, None)),
         };
         match SqlShelf::open_files(rt.alloc(), files, options) {
-            Ok(shelf) => Ok(shelf),
+            Ok(opened) => Ok(opened),
             Err((fault, left)) => Err((fault, Some(left))),
         }
     }

@@ -19,6 +19,7 @@ use office_acts::queries::Query;
 use office_base::shelf::ShelfFault;
 use office_machine::laws::order;
 use office_store::found::OpenFault;
+use office_store::opened::{Opened, Origin};
 use office_store::shelf::SqlShelf;
 use office_values::settings::Settings;
 use procure_config::fault::ProgramFault;
@@ -30,16 +31,16 @@ fn open_office<S: Start>(
     rt: &HostRuntime,
     path: &str,
     start: S,
-) -> Result<SqlShelf<FileStore<FileFrom<S>>>, ProgramFault>
-    ensures held { IfOk result (λ shelf. OpensHeld (image_at S.Start) shelf.0) }
-    ensures empty { IfOk result (λ shelf. OpensEmpty (image_at S.Start) shelf.0) }
-    ensures sound { IfOk result (λ shelf. HasCleanDisk (file_state shelf.0) → LeavesShown (file_state shelf.0)) }
-    ensures alone { IfOk result (λ shelf. HasCleanDisk (file_state shelf.0) → LeavesNoOther (file_state shelf.0)) }
+) -> Result<Opened<FileFrom<S>>, ProgramFault>
+    ensures held { IfOk result (λ opened. OpensHeld (image_at S.Start) opened.shelf.0) }
+    ensures empty { IfOk result (λ opened. OpensEmpty (image_at S.Start) opened.shelf.0) }
+    ensures sound { IfOk result (λ opened. HasCleanDisk (file_state opened.shelf.0) → LeavesShown (file_state opened.shelf.0)) }
+    ensures alone { IfOk result (λ opened. HasCleanDisk (file_state opened.shelf.0) → LeavesNoOther (file_state opened.shelf.0)) }
 {
     place_empty(rt, path)?;
     let room = room_for(page_size_at(rt, path));
     match SqlShelf::open_from(rt, path, start, room) {
-        Ok(shelf) => Ok(shelf),
+        Ok(opened) => Ok(opened),
         Err((OpenFault::NoMemory, _)) => Err(no_memory()),
         Err((OpenFault::Store | OpenFault::NotAnOffice, _)) => Err(ProgramFault::Store),
     }
@@ -100,7 +101,7 @@ fn serve_open<S: Start>(
 ) -> Result<(SqlShelf<FileStore<FileFrom<S>>>, Result<(), ProgramFault>), ProgramFault>
     ensures { IfOk result (λ left. ServesOpened (image_at S.Start) settings count left.0) }
 {
-    let shelf = open_office(rt, path, start)?;
+    let Opened { shelf, origin: _ } = open_office(rt, path, start)?;
     serve_shelf(rt, settings, shelf, port, count)
 }
 
@@ -137,7 +138,17 @@ pub fn serve_from<S: Start>(
     close_office(shelf, served)
 }
 
-/// Prints what the public sees of the office in a file, whatever its two files held. Nothing changes. Gives back as `serve_from` does.
+// Says in a line on the standard error where the office didn't stand in the file as it was opened. Where that can't be written, nothing is lost.
+fn tell_origin(rt: &HostRuntime, path: &str, origin: Origin) {
+    let _ = match origin {
+        Origin::Found => Ok(()),
+        Origin::Migrated => eprintln!(rt; "procure: an office of version 1 in {path} was migrated to version 2"),
+        Origin::Made => eprintln!(rt; "procure: an empty office was made in {path}"),
+    };
+}
+
+/// Prints what the public sees of the office in a file, whatever its two files held, and says on the standard error where it was made or migrated
+/// there. Nothing changes. Gives back as `serve_from` does.
 pub fn print_from<S: Start>(
     rt: &HostRuntime,
     settings: Settings,
@@ -147,7 +158,8 @@ pub fn print_from<S: Start>(
 ) -> Result<(Files<FileFrom<S>>, Result<(), ProgramFault>), ProgramFault>
     ensures keeps { IfOk result (λ left. ServesFiles ⟦<FileFrom<S> as Disk>⟧ (image_at S.Start) settings 0 left.0) }
 {
-    let shelf = open_office(rt, path, start)?;
+    let Opened { shelf, origin } = open_office(rt, path, start)?;
+    tell_origin(rt, path, origin);
     let (shelf, printed) = print_shelf(rt, settings, shelf, query);
     close_office(shelf, printed)
 }

@@ -3,6 +3,7 @@ use crate::times::{play_piece, play_pieces};
 use office_base::shelf::Shelf;
 use office_in_sql::office::in_sql;
 use office_memory::memory::MemoryShelf;
+use office_store::opened::Opened;
 use office_store::path::Room;
 use office_store::shelf::SqlShelf;
 use sqlite::{Alter, Unknown};
@@ -88,7 +89,9 @@ fn continued_in_sql<S: Alter + Drop>(
 fn reopened(rt: &HostRuntime, path: &str, mut told: Told, pieces: &[&str]) -> Result<Told, Wrong> {
     for piece in pieces {
         match SqlShelf::open_from(rt, path, Unknown, ROOM) {
-            Ok(shelf) => told = continued_in_sql(rt.alloc(), shelf, told, piece)?,
+            Ok(Opened { shelf, origin: _ }) => {
+                told = continued_in_sql(rt.alloc(), shelf, told, piece)?;
+            }
             Err(_) => return Err(Wrong::Unopened),
         }
     }

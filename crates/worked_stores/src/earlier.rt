@@ -158,6 +158,24 @@ fn a_name_is_taken(rt: HostRuntime) {
     }
 }
 
+// A foreign key of others to the notices or the version, whatever it asks for at a deletion, and a view of them.
+#[test]
+fn others_lead_there(rt: HostRuntime) {
+    let alloc = rt.alloc();
+    for statements in [
+        "CREATE TABLE remarks (notice TEXT REFERENCES notices)",
+        "CREATE TABLE remarks (notice TEXT REFERENCES Notices ON DELETE CASCADE); INSERT INTO remarks SELECT notice FROM notices",
+        "CREATE TABLE remarks (notice TEXT REFERENCES notices ON DELETE SET NULL); INSERT INTO remarks SELECT notice FROM notices",
+        "CREATE TABLE remarks (version INTEGER REFERENCES office ON DELETE CASCADE); INSERT INTO remarks VALUES (1)",
+        "CREATE VIEW titles AS SELECT title FROM notices",
+    ] {
+        assert!(rt;
+            matches!(is_unusable(alloc, statements), Ok(true))
+                || matches!(is_unusable(alloc, statements), Ok(true))
+        );
+    }
+}
+
 // What was found of stops: how many left an office of version 1, with the table of late withdrawals or without, and how many one of version 2.
 #[derive(Clone, Copy)]
 struct Found {

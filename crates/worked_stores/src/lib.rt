@@ -12,6 +12,8 @@ mod earlier_file;
 #[cfg(test)]
 mod first_files;
 #[cfg(test)]
+mod forms;
+#[cfg(test)]
 mod life;
 #[cfg(test)]
 mod no_offices;

@@ -1,4 +1,4 @@
-use Rattle.std.proofs.Common.{rules, arith, ◌≡◌, map, IsTrue}
+use Rattle.std.proofs.Common.{rules, arith, ◌≡◌, map, IsTrue, false}
 use Rattle.sqlite.specs.Held.{state}
 use Rattle.sqlite.specs.State.{HasCleanDisk}
 use Rattle.sqlite.proofs.StateLemmas.{survives_then}
@@ -6,7 +6,8 @@ use Rattle.office_rows.specs.declared.stored.FormerNotice.{FormerNotice}
 use Rattle.office_sql.specs.First.{has_late}
 use Rattle.office_store.specs.Founding.{LeavesMigrated}
 use Rattle.office_store.proofs.Founding.{refused_on}
-use Rattle.office_store.proofs.Migrating.{from_told, told_leaves, late_committed}
+use Rattle.office_store.specs.Others.{leads_there}
+use Rattle.office_store.proofs.Migrating.{from_told, told_leaves, late_committed, apart_committed}
 use Rattle.office_store.proofs.migrate.migrated.Goals as goal
 
 pub returns-in-Ok-clause-migrated : goal.returns-in-Ok-clause-migrated
@@ -19,8 +20,10 @@ returns-in-Ok-clause-migrated g c clean =
     let settled : IsTrue old.is_open → old.now ≡ old.committed = search rules in
     let there = c.has_late-has_table.result in
     let b : has_late held.schema ≡ there = search rules in
+    let free : leads_there held.schema ≡ false = search rules in
     let stood = c.in_ok-stood.stood in
     from_told there stood.clock (map (λ (r : FormerNotice). r.row) stood.notices.items) old mid (c.former.ensures.kept early) (late_committed g.S.Store held settled there b)
+    (apart_committed g.S.Store held settled free)
     (λ t shows. (c.in_ok-stood.ensures.got early t shows).0) (λ t shows. (c.in_ok-stood.ensures.got early t shows).1) new (rw c.as_slice.ensures.value at (c.in-Ok.ensures.migrates clean))
 
 pub returns-clause-kept : goal.returns-clause-kept
@@ -38,12 +41,14 @@ returns-clause-survives g c =
     let settled : IsTrue old.is_open → old.now ≡ old.committed = search rules in
     let there = c.has_late-has_table.result in
     let b : has_late held.schema ≡ there = search rules in
+    let free : leads_there held.schema ≡ false = search rules in
     let stood = c.in_ok-stood.stood in
     let stops = rw c.as_slice.ensures.value at c.migrate.ensures.survives in
     survives_then old mid new _ _ (LeavesMigrated old) (λ _ db none. absurd none)
     (λ clean db leaves.
     let early : HasCleanDisk mid = omega (arith, clean, stops.clean) in
     told_leaves there stood.clock (map (λ (r : FormerNotice). r.row) stood.notices.items) old mid (c.former.ensures.kept early) (late_committed g.S.Store held settled there b)
+    (apart_committed g.S.Store held settled free)
     (λ t shows. (c.in_ok-stood.ensures.got early t shows).0) (λ t shows. (c.in_ok-stood.ensures.got early t shows).1) db leaves)
     c.former.ensures.survives stops
 
@@ -56,11 +61,13 @@ returns-in-Ok-clause-survives g c =
     let settled : IsTrue old.is_open → old.now ≡ old.committed = search rules in
     let there = c.has_late-has_table.result in
     let b : has_late held.schema ≡ there = search rules in
+    let free : leads_there held.schema ≡ false = search rules in
     let stood = c.in_ok-stood.stood in
     let stops = rw c.as_slice.ensures.value at c.migrate.ensures.survives in
     survives_then old mid new _ _ (LeavesMigrated old) (λ _ db none. absurd none)
     (λ clean db leaves.
     let early : HasCleanDisk mid = omega (arith, clean, stops.clean) in
     told_leaves there stood.clock (map (λ (r : FormerNotice). r.row) stood.notices.items) old mid (c.former.ensures.kept early) (late_committed g.S.Store held settled there b)
+    (apart_committed g.S.Store held settled free)
     (λ t shows. (c.in_ok-stood.ensures.got early t shows).0) (λ t shows. (c.in_ok-stood.ensures.got early t shows).1) db leaves)
     c.former.ensures.survives stops

@@ -7,7 +7,8 @@ use Rattle.office_store.proofs.migrate.ready.Goals as goal
 pub returns-in-Ok-clause-readied : goal.returns-in-Ok-clause-readied
 returns-in-Ok-clause-readied g c clean =
     let first : c.args.is_first ≡ true = search rules in
-    rw first (c.in-Ok.ensures.migrated clean)
+    let made = c.in-Ok.ensures.migrated clean in
+    rw first ((rw first at c.check_forms.ensures.forms) made.was_open, made)
 
 pub returns-in-Ok-clause-is_open : goal.returns-in-Ok-clause-is_open
 returns-in-Ok-clause-is_open g c clean = (c.in-Ok.ensures.migrated clean).is_open

@@ -3,4 +3,4 @@ use Rattle.procure_programs.proofs.EmptyOpened.{opens_empty}
 use Rattle.procure_programs.proofs.store.open_office.Goals as goal
 
 pub returns-in-Ok-clause-empty : goal.returns-in-Ok-clause-empty
-returns-in-Ok-clause-empty g c = opens_empty (image_at g.S.Start) c.in-Ok.shelf.0 c.in-Ok.ensures.blank c.in-Ok.ensures.enters
+returns-in-Ok-clause-empty g c = opens_empty (image_at g.S.Start) _ c.in-Ok.opened.shelf.0 c.in-Ok.ensures.blank c.in-Ok.ensures.enters

@@ -30,7 +30,7 @@ returns-in-Ok-enter-clause-again g c clean last closed t shows =
 pub returns-in-Ok-enter-clause-blank : goal.returns-in-Ok-enter-clause-blank
 returns-in-Ok-enter-clause-blank g c clean none =
     let early : HasCleanDisk (file_state c.in-Ok.conn) = omega (arith, clean, c.enter.ensures.survives.clean) in
-    enters_bare over_files c.in-Ok.conn c.enter.new.conn
+    enters_bare over_files _ c.in-Ok.conn c.enter.new.conn
     (bare_schema _ c.in-Ok.conn none (c.in-Ok.ensures.opened early) (finds_in c.args.files c.in-Ok.conn (c.in-Ok.ensures.found early))) (c.in-Ok-enter.ensures.enters clean)
 
 pub returns-in-Ok-enter-clause-enters : goal.returns-in-Ok-enter-clause-enters

@@ -9,19 +9,19 @@ pub returns-in-Ok-open_files-clause-held : goal.returns-in-Ok-open_files-clause-
 returns-in-Ok-open_files-clause-held g c =
     let (log, db) = c.in-Ok.ensures.fresh in
     let same = ap₂ image (ap₂ (seen g.S.Start.log g.S.Start.db) log.0 log.1) (ap₂ (seen g.S.Start.log g.S.Start.db) db.0 db.1) in
-    subst (λ i. OpensHeld i c.in-Ok-open_files.shelf.0) same c.in-Ok-open_files.ensures.held
+    subst (λ i. OpensHeld i c.in-Ok-open_files.opened.shelf.0) same c.in-Ok-open_files.ensures.held
 
 pub returns-in-Ok-open_files-clause-blank : goal.returns-in-Ok-open_files-clause-blank
 returns-in-Ok-open_files-clause-blank g c =
     let (log, db) = c.in-Ok.ensures.fresh in
     let same = ap₂ image (ap₂ (seen g.S.Start.log g.S.Start.db) log.0 log.1) (ap₂ (seen g.S.Start.log g.S.Start.db) db.0 db.1) in
-    subst (λ i. OpensBlank i c.in-Ok-open_files.shelf.0) same c.in-Ok-open_files.ensures.blank
+    subst (λ i. OpensBlank i c.in-Ok-open_files.opened.shelf.0) same c.in-Ok-open_files.ensures.blank
 
 pub returns-in-Ok-open_files-clause-enters : goal.returns-in-Ok-open_files-clause-enters
 returns-in-Ok-open_files-clause-enters g c =
     let (log, db) = c.in-Ok.ensures.fresh in
     let same = ap₂ image (ap₂ (seen g.S.Start.log g.S.Start.db) log.0 log.1) (ap₂ (seen g.S.Start.log g.S.Start.db) db.0 db.1) in
-    subst (λ i. HasCleanDisk (file_state c.in-Ok-open_files.shelf.0) → EntersFound i c.in-Ok-open_files.shelf.0) same c.in-Ok-open_files.ensures.enters
+    subst (λ i. HasCleanDisk (file_state c.in-Ok-open_files.opened.shelf.0) → EntersFound i c.in-Ok-open_files.opened.origin c.in-Ok-open_files.opened.shelf.0) same c.in-Ok-open_files.ensures.enters
 
 pub returns-in-Err-open_files-clause-refused : goal.returns-in-Err-open_files-clause-refused
 returns-in-Err-open_files-clause-refused g c =

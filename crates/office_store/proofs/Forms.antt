@@ -1,0 +1,108 @@
+-- A table that stands in its form is one of the office's.
+use Rattle.std.proofs.Common.{◌≡◌, ◌⊎◌, inl, inr, ℕ, zero, suc, ◌+◌, ◌<◌, ◌==◌, ◌^◌, Bool, true, false, List, [], ◌∷◌, Option, Some, None, length, filter, slice_get, nat_le, refl, sym, ap, subst, ◌∙◌, IsTrue, arith}
+use Rattle.std.proofs.lemmas.Bool.Decides.{nat_tests}
+use Rattle.std.proofs.lemmas.Bool.{eq-eqb}
+use Rattle.std.specs.Prelude.{is_some, ◌&&◌}
+use Rattle.sqlite_trees.specs.Tree.{Trees}
+use Rattle.sqlite_schema.specs.declared.schema.Schema.{Schema}
+use Rattle.sqlite_schema.specs.declared.schema.Table.{Table}
+use Rattle.sqlite_schema.specs.declared.schema.Index.{Index}
+use Rattle.sqlite_schema.specs.Rules.{guards}
+use Rattle.sqlite_rules.specs.Lists.{Has}
+use Rattle.sqlite_rules.proofs.ListLemmas.{all_has, has_kept}
+use Rattle.sqlite_catalog.specs.Listing.{IsSound, IsGuarded, automatic}
+use Rattle.sqlite_catalog.proofs.AlterLemmas.{place_has}
+use Rattle.sqlite.specs.Effect.{Database, IsDatabase}
+use Rattle.office_sql.specs.First.{has_table}
+use Rattle.office_sql.specs.Known.{IsIn, at_tree, key_indexes}
+use Rattle.office_sql.specs.Schema.{OfficeTable, table_of}
+use Rattle.office_sql.proofs.Grown.{low_tree}
+use Rattle.office_sql.proofs.Keyed.{HasKey, HasIndex, IsRowid, keyed}
+use Rattle.office_store.specs.Forms.{HasForms, ListsForms, StandsAlike, StandsOrLacks, came_later, index_count}
+
+-- ---- a list of one
+
+only : {X : Type 0} (xs : List X) (x : X) → length xs ≡ 1 → Has xs x → xs ≡ x ∷ []
+only [] x one h = absurd h
+only (y ∷ []) x one (inl same) = ap (λ z. z ∷ []) (sym same)
+only (y ∷ []) x one (inr none) = absurd none
+only (y ∷ z ∷ xs) x one h = absurd (omega (arith, one))
+
+same_only : {X : Type 0} (xs : List X) (x y : X) → length xs ≡ 1 → Has xs x → Has xs y → y ≡ x
+same_only xs x y one a b = by (subst (λ l. Has l y) (only xs x one a) b)
+  where
+    by : Has (x ∷ []) y → y ≡ x
+    by (inl same) = same
+    by (inr none) = absurd none
+
+none : {X : Type 0} (xs : List X) → length xs ≡ 0 → xs ≡ []
+none [] zero_long = refl
+none (x ∷ xs) zero_long = absurd (omega (arith, zero_long))
+
+-- ---- what was found is the table
+
+low : (n : ℕ) → n < 65536 → nat_le (2 ^ 31) n ≡ false
+low n h = grind (arith, nat_tests)
+
+module _ (db : Database) (sound : IsDatabase db) (form : Table) (key : HasKey form) (it : StandsAlike db.schema form) where
+  abbrev table : Table
+  table = at_tree form it.tree
+
+  there : Has db.schema.tables table
+  there = place_has db.schema.tables it.place table it.found
+
+  alone : (other : Table) → Has db.schema.tables other → other.tree ≡ it.tree → other ≡ table
+  alone other h same =
+      same_only (filter (λ (t : Table). t.tree == it.tree) db.schema.tables) table other it.alone
+      (has_kept (λ (t : Table). t.tree == it.tree) db.schema.tables table there (eq-eqb it.tree it.tree refl))
+      (has_kept (λ (t : Table). t.tree == it.tree) db.schema.tables other h (eq-eqb other.tree it.tree same))
+
+  -- the index of its key, which each such table has
+  own : HasIndex form → (index : ℕ) × (filter (λ i. guards i table) db.schema.indexes ≡ automatic table 0 table.primary index ∷ [])
+  own indexed =
+      let guarded : IsGuarded db.schema.indexes table = all_has (IsGuarded db.schema.indexes) db.schema.tables table sound.lists.guarded there in
+      let found = guarded 0 form.primary (ap (λ us. slice_get us 0) indexed.uniques) in
+      let one : length (filter (λ i. guards i table) db.schema.indexes) ≡ 1 = it.guarded ∙ ap index_count indexed.key in (
+        found.0,
+        only (filter (λ i. guards i table) db.schema.indexes) (automatic table 0 form.primary found.0) one
+            (has_kept (λ i. guards i table) db.schema.indexes (automatic table 0 form.primary found.0) found.1 (eq-eqb it.tree it.tree refl)),
+      )
+
+  guarded_by : HasKey form → (index : ℕ) × (filter (λ i. guards i table) db.schema.indexes ≡ key_indexes form.key table index)
+  guarded_by (inl indexed) = let mine = own indexed in (mine.0, mine.1 ∙ ap (λ k. key_indexes k table mine.0) (sym indexed.key))
+  guarded_by (inr rowid) =
+      (0, none (filter (λ i. guards i table) db.schema.indexes) (it.guarded ∙ ap index_count rowid.key) ∙ ap (λ k. key_indexes k table 0) (sym rowid.key))
+
+  is_in : IsIn db.schema form it.tree
+  is_in = record {
+    place = it.place;
+    named = it.named;
+    found = it.found;
+    alone = alone;
+    stored = low it.tree (low_tree db table sound there);
+    index = (guarded_by key).0;
+    guarded = (guarded_by key).1;
+  }
+
+-- ---- all of them
+
+-- the key of a table of the office, whatever its tree
+keyed_at : (k : OfficeTable) (n : ℕ) → HasKey (table_of k) → HasKey (at_tree (table_of k) n)
+keyed_at k n (inl it) = inl (record { key = it.key; plainly = it.plainly; uniques = it.uniques; apart = it.apart; among = it.among })
+keyed_at k n (inr it) = inr (record { key = it.key; primary = it.primary; uniques = it.uniques })
+
+-- where it stands doesn't hang on the tree of its form
+as_table : (schema : Schema) (table : Table) (m n : ℕ) → IsIn schema (at_tree table m) n → IsIn schema table n
+as_table schema table m n it = record { place = it.place; named = it.named; found = it.found; alone = it.alone; stored = it.stored; index = it.index; guarded = it.guarded }
+
+pub forms_stand : (first : Bool) (db : Database) (forms : Schema) → IsDatabase db → ListsForms forms → ((form : Table) → Has forms.tables form → StandsOrLacks first db.schema form) → HasForms first db.schema
+forms_stand first db forms sound lists each k =
+    let listed = lists k in
+    elim (each (at_tree (table_of k) listed.0) listed.1) [
+      | inl stands ↦ inl (stands.tree, as_table db.schema (table_of k) listed.0 stands.tree (is_in db sound (at_tree (table_of k) listed.0) (keyed_at k listed.0 (keyed k)) stands))
+      | inr lacks ↦ inr (lacks.0, ap is_some lacks.1)
+    ]
+
+-- a database in which the tables of an office stand lists them
+pub lists_forms : (schema : Schema) → ((k : OfficeTable) → (n : ℕ) × IsIn schema (table_of k) n) → ListsForms schema
+lists_forms schema stands k = let it = stands k in (it.0, place_has schema.tables it.1.place (at_tree (table_of k) it.0) it.1.found)

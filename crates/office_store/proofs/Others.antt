@@ -1,0 +1,134 @@
+-- Where nothing of others leads to what a migration changes, all else keeps its rows.
+use Rattle.std.proofs.Common.{◌≡◌, ◌⊎◌, inl, inr, ℕ, ◌==◌, ◌||◌, Bool, true, false, cond, List, [], ◌∷◌, Option, Some, None, find, refl, sym, ap, ◌∙◌, subst, true≢false}
+use Rattle.std.specs.Prelude.{not, option_and_then, option_map, slice_get}
+use Rattle.std.specs.List.{list_any}
+use Rattle.std.proofs.lemmas.Bool.{eq-eqb, eqb-true, or_cases, or_left, or_right, cases_Bool}
+use Rattle.sqlite_schema.specs.declared.schema.Reference.{Reference}
+use Rattle.sqlite_schema.specs.declared.schema.Schema.{Schema}
+use Rattle.sqlite_schema.specs.declared.schema.Table.{Table}
+use Rattle.sqlite_schema.specs.Names.{same_name}
+use Rattle.sqlite_schema.specs.Rules.{ParentKey, parent_key, key_in, key_places}
+use Rattle.sqlite_rules.specs.Lists.{Has}
+use Rattle.sqlite_rules.proofs.ListLemmas.{has_found, some_from}
+use Rattle.sqlite.specs.Effect.{Database}
+use Rattle.office_base.specs.Tables.{Tables}
+use Rattle.office_sql.specs.Apart.{LeadsInside}
+use Rattle.office_sql.specs.First.{AreApart, IsMigrated, migrated_tables}
+use Rattle.office_sql.specs.Known.{IsIn, at_tree}
+use Rattle.office_sql.specs.Schema.{OfficeTable, table_of}
+use Rattle.office_sql.specs.Schema.OfficeTable.{FormerNotices, Notices, Office}
+use Rattle.office_store.specs.Others.{KeepsRest, is_changed, leads_there, refers_there}
+
+-- ---- tests that fail
+
+or_false : (a b : Bool) → (a || b) ≡ false → (a ≡ false) × (b ≡ false)
+or_false false b h = (refl, h)
+or_false true b h = absurd (true≢false h)
+
+none_passes : {X : Type 0} (p : X → Bool) (xs : List X) (x : X) → list_any p xs ≡ false → Has xs x → p x ≡ false
+none_passes p xs x fails h = elim (cases_Bool (p x)) [ inl passes ↦ absurd (true≢false (sym (some_from p xs x h passes) ∙ fails)) | inr fails ↦ fails ]
+
+-- ---- the name of what is changed
+
+changed : (k : OfficeTable) → Has migrated_tables k → is_changed (table_of k).name ≡ true
+unfolding same_name
+changed k (inl e) = ap (λ (j : OfficeTable). is_changed (table_of j).name) e
+changed k (inr (inl e)) = ap (λ (j : OfficeTable). is_changed (table_of j).name) e
+changed k (inr (inr (inl e))) = ap (λ (j : OfficeTable). is_changed (table_of j).name) e
+changed k (inr (inr (inr none))) = absurd none
+
+-- a name that is found as one of these is one of them
+as_changed : (k : OfficeTable) → Has migrated_tables k → (name : List ℕ) → same_name (table_of k).name name ≡ true → is_changed name ≡ true
+as_changed k (inl e) name same = or_left _ _ (subst (λ (j : OfficeTable). same_name (table_of j).name name ≡ true) e same)
+as_changed k (inr (inl e)) name same = or_right _ _ (or_left _ _ (subst (λ (j : OfficeTable). same_name (table_of j).name name ≡ true) e same))
+as_changed k (inr (inr (inl e))) name same = or_right _ _ (or_right _ _ (or_left _ _ (subst (λ (j : OfficeTable). same_name (table_of j).name name ≡ true) e same)))
+as_changed k (inr (inr (inr none))) name same = absurd none
+
+-- ---- the parent that a reference finds
+
+key_tree : (p : Table) (o : Option (List ℕ)) (key : ParentKey) → option_and_then (key_in p) o ≡ Some key → key.0 ≡ p.tree
+key_tree p None key h = absurd (cc)
+key_tree p (Some places) key h = by _ h
+  where
+    by : (d : Option _) → option_map (λ o. (p.tree, places, o)) d ≡ Some key → key.0 ≡ p.tree
+    by None e = absurd (cc)
+    by (Some d) e = let same : key ≡ (p.tree, places, d) = cc in ap (λ (k : ParentKey). k.0) same
+
+parent : (tables : List Table) (r : Reference) (key : ParentKey) → parent_key tables r ≡ Some key → (p : Table) × Has tables p × (same_name p.name r.parent ≡ true) × (key.0 ≡ p.tree)
+parent tables r key h = by (find (λ (t : Table). same_name t.name r.parent) tables) refl h
+  where
+    by : (o : Option Table) → find (λ (t : Table). same_name t.name r.parent) tables ≡ o → option_and_then (λ (t : Table). option_and_then (key_in t) (key_places t r.parent_columns)) o ≡ Some key
+        → (p : Table) × Has tables p × (same_name p.name r.parent ≡ true) × (key.0 ≡ p.tree)
+    by None e h = absurd (cc)
+    by (Some p) e h = let found = has_found (λ (t : Table). same_name t.name r.parent) tables p e in (p, found.0, found.1, key_tree p (key_places p r.parent_columns) key h)
+
+-- ---- a table of the office is at one tree
+
+one_tree : (schema : Schema) (table : Table) (m n : ℕ) → IsIn schema table m → IsIn schema table n → m ≡ n
+one_tree schema table m n a b =
+    let places : Some a.place ≡ Some b.place = sym a.named ∙ b.named in
+    let place : a.place ≡ b.place = cc in
+    let tables : Some (at_tree table m) ≡ Some (at_tree table n) = sym a.found ∙ ap (slice_get schema.tables) place ∙ b.found in
+    let same : at_tree table m ≡ at_tree table n = cc in
+    ap (λ (t : Table). t.tree) same
+
+module _ (t : Tables) (old new : Database) (it : IsMigrated t old new) (apart : leads_there old.schema ≡ false) where
+  abbrev place : OfficeTable → ℕ
+  place k = it.held.places k
+
+  abbrev unmarked : ℕ → Bool
+  unmarked n = (n == place FormerNotices) || ((n == place Office) || (n == place Notices))
+
+  abbrev marked : ℕ → Bool
+  marked n = not (unmarked n)
+
+  -- whatever is unmarked is one of the three
+  of_three : (u : Table) → Has new.schema.tables u → unmarked u.tree ≡ true → (k : OfficeTable) × Has migrated_tables k × (u ≡ at_tree (table_of k) u.tree)
+  of_three u there h = elim (or_cases _ _ h) [
+    | inl former ↦ one FormerNotices (inl refl) (eqb-true _ _ former)
+    | inr rest ↦ elim (or_cases _ _ rest) [ inl clock ↦ one Office (inr (inl refl)) (eqb-true _ _ clock) | inr notices ↦ one Notices (inr (inr (inl refl))) (eqb-true _ _ notices) ]
+  ]
+    where
+      one : (k : OfficeTable) → Has migrated_tables k → u.tree ≡ place k → (k : OfficeTable) × Has migrated_tables k × (u ≡ at_tree (table_of k) u.tree)
+      one k among e = (k, among, (it.held.tables k).alone u there e ∙ ap (at_tree (table_of k)) (sym e))
+
+  references : (u : Table) (r : Reference) → Has old.schema.tables u → Has u.references r → is_changed r.parent ≡ false
+  references u r there has = none_passes (λ (q : Reference). is_changed q.parent) u.references r (none_passes refers_there old.schema.tables u (or_false _ _ apart).0 there) has
+
+  inside : LeadsInside new.schema marked
+  inside u r key there is_marked has is = elim (it.added u there) [
+    | inl stood ↦ (
+        let p = parent new.schema.tables r key is in
+        elim (cases_Bool (unmarked p.0.tree)) [
+          | inl is_one ↦ (
+              let k = of_three p.0 p.1 is_one in
+              let called : p.0.name ≡ (table_of k.0).name = ap (λ (v : Table). v.name) k.2 in
+              absurd (true≢false (sym (as_changed k.0 k.1 r.parent (ap (λ n. same_name n r.parent) (sym called) ∙ p.2)) ∙ references u r stood has)))
+          | inr is_none ↦ ap marked p.3 ∙ ap not is_none
+        ])
+    | inr bare ↦ absurd (subst (λ (rs : List Reference). Has rs r) bare has)
+  ]
+
+  is_unmarked : (k : OfficeTable) → Has migrated_tables k → unmarked (place k) ≡ true
+  is_unmarked k (inl e) = or_left _ _ (eq-eqb _ _ (ap place e))
+  is_unmarked k (inr (inl e)) = or_right _ _ (or_left _ _ (eq-eqb _ _ (ap place e)))
+  is_unmarked k (inr (inr (inl e))) = or_right _ _ (or_right _ _ (eq-eqb _ _ (ap place e)))
+  is_unmarked k (inr (inr (inr none))) = absurd none
+
+  are_apart : AreApart new.schema marked
+  are_apart = record {
+    inside = inside;
+    others = λ k among n is. ap marked (one_tree new.schema (table_of k) n (place k) is (it.held.tables k)) ∙ ap not (is_unmarked k among);
+  }
+
+  pub keeps_rest : KeepsRest old new
+  keeps_rest u stood =
+      let kept = it.others u stood in (
+        kept.0,
+        λ plain. elim (cases_Bool (unmarked u.tree)) [
+          | inl is_one ↦ (
+              let k = of_three u kept.0 is_one in
+              absurd (true≢false (sym (changed k.0 k.1) ∙ ap is_changed (sym (ap (λ (v : Table). v.name) k.2)) ∙ plain)))
+          | inr is_none ↦ kept.1 marked are_apart (ap not is_none)
+        ],
+      )

@@ -1,0 +1,44 @@
+-- Whether the tables of an office stand in a schema in the form in which this program makes them.
+use Rattle.std.specs.Prelude.{◌≡◌, ◌⊎◌, ◌&&◌, ◌==◌, ℕ, Bool, false, IsTrue, List, [], ◌∷◌, Option, Some, None, codes, length, filter, slice_get}
+use Rattle.std.specs.List.{list_any}
+use Rattle.sqlite_schema.specs.declared.schema.Schema.{Schema}
+use Rattle.sqlite_schema.specs.declared.schema.Table.{Table}
+use Rattle.sqlite_schema.specs.Names.{same_name, table_named}
+use Rattle.sqlite_schema.specs.Rules.{guards}
+use Rattle.sqlite_rules.specs.Lists.{Has}
+use Rattle.office_sql.specs.First.{has_table}
+use Rattle.office_sql.specs.Known.{IsIn, at_tree}
+use Rattle.office_sql.specs.Schema.{OfficeTable, table_of}
+
+-- the tables that came after version 1, or with a later program of it
+abbrev pub later_names : List (List ℕ)
+later_names = codes "late_rules" ∷ codes "notices_2" ∷ codes "performance" ∷ []
+
+abbrev pub came_later : List ℕ → Bool
+came_later name = list_any (λ later. same_name later name) later_names
+
+-- each table of an office stands there in its form; in one of version 1 those that came later may be missing
+abbrev pub HasForms : Bool → Schema → Type 0
+HasForms first schema = (k : OfficeTable) → ((n : ℕ) × IsIn schema (table_of k) n) ⊎ (IsTrue (first && came_later (table_of k).name) × (has_table schema (table_of k).name ≡ false))
+
+-- how many unique indexes such a table has: that of its key, where this isn't its rowid
+abbrev pub index_count : Option ℕ → ℕ
+index_count None = 1
+index_count (Some key) = 0
+
+-- the name finds a table of this form, no other has its tree, and of its rows nothing has to differ but the key
+pub record StandsAlike (schema : Schema) (form : Table) : Type 0 where
+  pub place : ℕ
+  pub tree : ℕ
+  pub named : table_named schema form.name ≡ Some place
+  pub found : slice_get schema.tables place ≡ Some (at_tree form tree)
+  pub alone : length (filter (λ t. t.tree == tree) schema.tables) ≡ 1
+  pub guarded : length (filter (λ i. guards i (at_tree form tree)) schema.indexes) ≡ index_count form.key
+
+-- it does; or in an office of version 1 it is one that came later, and no table has its name
+abbrev pub StandsOrLacks : Bool → Schema → Table → Type 0
+StandsOrLacks first schema form = StandsAlike schema form ⊎ (IsTrue (first && came_later form.name) × (table_named schema form.name ≡ None))
+
+-- the tables of an office are among those of the schema
+abbrev pub ListsForms : Schema → Type 0
+ListsForms forms = (k : OfficeTable) → (n : ℕ) × Has forms.tables (at_tree (table_of k) n)

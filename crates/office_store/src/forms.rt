@@ -1,0 +1,121 @@
+//! Whether the tables of an office stand in a database in their form.
+ghost use Rattle.std.specs.Prelude.{◌≡◌, ◌&&◌, ◌==◌, IsTrue, IfOk, IfErr, OnOk, length, filter};
+ghost use Rattle.sqlite_schema.specs.declared.schema.Table.{Table as Form};
+ghost use Rattle.sqlite_rules.specs.Lists.{Has};
+ghost use Rattle.sqlite.specs.Held.{state};
+ghost use Rattle.office_store.specs.Forms.{HasForms, ListsForms, StandsAlike, StandsOrLacks, came_later, index_count};
+
+use crate::found::{OpenFault, found, open_fault};
+use crate::same::same_form;
+use sqlite::{Alter, Connection, MemStore};
+use sqlite_schema::names::same_name;
+use sqlite_schema::schema::{Schema, Table};
+use std::alloc::Global;
+
+// An empty office in memory, whose tables show the form of an office's.
+fn blank(alloc: Global) -> Result<Connection<MemStore>, OpenFault>
+    ensures forms { IfOk result (λ conn. ListsForms conn.schema) }
+    ensures cause { IfErr result (λ e. e ≡ OpenFault.NotAnOffice → ⊥) }
+{
+    let Ok(mut conn) = Connection::open_in_memory(alloc) else {
+        return Err(OpenFault::NoMemory);
+    };
+    match found(&mut conn) {
+        Ok(()) => Ok(conn),
+        Err(error) => Err(open_fault(error)),
+    }
+}
+
+fn came_later(name: &[u8]) -> bool
+    ensures { result ≡ came_later name.now }
+{
+    same_name(b"late_rules", name) || same_name(b"notices_2", name) || same_name(b"performance", name)
+}
+
+// How many tables have this tree.
+fn tables_at(schema: &Schema, tree: u32) -> usize
+    ensures { result ≡ length (filter (λ t. t.tree == tree) schema.now.tables) }
+{
+    let tables = schema.tables.as_slice();
+    tables.iter().filter(|table| table.tree == tree).count()
+}
+
+// How many unique indexes stand on it.
+fn guards_at(schema: &Schema, tree: u32) -> usize
+    ensures { result ≡ length (filter (λ i. i.is_unique && (i.table == tree)) schema.now.indexes) }
+{
+    let indexes = schema.indexes.as_slice();
+    indexes
+        .iter()
+        .filter(|index| index.is_unique && index.table == tree)
+        .count()
+}
+
+fn index_count(key: Option<usize>) -> usize
+    ensures { result ≡ index_count key }
+{
+    match key {
+        Some(_) => 0,
+        None => 1,
+    }
+}
+
+// Whether a table of this form stands in the schema, with the index of its key alone.
+fn stands(schema: &Schema, form: &Table) -> bool
+    ensures { IsTrue result → StandsAlike schema.now form.now }
+{
+    let Some(place) = schema.table_named(form.name.as_slice()) else {
+        return false;
+    };
+    let tables = schema.tables.as_slice();
+    if place >= tables.len() {
+        return false;
+    }
+    let table = &tables[place];
+    same_form(table, form)
+        && tables_at(schema, table.tree) == 1
+        && guards_at(schema, table.tree) == index_count(form.key)
+}
+
+fn stands_or_lacks(schema: &Schema, form: &Table, is_first: bool) -> bool
+    ensures { IsTrue result → StandsOrLacks is_first schema.now form.now }
+{
+    let name = form.name.as_slice();
+    stands(schema, form) || (is_first && came_later(name) && schema.table_named(name).is_none())
+}
+
+// Whether each of these tables stands in the schema in the same form; in an office of version 1 those may be missing that came later.
+fn all_stand(schema: &Schema, forms: &Schema, is_first: bool) -> bool
+    ensures { IsTrue result → (form : Form) → Has forms.now.tables form → StandsOrLacks is_first schema.now form }
+{
+    let tables = forms.tables.as_slice();
+    for at in 0..tables.len() {
+        if !stands_or_lacks(schema, &tables[at], is_first) {
+            return false;
+        }
+    }
+    true
+}
+
+/// Looks whether each table of the office stands in its form: `Store` where one doesn't. Nothing is read but the schema.
+pub(crate) fn check_forms<S: Alter>(
+    alloc: Global,
+    conn: &Connection<S>,
+    is_first: bool,
+) -> Result<(), OpenFault>
+    ensures forms { OnOk result (IsTrue (state S.Store conn.now).is_open → HasForms is_first (state S.Store conn.now).committed.schema) }
+    ensures cause { IfErr result (λ e. e ≡ OpenFault.NotAnOffice → ⊥) }
+{
+    if !conn.is_autocommit() {
+        return Err(OpenFault::Store);
+    }
+    let forms = match blank(alloc) {
+        Ok(forms) => forms,
+        Err(fault) => return Err(fault),
+    };
+    if all_stand(conn.schema(), forms.schema(), is_first) {
+        Ok(())
+    } else {
+        Err(OpenFault::Store)
+    }
+}
