@@ -2,10 +2,12 @@
 # make build  the proved program, at build/procure, without the wrong bodies
 # make try    the whole program without proofs, at build/try/procure, with its checks in
 # make test   the gate: every proof from nothing, the wrong bodies that must be refused, the tests and the stored runs; it leaves build/procure too
-# make check  what needs build/procure and no proof, in some minutes: the documents, the interface, the public page in a browser, the audit, files that are refused, files of version 1, kills, a disk that fails, the scripts themselves (tools/check --help)
+# make check  what needs build/procure and no proof, in some minutes: the documents, the interface, the public page in a browser, the audit, files that are
+#             refused, files of version 1, kills, a disk that fails, the scripts themselves (tools/check --help)
 # make docs   what scripts make of the sources, anew: docs/INDEX.md, docs/READING.md, docs/CALLS.md
 # make edits  the wrong bodies that the gate leaves out, edits/
-# make soak   what takes too long for the gate, after `make test`: plays, refused memory, kills, a disk that fails, large files of version 1, the programs and measures of bench/, the wrong bodies of edits/ (tools/soak --help)
+# make soak   what takes too long for the gate, after `make test`: plays, refused memory, kills, a disk that fails, large files of version 1, the programs and
+#             measures of bench/, the wrong bodies of edits/ (tools/soak --help)
 # make release  an archive and a Debian package of build/procure, in build/release (tools/release --help)
 # make bench  measures build/procure (bench/desk --help)
 RT ?= rt

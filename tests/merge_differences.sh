@@ -4,6 +4,6 @@
 set -eu
 set -- merge_differences.rt.in
 . "$(dirname "$0")/../scripts/workspace.sh"
-rt run --jobs 1 > said 2> log || { cat log said; exit 1; }
+"${RT:-rt}" run --jobs 1 > said 2> log || { cat log said; exit 1; }
 cat said
 grep -q ' 0 different$' said

@@ -6,7 +6,7 @@ set -- merge_refused.rt.in
 . "$(dirname "$0")/../scripts/workspace.sh"
 refused=0
 for n in $(seq 1 200); do
-    said=$(rt try --fail-alloc "$n" 2> log || true)
+    said=$("${RT:-rt}" try --fail-alloc "$n" 2> log || true)
     case $said in
         'merged: {"q":2}'*) echo "$n: $said"; [ "$refused" -gt 0 ]; echo "refused inside the merge: $refused times, the target as before"; exit 0 ;;
         'refused: {"p":1,"q":2}'*) echo "$n: $said"; refused=$((refused + 1)) ;;

@@ -15,5 +15,5 @@ grep -E '^(office_(values|acts|base|memory)|keyed_table):' "$root/crates.txt" > 
 printf 'program: office_memory office_base office_acts office_values anyhow\n' >> "$work/crates.txt"
 printf 'Handles allowed: none.\n' > "$work/HANDLES"
 cd "$work/crates/program"
-rt run --jobs 1 2> log || { cat log; exit 1; }
+"${RT:-rt}" run --jobs 1 2> log || { cat log; exit 1; }
 [ -z "${BY:-}" ] || $BY out/program

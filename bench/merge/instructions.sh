@@ -2,9 +2,9 @@
 # Counts the instructions of merging one more payment into a stored merge of 38,151 bytes, as callgrind counts them: those of a hundred merges, and what the
 # program does beside them (about one in a hundred). It takes a few minutes, most of it proofs, more where `ocds_merge` was not checked before.
 set -eu
-command -v valgrind > /dev/null || { echo 'valgrind is missing: it has callgrind'; exit 2; }
+command -v valgrind > /dev/null || { echo 'instructions.sh: missing: valgrind. Get it: apt-get install valgrind' >&2; exit 3; }
 set -- instructions.rt.in
 . "$(dirname "$0")/../../scripts/workspace.sh"
-rt run --jobs 1 2> log || { cat log; exit 1; }
+"${RT:-rt}" run --jobs 1 2> log || { cat log; exit 1; }
 valgrind --tool=callgrind --callgrind-out-file=counts out/program 2>&1 | sed -n 's/.*I *refs: */of a hundred merges: /p'
 callgrind_annotate counts | sed -n '/file:function/,/^$/p' | head -12

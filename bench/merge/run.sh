@@ -3,4 +3,4 @@
 set -eu
 set -- ratios.rt.in
 . "$(dirname "$0")/../../scripts/workspace.sh"
-rt run --jobs 1 2> log || { cat log; exit 1; }
+"${RT:-rt}" run --jobs 1 2> log || { cat log; exit 1; }
