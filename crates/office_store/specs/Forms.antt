@@ -17,9 +17,14 @@ later_names = codes "late_rules" ∷ codes "notices_2" ∷ codes "performance" �
 abbrev pub came_later : List ℕ → Bool
 came_later name = list_any (λ later. same_name later name) later_names
 
--- each table of an office stands there in its form; in one of version 1 those that came later may be missing
+-- the table of an office stands there in its form
+abbrev pub HasForm : Schema → OfficeTable → Type 0
+HasForm schema k = (n : ℕ) × IsIn schema (table_of k) n
+
+-- each of its tables does; in an office of version 1 those that came later may be missing
 abbrev pub HasForms : Bool → Schema → Type 0
-HasForms first schema = (k : OfficeTable) → ((n : ℕ) × IsIn schema (table_of k) n) ⊎ (IsTrue (first && came_later (table_of k).name) × (has_table schema (table_of k).name ≡ false))
+HasForms first schema =
+    (k : OfficeTable) → HasForm schema k ⊎ (IsTrue (first && came_later (table_of k).name) × (has_table schema (table_of k).name ≡ false))
 
 -- how many unique indexes such a table has: that of its key, where this isn't its rowid
 abbrev pub index_count : Option ℕ → ℕ

@@ -31,4 +31,5 @@ leads_there schema = list_any refers_there schema.tables || list_any shows_there
 
 -- each table that was there is there, and has its rows, but for those that a migration changes
 abbrev pub KeepsRest : Database → Database → Type 0
-KeepsRest old new = (t : Table) → Has old.schema.tables t → Has new.schema.tables t × (is_changed t.name ≡ false → new.trees t.tree ≡ old.trees t.tree)
+KeepsRest old new =
+    (t : Table) → Has old.schema.tables t → Has new.schema.tables t × (is_changed t.name ≡ false → new.trees t.tree ≡ old.trees t.tree)
