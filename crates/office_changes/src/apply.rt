@@ -38,6 +38,7 @@ fn put_one<S: Alter>(alloc: Global, tx: &mut Transaction<'_, S>, put: &Put) -> R
     }
 }
 
+// A put says itself whether the store is open; where there is none, it is asked for.
 fn put_all<S: Alter>(alloc: Global, tx: &mut Transaction<'_, S>, puts: &[Put]) -> Result<(), Error>
     requires inside { IsTrue (state S.Store tx.old.conn.now).in_transaction }
     ensures same_reference { tx.new.conn.ghost_name ≡ tx.old.conn.ghost_name }
@@ -46,8 +47,11 @@ fn put_all<S: Alter>(alloc: Global, tx: &mut Transaction<'_, S>, puts: &[Put]) -
     ensures failed { ErrorHasCause (state S.Store tx.old.conn.now) (state S.Store tx.new.conn.now) puts.now result }
     ensures survives { Survives (state S.Store tx.old.conn.now) (state S.Store tx.new.conn.now) (λ _. ⊥) }
 {
-    puts::begin(tx)?;
-    'puts: for put in puts {
+    let Some((first, more)) = puts.split_first() else {
+        return puts::begin(tx);
+    };
+    put_one(alloc, tx, first)?;
+    'puts: for put in more {
         put_one(alloc, tx, put)?;
     }
     Ok(())

@@ -2,7 +2,7 @@ pub mod DecidedAlike
 pub mod LookedUp
 pub mod NamedLines
 pub mod NamedStandings
-pub mod Objects
+pub mod Printed
 pub mod OnContracts
 pub mod OwnTenders
 pub mod ReadTenders

@@ -1,12 +1,16 @@
 -- JSON objects of plain values: compact, members in the byte order of their names.
-use Rattle.std.specs.Prelude.{ℕ, List, [], ◌∷◌, Option, Some, None}
+use Rattle.std.specs.Prelude.{ℕ, List, [], ◌∷◌, Bool, true, ◌&&◌, Option, Some, None, decimal}
+use Rattle.std.specs.Cmp.Lexicographic.{slice_cmp}
+use Rattle.std.specs.List.{list_all}
+use Rattle.std.specs.Ordering.{is_gt, nat_cmp}
 use Rattle.std.specs.Borrow.{Bor}
 use Rattle.hex.specs.Hex.{encode_lower}
+use Rattle.json.specs.Token as token
 use Rattle.serde_json.specs.Data.{Data, null, boolean, number, unsigned, string, object, Members, no_members, put}
 use Rattle.serde_json.specs.Written.{compact_text}
 use Rattle.office_values.specs.Moments.{moment_text}
-use Rattle.office_plans.specs.declared.json.Plain.{Plain}
-use Rattle.office_plans.specs.declared.json.Plain.TheVariants.{Number, Count, Truth, Total, Id, Moment, Digest, Text}
+use Rattle.office_plans.specs.declared.objects.Plain.{Plain}
+use Rattle.office_plans.specs.declared.objects.Plain.TheVariants.{Number, Count, Truth, Total, Id, Moment, Digest, Text}
 
 -- a name and its value
 abbrev pub Entry : Type 0
@@ -40,6 +44,28 @@ object_of es = object (with_entries es no_members)
 
 abbrev pub object_text : List Entry → List ℕ
 object_text es = compact_text (object_of es)
+
+-- each name is above those before it
+abbrev pub names_rise : List Entry → Bool
+names_rise [] = true
+names_rise (e ∷ es) = list_all (λ (f : Entry). is_gt (slice_cmp nat_cmp f.0 e.0)) es && names_rise es
+
+-- what stands in the text for a value
+abbrev pub token_of : Plain → token.Token
+token_of (Number n) = token.number (decimal n)
+token_of (Count None) = token.null
+token_of (Count (Some n)) = token.number (decimal n)
+token_of (Truth truth) = token.boolean truth
+token_of (Total total) = token.number (decimal total)
+token_of (Id id) = token.string id
+token_of (Moment second) = token.string (moment_text second)
+token_of (Digest digest) = token.string (encode_lower digest)
+token_of (Text text) = token.string text.now
+
+-- and for members, one after another
+abbrev pub tokens_of : List (Bor (List ℕ) × Plain) → List token.Token
+tokens_of [] = []
+tokens_of (m ∷ ms) = token.key m.0.now ∷ token_of m.1 ∷ tokens_of ms
 
 -- entries of plain values
 abbrev pub text_entry : List ℕ → List ℕ → Entry

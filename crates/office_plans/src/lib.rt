@@ -4,9 +4,9 @@
 pub mod commands;
 pub mod contract_release;
 pub mod decided;
-pub mod json;
 mod lines;
 mod looked_up;
+pub mod objects;
 mod of_lot;
 pub mod opened;
 mod outstanding;

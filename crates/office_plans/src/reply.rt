@@ -4,7 +4,7 @@ ghost use Rattle.office_machine.specs.Replies.{Imported, OpenedAll, Received, Wi
 ghost use Rattle.office_plans.specs.Replies.{award_number, award_price, award_tender, reply_text, said, security_word, winning};
 ghost use Rattle.tender_papers.specs.Register.{state_word};
 
-use crate::json::{Plain, object_text};
+use crate::objects::{Plain, object_text};
 use office_base::records::{EnvelopeState, SecurityState};
 use office_values::given::{AskedNumber, GivenNumber};
 use office_values::id::Id;

@@ -7,6 +7,7 @@ ghost use Rattle.office_store.specs.Forms.{HasForms, ListsForms, StandsAlike, St
 
 use crate::found::{OpenFault, found, open_fault};
 use crate::same::same_form;
+use crate::shelf::is_live;
 use sqlite::{Alter, Connection, MemStore};
 use sqlite_schema::names::same_name;
 use sqlite_schema::schema::{Schema, Table};
@@ -20,9 +21,14 @@ fn blank(alloc: Global) -> Result<Connection<MemStore>, OpenFault>
     let Ok(mut conn) = Connection::open_in_memory(alloc) else {
         return Err(OpenFault::NoMemory);
     };
-    match found(&mut conn) {
-        Ok(()) => Ok(conn),
-        Err(error) => Err(open_fault(error)),
+    is_live(&conn);
+    if let Err(error) = found(&mut conn) {
+        return Err(open_fault(error));
+    }
+    if conn.is_autocommit() {
+        Ok(conn)
+    } else {
+        Err(OpenFault::Store)
     }
 }
 

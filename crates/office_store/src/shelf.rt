@@ -83,8 +83,8 @@ impl<S: Alter> SqlShelf<S> {
     }
 }
 
-// A law: while a store is open, its last commit is sound.
-fn is_live<S: Alter>(conn: &Connection<S>)
+/// A law: while a store is open, its last commit is sound.
+pub(crate) fn is_live<S: Alter>(conn: &Connection<S>)
     ensures { IsLive (state S.Store conn.now) }
 {
     let _schema = conn.schema();

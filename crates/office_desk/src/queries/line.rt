@@ -14,7 +14,7 @@ use office_base::ledger::Pots;
 use office_base::pots::pots_of_line;
 use office_base::records::LineRow;
 use office_base::shelf::Lookups;
-use office_plans::json::{Plain, object_text};
+use office_plans::objects::{Plain, object_text};
 use office_values::id::Id;
 use office_values::refusal::{Refusal, Thing};
 use std::alloc::{AllocError, Global};

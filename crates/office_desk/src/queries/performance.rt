@@ -12,7 +12,7 @@ use crate::queries::security::is_by_clerk_or;
 use office_acts::command::Caller;
 use office_base::records::{ContractRow, PerformanceRow};
 use office_base::shelf::Lookups;
-use office_plans::json::{Plain, object_text};
+use office_plans::objects::{Plain, object_text};
 use office_plans::reply::security_word;
 use office_values::given::AskedNumber;
 use office_values::refusal::{Refusal, Thing};

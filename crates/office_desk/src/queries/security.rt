@@ -12,7 +12,7 @@ ghost use Rattle.office_desk.specs.Steps.{IsShown, read_text};
 use office_acts::command::Caller;
 use office_base::records::SecurityRow;
 use office_base::shelf::Lookups;
-use office_plans::json::{Plain, object_text};
+use office_plans::objects::{Plain, object_text};
 use office_plans::reply::security_word;
 use office_values::given::AskedNumber;
 use office_values::id::Id;
