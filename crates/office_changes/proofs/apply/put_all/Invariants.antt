@@ -1,6 +1,7 @@
-use Rattle.std.proofs.Common.{◌≡◌, ◌∷◌, take}
+use Rattle.std.proofs.Common.{◌≡◌, List, ◌++◌, drop}
 use Rattle.sqlite.specs.Held.{state}
 use Rattle.sqlite.specs.State.{HasCleanDisk, Survives}
+use Rattle.office_base.specs.declared.puts.Put.{Put}
 use Rattle.office_sql.specs.Steps.{Puts}
 use Rattle.office_changes.proofs.apply.put_all.Given as goal
 
@@ -8,4 +9,5 @@ abbrev pub invariant-puts : goal.invariant-puts
 invariant-puts g l =
     let old = state g.S.Store l.fn.tx.conn.now in
     let now = state g.S.Store l.tx.conn.now in
-    (l.tx.conn.ghost_name ≡ l.fn.tx.conn.ghost_name) × Survives old now (λ _. ⊥) × (HasCleanDisk now → Puts old now (l.first ∷ take l.put-index l.more))
+    (l.tx.conn.ghost_name ≡ l.fn.tx.conn.ghost_name) × Survives old now (λ _. ⊥)
+    × ((done : List Put) × (done ++ drop l.put-index l.more ≡ l.puts) × (HasCleanDisk now → Puts old now done))
