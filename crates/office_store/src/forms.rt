@@ -35,7 +35,9 @@ fn blank(alloc: Global) -> Result<Connection<MemStore>, OpenFault>
 fn came_later(name: &[u8]) -> bool
     ensures { result ≡ came_later name.now }
 {
-    same_name(b"late_rules", name) || same_name(b"notices_2", name) || same_name(b"performance", name)
+    same_name(b"late_rules", name)
+        || same_name(b"notices_2", name)
+        || same_name(b"performance", name)
 }
 
 // How many tables have this tree.

@@ -142,7 +142,9 @@ pub fn serve_from<S: Start>(
 fn tell_origin(rt: &HostRuntime, path: &str, origin: Origin) {
     let _ = match origin {
         Origin::Found => Ok(()),
-        Origin::Migrated => eprintln!(rt; "procure: an office of version 1 in {path} was migrated to version 2"),
+        Origin::Migrated => eprintln!(rt;
+            "procure: an office of version 1 in {path} was migrated to version 2"
+        ),
         Origin::Made => eprintln!(rt; "procure: an empty office was made in {path}"),
     };
 }

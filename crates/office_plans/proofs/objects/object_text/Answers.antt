@@ -14,8 +14,8 @@ loop-name-preserved c =
     let more : take (c.loop-name.name-index + 1) ms ≡ done ++ item ∷ [] = search (rules, take_more) in (
       c.in_ok-write_value.ensures.0 ∙ c.in_ok-key.ensures.room.0 ∙ c.loop-name.invariant.0,
       c.in_ok-write_value.ensures.1
-      ∙ ap (λ ts. ts ++ token_of item.1 ∷ []) (c.in_ok-key.ensures.ok ∙ ap (λ ts. ts ++ key item.0.now ∷ []) c.loop-name.invariant.1)
-      ∙ ap (λ ts. begin_object ∷ ts) (append_assoc (tokens_of done) (key item.0.now ∷ []) (token_of item.1 ∷ []) ∙ sym (next_tokens done item) ∙ ap tokens_of (sym more)),
+          ∙ ap (λ ts. ts ++ token_of item.1 ∷ []) (c.in_ok-key.ensures.ok ∙ ap (λ ts. ts ++ key item.0.now ∷ []) c.loop-name.invariant.1)
+          ∙ ap (λ ts. begin_object ∷ ts) (append_assoc (tokens_of done) (key item.0.now ∷ []) (token_of item.1 ∷ []) ∙ sym (next_tokens done item) ∙ ap tokens_of (sym more)),
     )
 
 pub returns : goal.returns
