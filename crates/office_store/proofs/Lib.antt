@@ -1,8 +1,8 @@
 mod Kept
 mod Once
 mod Shelves
-mod Forms
-mod Others
+mod FormsStand
+mod RestKept
 pub mod Founding
 mod Migrating
 mod Reopening

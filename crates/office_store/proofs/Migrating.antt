@@ -19,7 +19,7 @@ use Rattle.office_store.specs.Founding.{Migrated, LeavesMigrated, LeavesReadied,
 use Rattle.office_store.specs.Forms.{HasForms}
 use Rattle.office_store.specs.Others.{KeepsRest, leads_there}
 use Rattle.office_store.proofs.Founding.{refused_on}
-use Rattle.office_store.proofs.Others.{keeps_rest}
+use Rattle.office_store.proofs.RestKept.{keeps_rest}
 use Rattle.office_store.proofs.Shelves.{still_shows}
 
 -- ---- after a look that was refused

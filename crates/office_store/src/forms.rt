@@ -80,9 +80,13 @@ fn stands(schema: &Schema, form: &Table) -> bool
         return false;
     }
     let table = &tables[place];
-    same_form(table, form)
-        && tables_at(schema, table.tree) == 1
-        && guards_at(schema, table.tree) == index_count(form.key)
+    if !same_form(table, form) {
+        return false;
+    }
+    if tables_at(schema, table.tree) != 1 {
+        return false;
+    }
+    guards_at(schema, table.tree) == index_count(form.key)
 }
 
 fn stands_or_lacks(schema: &Schema, form: &Table, is_first: bool) -> bool

@@ -1,5 +1,6 @@
 //! What others have in a file that leads to the tables which a migration changes.
 ghost use Rattle.std.specs.Prelude.{◌≡◌};
+ghost use Rattle.std.specs.List.{list_any};
 ghost use Rattle.sqlite_catalog.specs.Listing.{mentions};
 ghost use Rattle.office_store.specs.Others.{is_changed, leads_there, refers_there, shows_there};
 
@@ -47,10 +48,21 @@ fn shows_there(view: &View) -> bool
     mentions(b"notices", sql) || mentions(b"office", sql)
 }
 
+fn some_refer(tables: &[Table]) -> bool
+    ensures { result ≡ list_any refers_there tables.now }
+{
+    tables.iter().any(|table| refers_there(table))
+}
+
+fn some_show(views: &[View]) -> bool
+    ensures { result ≡ list_any shows_there views.now }
+{
+    views.iter().any(|view| shows_there(view))
+}
+
 /// Whether a foreign key or a view leads to one of them.
 pub(crate) fn leads_there(schema: &Schema) -> bool
     ensures { result ≡ leads_there schema.now }
 {
-    schema.tables.as_slice().iter().any(refers_there)
-        || schema.views.as_slice().iter().any(shows_there)
+    some_refer(schema.tables.as_slice()) || some_show(schema.views.as_slice())
 }

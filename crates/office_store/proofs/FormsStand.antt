@@ -3,21 +3,19 @@ use Rattle.std.proofs.Common.{◌≡◌, ◌⊎◌, inl, inr, ℕ, zero, suc, �
 use Rattle.std.proofs.lemmas.Bool.Decides.{nat_tests}
 use Rattle.std.proofs.lemmas.Bool.{eq-eqb}
 use Rattle.std.specs.Prelude.{is_some, ◌&&◌}
-use Rattle.sqlite_trees.specs.Tree.{Trees}
 use Rattle.sqlite_schema.specs.declared.schema.Schema.{Schema}
 use Rattle.sqlite_schema.specs.declared.schema.Table.{Table}
-use Rattle.sqlite_schema.specs.declared.schema.Index.{Index}
 use Rattle.sqlite_schema.specs.Rules.{guards}
 use Rattle.sqlite_rules.specs.Lists.{Has}
 use Rattle.sqlite_rules.proofs.ListLemmas.{all_has, has_kept}
-use Rattle.sqlite_catalog.specs.Listing.{IsSound, IsGuarded, automatic}
+use Rattle.sqlite_catalog.specs.Listing.{IsGuarded, IsTableRow, automatic}
 use Rattle.sqlite_catalog.proofs.AlterLemmas.{place_has}
+use Rattle.sqlite_catalog.proofs.LayoutLemmas.{zipped_left}
 use Rattle.sqlite.specs.Effect.{Database, IsDatabase}
 use Rattle.office_sql.specs.First.{has_table}
 use Rattle.office_sql.specs.Known.{IsIn, at_tree, key_indexes}
 use Rattle.office_sql.specs.Schema.{OfficeTable, table_of}
-use Rattle.office_sql.proofs.Grown.{low_tree}
-use Rattle.office_sql.proofs.Keyed.{HasKey, HasIndex, IsRowid, keyed}
+use Rattle.office_sql.specs.Schema.OfficeTable.{Lines, Batches, Tenderers, Notices, Lots, Envelopes, Seals, Securities, Awards, Contracts, Entries, Releases, Compiled, Office, LateRules, FormerNotices, Performances}
 use Rattle.office_store.specs.Forms.{HasForms, ListsForms, StandsAlike, StandsOrLacks, came_later, index_count}
 
 -- ---- a list of one
@@ -39,6 +37,31 @@ none : {X : Type 0} (xs : List X) → length xs ≡ 0 → xs ≡ []
 none [] zero_long = refl
 none (x ∷ xs) zero_long = absurd (omega (arith, zero_long))
 
+-- ---- its key
+
+-- the key has an index of its own, or is the rowid
+abbrev HasKey : Table → Type 0
+HasKey table = ((table.key ≡ None) × (table.uniques ≡ table.primary ∷ [])) ⊎ (table.key ≡ Some 0)
+
+keyed : (k : OfficeTable) → HasKey (table_of k)
+keyed Lines = inl (refl, refl)
+keyed Batches = inl (refl, refl)
+keyed Tenderers = inl (refl, refl)
+keyed Notices = inl (refl, refl)
+keyed Lots = inl (refl, refl)
+keyed Envelopes = inr refl
+keyed Seals = inr refl
+keyed Securities = inr refl
+keyed Awards = inr refl
+keyed Contracts = inr refl
+keyed Entries = inl (refl, refl)
+keyed Releases = inl (refl, refl)
+keyed Compiled = inl (refl, refl)
+keyed Office = inr refl
+keyed LateRules = inl (refl, refl)
+keyed FormerNotices = inl (refl, refl)
+keyed Performances = inr refl
+
 -- ---- what was found is the table
 
 low : (n : ℕ) → n < 65536 → nat_le (2 ^ 31) n ≡ false
@@ -58,20 +81,20 @@ module _ (db : Database) (sound : IsDatabase db) (form : Table) (key : HasKey fo
       (has_kept (λ (t : Table). t.tree == it.tree) db.schema.tables other h (eq-eqb other.tree it.tree same))
 
   -- the index of its key, which each such table has
-  own : HasIndex form → (index : ℕ) × (filter (λ i. guards i table) db.schema.indexes ≡ automatic table 0 table.primary index ∷ [])
-  own indexed =
+  own : form.key ≡ None → form.uniques ≡ form.primary ∷ [] → (index : ℕ) × (filter (λ i. guards i table) db.schema.indexes ≡ automatic table 0 table.primary index ∷ [])
+  own plainly uniques =
       let guarded : IsGuarded db.schema.indexes table = all_has (IsGuarded db.schema.indexes) db.schema.tables table sound.lists.guarded there in
-      let found = guarded 0 form.primary (ap (λ us. slice_get us 0) indexed.uniques) in
-      let one : length (filter (λ i. guards i table) db.schema.indexes) ≡ 1 = it.guarded ∙ ap index_count indexed.key in (
+      let found = guarded 0 form.primary (ap (λ us. slice_get us 0) uniques) in
+      let one : length (filter (λ i. guards i table) db.schema.indexes) ≡ 1 = it.guarded ∙ ap index_count plainly in (
         found.0,
         only (filter (λ i. guards i table) db.schema.indexes) (automatic table 0 form.primary found.0) one
             (has_kept (λ i. guards i table) db.schema.indexes (automatic table 0 form.primary found.0) found.1 (eq-eqb it.tree it.tree refl)),
       )
 
   guarded_by : HasKey form → (index : ℕ) × (filter (λ i. guards i table) db.schema.indexes ≡ key_indexes form.key table index)
-  guarded_by (inl indexed) = let mine = own indexed in (mine.0, mine.1 ∙ ap (λ k. key_indexes k table mine.0) (sym indexed.key))
+  guarded_by (inl indexed) = let mine = own indexed.0 indexed.1 in (mine.0, mine.1 ∙ ap (λ k. key_indexes k table mine.0) (sym indexed.0))
   guarded_by (inr rowid) =
-      (0, none (filter (λ i. guards i table) db.schema.indexes) (it.guarded ∙ ap index_count rowid.key) ∙ ap (λ k. key_indexes k table 0) (sym rowid.key))
+      (0, none (filter (λ i. guards i table) db.schema.indexes) (it.guarded ∙ ap index_count rowid) ∙ ap (λ k. key_indexes k table 0) (sym rowid))
 
   is_in : IsIn db.schema form it.tree
   is_in = record {
@@ -79,17 +102,12 @@ module _ (db : Database) (sound : IsDatabase db) (form : Table) (key : HasKey fo
     named = it.named;
     found = it.found;
     alone = alone;
-    stored = low it.tree (low_tree db table sound there);
+    stored = low it.tree (zipped_left IsTableRow _ db.schema.tables table sound.lists.listed.tables there).2.described.low;
     index = (guarded_by key).0;
     guarded = (guarded_by key).1;
   }
 
 -- ---- all of them
-
--- the key of a table of the office, whatever its tree
-keyed_at : (k : OfficeTable) (n : ℕ) → HasKey (table_of k) → HasKey (at_tree (table_of k) n)
-keyed_at k n (inl it) = inl (record { key = it.key; plainly = it.plainly; uniques = it.uniques; apart = it.apart; among = it.among })
-keyed_at k n (inr it) = inr (record { key = it.key; primary = it.primary; uniques = it.uniques })
 
 -- where it stands doesn't hang on the tree of its form
 as_table : (schema : Schema) (table : Table) (m n : ℕ) → IsIn schema (at_tree table m) n → IsIn schema table n
@@ -99,7 +117,7 @@ pub forms_stand : (first : Bool) (db : Database) (forms : Schema) → IsDatabase
 forms_stand first db forms sound lists each k =
     let listed = lists k in
     elim (each (at_tree (table_of k) listed.0) listed.1) [
-      | inl stands ↦ inl (stands.tree, as_table db.schema (table_of k) listed.0 stands.tree (is_in db sound (at_tree (table_of k) listed.0) (keyed_at k listed.0 (keyed k)) stands))
+      | inl stands ↦ inl (stands.tree, as_table db.schema (table_of k) listed.0 stands.tree (is_in db sound (at_tree (table_of k) listed.0) (keyed k) stands))
       | inr lacks ↦ inr (lacks.0, ap is_some lacks.1)
     ]
 
