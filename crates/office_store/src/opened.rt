@@ -15,16 +15,8 @@ pub enum Origin {
 }
 
 /// An office in two files, and where it comes from.
+#[derive(Drop)]
 pub struct Opened<D: Disk + Drop> {
     pub shelf: SqlShelf<FileStore<D>>,
     pub origin: Origin,
-}
-
-impl<D: Disk + Drop> Drop for Opened<D> {
-    fn drop(self) {
-        let Opened {
-            shelf: _,
-            origin: _,
-        } = self;
-    }
 }

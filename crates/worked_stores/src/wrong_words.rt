@@ -21,7 +21,7 @@ fn told(alloc: Global, question: Question, row: &str) -> Option<Told> {
         return Some(Told::Untaken);
     }
     let mut office = opened(alloc, database.close()?).ok()?;
-    Some(Told::Said(office.asks(question)))
+    Some(Told::Said(office.asks(question)?))
 }
 
 // At a second try where the first isn't right: one allocation of a test may be refused.
