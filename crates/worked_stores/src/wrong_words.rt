@@ -7,6 +7,7 @@ use office_on_disks::disks::Disks;
 use std::alloc::Global;
 
 // What came of a row that was put into a new office's tables.
+#[derive(Drop)]
 enum Told {
     // Its table refuses it.
     Untaken,
