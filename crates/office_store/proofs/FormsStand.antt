@@ -110,8 +110,8 @@ module _ (db : Database) (sound : IsDatabase db) (form : Table) (key : HasKey fo
 -- ---- all of them
 
 -- where it stands doesn't hang on the tree of its form
-as_table : (schema : Schema) (table : Table) (m n : ℕ) → IsIn schema (at_tree table m) n → IsIn schema table n
-as_table schema table m n it = record { place = it.place; named = it.named; found = it.found; alone = it.alone; stored = it.stored; index = it.index; guarded = it.guarded }
+as_table : (schema : Schema) (it : Table) (m n : ℕ) → IsIn schema (at_tree it m) n → IsIn schema it n
+as_table schema _ m n it = record { place = it.place; named = it.named; found = it.found; alone = it.alone; stored = it.stored; index = it.index; guarded = it.guarded }
 
 pub forms_stand : (first : Bool) (db : Database) (forms : Schema) → IsDatabase db → ListsForms forms → ((form : Table) → Has forms.tables form → StandsOrLacks first db.schema form) → HasForms first db.schema
 forms_stand first db forms sound lists each k =

@@ -91,7 +91,7 @@ module _ (b : Bool) (clock : ClockRow) (notices : List NoticeRow) (old mid : Sta
   pub told_leaves : (db : Trees) → LeavesSecond b clock notices mid db → LeavesMigrated old db
   told_leaves db it = (
     kept.was_open it.0,
-    λ t was. let left = it.1 t (as_told it.0 t was) in (left.0, left.1, moved left.0 t it.0 left.2),
+    λ t was. let left = it.1 t (as_told it.0 t was) in let both = moved left.0 t it.0 left.2 in (left.0, left.1, both.0, both.1),
   )
 
 -- what the schema says of the table of late withdrawals is what the last commit's says

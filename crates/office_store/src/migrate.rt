@@ -72,9 +72,7 @@ pub(crate) fn ready<S: Alter>(
     ensures kept { HasCleanDisk (state S.Store conn.new) → OnErr result (Refused (state S.Store conn.old) (state S.Store conn.new)) }
     ensures survives { Survives (state S.Store conn.old) (state S.Store conn.new) (LeavesReadied is_first (state S.Store conn.old)) }
 {
-    if let Err(fault) = check_forms(alloc, conn, is_first) {
-        return Err(fault);
-    }
+    check_forms(alloc, conn, is_first)?;
     if is_first {
         match migrated(alloc, conn) {
             Ok(()) => Ok(()),

@@ -1,11 +1,11 @@
-use Rattle.std.proofs.Common.{rules, arith, ◌≡◌, refl, subst, inl, inr, [], true, false}
+use Rattle.std.proofs.Common.{rules, arith, ◌≡◌, ◌∙◌, ap, refl, sym, subst, inl, inr, [], true, false}
 use Rattle.sqlite.specs.Held.{state}
 use Rattle.sqlite.specs.declared.error.Error.TheVariants.{SqlInputError}
 use Rattle.sqlite.specs.State.{HasCleanDisk, IsLive}
 use Rattle.sqlite.proofs.StateLemmas.{survives_then}
 use Rattle.office_sql.specs.Steps.{IsRefusal}
 use Rattle.office_sql.specs.Version.{get_version}
-use Rattle.office_store.specs.Founding.{is_version_one, is_other_version, takes_a_name, Readied, LeavesReadied, LeavesOffice}
+use Rattle.office_store.specs.Founding.{Enters, is_version_one, is_other_version, origin_of, takes_a_name, Readied, LeavesReadied, LeavesOffice}
 use Rattle.office_store.proofs.Founding.{sound_after, founded_after, leaves_before, refused_on, shown_is_left}
 use Rattle.office_store.proofs.Migrating.{leaves_readied_before, readied_after, readied_enters, readied_shows, never_other, shown_version}
 use Rattle.office_store.proofs.found.enter.Goals as goal
@@ -20,7 +20,8 @@ returns-in-Ok-ready-clause-enters g c clean =
     let one : is_other_version c.in-Ok.rows.items ≡ false = search rules in
     let first : c.is_version_one-is_first.result ≡ is_version_one c.in-Ok.rows.items = search rules in
     let readied = readied_after c.is_version_one-is_first.result old mid end (c.ask_version.ensures.kept early) (c.in-Ok-ready.ensures.readied clean) in
-    readied_enters g.S.Store held c.ready.new.conn c.in-Ok.rows.items (c.in-Ok.ensures.asked early) one (is_version_one c.in-Ok.rows.items) refl (subst (λ b. Readied b old end) first readied)
+    subst (λ o. Enters g.S.Store o held c.ready.new.conn) (sym (c.origin_of.ensures ∙ ap origin_of first))
+    (readied_enters g.S.Store held c.ready.new.conn c.in-Ok.rows.items (c.in-Ok.ensures.asked early) one (is_version_one c.in-Ok.rows.items) refl (subst (λ b. Readied b old end) first readied))
 
 pub returns-in-Ok-ready-clause-found : goal.returns-in-Ok-ready-clause-found
 returns-in-Ok-ready-clause-found g c clean t shows =
@@ -97,12 +98,11 @@ returns-in-Ok-found-clause-enters g c clean =
     let kept = c.ask_version.ensures.kept early in
     let live : IsLive old = search rules in
     let none : takes_a_name c.args.conn.now.schema ≡ false = search rules in
-    let input : c.in-Err-SqlInputError.field-0 ≡ SqlInputError c.in-Err-SqlInputError.field-0-0 = search rules in
-    inr (inr (
+    let input : c.in-Err-SqlInputError.field-0 ≡ SqlInputError c.in-Err-SqlInputError.field-0-0 = search rules in (
       (c.in-Err-SqlInputError.field-0-0, subst (IsRefusal g.S.Store get_version [] c.args.conn.now) input (c.in-Err-SqlInputError.ensures.refused early)),
       none,
       founded_after old mid end kept (c.in-Ok-found.ensures.founded clean (sound_after old mid kept live)),
-    ))
+    )
 
 pub returns-in-Ok-found-clause-is_open : goal.returns-in-Ok-found-clause-is_open
 returns-in-Ok-found-clause-is_open g c clean =
