@@ -90,7 +90,7 @@ def turn(number: int) -> int:
 
 
 def imports() -> Play:
-    """Files of many long rows, which write most pages of the table each: enough for the log to be moved into the file twice."""
+    """Files of many long rows, which write most pages of the table each: enough for the log to be moved into the file several times."""
     rows = [b"%d,add,%d,%s" % (100_000 + turn(number) * STRIDE % LINES, number + 1, TITLE) for number in range(BATCHES * ROWS)]
     steps = [Step("an import", BEGUN + STEP * at, import_of(b"B%d" % at, rows[at * ROWS:(at + 1) * ROWS])) for at in range(BATCHES)]
     return Play("imports", steps, [Client(Requests()).ledger()])

@@ -6,11 +6,12 @@ use office_store::path::Room;
 use std::fs;
 use std::io::{self, Read};
 
-/// The bytes of the file's pages that stay in memory: 32 MiB. They are taken as the file is opened.
-pub const MEMORY: usize = 33_554_432;
+/// The bytes of the file's pages that stay in memory: 8 MiB. They are taken as the file is opened. A page that isn't there costs a read and a digest,
+/// which with small pages is little beside a request.
+pub const MEMORY: usize = 8_388_608;
 
-/// The bytes of pages by which the log grows before they are copied into the file: 16 MiB.
-pub const LOG: usize = 16_777_216;
+/// The bytes of pages by which the log grows before they are copied into the file: 4 MiB. Each copy writes a page once, however often it stands in the log.
+pub const LOG: usize = 4_194_304;
 
 /// The page size of a file that doesn't name one.
 pub const USUAL_PAGE: usize = 4096;
