@@ -5,7 +5,7 @@ import { KINDS, SEPARATORS, faultsOf, meantBy } from "./faults.js";
 import { figureOf } from "./figures.js";
 import { HEAD, MOST_BYTES, MOST_PRICE, MOST_UNIT, fileOf, priceOf, readingOf } from "./papers.js";
 
-const MOST_READ = 1 << 20;
+export const MOST_READ = 1 << 20;
 // So many records may stand above the head.
 const MOST_ABOVE = 20;
 const MARK = "\u00ef\u00bb\u00bf";
