@@ -1,4 +1,5 @@
-// Languages: which one is spoken, and its texts by their names. The texts of a language stand in a file of its own; a page adds those that it needs beside these.
+// Languages: which one is spoken, and its texts by their names. The texts of a language stand in a file of its own; a page adds those that it needs beside
+// these.
 import de from "./de.js";
 import en from "./en.js";
 

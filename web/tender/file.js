@@ -38,7 +38,8 @@ function linesOf(caption, kind, entries) {
 /** What became of the offer's file. */
 export function outcome({ file, terms }) {
   if (file.kind === "refused") {
-    return told("bad", say("file.refused", { file: file.name }), ...linesOf(say("file.refused.caption"), "fault", file.faults), element("p", {}, say("file.refused.what")));
+    return told("bad", say("file.refused", { file: file.name }), ...linesOf(say("file.refused.caption"), "fault", file.faults),
+      element("p", {}, say("file.refused.what")));
   }
   const price = money(file.reading.price, terms.currency);
   if (file.kind === "converted") {

@@ -32,8 +32,8 @@ function orUnknown(value, shown) {
 
 /** What is known of a notice. */
 export function termsOf(one) {
-  return [facts([[say("offer.notice"), one.notice], [say("offer.buyer"), given(one.buyer)], [say("offer.deadline"), [moment(one.deadline), " – ", clock(one.deadline)]],
-    [say("offer.criteria"), say(`offer.criteria.${one.criteria}`)]]),
+  return [facts([[say("offer.notice"), one.notice], [say("offer.buyer"), given(one.buyer)],
+    [say("offer.deadline"), [moment(one.deadline), " – ", clock(one.deadline)]], [say("offer.criteria"), say(`offer.criteria.${one.criteria}`)]]),
   element("details", {}, element("summary", {}, say("offer.more")), facts([
     [say("offer.validity"), orUnknown(one.validity_days, (count) => say("span.days", { count }))],
     [say("offer.standstill"), orUnknown(one.standstill_days, (count) => say("span.days", { count }))],
@@ -87,7 +87,8 @@ function securityFields(offer) {
   reference.input.addEventListener("change", check);
   amount.input.addEventListener("change", check);
   check();
-  const why = asked === null ? say("offer.security.ask") : asked === 0 ? say("offer.security.none") : say("offer.security.asked", { amount: money(asked, one.currency) });
+  const why = asked === null ? say("offer.security.ask") : asked === 0 ? say("offer.security.none")
+    : say("offer.security.asked", { amount: money(asked, one.currency) });
   return element("section", { "aria-labelledby": "security" }, element("h2", { id: "security" }, say("offer.security")), element("p", {}, why),
     element("div", { class: "fields" }, reference.made, amount.made));
 }

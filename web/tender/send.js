@@ -1,4 +1,5 @@
-// Before sending: what the office will read at the opening, and the digest of the bytes. Sending; and behind it the receipt, or what became of what got no answer.
+// Before sending: what the office will read at the opening, and the digest of the bytes. Sending; and behind it the receipt, or what became of what got no
+// answer.
 import { element, facts, given } from "../draw.js";
 import { inGroups, sha256 } from "../common/digest.js";
 import { button, table, tick, told } from "../common/forms.js";
@@ -67,9 +68,9 @@ async function taken(sent, answer, text) {
 
 /** Sends an offer, once. What came of it stands in `session.sent` then. */
 async function send(offer, ready, digest) {
-  const sent = { kind: offer.changes === null ? "present" : "modify", notice: offer.terms.notice, lot: offer.lot.id, receipt: offer.changes, digest, price: ready.reading.price,
-    currency: offer.terms.currency, length: ready.bytes.length, name: `${offer.terms.notice}-${offer.lot.id}.csv`, bytes: ready.bytes,
-    known: Math.max(0, ...session.tenders.keys()) };
+  const sent = { kind: offer.changes === null ? "present" : "modify", notice: offer.terms.notice, lot: offer.lot.id, receipt: offer.changes, digest,
+    price: ready.reading.price, currency: offer.terms.currency, length: ready.bytes.length, name: `${offer.terms.notice}-${offer.lot.id}.csv`,
+    bytes: ready.bytes, known: Math.max(0, ...session.tenders.keys()) };
   session.sent = { ...sent, isOpen: true };
   try {
     const { value, text } = sent.kind === "present" ? await present(sent.notice, sent.lot, ready.bytes, securityOf(offer), session.caller)
@@ -132,8 +133,16 @@ function sendButton(offer, ready, digest, redraw) {
     redraw(session.sent.isOpen || session.sent.fault ? "" : say("send.sent"), Boolean(session.sent.fault));
   });
   press.disabled = isLate;
+  const back = element("a", { class: "button second", href: `#offer/${offer.terms.notice}/${offer.lot.id}` }, say("send.back"));
   return [isLate ? told("bad", say("send.late"), tick("send-late", say("send.late.tick"), (isTicked) => { press.disabled = !isTicked; })) : null,
-    element("div", { class: "steps" }, press, element("a", { class: "button second", href: `#offer/${offer.terms.notice}/${offer.lot.id}` }, say("send.back")))];
+    element("div", { class: "steps" }, press, back)];
+}
+
+/** The bytes that are sent, and their digest. */
+function bytesPart(bytes, digest) {
+  return element("section", { "aria-labelledby": "bytes" }, element("h2", { id: "bytes" }, say("send.bytes")),
+    element("p", {}, say("send.bytes.why", { count: bytes.length })), element("pre", {}, new TextDecoder().decode(bytes)),
+    element("p", {}, say("send.digest")), element("p", { class: "code", id: "digest" }, inGroups(digest)));
 }
 
 /** The view before the sending. */
@@ -141,8 +150,8 @@ async function drawBefore(offer, { redraw }) {
   const ready = readyOf(offer);
   const digest = ready ? await sha256(ready.bytes) : "";
   const named = ready ? securityOf(offer) : null;
-  const what = facts([[say("offer.notice"), `${offer.terms.notice}, ${say("offer.lot", { lot: offer.lot.id })}`], [say("send.as"), session.caller?.caller ?? "–"],
-    [say("offer.deadline"), [moment(offer.terms.deadline), " – ", clock(offer.terms.deadline)]],
+  const what = facts([[say("offer.notice"), `${offer.terms.notice}, ${say("offer.lot", { lot: offer.lot.id })}`],
+    [say("send.as"), session.caller?.caller ?? "–"], [say("offer.deadline"), [moment(offer.terms.deadline), " – ", clock(offer.terms.deadline)]],
     offer.changes === null ? [say("offer.security"), named ? `${named.security}, ${money(named.amount, offer.terms.currency)}` : say("send.noSecurity")]
       : [say("send.replaces"), String(offer.changes)]]);
   const hindered = hindrances(offer, ready);
@@ -150,8 +159,7 @@ async function drawBefore(offer, { redraw }) {
   const isOf = sent && sent.notice === offer.terms.notice && sent.lot === offer.lot.id;
   return { title: say("send.title"), content: [element("h1", { tabindex: "-1" }, say("send.title")),
     isOf ? (sent.isOpen ? openPart(sent, redraw) : refusedPart(sent.fault)) : null, what, ready ? readingTable(ready.reading, offer) : null,
-    ready ? element("section", { "aria-labelledby": "bytes" }, element("h2", { id: "bytes" }, say("send.bytes")), element("p", {}, say("send.bytes.why", { count: ready.bytes.length })),
-      element("pre", {}, new TextDecoder().decode(ready.bytes)), element("p", {}, say("send.digest")), element("p", { class: "code", id: "digest" }, inGroups(digest))) : null,
+    ready ? bytesPart(ready.bytes, digest) : null,
     hindered.length > 0 ? hindered : sendButton(offer, ready, digest, redraw)].flat(2).filter(Boolean) };
 }
 
