@@ -10,7 +10,7 @@ import { putAway, session } from "./session.js";
 /** The name and the key of a key's file: two lines, as `curl -H @FILE` reads them. Null where it has none. */
 export function keyIn(text) {
   const [, caller] = /^\ufeff?Office-Caller:[ \t]*(\S+)[ \t]*$/m.exec(text) ?? [];
-  const [, key] = /^Office-Key:[ \t]*([!-~]+)[ \t]*$/m.exec(text) ?? [];
+  const [, key] = /^Office-Key:[ \t]*([!-~](?:[ -~]*[!-~])?)[ \t]*$/m.exec(text) ?? [];
   return caller && key && isId(caller) ? { caller, key } : null;
 }
 
@@ -80,7 +80,11 @@ function isLine(text) {
 
 function ofMaking(context) {
   const { registration } = session;
-  const made = (name, more = {}) => field(`key-${name}`, say(`key.${name}`), { hint: say(`key.${name}.hint`), value: registration[name], ...more });
+  const made = (name, more = {}) => {
+    const one = field(`key-${name}`, say(`key.${name}`), { hint: say(`key.${name}.hint`), value: registration.typed?.[name] ?? registration[name], ...more });
+    one.input.addEventListener("input", () => { registration.typed = { ...registration.typed, [name]: one.input.value }; });
+    return one;
+  };
   const fields = { tenderer: made("tenderer", { maxlength: 32 }), name: made("name", { autocapitalize: "words" }),
     address: made("address", { autocapitalize: "words" }) };
   return [element("p", {}, say("key.make.why")), form(Object.values(fields).map((one) => one.made), say("key.make"), () => make(fields, context))];

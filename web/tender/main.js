@@ -98,7 +98,8 @@ for (const kind of ["dragover", "drop"]) {
 }
 // What was typed and what has no answer yet is told of before the tab is closed.
 addEventListener("beforeunload", (event) => {
-  if (session.sent?.isOpen || Object.values(session.offer?.units ?? {}).some((text) => text !== "")) {
+  const isUnkept = session.sent?.isOpen || (session.sent?.receipt?.digest && !session.sent.isKept);
+  if (isUnkept || Object.values(session.offer?.units ?? {}).some((text) => text !== "")) {
     event.preventDefault();
   }
 });

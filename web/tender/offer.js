@@ -57,7 +57,7 @@ function ask(notice) {
 }
 
 function lotCard(one, lot) {
-  return element("li", { class: "card" }, element("h3", {}, say("offer.lot", { lot: lot.id }), ": ", given(lot.title)),
+  return element("li", { class: "card" }, element("h3", {}, say("offer.lotHead", { lot: lot.id }), ": ", given(lot.title)),
     facts([[say("offer.estimate"), money(lot.estimate, one.currency)], [say("offer.items"), number(lot.items.length)],
       [say("offer.security"), orUnknown(lot.security, (amount) => (amount === 0 ? say("offer.security.none") : money(amount, one.currency)))]]),
     isTaking(one) ? element("a", { class: "button", href: `#offer/${one.notice}/${lot.id}` }, say("offer.begin", { lot: lot.id })) : null);
@@ -78,14 +78,17 @@ function securityFields(offer) {
   const asked = lot.security;
   const reference = field("security-reference", say("offer.reference"), { hint: say("offer.reference.hint"), value: security.reference, maxlength: 32 });
   const amount = field("security-amount", say("offer.amount", { currency: one.currency }), { value: security.amount, inputmode: "numeric" });
+  const keep = () => Object.assign(security, { reference: reference.input.value.trim(), amount: amount.input.value.trim() });
   const check = () => {
-    Object.assign(security, { reference: reference.input.value.trim(), amount: amount.input.value.trim() });
+    keep();
     const faults = securityFaults(offer);
     reference.tell(faults.reference ?? "");
     amount.tell(faults.amount ?? "");
   };
-  reference.input.addEventListener("change", check);
-  amount.input.addEventListener("change", check);
+  for (const { input } of [reference, amount]) {
+    input.addEventListener("input", keep);
+    input.addEventListener("change", check);
+  }
   check();
   const why = asked === null ? say("offer.security.ask") : asked === 0 ? say("offer.security.none")
     : say("offer.security.asked", { amount: money(asked, one.currency) });
@@ -145,7 +148,7 @@ async function drawLot(notice, name, { redraw }) {
     const isReady = readyOf(offer) !== null;
     go.hidden = keep.hidden = !isReady;
   };
-  const prices = offer.source === "table" ? drawTable(offer, update) : drawFile(offer, () => redraw("", false, "offer-file"));
+  const prices = offer.source === "table" ? drawTable(offer, update) : drawFile(offer, (sentence, isWrong) => redraw(sentence, isWrong, "offer-file"));
   update();
   return { title: say("offer.for", { lot: name, notice }), content: [
     element("h1", { tabindex: "-1" }, say("offer.for", { lot: name, notice })), element("p", {}, given(one.title), " – ", given(lot.title)), ...termsOf(one),

@@ -20,12 +20,12 @@ export function factsOf(receipt, price = null) {
 }
 
 /** Whether what the office received is what was sent: green only where the digests are equal. */
-export function compared(own, others) {
+export function compared(own, others, kind = "receipt") {
   const isSame = own === others;
-  return told(isSame ? "good" : "bad", say(isSame ? "receipt.same" : "receipt.differs"),
+  return told(isSame ? "good" : "bad", say(`${kind}.${isSame ? "same" : "differs"}`),
     element("p", {}, say("receipt.own")), element("p", { class: "code" }, inGroups(own)),
     element("p", {}, say("receipt.office")), element("p", { class: "code" }, inGroups(others)),
-    isSame ? null : element("p", {}, say("receipt.differs.what")));
+    isSame ? null : element("p", {}, say(`${kind}.differs.what`)));
 }
 
 /** The file of a receipt: what the office answered, with the tenderer and where it was handed in. */
@@ -49,8 +49,10 @@ export function drawReceipt(sent) {
       factsOf({ ...receipt, tenderer: session.caller?.caller }, offered),
       element("p", {}, say("receipt.digest")), element("p", { class: "code" }, receipt.digest),
       element("p", { class: "quiet" }, say("receipt.secret")), ...sheetEnd()),
-    element("div", { class: "steps" }, button(say("receipt.save"), () => save(`receipt-${receipt.receipt}.json`, fileOf(receipt), "application/json")),
-      button(say("receipt.saveFile"), () => save(sent.name, sent.bytes, "text/csv")), printButton(),
+    element("div", { class: "steps" }, button(say("receipt.save"), () => {
+      save(`receipt-${receipt.receipt}.json`, fileOf(receipt), "application/json");
+      sent.isKept = true;
+    }), button(say("receipt.saveFile"), () => save(sent.name, sent.bytes, "text/csv")), printButton(),
       element("a", { class: "button second", href: "#tenders" }, say("tenders.title")))] };
 }
 
@@ -102,7 +104,7 @@ export function drawCheck({ redraw }) {
   return { title: say("check.title"), content: [element("h1", { tabindex: "-1" }, say("check.title")), element("p", {}, say("check.why")),
     drop("check-file", say("check.file.drop"), say("check.file.hint"), takeFile),
     drop("check-receipt", say("check.receipt.drop"), say("check.receipt.hint"), takeReceipt), ...outcome(),
-    isBoth ? compared(chosen.file.digest, chosen.receipt.digest) : null, isLength ? null : element("p", { class: "wrong" }, say("check.length")),
+    isBoth ? compared(chosen.file.digest, chosen.receipt.digest, "check") : null, isLength ? null : element("p", { class: "wrong" }, say("check.length")),
     chosen.receipt?.value ? element("section", { class: "sheet", "aria-labelledby": "told" }, element("h2", { id: "told" }, say("receipt.sheet")),
       factsOf(chosen.receipt)) : null,
     chosen.receipt?.value && session.caller ? element("div", { class: "steps" }, button(say("check.ask"), () => askOffice(where)))

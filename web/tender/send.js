@@ -4,7 +4,7 @@ import { element, facts, given } from "../draw.js";
 import { inGroups, sha256 } from "../common/digest.js";
 import { button, table, tick, told } from "../common/forms.js";
 import { money, moment, number } from "../common/money.js";
-import { Refused, modify, officeNow, present, sentenceOf, tender } from "../common/office.js";
+import { Refused, modify, officeNow, present, sentenceOf, tender, terms } from "../common/office.js";
 import { hasText, say } from "../common/texts.js";
 import { becameOf } from "./became.js";
 import { clock, securityFaults, securityOf } from "./offer.js";
@@ -62,7 +62,7 @@ async function taken(sent, answer, text) {
     keep({ receipt: sent.receipt, state: "withdrawn" });
   }
   session.changing = null;
-  session.sent = { ...sent, receipt: found, text, isOpen: false, fault: null };
+  session.sent = { ...sent, receipt: found, text, isOpen: false, isGoing: false, fault: null };
   session.offer = null;
 }
 
@@ -71,7 +71,7 @@ async function send(offer, ready, digest) {
   const sent = { kind: offer.changes === null ? "present" : "modify", notice: offer.terms.notice, lot: offer.lot.id, receipt: offer.changes, digest,
     price: ready.reading.price, currency: offer.terms.currency, length: ready.bytes.length, name: `${offer.terms.notice}-${offer.lot.id}.csv`,
     bytes: ready.bytes, known: Math.max(0, ...session.tenders.keys()) };
-  session.sent = { ...sent, isOpen: true };
+  session.sent = { ...sent, isOpen: true, isGoing: true };
   try {
     const { value, text } = sent.kind === "present" ? await present(sent.notice, sent.lot, ready.bytes, securityOf(offer), session.caller)
       : await modify(offer.changes, ready.bytes, session.caller);
@@ -121,14 +121,24 @@ function again(sent, where, redraw) {
 
 /** What is shown where no answer came: that it isn't known, and the way to know it. Sending the same again is no danger before the deadline. */
 function openPart(sent, redraw) {
-  const where = element("div", {}, again(sent, null, redraw));
-  where.replaceChildren(again(sent, where, redraw));
+  const where = element("div", {});
+  where.append(again(sent, where, redraw));
   return [told("bad", say("send.open"), element("p", {}, sent.fault ? sentenceOf(sent.fault) : ""), element("p", {}, say("send.open.what"))), where];
+}
+
+/** How far a sending is that has no receipt. */
+function sentPart(sent, redraw) {
+  return sent.isGoing ? told("look", say("send.going")) : sent.isOpen ? openPart(sent, redraw) : refusedPart(sent.fault);
 }
 
 function sendButton(offer, ready, digest, redraw) {
   const isLate = Date.parse(offer.terms.deadline) < officeNow();
   const press = button(offer.changes === null ? say("send.send") : say("send.change", { receipt: String(offer.changes) }), async () => {
+    if (!isLate && Date.parse(offer.terms.deadline) < officeNow()) {
+      // It came while the view stood there.
+      redraw("");
+      return;
+    }
     await send(offer, ready, digest);
     redraw(session.sent.isOpen || session.sent.fault ? "" : say("send.sent"), Boolean(session.sent.fault));
   });
@@ -147,6 +157,11 @@ function bytesPart(bytes, digest) {
 
 /** The view before the sending. */
 async function drawBefore(offer, { redraw }) {
+  try {
+    offer.terms = await terms(offer.terms.notice);
+  } catch {
+    // What was known of the notice stays.
+  }
   const ready = readyOf(offer);
   const digest = ready ? await sha256(ready.bytes) : "";
   const named = ready ? securityOf(offer) : null;
@@ -158,9 +173,9 @@ async function drawBefore(offer, { redraw }) {
   const sent = session.sent?.fault || session.sent?.isOpen ? session.sent : null;
   const isOf = sent && sent.notice === offer.terms.notice && sent.lot === offer.lot.id;
   return { title: say("send.title"), content: [element("h1", { tabindex: "-1" }, say("send.title")),
-    isOf ? (sent.isOpen ? openPart(sent, redraw) : refusedPart(sent.fault)) : null, what, ready ? readingTable(ready.reading, offer) : null,
+    isOf ? sentPart(sent, redraw) : null, what, ready ? readingTable(ready.reading, offer) : null,
     ready ? bytesPart(ready.bytes, digest) : null,
-    hindered.length > 0 ? hindered : sendButton(offer, ready, digest, redraw)].flat(2).filter(Boolean) };
+    hindered.length > 0 ? hindered : isOf && sent.isGoing ? null : sendButton(offer, ready, digest, redraw)].flat(2).filter(Boolean) };
 }
 
 /** The view at `#send`: before the sending, or the receipt behind it. */

@@ -165,7 +165,8 @@ export async function drawTender({ redraw }, receipt) {
   const found = await tender(receipt, session.caller);
   keep(found);
   const [one, held] = await Promise.all([terms(found.notice), found.security === null ? null : security(found.security, session.caller)]);
-  const isOut = found.state === "withdrawn" || found.state === "returned" || held?.state === "forfeited";
+  const isDecided = one.lots.find(({ id }) => id === found.lot)?.state !== "active";
+  const isOut = found.state === "withdrawn" || found.state === "returned" || held?.state === "forfeited" || isDecided;
   const isBefore = Date.parse(one.deadline) > officeNow();
   const results = found.state === "opened" ? await drawResults(found, one) : [];
   const title = say("tenders.one", { receipt: String(receipt) });
