@@ -171,6 +171,7 @@ class Page:
 
     def choose(self, name: str, path: str) -> None:
         """Chooses a file in the field of this name."""
+        self.wait(f"document.getElementById({json.dumps(name)})")
         field = self.ask("Runtime.evaluate", expression=f"document.getElementById({json.dumps(name)})")["result"]
         self.ask("DOM.setFileInputFiles", files=[path], objectId=field["objectId"])
 

@@ -6,8 +6,9 @@ import subprocess
 import time
 from dataclasses import dataclass
 
-from browser import Browser
-from client import AHEAD, Answer, Client, Front as Transport, budget, lot, notice, tender, text_of
+import scene
+from client import AHEAD, Answer, Client, budget, lot, notice, tender, text_of
+from client import Front as Transport
 from common import connect, serve_words
 from front import PATIENCE, Front
 
@@ -21,37 +22,30 @@ def key_of(tenderer: str) -> str:
     return hashlib.sha256(f"key of {tenderer}".encode()).hexdigest()
 
 
+def serving(program: str, file: str, port: int) -> "subprocess.Popen[bytes]":
+    """The program over a file, once it serves."""
+    process = subprocess.Popen(serve_words(program, file, port, CONNECTIONS))
+    connect(port, PATIENCE).close()
+    return process
+
+
 @dataclass
-class Office:
-    """The program over a file, which a test may stop and start again."""
+class Scene(scene.Scene):
+    """What the tests of the desk share besides: the program and its file, which a test may stop and start again; who asks the office beside the desk; a folder
+    for files."""
 
     program: str
     file: str
-    port: int
-    process: "subprocess.Popen[bytes] | None" = None
-
-    def start(self) -> None:
-        self.process = subprocess.Popen(serve_words(self.program, self.file, self.port, CONNECTIONS))
-        connect(self.port, PATIENCE).close()
-
-    def stop(self) -> None:
-        if self.process:
-            self.process.kill()
-            self.process.wait()
-            self.process = None
-
-
-@dataclass
-class Scene:
-    """What the tests of the desk share: the front, the browser, the office, who asks it beside them, a folder for files, and where pictures go."""
-
-    front: Front
-    browser: Browser
-    office: Office
     client: Client[Answer]
     folder: str
-    pictures: str
     deadline: float = 0
+
+    def start(self) -> None:
+        self.office = serving(self.program, self.file, self.front.office)
+
+    def stop(self) -> None:
+        self.office.kill()
+        self.office.wait()
 
     def path(self, name: str) -> str:
         return os.path.join(self.folder, name)
@@ -67,19 +61,19 @@ def asking(front: Front) -> Client[Answer]:
     return Client(Transport(front.address().rstrip("/"), front.context), key_of)
 
 
-def prepare(scene: Scene) -> None:
+def prepare(desk: Scene) -> None:
     """The budget, the tenderers, the notices, and what they have before the tests."""
-    client = scene.client
+    client = desk.client
     client.import_budget("B1", budget("1000,add,1000000000,Roads"))
     for name, firm in (("T1", "Alpha & Söhne"), ("T2", "Beta")):
         client.register(name, firm)
-        scene.put(f"{name}.key", f"Office-Caller: {name}\nOffice-Key: {key_of(name)}\n".encode())
-    far, scene.deadline = text_of(time.time() + DAY), int(time.time()) + AHEAD
+        desk.put(f"{name}.key", f"Office-Caller: {name}\nOffice-Key: {key_of(name)}\n".encode())
+    far, desk.deadline = text_of(time.time() + DAY), int(time.time()) + AHEAD
     secured = lot("L1", "1000", 600, 50, *ITEMS)
     client.publish("N1", notice(far, secured, lot("L2", "1000", 9000, 0, ("Paving", 1), title="South"), title="Road repair"))
     more = [lot(name, "1000", 900, 0, *ITEMS) for name in ("L2", "L3", "L4")]
     client.publish("N4", notice(far, lot("L1", "1000", 90_000, 0, *LONG, title="A long list"), *more, title="Things of all kinds"))
-    client.publish("N2", notice(text_of(scene.deadline), secured, title="Late tenders", late_withdrawal="forfeits"))
-    client.publish("N3", notice(text_of(scene.deadline), secured, title="A bridge", performance=70))
+    client.publish("N2", notice(text_of(desk.deadline), secured, title="Late tenders", late_withdrawal="forfeits"))
+    client.publish("N3", notice(text_of(desk.deadline), secured, title="A bridge", performance=70))
     for name in ("N2", "N3"):
         client.present("T2", name, "L1", tender((3, 150), (10, 12), wrong=20), "G2", 60)

@@ -52,11 +52,11 @@ def keyboard(scene: Scene) -> None:
     receipt = desk.receipt()
     check(f"the focus is at {focused(page)}", focused(page)[0].startswith("Receipt"))
     check("it isn't there", scene.client.tender("T1", receipt)["state"] == "sealed")
-    desk.at("", "Hand in a tender")
-    page.press("Tab")
-    tab_to(page, "Deutsch")
-    page.press("Enter")
-    desk.shows("Ein Angebot abgeben")
+    other = Desk(scene)
+    tab_to(other.page, "Deutsch")
+    other.page.press("Enter")
+    other.shows("Ein Angebot abgeben")
+    check(f"the focus is at {focused(other.page)}", focused(other.page)[0] == "Deutsch")
 
 
 def is_read_out(name: str, page: Page) -> None:
@@ -91,10 +91,8 @@ def shapes(scene: Scene) -> None:
             desk.page.run("new Promise((done) => { setTimeout(done, 0); })")
             desk.page.wait("document.querySelector('main').getAttribute('aria-busy') === 'false'")
             looked_at(scene, desk, name, language)
-            if name == "notice":
-                # (so that the view of what is sent has the offer for N1 again)
-                continue
             if name == "list":
+                # The view of what is sent is that of the offer for N1 again.
                 desk.page.run("location.hash = '#offer/N1/L1'")
                 desk.page.wait("document.getElementById('unit-1') && !document.getElementById('unit-2')")
                 desk.fill("unit-0", "150")
