@@ -5,7 +5,6 @@ import { button, field, form, save, told } from "../common/forms.js";
 import { money, moment, number, span, typed } from "../common/money.js";
 import { officeNow, terms } from "../common/office.js";
 import { say } from "../common/texts.js";
-import { drawFile } from "./file.js";
 import { MOST_PRICE } from "./papers.js";
 import { beginOffer, readyOf, session } from "./session.js";
 import { drawTable } from "./table.js";
@@ -133,6 +132,12 @@ function sources(offer, redraw) {
   return element("div", { class: "steps", role: "group", "aria-label": say("offer.source") }, made("table"), made("file"));
 }
 
+/** The part that takes a file: what reads files is loaded where it is wanted alone. */
+async function filePart(offer, redraw) {
+  const { drawFile } = await import("./file.js");
+  return drawFile(offer, (sentence, isWrong) => redraw(sentence, isWrong, "offer-file"));
+}
+
 /** The view of an offer for a lot. */
 async function drawLot(notice, name, { redraw }) {
   const one = await terms(notice);
@@ -148,7 +153,7 @@ async function drawLot(notice, name, { redraw }) {
     const isReady = readyOf(offer) !== null;
     go.hidden = keep.hidden = !isReady;
   };
-  const prices = offer.source === "table" ? drawTable(offer, update) : drawFile(offer, (sentence, isWrong) => redraw(sentence, isWrong, "offer-file"));
+  const prices = offer.source === "table" ? drawTable(offer, update) : await filePart(offer, redraw);
   update();
   return { title: say("offer.for", { lot: name, notice }), content: [
     element("h1", { tabindex: "-1" }, say("offer.for", { lot: name, notice })), element("p", {}, given(one.title), " – ", given(lot.title)), ...termsOf(one),
