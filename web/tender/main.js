@@ -103,4 +103,5 @@ addEventListener("beforeunload", (event) => {
   }
 });
 addEventListener("hashchange", () => show());
-show();
+// (As the page is loaded the focus stays where the browser puts it: at its beginning.)
+show({ focus: "" });
