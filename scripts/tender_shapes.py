@@ -157,6 +157,7 @@ def printed(scene: Scene) -> None:
         desk.fill(f"key-{name}", "T8")
     desk.press("Make the key")
     desk.says("Now drop the file T8.key")
+    looked_at(scene, desk, "registration", "en")
     seen = on_paper(scene, desk, "registration")
     is_alone = "Make a key" not in seen and "Print" not in seen.replace("Printed", "")
     check(f"on paper stands {seen}", "SHA-256 of the key" in seen and "signature" in seen and is_alone)
@@ -170,6 +171,7 @@ def on_paper(scene: Scene, desk: Desk, name: str, is_sheet: bool = True) -> str:
     desk.page.run(f"document.body.classList.toggle('one-sheet', {json.dumps(is_sheet)})")
     desk.page.ask("Emulation.setEmulatedMedia", media="print")
     seen = str(desk.page.run("document.body.innerText"))
+    desk.page.picture(os.path.join(scene.pictures, f"{name}-on-paper.png"))
     paper = base64.b64decode(desk.page.ask("Page.printToPDF")["data"])
     check(f"{name} has no PDF", paper.startswith(b"%PDF") and len(paper) > 1000)
     with open(os.path.join(scene.pictures, f"{name}.pdf"), "wb") as file:
