@@ -68,11 +68,12 @@ def prepare(desk: Scene) -> None:
     for name, firm in (("T1", "Alpha & Söhne"), ("T2", "Beta")):
         client.register(name, firm)
         desk.put(f"{name}.key", f"Office-Caller: {name}\nOffice-Key: {key_of(name)}\n".encode())
-    far, desk.deadline = text_of(time.time() + DAY), int(time.time()) + AHEAD
+    far = text_of(time.time() + DAY)
     secured = lot("L1", "1000", 600, 50, *ITEMS)
     client.publish("N1", notice(far, secured, lot("L2", "1000", 9000, 0, ("Paving", 1), title="South"), title="Road repair"))
     more = [lot(name, "1000", 900, 0, *ITEMS) for name in ("L2", "L3", "L4")]
     client.publish("N4", notice(far, lot("L1", "1000", 90_000, 0, *LONG, title="A long list"), *more, title="Things of all kinds"))
+    desk.deadline = int(time.time()) + AHEAD
     client.publish("N2", notice(text_of(desk.deadline), secured, title="Late tenders", late_withdrawal="forfeits"))
     client.publish("N3", notice(text_of(desk.deadline), secured, title="A bridge", performance=70))
     for name in ("N2", "N3"):
