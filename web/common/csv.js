@@ -1,0 +1,112 @@
+// CSV as the office reads it (RFC 4180), and the forms of its fields. A field is a text of one character for each byte; `textOf` gives what a person reads.
+
+const MARK = "\u00ef\u00bb\u00bf";
+const MOST_NUMBER = 1e15;
+
+/** Bytes as a text with a character for each. */
+export function binaryOf(bytes) {
+  let text = "";
+  for (let at = 0; at < bytes.length; at += 8192) {
+    text += String.fromCharCode(...bytes.subarray(at, at + 8192));
+  }
+  return text;
+}
+
+/** The bytes of such a text. */
+export function bytesOfBinary(text) {
+  return Uint8Array.from(text, (sign) => sign.charCodeAt(0));
+}
+
+/** What a person reads there: UTF-8, and a mark for what is none. */
+export function textOf(binary) {
+  return new TextDecoder("utf-8", { ignoreBOM: true }).decode(bytesOfBinary(binary));
+}
+
+/** A file without one byte order mark in front. */
+export function contentOf(binary) {
+  return binary.startsWith(MARK) ? binary.slice(MARK.length) : binary;
+}
+
+/** The records of a file, each with its fields and the line on which it begins, and whether a quotation mark is open at its end. A separator ends a field, LF,
+ * CR LF or CR a record; an empty line is none. Between quotation marks all of them stand for themselves, and two marks for one. The office's separator is the
+ * comma; with another one a file is read to be converted. */
+export function recordsOf(binary, separator = ",") {
+  const records = [];
+  let [fields, field, state, line, begun] = [[], "", "before", 1, 1];
+  const ended = () => records.push({ line: begun, fields: [...fields, field] });
+  for (let at = 0; at < binary.length; at += 1) {
+    const sign = binary[at];
+    begun = state === "before" ? line : begun;
+    if (state === "quoted") {
+      [state, field] = sign === '"' ? ["closed", field] : ["quoted", field + sign];
+    } else if (sign === '"' && state !== "inside") {
+      [state, field] = ["quoted", state === "closed" ? `${field}"` : field];
+    } else if (sign === separator) {
+      [state, fields, field] = ["field", [...fields, field], ""];
+    } else if (sign !== "\r" && sign !== "\n") {
+      [state, field] = ["inside", field + sign];
+    } else if (state !== "before") {
+      ended();
+      [state, fields, field] = ["before", [], ""];
+    }
+    line += sign === "\n" || (sign === "\r" && binary[at + 1] !== "\n") ? 1 : 0;
+  }
+  if (state !== "before") {
+    ended();
+  }
+  return { records, isOpen: state === "quoted" };
+}
+
+/** The number that a field writes: 1 to 16 digits and nothing else, at most 10^15. Null where it writes none. */
+export function numberOf(field) {
+  return /^[0-9]{1,16}$/.test(field) && Number(field) <= MOST_NUMBER ? Number(field) : null;
+}
+
+/** Whether a field is an identifier. */
+export function isId(field) {
+  return /^[A-Za-z0-9_.-]{1,32}$/.test(field);
+}
+
+/** Whether a field is a line of text: 1 to 200 bytes of UTF-8 without control characters. */
+export function isTextLine(field) {
+  return /^[^\0-\x1f\x7f]{1,200}$/.test(field) && isUtf8(field);
+}
+
+/** Whether such a text is UTF-8. */
+export function isUtf8(binary) {
+  try {
+    new TextDecoder("utf-8", { fatal: true }).decode(bytesOfBinary(binary));
+    return true;
+  } catch {
+    return false;
+  }
+}
+
+/** Fields as a record of a file, each between quotation marks where it must be. */
+export function recordText(fields) {
+  return `${fields.map((field) => (/[",\r\n]/.test(field) ? `"${field.replaceAll('"', '""')}"` : field)).join(",")}\n`;
+}
+
+// What a field that is no number looks like. (Blanks that sheets put between digits: space, no-break space, narrow no-break space.)
+const NO_NUMBERS = [
+  ["empty", /^$/],
+  ["great", /^\d{16,}$/],
+  ["space", /^[ \t\u00a0]*\d+[ \t\u00a0]*$/],
+  ["places", /^\d+[.,]0+$/],
+  ["groups", /^\d{1,3}(['. ,\u00a0\u2019\u202f]\d{3})+$/],
+  ["part", /^\d+[.,]\d+$/],
+  ["formula", /^=[^]*$/],
+  ["sheet", /^#[^]*$/],
+  ["sign", /^[-+][^]*$|^[^]*-$/],
+  ["exponent", /^\d+([.,]\d+)?[eE][-+]?\d+$/],
+  ["beside", /\d/],
+];
+
+/** Why a field is no number, by a name (`number.NAME` is its sentence); null where it is one. */
+export function whyNoNumber(field) {
+  if (numberOf(field) !== null) {
+    return null;
+  }
+  const text = textOf(field);
+  return NO_NUMBERS.find(([, form]) => form.test(text))?.[0] ?? "none";
+}

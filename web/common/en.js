@@ -1,0 +1,62 @@
+// The texts that all pages share, in English.
+export default {
+  "language.choose": "Language",
+
+  "moment.both": "{utc} (here: {here})",
+
+  "sheet.print": "Print", "sheet.from": "Printed from {address}, {when}",
+
+  "span.days": ["{count} day", "{count} days"], "span.hours": ["{count} hour", "{count} hours"],
+  "span.minutes": ["{count} minute", "{count} minutes"], "span.seconds": ["{count} second", "{count} seconds"],
+
+  "refusal.BadHead": "The office couldn't read the request.", "refusal.TooLong": "The request was too long for the office.",
+  "refusal.Coding": "The office doesn't take requests that are coded so.",
+  "refusal.NoRoute": "The office has no such page: a name or a number in the address has a wrong form.",
+  "refusal.WrongMethod": "That can't be asked of the office in this way.", "refusal.BadKey": "The name and the key don't go together.",
+  "refusal.Forbidden": "This isn't for whom the key belongs to.", "refusal.BadBody": "Something that was sent is missing or wrong.",
+  "refusal.BadBody.body": "What was sent is empty, too long, or not in the form that the office reads.",
+  "refusal.BadBody.security": "The reference of the security is missing, or isn't one: 1 to 32 letters, digits, _ . or -",
+  "refusal.BadBody.amount": "The amount is missing, or isn't one: a whole number from 1 to 1,000,000,000,000.", "refusal.NoSuch": "That isn't there.",
+  "refusal.NoSuch.line": "There is no such budget line.",
+  "refusal.NoSuch.notice": "There is no notice of this number. Look at its spelling: capital and small letters differ.",
+  "refusal.NoSuch.lot": "There is no such lot.", "refusal.NoSuch.tender": "There is no tender with this receipt.",
+  "refusal.NoSuch.award": "There is no such award.", "refusal.NoSuch.contract": "There is no such contract.",
+  "refusal.NoSuch.security": "There is no such security.", "refusal.Exists": "Something of this name is there already.",
+  "refusal.NotYourTender": "This belongs to another tenderer.", "refusal.DeadlinePassed": "The deadline has passed.",
+  "refusal.DeadlineEarlier": "A deadline can only be moved to a later moment.",
+  "refusal.NotOpenForTenders": "The notice was cancelled, and takes no tenders.",
+  "refusal.AlreadyPresented": "This tenderer has a sealed tender for this lot already.",
+  "refusal.SecurityMissing": "A security is asked for, and none was named.",
+  "refusal.SecurityTooSmall": "The security is smaller than what is asked for.",
+  "refusal.SecurityNotAsked": "No security is asked for, and one was named.",
+  "refusal.NotSealed": "The tender isn't sealed any more: it was withdrawn, given back or opened.",
+  "refusal.TooEarlyToOpen": "Tenders can't be opened before the deadline.", "refusal.AlreadyOpened": "The tenders were opened already.",
+  "refusal.NotOpened": "The tenders haven't been opened.", "refusal.AlreadyDecided": "This was decided already.",
+  "refusal.NotAllExamined": "Not all tenders of the lot have been examined.",
+  "refusal.Expired": "The tenders are no longer in effect: the days of validity are over.", "refusal.Standstill": "The standstill isn't over.",
+  "refusal.InsufficientFunds": "The budget line hasn't enough free money.",
+  "refusal.MoreThanOutstanding": "That is more than is outstanding of the contract.", "refusal.ContractEnded": "The contract has ended.",
+  "refusal.NothingToCancel": "No lot is left that could be cancelled.", "refusal.LimitReached": "A limit of the office is reached.",
+  "refusal.Unavailable": "The office can't answer at the moment.",
+
+  "kind.away": "No answer came from the office. Look whether you are connected.", "kind.unread": "The office's answer couldn't be read.",
+  "kind.late": "The office's record of this notice begins late and can't be drawn.",
+  "kind.id": "That is no number of the office. One has 1 to 32 letters, digits, _ . or -",
+  "kind.fault": "Something went wrong in this page. Load it again.",
+
+  "status.400": "The request couldn't be read.", "status.403": "This isn't to be had from this network.", "status.404": "There is no such page.",
+  "status.408": "The request came too slowly.", "status.413": "The request was too long.",
+  "status.429": "Too many requests came from here, or a wrong key was sent. Wait a minute and try again.",
+  "status.500": "The server before the office has a fault.", "status.502": "The office isn't answering at the moment.",
+  "status.503": "The office can't answer at the moment.", "status.504": "The office took too long to answer.",
+  "status.other": "The office answered with the status {status}.",
+
+  "number.empty": "is empty", "number.great": "is too great a number: at most 16 digits, and 1,000,000,000,000,000",
+  "number.space": "has a space beside its digits", "number.places": "has places behind a point or comma", "number.groups": "has its digits in groups",
+  "number.part": "has cents, or a part of a unit", "number.formula": "is a formula", "number.sheet": "is what a sheet shows in place of a number",
+  "number.sign": "has a sign", "number.exponent": "is written with an exponent", "number.beside": "has something beside its digits",
+  "number.ambiguous": "could mean two things: write it without point and comma", "number.none": "is no number",
+
+  "typed.empty": "A whole number is wanted.", "typed.point": "Whole units alone: no point and no comma.", "typed.digits": "Digits alone.",
+  "typed.above": "That is too much.",
+};

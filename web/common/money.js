@@ -1,0 +1,53 @@
+// Amounts and moments as they are shown, and amounts as they are typed.
+import { element } from "../draw.js";
+import { language, say } from "./texts.js";
+
+/** Whole units with groups of three, in the way of the language. */
+export function number(amount) {
+  return new Intl.NumberFormat(language()).format(amount);
+}
+
+/** An amount with its currency, which may be unknown. */
+export function money(amount, currency) {
+  return currency ? `${number(amount)} ${currency}` : number(amount);
+}
+
+/** A typed amount: its value, or by a name why it is none. Blanks between and beside digits are no matter; points and commas are, since nobody knows what they
+ * mean. */
+export function typed(text, most) {
+  const digits = text.replace(/[\s\u00a0\u202f']/g, "");
+  if (digits === "") {
+    return { fault: "empty" };
+  }
+  if (!/^\d+$/.test(digits)) {
+    return { fault: /^\d+[.,]\d+$/.test(digits) ? "point" : "digits" };
+  }
+  const trimmed = digits.replace(/^0+(?=\d)/, "");
+  return trimmed.length > 16 || Number(trimmed) > most ? { fault: "above" } : { value: Number(trimmed) };
+}
+
+const PARTS = { day: "numeric", month: "long", year: "numeric", hour: "2-digit", minute: "2-digit", second: "2-digit", hourCycle: "h23" };
+
+function formatted(date, more) {
+  return new Intl.DateTimeFormat(language() === "en" ? "en-GB" : language(), { ...PARTS, ...more }).format(date);
+}
+
+/** A moment of the office: in UTC, as it counts, and where the reader is. */
+export function moment(text) {
+  const date = new Date(text);
+  if (Number.isNaN(date.getTime())) {
+    return element("span", {}, text);
+  }
+  const here = formatted(date, { timeZoneName: "short" });
+  const utc = `${formatted(date, { timeZone: "UTC" })} UTC`;
+  return element("time", { datetime: text }, date.getTimezoneOffset() === 0 ? utc : say("moment.both", { utc, here }));
+}
+
+/** How long it is from one moment to another, in seconds, as `2 days, 3 hours` or `4 minutes`. */
+export function span(seconds) {
+  const units = [["days", 86400], ["hours", 3600], ["minutes", 60], ["seconds", 1]];
+  const at = Math.max(0, units.findIndex(([, unit]) => seconds >= unit));
+  const told = seconds < 1 ? [["seconds", 1]] : units.slice(at, at + 2);
+  return told.map(([name, unit], place) => [name, Math.floor((place === 0 ? seconds : seconds % units[at][1]) / unit)])
+    .filter(([, count], place) => place === 0 || count > 0).map(([name, count]) => say(`span.${name}`, { count })).join(", ");
+}

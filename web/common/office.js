@@ -1,0 +1,234 @@
+// The office: what is asked of it and how it answers. All that is fetched is fetched here, a function for each look, so that another look changes one file.
+import { isId } from "./csv.js";
+import { hasText, say } from "./texts.js";
+
+const LONGEST = 90_000;
+// How often a look is asked again that came too often, and for how many seconds it waits at least.
+const TRIES = 60, PAUSE = 2;
+let ahead = 0;
+
+/** What isn't answered as it was asked. `name` is the office's own word, or empty; `what`, `status` and the whole `text` as it said them. `isOpen`: whether a
+ * command was done isn't known. */
+export class Refused extends Error {
+  constructor({ name = "", what = "", status = 0, kind = "", wait = 0, text = "" }) {
+    super(name || kind || String(status));
+    Object.assign(this, { name, what, status, kind, wait, text });
+  }
+
+  get isOpen() {
+    return this.kind === "away" || this.kind === "unread" || [500, 502, 503, 504].includes(this.status);
+  }
+
+  /** The refusal as a sentence, in the language that is spoken. */
+  sentence() {
+    const names = [`refusal.${this.name}.${this.what}`, `refusal.${this.name}`, `kind.${this.kind}`, `status.${this.status}`];
+    const known = names.find(hasText);
+    return known ? say(known) : say("status.other", { status: String(this.status) });
+  }
+}
+
+/** Any fault as a sentence; of one that no refusal is, the console tells more. */
+export function sentenceOf(fault) {
+  if (fault instanceof Refused) {
+    return fault.sentence();
+  }
+  console.error(fault);
+  return say("kind.fault");
+}
+
+/** The moment by the server's clock, in milliseconds: that of its last answer, and what passed since. */
+export function officeNow() {
+  return Date.now() + ahead;
+}
+
+function hearClock(answer) {
+  const told = Date.parse(answer.headers.get("date") ?? "");
+  ahead = Number.isNaN(told) ? ahead : told - Date.now();
+}
+
+/** What the office said of a refusal. What isn't its own word comes from the server before it, or from elsewhere. */
+function refusalOf(answer, text) {
+  let told = {};
+  try {
+    told = JSON.parse(text) ?? {};
+  } catch {
+    // The status is all there is.
+  }
+  const isOwn = typeof told.name === "string";
+  return new Refused({ name: isOwn ? told.name : "", what: isOwn ? String(told.what ?? "") : "", status: answer.status,
+    wait: Number(answer.headers.get("retry-after") ?? 0), text });
+}
+
+/** The text of an answer. A caller is `{ caller, key }`, or nothing for the public. */
+async function send(path, { method = "GET", caller = null, body = undefined } = {}) {
+  const headers = caller ? { "Office-Caller": caller.caller, "Office-Key": caller.key } : {};
+  let answer, text;
+  try {
+    answer = await fetch(path, { method, headers, body, credentials: "omit", cache: "no-store", redirect: "error", signal: AbortSignal.timeout(LONGEST) });
+    text = await answer.text();
+  } catch {
+    throw new Refused({ kind: "away" });
+  }
+  hearClock(answer);
+  if (!answer.ok) {
+    throw refusalOf(answer, text);
+  }
+  return text;
+}
+
+function pause(seconds) {
+  return new Promise((done) => { setTimeout(done, seconds * 1000); });
+}
+
+/** A look: asked again for as long as the front says that looks come too often. */
+export async function look(path, caller = null) {
+  for (let turn = 1; ; turn += 1) {
+    try {
+      return await send(path, { caller });
+    } catch (fault) {
+      if (fault.status !== 429 || turn === TRIES) {
+        throw fault;
+      }
+      await pause(Math.max(fault.wait, PAUSE));
+    }
+  }
+}
+
+export async function lookJson(path, caller = null) {
+  return valueOf(await look(path, caller));
+}
+
+function valueOf(text) {
+  try {
+    return JSON.parse(text);
+  } catch {
+    throw new Refused({ kind: "unread" });
+  }
+}
+
+/** A command: sent once, and never again by itself. Its answer as the office wrote it, and as a value. */
+export async function command(path, caller, body = undefined) {
+  const text = await send(path, { method: "POST", caller, body });
+  return { text, value: valueOf(text) };
+}
+
+/** An identifier as a part of a path. Two can't be one: browsers take `.` and `..` for folders. */
+export function part(id) {
+  if (!isId(id) || id === "." || id === "..") {
+    throw new Refused({ kind: "id" });
+  }
+  return id;
+}
+
+// Looks that anybody may ask for.
+
+/** What a notice's releases compile to. */
+export async function record(notice) {
+  const compiled = (await lookJson(`/notices/${part(notice)}/record`)).records?.[0]?.compiledRelease;
+  if (!compiled?.tender?.lots) {
+    throw new Refused({ kind: "late" });
+  }
+  return compiled;
+}
+
+/** A notice's releases, in order. */
+export async function releases(notice) {
+  return (await lookJson(`/notices/${part(notice)}/releases`)).releases ?? [];
+}
+
+/** On which terms a notice takes tenders: what the record tells of them. What it doesn't tell is null, and stands in the tender documents. */
+export async function terms(notice) {
+  const compiled = await record(notice);
+  const { tender } = compiled;
+  const itemsOf = (lot) => (tender.items ?? []).filter(({ relatedLot }) => relatedLot === lot.id)
+    .map(({ id, quantity, description }) => ({ id: id.slice(lot.id.length + 1), quantity, title: description }));
+  return { notice, title: tender.title, language: compiled.language, buyer: compiled.buyer?.name ?? "", deadline: tender.tenderPeriod.endDate,
+    criteria: tender.awardCriteria === "priceOnly" ? "price" : "points", state: stateOf(tender), late_withdrawal: null, performance: null, validity_days: null,
+    standstill_days: null, price_weight: null, currency: tender.lots[0].value.currency,
+    lots: tender.lots.map((lot) => ({ id: lot.id, title: lot.title, estimate: lot.value.amount, state: lot.status, security: null, items: itemsOf(lot) })) };
+}
+
+function stateOf(tender) {
+  return tender.numberOfTenderers !== undefined ? "opened" : tender.status === "cancelled" ? "cancelled" : "receiving";
+}
+
+/** The minutes of an opening as the office wrote them; null where nothing was opened. */
+export async function minutesText(notice) {
+  try {
+    return await look(`/notices/${part(notice)}/minutes`);
+  } catch (fault) {
+    if (fault.name === "NotOpened") {
+      return null;
+    }
+    throw fault;
+  }
+}
+
+/** The opened tenders of minutes: lines of words with tabs between them, `lot` and behind each lot its tenders. */
+export function tendersOf(text) {
+  const tenders = [];
+  let lot = "";
+  for (const words of (text ?? "").split("\n").map((line) => line.split("\t"))) {
+    lot = words[0] === "lot" ? words[1] : lot;
+    if (words[0] === "tender") {
+      const [, receipt, tenderer, name, address, reading, stated, corrected, corrections] = words;
+      tenders.push({ lot, receipt: Number(receipt), tenderer, name, address, reading, stated: Number(stated), corrected: Number(corrected),
+        corrections: Number(corrections) });
+    }
+  }
+  return tenders;
+}
+
+/** A budget line. */
+export function line(name) {
+  return lookJson(`/lines/${part(name)}`);
+}
+
+/** The ledger: a line of head, one of names, and one for each budget line. */
+export async function ledger() {
+  const lines = (await look("/ledger")).split("\n").slice(2).filter((text) => text !== "");
+  return lines.map((text) => {
+    const [name, ...amounts] = text.split("\t");
+    const [appropriation, free, reserved, contracted, paid] = amounts.map(Number);
+    return { line: name, appropriation, free, reserved, contracted, paid };
+  });
+}
+
+// Looks of those whom they concern.
+
+/** What the caller handed in under a receipt. */
+export function tender(receipt, caller) {
+  return lookJson(`/tenders/${Number(receipt)}`, caller);
+}
+
+/** A tender's security. */
+export function security(number, caller) {
+  return lookJson(`/securities/${Number(number)}`, caller);
+}
+
+/** The performance security of a contract. */
+export function performance(contract, caller) {
+  return lookJson(`/contracts/${Number(contract)}/security`, caller);
+}
+
+/** The register of a notice as the office wrote it. */
+export function registerText(notice, caller) {
+  return look(`/notices/${part(notice)}/register`, caller);
+}
+
+// Commands of a tenderer.
+
+/** Presents a tender's bytes for a lot; a security is `{ security, amount }`, or null. */
+export function present(notice, lot, bytes, named, caller) {
+  const query = named ? `?${new URLSearchParams({ security: named.security, amount: String(named.amount) })}` : "";
+  return command(`/notices/${part(notice)}/lots/${part(lot)}/tenders${query}`, caller, bytes);
+}
+
+/** Puts other bytes in the place of a sealed tender. */
+export function modify(receipt, bytes, caller) {
+  return command(`/tenders/${Number(receipt)}/modify`, caller, bytes);
+}
+
+export function withdraw(receipt, caller) {
+  return command(`/tenders/${Number(receipt)}/withdraw`, caller);
+}
