@@ -7,12 +7,12 @@ const LONGEST = 90_000;
 const TRIES = 60, PAUSE = 2;
 let ahead = 0;
 
-/** What isn't answered as it was asked. `name` is the office's own word, or empty; `what` and `status` as it said them. `isOpen`: whether a command was done
- * isn't known. */
+/** What isn't answered as it was asked. `name` is the office's own word, or empty; `what`, `status` and the whole `text` as it said them. `isOpen`: whether a command
+ * was done isn't known. */
 export class Refused extends Error {
-  constructor({ name = "", what = "", status = 0, kind = "", wait = 0 }) {
+  constructor({ name = "", what = "", status = 0, kind = "", wait = 0, text = "" }) {
     super(name || kind || String(status));
-    Object.assign(this, { name, what, status, kind, wait });
+    Object.assign(this, { name, what, status, kind, wait, text });
   }
 
   get isOpen() {
@@ -56,7 +56,7 @@ function refusalOf(answer, text) {
   }
   const isOwn = typeof told.name === "string";
   return new Refused({ name: isOwn ? told.name : "", what: isOwn ? String(told.what ?? "") : "", status: answer.status,
-    wait: Number(answer.headers.get("retry-after") ?? 0) });
+    wait: Number(answer.headers.get("retry-after") ?? 0), text });
 }
 
 /** The text of an answer. A caller is `{ caller, key }`, or nothing for the public. */
