@@ -21,11 +21,12 @@ export async function addEntry(journal, { moment, who, title, method, path, body
   return entry;
 }
 
-/** The file of a journal: a line that tells what it is, and one for each entry. */
+/** The file of a journal: a line that tells what it is, one for each entry, and one that ends it. Each holds the digest of the line before, so that a file in which
+ * something was changed or is missing is known by it. */
 export async function fileOf(journal) {
   let before = NONE;
   let text = "";
-  for (const part of [{ journal: KIND, version: VERSION, office: journal.office }, ...journal.entries]) {
+  for (const part of [{ journal: KIND, version: VERSION, office: journal.office }, ...journal.entries, { end: journal.entries.length }]) {
     const line = JSON.stringify({ ...part, before });
     text += `${line}\n`;
     before = await sha256(bytesOf(line));
@@ -33,27 +34,26 @@ export async function fileOf(journal) {
   return text;
 }
 
-/** What a file that was saved holds: a journal, or the first line that is wrong and why (`none`, `chain`, `body`). */
+/** What a file that was saved holds: a journal, or the first line that is wrong and why (`none`, `chain`, `body`, `end`). */
 export async function readFile(text) {
   const lines = text.replace(/\n$/, "").split("\n");
   const journal = newJournal(null);
   let before = NONE;
   for (const [at, line] of lines.entries()) {
     const part = parsed(line);
-    const wrong = at === 0 ? headFault(part) : await entryFault(part, before, at);
+    const wrong = at === 0 ? headFault(part) : at < lines.length - 1 ? await entryFault(part, before, at) : endFault(part, before, at - 1);
     if (wrong) {
       return { fault: { line: at + 1, code: wrong } };
     }
-    if (at === 0) {
-      journal.office = part.office;
-    } else {
+    journal.office = at === 0 ? part.office : journal.office;
+    if (at > 0 && at < lines.length - 1) {
       const { before: _, ...entry } = part;
       journal.entries.push(entry);
     }
     before = await sha256(bytesOf(line));
   }
   journal.saved = journal.entries.length;
-  return { journal };
+  return lines.length > 1 ? { journal } : { fault: { line: 2, code: "end" } };
 }
 
 function parsed(line) {
@@ -76,6 +76,10 @@ async function entryFault(part, before, number) {
     return "chain";
   }
   return typeof part.body === "string" && (await sha256(bytesOf(part.body))) !== part.digest ? "body" : null;
+}
+
+function endFault(part, before, count) {
+  return part?.end !== count ? "end" : part.before === before ? null : "chain";
 }
 
 /** Puts what a file holds in front of what was done since: a journal goes on from it. Null where both are of different offices. */

@@ -2,6 +2,8 @@
 // journal; where a look comes to show it, it is to be asked there. Pure: runs in node too.
 import { doneOf } from "./journal.js";
 
+const EXAMINATION = /^\/tenders\/\d+\/examine$/;
+
 function valueOf(entry) {
   try {
     return JSON.parse(entry.body);
@@ -27,10 +29,13 @@ export function termsOf(journal, notice) {
     late: body.late_withdrawal ?? "refused", performance: body.performance ?? 0, lots: new Map(body.lots.map((lot) => [lot.id, lot])) };
 }
 
-/** What was found of tenders, by receipt: `responsive` and `quality`. */
+/** What was found of tenders, by receipt: `responsive` and `quality`. Where the office said that it was decided already, and not by this journal, `responsive` is
+ * null: it was examined elsewhere, or withdrawn late. */
 export function examinationsOf(journal) {
-  const found = doneOf(journal, /^\/tenders\/\d+\/examine$/).map((entry) => [Number(lastPart(entry.path, 2)), valueOf(entry)]);
-  return new Map(found.filter(([, value]) => value !== null));
+  const own = doneOf(journal, EXAMINATION).map((entry) => [Number(lastPart(entry.path, 2)), valueOf(entry)]);
+  const decided = journal.entries.filter(({ path, answer }) => EXAMINATION.test(path) && /"name":"AlreadyDecided"/.test(answer ?? ""));
+  const elsewhere = decided.map(({ path }) => [Number(lastPart(path, 2)), { responsive: null, quality: null }]);
+  return new Map([...elsewhere, ...own.filter(([, value]) => value !== null)]);
 }
 
 /** The notices that this journal names, the last one first. */

@@ -81,7 +81,7 @@ export function lotsOf(text) {
   }
   const missing = NAMES.filter((name) => !names.includes(name) && ["lot", "item", "title", "quantity"].includes(name));
   if (head && missing.length > 0) {
-    found.faults.push({ line: 1, code: "column", value: missing[0] });
+    found.faults.push({ line: 1, code: "column", name: missing[0] });
     return { lots: [], faults: found.faults, changes: [] };
   }
   for (const row of head ? rows.slice(1) : rows) {
@@ -118,9 +118,9 @@ function begun(found, row) {
 
 /** Where a later row says something else of its lot than the first. */
 function disagree(found, line, lot, row) {
-  for (const [name, told] of [["title", row.lotTitle], ["line", row.line], ["estimate", row.estimate], ["security", row.security]]) {
-    if (told !== "" && lot[name] !== told) {
-      found.faults.push({ line, code: "differs", value: lot.id, name, told });
+  for (const [name, held] of [["lotTitle", lot.title], ["line", lot.line], ["estimate", lot.estimate], ["security", lot.security]]) {
+    if (row[name] !== "" && held !== row[name]) {
+      found.faults.push({ line, code: "differs", value: lot.id, name, told: row[name] });
     }
   }
 }

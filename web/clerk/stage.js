@@ -18,7 +18,7 @@ export function stageOf({ compiled, releases, tenders, terms, examined, now }) {
   const kind = kindOf(compiled, now);
   const passed = passedOver(releases);
   const lots = compiled.tender.lots.map((lot) => lotOf({ compiled, lot, passed, terms, examined, kind, tenders: tenders.filter((one) => one.lot === lot.id) }));
-  return { kind, deadline, bindsUntil, isExpired: bindsUntil !== null && now > bindsUntil, lots, canCancel: lots.some(({ state }) => ["sealed", "undecided", "awarded"].includes(state)) };
+  return { kind, deadline, bindsUntil, isExpired: bindsUntil !== null && now >= bindsUntil, lots, canCancel: lots.some(({ state }) => ["sealed", "undecided", "awarded"].includes(state)) };
 }
 
 /** The awards that were passed over: those that a release cancels without cancelling the tender. */
@@ -48,6 +48,11 @@ export function isAdmissible(tender) {
 /** Whether a tender waits for its examination, as far as this desk knows. */
 export function isWaiting(tender) {
   return tender.reading === "priced" && tender.found === null && !tender.isFailed;
+}
+
+/** Whether a tender was examined elsewhere, or withdrawn late: the office said so, and not what was found. */
+export function isElsewhere(tender) {
+  return tender.found?.responsive === null && !tender.isFailed;
 }
 
 /** Thousandths of points: the lowest price of the admissible has the whole weight, each other the share that the lowest is of it, and quality counts as it is. */
@@ -80,10 +85,10 @@ export function outlookOf(lot, byPoints, terms) {
     return { code: "waits", count: waiting.length };
   }
   const admissible = lot.tenders.filter(isAdmissible);
-  if (admissible.length === 0) {
-    return { code: "nobody" };
+  if (lot.tenders.some(isElsewhere) || (byPoints && terms === null && admissible.length > 1)) {
+    return { code: "unknown" };
   }
-  return byPoints && terms === null && admissible.length > 1 ? { code: "unknown" } : { code: "best", tender: admissible[0] };
+  return admissible.length === 0 ? { code: "nobody" } : { code: "best", tender: admissible[0] };
 }
 
 /** What is to be done next with a notice, in the order in which it presses: codes with a lot, a contract or a moment. */

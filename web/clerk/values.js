@@ -76,3 +76,12 @@ export function localMilliseconds(text) {
   const found = new Date(text).getTime();
   return Number.isNaN(found) ? null : found;
 }
+
+/** What a field for date and time of this place holds, of milliseconds. */
+export function localText(milliseconds) {
+  if (milliseconds === null) {
+    return "";
+  }
+  const date = new Date(milliseconds);
+  return new Date(milliseconds - date.getTimezoneOffset() * 60_000).toISOString().slice(0, date.getSeconds() === 0 ? 16 : 19);
+}
