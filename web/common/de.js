@@ -2,6 +2,8 @@
 export default {
   "language.choose": "Sprache",
   "moment.both": "{utc} (hier: {here})",
+  "sheet.print": "Drucken",
+  "sheet.from": "Gedruckt von {address}, {when}",
   "span.days": ["{count} Tag", "{count} Tage"],
   "span.hours": ["{count} Stunde", "{count} Stunden"],
   "span.minutes": ["{count} Minute", "{count} Minuten"],
@@ -79,6 +81,7 @@ export default {
   "number.sign": "hat ein Vorzeichen",
   "number.exponent": "ist mit Zehnerpotenz geschrieben",
   "number.beside": "hat etwas neben den Ziffern",
+  "number.ambiguous": "kann zweierlei bedeuten: schreiben Sie sie ohne Punkt und Komma",
   "number.none": "ist keine Zahl",
 
   "typed.empty": "Hier fehlt eine ganze Zahl.",

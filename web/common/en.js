@@ -2,6 +2,8 @@
 export default {
   "language.choose": "Language",
   "moment.both": "{utc} (here: {here})",
+  "sheet.print": "Print",
+  "sheet.from": "Printed from {address}, {when}",
   "span.days": ["{count} day", "{count} days"],
   "span.hours": ["{count} hour", "{count} hours"],
   "span.minutes": ["{count} minute", "{count} minutes"],
@@ -79,6 +81,7 @@ export default {
   "number.sign": "has a sign",
   "number.exponent": "is written with an exponent",
   "number.beside": "has something beside its digits",
+  "number.ambiguous": "could mean two things: write it without point and comma",
   "number.none": "is no number",
 
   "typed.empty": "A whole number is wanted.",

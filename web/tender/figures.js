@@ -1,0 +1,51 @@
+// A figure as sheets write it: read where it can mean one thing alone.
+
+// Between digits of a great number: blanks of several kinds, and apostrophes.
+const GAP = "[ \\u00a0\\u202f\\u2009'\\u2019]";
+const GROUPED = new RegExp(`^\\d{1,3}(?:${GAP}\\d{3})+$`);
+const TWICE_GROUPED = /^\d{1,3}(?:\.\d{3}){2,}$|^\d{1,3}(?:,\d{3}){2,}$/;
+const BOTH = /^(\d{1,3}(?:\.\d{3})+),(\d+)$|^(\d{1,3}(?:,\d{3})+)\.(\d+)$/;
+const PLACES = new RegExp(`^(\\d+|\\d{1,3}(?:${GAP}\\d{3})+)[.,](\\d+)$`);
+const MOST_DIGITS = 15;
+
+/** The text without blanks around it and without a currency at one of its ends (`€`, `EUR`, the notice's own), or the dash for no cents (`150.-`). */
+function bareOf(text, currency) {
+  const names = [...new Set(["EUR", "€", "\\$", "£", "CHF", currency.replace(/[^A-Za-z]/g, "")].filter(Boolean))].join("|");
+  return text.trim().replace(new RegExp(`^(?:${names})\\s*(?=\\d)`, "i"), "").replace(new RegExp(`(?<=[\\d\\-])\\s*(?:${names})$`, "i"), "")
+    .replace(/(?<=\d)[.,](?:-|–)$/, "").trim();
+}
+
+function whole(digits) {
+  const bare = digits.replace(/\D/g, "").replace(/^0+(?=\d)/, "");
+  return bare.length > MOST_DIGITS ? { why: "great" } : { value: Number(bare) };
+}
+
+/** Digits before a point or comma and behind it: whole units alone, and no cents. */
+function parted(front, behind, isSure) {
+  if (!isSure && behind.length === 3 && /^[1-9]\d{0,2}$/.test(front)) {
+    return { why: "ambiguous" };
+  }
+  return /^0+$/.test(behind) ? whole(front) : { why: "part" };
+}
+
+function read(text) {
+  if (/^\d+$/.test(text) || GROUPED.test(text) || TWICE_GROUPED.test(text)) {
+    return whole(text);
+  }
+  const both = BOTH.exec(text);
+  if (both) {
+    return parted(both[1] ?? both[3], both[2] ?? both[4], true);
+  }
+  const places = PLACES.exec(text);
+  if (places) {
+    return parted(places[1], places[2], false);
+  }
+  const forms = [["empty", /^$/], ["formula", /^=/], ["sheet", /^#/], ["sign", /^[-+\u2212]|-$/], ["exponent", /^\d+(?:[.,]\d+)?[eE][-+]?\d+$/], ["beside", /\d/]];
+  return { why: forms.find(([, form]) => form.test(text))?.[0] ?? "none" };
+}
+
+/** A field's whole number and whether it had to be changed to be one; or `why` it is none, by the name of a text (`number.NAME`, `number.ambiguous`). */
+export function figureOf(field, currency = "") {
+  const got = read(bareOf(field, currency));
+  return got.why ? got : { ...got, changed: !/^\d{1,16}$/.test(field) };
+}

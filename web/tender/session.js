@@ -1,0 +1,55 @@
+// What this tab knows, in its memory alone: nothing of it is stored, and closing the tab forgets it.
+import { typed } from "../common/money.js";
+import { MOST_PRICE, MOST_UNIT, fileOf, readingOf } from "./papers.js";
+
+export const session = {
+  // From the key's file: { caller, key }.
+  caller: null,
+  // What was asked for in the form of a registration, and the digest of the key that was made for it.
+  registration: { tenderer: "", name: "", address: "", digest: "" },
+  offer: null,
+  // The caller's tenders that are known: by their receipts what the office tells of them.
+  tenders: new Map(),
+  // What was sent and got no answer, or got one: { kind, notice, lot, receipt, digest, answer }.
+  sent: null,
+};
+
+/** Puts the key away, and all that was learned by it. */
+export function putAway() {
+  Object.assign(session, { caller: null, offer: null, sent: null });
+  session.tenders.clear();
+}
+
+/** Begins an offer for a lot; `changes` is the receipt of the tender that it takes the place of, or null. */
+export function beginOffer(terms, lot, changes) {
+  const old = session.offer;
+  const isSame = old && old.terms.notice === terms.notice && old.lot.id === lot.id && old.changes === changes;
+  session.offer = isSame ? Object.assign(old, { terms, lot })
+    : { terms, lot, changes, units: {}, source: "table", file: null, security: { reference: "", amount: "" } };
+  return session.offer;
+}
+
+/** The typed unit prices of a lot's items, each with its value or its fault. */
+export function unitsOf({ lot, units }) {
+  return lot.items.map(({ id }) => typed(units[id] ?? "", MOST_UNIT));
+}
+
+/** The sum of what is typed so far, and whether all is there. */
+export function sumOf(offer) {
+  const units = unitsOf(offer);
+  const sum = units.reduce((all, { value = 0 }, at) => all + BigInt(value) * BigInt(offer.lot.items[at].quantity), 0n);
+  return { sum, isWhole: units.every(({ value }) => value !== undefined), isAbove: sum > BigInt(MOST_PRICE) };
+}
+
+/** The bytes of an offer and what the office will read in them, or null where they aren't ready. Bytes without a price are never ready. */
+export function readyOf(offer) {
+  if (offer?.source === "file") {
+    return offer.file && offer.file.kind !== "refused" && offer.file.reading.kind === "priced" ? { bytes: offer.file.bytes, reading: offer.file.reading } : null;
+  }
+  if (!offer || !sumOf(offer).isWhole) {
+    return null;
+  }
+  const bytes = fileOf(offer.lot.items, unitsOf(offer).map(({ value }) => value));
+  const reading = readingOf(bytes, offer.lot.items);
+  return reading.kind === "priced" ? { bytes, reading } : null;
+}

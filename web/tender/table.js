@@ -1,0 +1,51 @@
+// The table of an offer: a unit price for each item of the lot, each product and the sum as one types.
+import { element, given } from "../draw.js";
+import { table } from "../common/forms.js";
+import { money, number } from "../common/money.js";
+import { say } from "../common/texts.js";
+import { MOST_PRICE, MOST_UNIT } from "./papers.js";
+import { sumOf, unitsOf } from "./session.js";
+
+/** Where a price can be typed for an item, and where its product and what is wrong with it are told. */
+function rowOf(offer, item, at, changed) {
+  const input = element("input", { id: `unit-${at}`, inputmode: "numeric", autocomplete: "off", "aria-label": say("table.unit.of", { item: item.id }),
+    "aria-describedby": `unit-${at}-wrong` });
+  input.value = offer.units[item.id] ?? "";
+  const product = element("output", { for: `unit-${at}`, class: "figure" });
+  const wrong = element("span", { id: `unit-${at}-wrong`, class: "wrong below" });
+  input.addEventListener("input", () => {
+    offer.units[item.id] = input.value;
+    changed();
+  });
+  const tell = ({ value, fault }) => {
+    const isTold = fault && !(fault === "empty");
+    product.textContent = value === undefined ? "–" : number(BigInt(value) * BigInt(item.quantity));
+    wrong.textContent = isTold ? say(`typed.${fault}`) + (fault === "above" ? ` ${say("table.most", { most: MOST_UNIT })}` : "") : "";
+    input.setAttribute("aria-invalid", String(Boolean(isTold)));
+  };
+  return { tell, cells: [given(item.id), given(item.title), number(item.quantity), [input, wrong], product] };
+}
+
+/** The table, which calls `changed` with whether all is there. */
+export function drawTable(offer, changed) {
+  const { lot, terms } = offer;
+  const sum = element("output", { class: "figure" });
+  const told = element("p", { class: "wrong", role: "status" });
+  const left = element("p", { class: "quiet" });
+  const rows = lot.items.map((item, at) => rowOf(offer, item, at, () => update()));
+  const update = () => {
+    const units = unitsOf(offer);
+    rows.forEach(({ tell }, at) => tell(units[at]));
+    const { sum: all, isAbove, isWhole } = sumOf(offer);
+    sum.textContent = money(all, terms.currency);
+    told.textContent = isAbove ? say("table.above", { most: MOST_PRICE }) : "";
+    const open = units.filter(({ value }) => value === undefined).length;
+    left.textContent = open > 0 ? say("table.left", { count: open }) : "";
+    changed(isWhole && !isAbove);
+  };
+  const heads = ["table.item", "table.title", "table.quantity", "table.unit", "table.total"].map((name) => say(name));
+  const made = table(say("table.caption", { lot: lot.id, currency: terms.currency }), heads, rows.map(({ cells }) => cells),
+    { figures: [2, 3, 4], foot: [say("table.sum"), "", "", "", sum] });
+  update();
+  return [element("p", {}, say("table.why", { currency: terms.currency })), made, told, left];
+}
