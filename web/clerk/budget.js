@@ -81,8 +81,8 @@ function titleFault(field) {
   return field === "" ? "title.empty" : field.length > MOST.text ? "title.long" : isUtf8(field) ? "title.control" : "title.coding";
 }
 
-/** Takes the rows in order over the lines that are there (a map from identifiers to `appropriation` and `free`): what each line has before and after, and what is
- * refused at which rows. Amounts of the lines are BigInt, since sums of rows may pass what a Number holds. */
+/** Takes the rows in order over the lines that are there (a map from identifiers to `appropriation` and `free`): what each line has before and after, and what
+ * is refused at which rows. Amounts of the lines are BigInt, since sums of rows may pass what a Number holds. */
 export function changesOf(rows, lines) {
   const changes = new Map();
   const faults = [];

@@ -22,7 +22,8 @@ export async function drawBudget(again) {
     place.querySelector("h3")?.focus();
   };
   return { title: say("page.budget"), content: [element("h1", { tabindex: "-1" }, say("page.budget")), element("p", { class: "intro" }, say("budget.intro")),
-    section(say("budget.file"), dropped(say("budget.drop"), say("budget.drop.hint"), ".csv,text/csv", take), place), section(say("budget.lines"), lineTable(lines))] };
+    section(say("budget.file"), dropped(say("budget.drop"), say("budget.drop.hint"), ".csv,text/csv", take), place),
+      section(say("budget.lines"), lineTable(lines))] };
 }
 
 /** The lines that are there, with a bar of their four pots. */
@@ -31,8 +32,10 @@ function lineTable(lines) {
     return element("p", {}, say("budget.none"));
   }
   const pots = ["paid", "contracted", "reserved", "free"];
-  const heads = [[say("line"), false], ...["appropriation", "free", "reserved", "contracted", "paid"].map((name) => [say(`pot.${name}`), true]), [say("budget.bar"), false]];
-  const rows = lines.slice(0, MOST_SHOWN).map((one) => [titled(one.line), ...["appropriation", "free", "reserved", "contracted", "paid"].map((name) => number(one[name])),
+  const heads = [[say("line"), false], ...["appropriation", "free", "reserved", "contracted", "paid"].map((name) => [say(`pot.${name}`), true]),
+    [say("budget.bar"), false]];
+  const rows = lines.slice(0, MOST_SHOWN).map((one) => [titled(one.line), ...["appropriation", "free", "reserved", "contracted", "paid"].map((name) =>
+    number(one[name])),
     bar(`${say("line")} ${one.line}`, pots.map((kind) => ({ kind, name: say(`pot.${kind}`), amount: one[kind] })))]);
   const keys = legend(pots.map((kind) => ({ kind, name: say(`pot.${kind}`), amount: lines.reduce((sum, one) => sum + one[kind], 0) })), "");
   const more = lines.length > MOST_SHOWN ? element("p", { class: "quiet" }, say("budget.more", { count: lines.length - MOST_SHOWN })) : null;
@@ -49,7 +52,8 @@ function titled(name) {
 /** What a file says, what is wrong in it, what it would change, and the form that sends it. */
 async function checked(name, bytes, lines, again) {
   const reading = readBudget(bytes);
-  const head = element("h3", { tabindex: "-1" }, name, " ", element("span", { class: "quiet" }, say("budget.size", { bytes: bytes.length, rows: reading.rows.length })));
+  const head = element("h3", { tabindex: "-1" }, name, " ", element("span", { class: "quiet" },
+    say("budget.size", { bytes: bytes.length, rows: reading.rows.length })));
   const { changes, faults } = changesOf(reading.rows, lines);
   const all = [...reading.faults, ...(reading.faults.length === 0 ? faults : []), ...limits(reading)];
   if (all.length > 0) {
@@ -59,7 +63,8 @@ async function checked(name, bytes, lines, again) {
 }
 
 function limits({ bytes, rows }) {
-  return [...(bytes > MOST.body ? [{ line: 1, code: "size", value: bytes }] : []), ...(rows.length > MOST.rows ? [{ line: 1, code: "many", value: rows.length }] : [])];
+  return [...(bytes > MOST.body ? [{ line: 1, code: "size", value: bytes }] : []), ...(rows.length > MOST.rows
+    ? [{ line: 1, code: "many", value: rows.length }] : [])];
 }
 
 function faultTable(faults) {
@@ -89,12 +94,14 @@ function mendText(fault) {
 /** What each line has before and after, and its title where another one comes. */
 async function changeTable(changes) {
   const titles = await Promise.all(changes.slice(0, MOST_SHOWN).map(({ id, isNew }) => (isNew ? null : lineOf(id).then(({ title }) => title, () => null))));
-  const heads = [[say("line"), false], [say("budget.appropriation"), true], [say("budget.difference"), true], [say("budget.free"), true], [say("budget.newtitle"), false]];
+  const heads = [[say("line"), false], [say("budget.appropriation"), true], [say("budget.difference"), true], [say("budget.free"), true],
+    [say("budget.newtitle"), false]];
   const step = (before, after) => [number(before), " → ", element("b", {}, number(after))];
   const rows = changes.slice(0, MOST_SHOWN).map((change, at) => {
     const difference = change.appropriation - change.before.appropriation;
     const title = titles[at] === null || titles[at] === change.title ? given(change.title) : [given(titles[at]), " → ", element("b", {}, given(change.title))];
-    return [[change.id, change.isNew ? element("span", { class: "quiet below" }, say("budget.new")) : ""], step(change.before.appropriation, change.appropriation),
+    return [[change.id, change.isNew ? element("span", { class: "quiet below" }, say("budget.new")) : ""],
+      step(change.before.appropriation, change.appropriation),
       `${difference < 0n ? "−" : "+"}${number(difference < 0n ? -difference : difference)}`, step(change.before.free, change.free), title];
   });
   const more = changes.length > MOST_SHOWN ? [element("p", { class: "quiet" }, say("budget.more", { count: changes.length - MOST_SHOWN }))] : [];
@@ -102,7 +109,8 @@ async function changeTable(changes) {
 }
 
 function sending(name, bytes, changes, again) {
-  const batch = field({ label: say("budget.batch"), hint: say("budget.batch.hint"), value: name.replace(/\.csv$/i, "").replace(/[^A-Za-z0-9_.-]/g, "-").slice(0, 32),
+  const batch = field({ label: say("budget.batch"), hint: say("budget.batch.hint"), value: name.replace(/\.csv$/i, "").replace(/[^A-Za-z0-9_.-]/g,
+    "-").slice(0, 32),
     more: { maxlength: "32", autocapitalize: "none", spellcheck: "false" } });
   const run = async () => {
     const typed = batch.value().trim();
@@ -112,7 +120,8 @@ function sending(name, bytes, changes, again) {
     }
     const sum = changes.reduce((all, change) => all + change.appropriation - change.before.appropriation, 0n);
     const done = await send({ kind: "budget", values: { batch: typed }, path: `/budget/${typed}`, body: bytes, again: "Exists", find: () => ofBudget(changes),
-      says: [say("budget.does", { count: changes.length, sum: `${sum < 0n ? "−" : "+"}${number(sum < 0n ? -sum : sum)}` }), say("budget.once", { batch: typed })],
+      says: [say("budget.does", { count: changes.length, sum: `${sum < 0n ? "−" : "+"}${number(sum < 0n ? -sum : sum)}` }),
+        say("budget.once", { batch: typed })],
       explain: (fault) => (/^row \d+$/.test(fault.what) ? say("budget.row", { row: fault.what.slice(4) }) : sentenceOf(fault)) });
     if (done) {
       again();

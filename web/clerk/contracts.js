@@ -28,11 +28,13 @@ function contractPart(notice, lot, again) {
   const sums = sumsOf(contract);
   const { currency } = notice;
   const left = Math.max(sums.worth - sums.paid, 0);
-  const rest = sums.isEnded ? { kind: "free", name: say("contract.freed"), amount: left } : { kind: "contracted", name: say("contract.outstanding"), amount: left };
+  const rest = sums.isEnded ? { kind: "free", name: say("contract.freed"), amount: left }
+    : { kind: "contracted", name: say("contract.outstanding"), amount: left };
   const parts = [{ kind: "paid", name: say("contract.paid"), amount: sums.paid }, rest];
   const order = { notice, lot, contract, sums, again };
   return element("article", { class: "card", "aria-label": say("contract", { contract: contract.id }) },
-    element("h3", {}, say("contract", { contract: contract.id }), " ", given(lot.active.suppliers[0].name), " ", sums.isEnded ? badge("done", say("contract.ended")) : badge("running", say("contract.runs"))),
+    element("h3", {}, say("contract", { contract: contract.id }), " ", given(lot.active.suppliers[0].name), " ", sums.isEnded
+      ? badge("done", say("contract.ended")) : badge("running", say("contract.runs"))),
     facts([[say("column.lot"), lot.id], [say("contract.worth"), money(sums.worth, currency)], [say("contract.paid"), money(sums.paid, currency)],
       [say("contract.outstanding"), money(sums.outstanding, currency)], [say("contract.dated"), moment(contract.dateSigned)]]),
     bar(say("contract", { contract: contract.id }), parts), legend(parts, ` ${currency}`), entryTable(contract, currency), performancePart(contract, currency),
@@ -56,7 +58,8 @@ function performancePart(contract, currency) {
   if (caller() === null) {
     return place;
   }
-  performance(contract.id, caller()).then((one) => place.append(say("contract.performance", { reference: one.reference, amount: money(one.amount, currency), state: say(`security.${one.state}`) })),
+  performance(contract.id, caller()).then((one) => place.append(say("contract.performance",
+    { reference: one.reference, amount: money(one.amount, currency), state: say(`security.${one.state}`) })),
     (fault) => place.append(fault.name === "NoSuch" ? say("contract.noperformance") : sentenceOf(fault)));
   return place;
 }
@@ -89,7 +92,8 @@ function payPart({ notice, contract, sums, again }) {
     const elsewhere = typed === "" ? [] : usesOf(journal(), [...recordsSeen().values()], typed, contract.id);
     const units = wholeNumber(amount.value().replace(/\s/g, ""), 1, MOST.amount);
     const same = entriesOf(contract).find((one) => one.kind === "payment" && one.amount === units);
-    warning.textContent = [elsewhere.length > 0 ? say("pay.elsewhere", { id: typed, contracts: elsewhere.join(", ") }) : "", same ? say("pay.same", { id: same.id, amount: money(units, notice.currency) }) : ""].join(" ").trim();
+    warning.textContent = [elsewhere.length > 0 ? say("pay.elsewhere", { id: typed, contracts: elsewhere.join(", ") }) : "", same
+      ? say("pay.same", { id: same.id, amount: money(units, notice.currency) }) : ""].join(" ").trim();
     return warning.textContent;
   };
   id.input.addEventListener("input", warn);
@@ -100,9 +104,11 @@ function payPart({ notice, contract, sums, again }) {
       return;
     }
     const typed = id.value().trim();
-    const done = await send({ kind: "pay", values: { contract: contract.id }, path: `/contracts/${contract.id}/pay`, body: jsonBody({ id: typed, amount: units }), isFinal: true, again: "Exists",
+    const done = await send({ kind: "pay", values: { contract: contract.id }, path: `/contracts/${contract.id}/pay`,
+      body: jsonBody({ id: typed, amount: units }), isFinal: true, again: "Exists",
       find: () => ofRelease(notice.name, notice.releases.length, own.pay(contract.id, typed)),
-      says: [say("pay.does", { amount: money(units, notice.currency), id: typed }), say("pay.left", { amount: money(sums.outstanding - units, notice.currency) }), ...(warn() ? [element("span", { class: "wrong" }, warn())] : [])] });
+      says: [say("pay.does", { amount: money(units, notice.currency), id: typed }), say("pay.left",
+        { amount: money(sums.outstanding - units, notice.currency) }), ...(warn() ? [element("span", { class: "wrong" }, warn())] : [])] });
     if (done) {
       again();
     }
@@ -114,7 +120,8 @@ function payPart({ notice, contract, sums, again }) {
 /** A raise takes what the line has free; a cut frees what is outstanding. */
 function changePart({ notice, lot, contract, sums, again }) {
   const kind = field({ label: say("change.kind"), kind: "choice", options: [["raise", say("contract.raise")], ["cut", say("contract.cut")]], value: "raise" });
-  const [id, amount, why] = [identity(), amountField(say("change.hint", { amount: money(sums.outstanding, notice.currency) })), field({ label: say("rationale"), hint: say("rationale.hint") })];
+  const [id, amount, why] = [identity(), amountField(say("change.hint", { amount: money(sums.outstanding, notice.currency) })),
+    field({ label: say("rationale"), hint: say("rationale.hint") })];
   const free = element("p", { class: "quiet" });
   const budgetLine = notice.terms?.lots.get(lot.id)?.line;
   if (budgetLine) {
@@ -128,20 +135,25 @@ function changePart({ notice, lot, contract, sums, again }) {
       return;
     }
     const typed = id.value().trim();
-    const done = await send({ kind: "change", values: { contract: contract.id }, path: `/contracts/${contract.id}/amend`, body: jsonBody({ id: typed, kind: kind.value(), amount: units, rationale }), isFinal: true, again: "Exists",
+    const done = await send({ kind: "change", values: { contract: contract.id }, path: `/contracts/${contract.id}/amend`,
+      body: jsonBody({ id: typed, kind: kind.value(), amount: units, rationale }), isFinal: true, again: "Exists",
       find: () => ofRelease(notice.name, notice.releases.length, own.change(contract.id, typed)),
-      says: [say(`change.does.${kind.value()}`, { amount: money(units, notice.currency), after: money(sums.worth + (isCut ? -units : units), notice.currency) }), say("published.reason")] });
+      says: [say(`change.does.${kind.value()}`, { amount: money(units, notice.currency), after: money(sums.worth + (isCut ? -units : units),
+        notice.currency) }), say("published.reason")] });
     if (done) {
       again();
     }
   };
-  return element("details", {}, element("summary", {}, say("change.title")), free, form(say("change.title"), [kind.element, id.element, amount.element, why.element], say("change.send"), run));
+  return element("details", {}, element("summary", {}, say("change.title")), free, form(say("change.title"),
+    [kind.element, id.element, amount.element, why.element], say("change.send"), run));
 }
 
 function endPart({ notice, contract, sums, again }) {
   const end = async (how) => {
-    const says = [say(`end.does.${how}`), ...(sums.outstanding > 0 ? [say("end.frees", { amount: money(sums.outstanding, notice.currency) })] : []), say("end.stays")];
-    const done = await send({ kind: "end", values: { contract: contract.id }, path: `/contracts/${contract.id}/end`, body: jsonBody({ how }), ...(how === "default" ? { word: say("end.word") } : { isFinal: true }),
+    const says = [say(`end.does.${how}`), ...(sums.outstanding > 0 ? [say("end.frees", { amount: money(sums.outstanding, notice.currency) })] : []),
+      say("end.stays")];
+    const done = await send({ kind: "end", values: { contract: contract.id }, path: `/contracts/${contract.id}/end`, body: jsonBody({ how }),
+      ...(how === "default" ? { word: say("end.word") } : { isFinal: true }),
       again: "ContractEnded", find: () => ofRelease(notice.name, notice.releases.length, own.end(contract.id)), says });
     if (done) {
       again();

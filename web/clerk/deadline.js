@@ -14,7 +14,8 @@ const BETWEEN = 15;
 
 export function movePart(notice, again) {
   const { name, stage } = notice;
-  const later = field({ label: say("move.deadline"), hint: say("editor.deadline.hint"), kind: "datetime-local", value: localText(stage.deadline), more: { step: "1" } });
+  const later = field({ label: say("move.deadline"), hint: say("editor.deadline.hint"), kind: "datetime-local", value: localText(stage.deadline),
+    more: { step: "1" } });
   const told = element("p", { class: "quiet" });
   const why = field({ label: say("rationale"), hint: say("rationale.hint") });
   const tell = () => {
@@ -30,13 +31,16 @@ export function movePart(notice, again) {
       return;
     }
     const deadline = momentText(found);
-    const done = await send({ kind: "amend", values: { notice: name }, path: `/notices/${name}/amend`, body: jsonBody({ deadline, rationale: why.value().trim() }), isFinal: true, again: null,
-      find: () => ofRelease(name, notice.releases.length, own.amend(deadline)), says: [[say("move.does"), " ", moment(deadline)], say("published.reason"), say("move.stays")] });
+    const done = await send({ kind: "amend", values: { notice: name }, path: `/notices/${name}/amend`,
+      body: jsonBody({ deadline, rationale: why.value().trim() }), isFinal: true, again: null,
+      find: () => ofRelease(name, notice.releases.length, own.amend(deadline)), says: [[say("move.does"), " ", moment(deadline)], say("published.reason"),
+        say("move.stays")] });
     if (done) {
       again();
     }
   };
-  return section(say("move.title"), element("details", {}, element("summary", {}, say("move.open")), form(say("move.title"), [later.element, told, why.element], say("move.send"), run)));
+  return section(say("move.title"), element("details", {}, element("summary", {}, say("move.open")),
+    form(say("move.title"), [later.element, told, why.element], say("move.send"), run)));
 }
 
 export function cancelPart(notice, again) {
@@ -47,14 +51,17 @@ export function cancelPart(notice, again) {
     if (!allRight([why], lineText(why.value().trim()) ? [[why, lineText(why.value().trim())]] : [])) {
       return;
     }
-    const done = await send({ kind: "cancel", values: { notice: name }, path: `/notices/${name}/cancel`, body: jsonBody({ rationale: why.value().trim() }), word: say("cancel.word"),
+    const done = await send({ kind: "cancel", values: { notice: name }, path: `/notices/${name}/cancel`, body: jsonBody({ rationale: why.value().trim() }),
+      word: say("cancel.word"),
       again: "NothingToCancel", find: () => ofRelease(name, notice.releases.length, own.cancel()),
-      says: [say("cancel.does", { lots: ending.join(", "), count: ending.length }), say(stage.kind === "opened" ? "cancel.opened" : "cancel.sealed"), say("published.reason"), say("cancel.stays")] });
+      says: [say("cancel.does", { lots: ending.join(", "), count: ending.length }), say(stage.kind === "opened" ? "cancel.opened" : "cancel.sealed"),
+        say("published.reason"), say("cancel.stays")] });
     if (done) {
       again();
     }
   };
-  return section(say("cancel.title"), element("details", {}, element("summary", {}, say("cancel.open")), element("p", {}, say("cancel.what", { lots: ending.join(", "), count: ending.length })),
+  return section(say("cancel.title"), element("details", {}, element("summary", {}, say("cancel.open")),
+    element("p", {}, say("cancel.what", { lots: ending.join(", "), count: ending.length })),
     form(say("cancel.title"), [why.element], say("cancel.send"), run, "harm")));
 }
 
@@ -97,9 +104,12 @@ function registerTable(text) {
   for (const [, lot, , , state] of rows) {
     counts.set(lot, (counts.get(lot) ?? 0) + (state === "sealed" || state === "opened" ? 1 : 0));
   }
-  const heads = [[say("receipt"), true], [say("column.lot"), false], [say("register.came"), false], [say("register.length"), true], [say("state"), false], [say("register.security"), false]];
-  const cells = rows.map(([receipt, lot, came, length, state]) => [receipt, lot, moment(came), number(Number(length)), say(`tender.${state}`), securityLook(receipt)]);
-  return [element("p", {}, say("register.counts", { counts: [...counts].map(([lot, count]) => `${lot}: ${count}`).join(", "), at: momentText(officeNow()) })), table(say("register.table", { count: rows.length }), heads, cells)];
+  const heads = [[say("receipt"), true], [say("column.lot"), false], [say("register.came"), false], [say("register.length"), true], [say("state"), false],
+    [say("register.security"), false]];
+  const cells = rows.map(([receipt, lot, came, length, state]) => [receipt, lot, moment(came), number(Number(length)), say(`tender.${state}`),
+    securityLook(receipt)]);
+  return [element("p", {}, say("register.counts", { counts: [...counts].map(([lot, count]) => `${lot}: ${count}`).join(", "), at: momentText(officeNow()) })),
+    table(say("register.table", { count: rows.length }), heads, cells)];
 }
 
 /** A security is looked at when that is asked for, since it names its tenderer. */

@@ -41,7 +41,8 @@ function drawFrame(page) {
   byId("skip").textContent = say("skip");
   byId("site").textContent = say("site");
   byId("foot").textContent = say("foot");
-  byId("pages").replaceChildren(...PAGES.map((name) => element("a", { href: `#${name}`, ...(name === page ? { "aria-current": "page" } : {}) }, say(`page.${name}`))));
+  byId("pages").replaceChildren(...PAGES.map((name) => element("a", { href: `#${name}`, ...(name === page ? { "aria-current": "page" } : {}) },
+    say(`page.${name}`))));
   byId("languages").setAttribute("aria-label", say("language.choose"));
   byId("languages").replaceChildren(...languages().map(([tag, name]) => {
     const made = button(name, () => {

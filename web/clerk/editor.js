@@ -38,7 +38,8 @@ function earlier(editor) {
   if (names.length === 0) {
     return null;
   }
-  const chosen = field({ label: say("editor.earlier"), kind: "choice", options: names.map((name) => [name, `${name}: ${publicationOf(journal(), name).title}`]), value: names[0] });
+  const chosen = field({ label: say("editor.earlier"), kind: "choice", options: names.map((name) =>
+    [name, `${name}: ${publicationOf(journal(), name).title}`]), value: names[0] });
   const take = button(say("editor.take"), () => {
     keepDraft({ ...draftOf(publicationOf(journal(), chosen.value())), deadline: null });
     editor.again();
@@ -52,7 +53,8 @@ function terms(editor) {
   const digits = { inputmode: "numeric" };
   const choice = (name) => [["refused", say(`editor.${name}.refused`)], ["forfeits", say(`editor.${name}.forfeits`)]];
   const weight = bound(editor, "weight", draft, "weight", { label: say("editor.weight"), hint: say("editor.weight.hint"), more: digits });
-  const criteria = bound(editor, "criteria", draft, "criteria", { label: say("editor.criteria"), kind: "choice", options: [["price", say("editor.price")], ["points", say("editor.points")]] });
+  const criteria = bound(editor, "criteria", draft, "criteria", { label: say("editor.criteria"), kind: "choice",
+    options: [["price", say("editor.price")], ["points", say("editor.points")]] });
   const showWeight = () => { weight.element.hidden = draft.criteria !== "points"; };
   criteria.input.addEventListener("input", showWeight);
   showWeight();
@@ -71,7 +73,8 @@ function terms(editor) {
 function deadline(editor) {
   const { draft } = editor;
   const told = element("p", { class: "quiet" });
-  const made = field({ label: say("editor.deadline"), hint: say("editor.deadline.hint"), kind: "datetime-local", value: localText(draft.deadline), more: { step: "1" } });
+  const made = field({ label: say("editor.deadline"), hint: say("editor.deadline.hint"), kind: "datetime-local", value: localText(draft.deadline),
+    more: { step: "1" } });
   const tell = () => told.replaceChildren(draft.deadline === null ? "" : moment(momentText(draft.deadline) ?? ""));
   made.input.addEventListener("input", () => {
     draft.deadline = localMilliseconds(made.value());
@@ -93,7 +96,8 @@ function placeText(editor, path) {
   const [, lot, , item] = path.split(".");
   const label = editor.inputs.get(path)?.element.querySelector("label")?.textContent ?? say("editor.lots");
   const name = editor.draft.lots[lot]?.id;
-  return lot === undefined ? label : [say("editor.at.lot", { lot: name || `#${Number(lot) + 1}` }), item === undefined ? "" : say("editor.at.item", { item: String(Number(item) + 1) }), label].filter(Boolean).join(", ");
+  return lot === undefined ? label : [say("editor.at.lot", { lot: name || `#${Number(lot) + 1}` }), item === undefined ? ""
+    : say("editor.at.item", { item: String(Number(item) + 1) }), label].filter(Boolean).join(", ");
 }
 
 /** Beside what is written: its size, the money, what would be refused, and what one should think of. */
@@ -111,10 +115,12 @@ function drawSummary(editor) {
   }
   const size = bodyBytes(draft).length;
   summary.replaceChildren(
-    element("p", {}, say("editor.size", { bytes: size, most: MOST.body }), " ", element("meter", { min: "0", max: String(MOST.body), high: String(MOST.body * 0.9), value: String(Math.min(size, MOST.body)),
+    element("p", {}, say("editor.size", { bytes: size, most: MOST.body }), " ", element("meter",
+      { min: "0", max: String(MOST.body), high: String(MOST.body * 0.9), value: String(Math.min(size, MOST.body)),
       "aria-label": say("editor.sizename") })),
     faultList(editor, faults), ...warnings(draft, now),
-    element("div", { class: "steps" }, button(say("editor.publish"), () => publish(editor, faults)), faults.length === 0 ? linkTo(say("editor.preview"), "preview") : "",
+    element("div", { class: "steps" }, button(say("editor.publish"), () => publish(editor, faults)), faults.length === 0
+      ? linkTo(say("editor.preview"), "preview") : "",
       button(say("editor.empty"), () => {
         keepDraft(null);
         editor.again();
@@ -134,12 +140,14 @@ function faultList(editor, faults) {
   }, "second small");
   const listed = faults.slice(0, MOST_FAULTS).map((fault) => element("li", {}, go(fault), " ", faultText(fault)));
   const more = faults.length > MOST_FAULTS ? element("p", { class: "quiet" }, say("budget.more", { count: faults.length - MOST_FAULTS })) : null;
-  return element("div", { class: editor.isChecked ? "bad" : "look" }, element("p", {}, say("editor.faults", { count: faults.length })), element("ul", { class: "plain" }, listed), more);
+  return element("div", { class: editor.isChecked ? "bad" : "look" }, element("p", {}, say("editor.faults", { count: faults.length })),
+    element("ul", { class: "plain" }, listed), more);
 }
 
 function warnings(draft, now) {
   const found = warningsOf(draft, now).map(({ code, value = "", amount = 0, least = 0 }) => say(`warning.${code}`, { value, amount, least }));
-  return found.length === 0 ? [] : [element("div", { class: "look" }, element("p", {}, say("editor.warnings")), element("ul", {}, found.map((text) => element("li", {}, text))))];
+  return found.length === 0 ? [] : [element("div", { class: "look" }, element("p", {}, say("editor.warnings")),
+    element("ul", {}, found.map((text) => element("li", {}, text))))];
 }
 
 async function publish(editor, faults) {
@@ -155,7 +163,8 @@ async function publish(editor, faults) {
   const sum = draft.lots.reduce((all, { estimate }) => all + Number(estimate), 0);
   const items = draft.lots.reduce((all, lot) => all + lot.items.length, 0);
   const lines = [...new Set(draft.lots.map(({ line }) => line))];
-  const done = await send({ kind: "notice", values: { notice: draft.name }, path: `/notices/${draft.name}`, body: bodyBytes(draft), isFinal: true, again: "Exists",
+  const done = await send({ kind: "notice", values: { notice: draft.name }, path: `/notices/${draft.name}`, body: bodyBytes(draft), isFinal: true,
+    again: "Exists",
     find: () => ofNotice(draft.name),
     says: [[say("editor.does.deadline"), " ", moment(momentText(draft.deadline))], say("editor.does.money", { sum: number(sum), lines: lines.join(", ") }),
       say("editor.does.lots", { lots: draft.lots.length, items }), say("editor.does.stays")] });

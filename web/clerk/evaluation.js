@@ -22,9 +22,11 @@ function tenderTable(notice, lot) {
   if (lot.tenders.length === 0) {
     return element("p", {}, say("minutes.nobody"));
   }
-  const heads = [[say("evaluation.place"), true], [say("tenderer"), false], [say("receipt"), true], [say("minutes.price"), true], ...(notice.byPoints ? [[say("evaluation.pointsum"), true]] : []),
+  const heads = [[say("evaluation.place"), true], [say("tenderer"), false], [say("receipt"), true], [say("minutes.price"), true],
+    ...(notice.byPoints ? [[say("evaluation.pointsum"), true]] : []),
     [say("evaluation.found"), false]];
-  const rows = lot.tenders.map((one, at) => [isAdmissible(one) ? String(at + 1) : "–", [given(one.name), element("span", { class: "quiet below" }, `${one.tenderer} · `, given(one.address))],
+  const rows = lot.tenders.map((one, at) => [isAdmissible(one) ? String(at + 1) : "–", [given(one.name),
+    element("span", { class: "quiet below" }, `${one.tenderer} · `, given(one.address))],
     String(one.receipt), priceText(one, notice.currency), ...(notice.byPoints ? [one.points === null ? "–" : number(one.points / 1000)] : []), foundText(one)]);
   return table(say("evaluation.table", { lot: lot.id }), heads, rows);
 }
@@ -33,7 +35,8 @@ function priceText(one, currency) {
   if (one.reading !== "priced") {
     return "–";
   }
-  const stated = one.corrections > 0 ? element("span", { class: "quiet below" }, say("evaluation.stated", { stated: number(one.stated), count: one.corrections })) : null;
+  const stated = one.corrections > 0 ? element("span", { class: "quiet below" }, say("evaluation.stated",
+    { stated: number(one.stated), count: one.corrections })) : null;
   return [money(one.corrected, currency), stated].filter(Boolean);
 }
 
@@ -51,7 +54,8 @@ function foundText(one) {
   if (isElsewhere(one)) {
     return say("found.elsewhere");
   }
-  return one.found.responsive ? (one.found.quality === undefined ? say("found.responsive") : say("found.quality", { quality: one.found.quality })) : say("found.unresponsive");
+  return one.found.responsive ? (one.found.quality === undefined ? say("found.responsive") : say("found.quality", { quality: one.found.quality }))
+    : say("found.unresponsive");
 }
 
 /** The tenders that wait for their examination, each with what can be said of it. */
@@ -60,7 +64,8 @@ function examinations(notice, lot, again) {
   if (lot.state !== "undecided" || waiting.length === 0) {
     return null;
   }
-  return element("div", {}, element("h4", {}, say("examine.title", { count: waiting.length })), element("p", {}, say("examine.what")), waiting.map((one) => examination(notice, one, again)));
+  return element("div", {}, element("h4", {}, say("examine.title", { count: waiting.length })), element("p", {}, say("examine.what")),
+    waiting.map((one) => examination(notice, one, again)));
 }
 
 function examination(notice, one, again) {
@@ -73,12 +78,15 @@ function examination(notice, one, again) {
       return;
     }
     const body = responsive && notice.byPoints ? { responsive, quality: points } : { responsive };
-    const done = await send({ kind: "examine", values: { receipt: String(one.receipt), name: one.name }, path: `/tenders/${one.receipt}/examine`, body: jsonBody(body), isFinal: true, again: "AlreadyDecided",
+    const done = await send({ kind: "examine", values: { receipt: String(one.receipt), name: one.name }, path: `/tenders/${one.receipt}/examine`,
+      body: jsonBody(body), isFinal: true, again: "AlreadyDecided",
       says: [say(responsive ? "examine.does.yes" : "examine.does.no", { name: one.name }), say("examine.stays"), say("examine.reasons")] });
     // (that it was decided elsewhere is news too)
     again(done);
   };
   return element("div", { class: "examination", role: "group", "aria-label": say("examine.of", { name: one.name, receipt: String(one.receipt) }) },
-    element("p", {}, element("b", {}, given(one.name)), " ", element("span", { class: "quiet" }, `${say("receipt")} ${one.receipt}, ${money(one.corrected, notice.currency)}`)),
-    notice.byPoints ? quality.element : null, element("div", { class: "steps" }, button(say("examine.yes"), () => examine(true)), button(say("examine.no"), () => examine(false), "second")));
+    element("p", {}, element("b", {}, given(one.name)), " ", element("span", { class: "quiet" },
+      `${say("receipt")} ${one.receipt}, ${money(one.corrected, notice.currency)}`)),
+    notice.byPoints ? quality.element : null, element("div", { class: "steps" }, button(say("examine.yes"), () => examine(true)),
+      button(say("examine.no"), () => examine(false), "second")));
 }

@@ -17,7 +17,8 @@ async function unlessMissing(look) {
 export async function ofBudget(changes) {
   const told = changes.filter(({ before, appropriation }) => before.appropriation !== appropriation);
   const now = await Promise.all(told.map(({ id }) => unlessMissing(line(id))));
-  const is = (name) => told.length > 0 && told.every((change, at) => BigInt(now[at]?.appropriation ?? 0) === (name === "after" ? change.appropriation : change.before.appropriation));
+  const is = (name) => told.length > 0 && told.every((change, at) => BigInt(now[at]?.appropriation ?? 0) === (name === "after" ? change.appropriation
+    : change.before.appropriation));
   return is("after") ? true : is("before") ? false : null;
 }
 
@@ -45,7 +46,8 @@ export const own = {
     || (has("tenderUpdate")(release) && (release.tender.lots ?? []).some(({ id }) => id === lot)),
   fail: (award) => (release) => has("awardCancellation")(release) && release.awards.some(({ id }) => id === award),
   sign: (award) => (release) => has("contract")(release) && release.contracts[0].awardID === award,
-  change: (contract, id) => (release) => has("contractAmendment")(release) && release.contracts[0].id === contract && release.contracts[0].amendments.some((one) => one.id === id),
+  change: (contract, id) => (release) => has("contractAmendment")(release) && release.contracts[0].id === contract
+    && release.contracts[0].amendments.some((one) => one.id === id),
   pay: (contract, id) => (release) => has("implementation")(release) && release.contracts[0].id === contract
     && release.contracts[0].implementation.transactions.some((one) => one.id === id),
   end: (contract) => (release) => has("contractTermination")(release) && release.contracts[0].id === contract,

@@ -5,8 +5,8 @@ import { lineFault } from "./values.js";
 
 let count = 0;
 
-/** A field with its label, a hint and a place for what is wrong: `element`, `input`, `value()`, and `tell(sentence)`, where an empty one is right. `kind` is a type of
- * input, `lines` (a text of several lines), or `choice` with `options`, pairs of value and text. */
+/** A field with its label, a hint and a place for what is wrong: `element`, `input`, `value()`, and `tell(sentence)`, where an empty one is right. `kind` is a
+ * type of input, `lines` (a text of several lines), or `choice` with `options`, pairs of value and text. */
 export function field({ label, hint = "", kind = "text", value = "", options = [], more = {} }) {
   count += 1;
   const id = `field${count}`;
@@ -43,7 +43,8 @@ export function button(text, run, kind = "") {
 
 /** A form that is sent by its one button, or by Enter. */
 export function form(name, parts, text, run, kind = "") {
-  const made = element("form", { "aria-label": name, novalidate: "" }, parts, element("div", { class: "steps" }, element("button", { type: "submit", ...(kind ? { class: kind } : {}) }, text)));
+  const made = element("form", { "aria-label": name, novalidate: "" }, parts, element("div", { class: "steps" },
+    element("button", { type: "submit", ...(kind ? { class: kind } : {}) }, text)));
   made.addEventListener("submit", (event) => {
     event.preventDefault();
     run(event.submitter);
@@ -69,11 +70,12 @@ export function section(heading, ...content) {
 
 /** A note of a kind (`good`, `look`, `bad`): a head and what follows. */
 export function note(kind, head, ...content) {
-  return element("div", { class: kind }, element("p", {}, head), content.flat().filter((part) => part !== "").map((part) => (part instanceof Node ? part : element("p", {}, part))));
+  return element("div", { class: kind }, element("p", {}, head), content.flat().filter((part) => part !== "").map((part) =>
+    (part instanceof Node ? part : element("p", {}, part))));
 }
 
-/** A table: heads, each `[text, isFigure]`, and rows of cells; the first cell heads its row. A narrow window shows rows as blocks, so roles are said, and each cell
- * has the name of its column. */
+/** A table: heads, each `[text, isFigure]`, and rows of cells; the first cell heads its row. A narrow window shows rows as blocks, so roles are said, and each
+ * cell has the name of its column. */
 export function table(caption, heads, rows) {
   const head = heads.map(([text, isFigure]) => element("th", { scope: "col", role: "columnheader", ...(isFigure ? { class: "figure" } : {}) }, text));
   const cell = (content, at) => {

@@ -1,4 +1,5 @@
-// The journal of what was sent from this desk: an entry for each command, as a line of JSON that holds the digest of the line before it. Pure: runs in node too.
+// The journal of what was sent from this desk: an entry for each command, as a line of JSON that holds the digest of the line before it. Pure: runs in node
+// too.
 import { bytesOf, sha256 } from "../common/digest.js";
 import { textOf } from "./values.js";
 
@@ -21,8 +22,8 @@ export async function addEntry(journal, { moment, who, title, method, path, body
   return entry;
 }
 
-/** The file of a journal: a line that tells what it is, one for each entry, and one that ends it. Each holds the digest of the line before, so that a file in which
- * something was changed or is missing is known by it. */
+/** The file of a journal: a line that tells what it is, one for each entry, and one that ends it. Each holds the digest of the line before, so that a file in
+ * which something was changed or is missing is known by it. */
 export async function fileOf(journal) {
   let before = NONE;
   let text = "";

@@ -21,11 +21,14 @@ export async function drawJournal(again) {
   const take = async (file) => told.replaceChildren(await taken(textOf(await bytesOfFile(file)), again));
   const keep = button(say("journal.save"), save);
   keep.disabled = entries.length === 0;
-  const state = entries.length === 0 ? note("look", say("journal.empty")) : entries.length > saved ? note("look", say("journal.unsaved", { count: entries.length - saved }), say("journal.unsaved.do")) : note("good", say("journal.saved"));
-  return { title: say("page.journal"), content: [element("h1", { tabindex: "-1" }, say("page.journal")), element("p", { class: "intro" }, say("journal.intro")), state,
+  const state = entries.length === 0 ? note("look", say("journal.empty")) : entries.length > saved
+    ? note("look", say("journal.unsaved", { count: entries.length - saved }), say("journal.unsaved.do")) : note("good", say("journal.saved"));
+  return { title: say("page.journal"), content: [element("h1", { tabindex: "-1" }, say("page.journal")),
+    element("p", { class: "intro" }, say("journal.intro")), state,
     element("div", { class: "steps" }, keep, button(say("print"), () => print(), "second")),
     section(say("journal.take"), dropped(say("journal.drop"), say("journal.drop.hint"), ".jsonl,application/jsonl", take), told),
-    section(say("journal.entries"), entries.length === 0 ? element("p", {}, say("journal.empty")) : element("ol", { class: "entries" }, [...entries].reverse().map(entryPart)))] };
+    section(say("journal.entries"), entries.length === 0 ? element("p", {}, say("journal.empty"))
+      : element("ol", { class: "entries" }, [...entries].reverse().map(entryPart)))] };
 }
 
 /** What a file holds goes in front of what was done since. */
@@ -47,7 +50,8 @@ function outcome({ status, found }) {
   if (status === 200 || found === "done") {
     return ["right", say("journal.done")];
   }
-  return found === null ? ["wrong", say("journal.refused", { status: String(status) })] : ["wrong", say(found === "not done" ? "journal.notdone" : "journal.unknown")];
+  return found === null ? ["wrong", say("journal.refused", { status: String(status) })] : ["wrong",
+    say(found === "not done" ? "journal.notdone" : "journal.unknown")];
 }
 
 function entryPart(entry) {
@@ -56,5 +60,6 @@ function entryPart(entry) {
     element("span", { class: "quiet below" }, moment(entry.moment), ` · ${entry.who}`),
     element("details", {}, element("summary", {}, say("journal.more")), element("p", { class: "code" }, `${entry.method} ${entry.path}`),
       element("p", { class: "quiet" }, say("journal.body", { bytes: entry.bytes }), " ", element("span", { class: "code" }, inGroups(entry.digest))),
-      entry.body ? element("pre", { tabindex: "0" }, entry.body) : "", entry.answer ? element("pre", { tabindex: "0" }, entry.answer) : element("p", {}, say("journal.noanswer"))));
+      entry.body ? element("pre", { tabindex: "0" }, entry.body) : "", entry.answer ? element("pre", { tabindex: "0" }, entry.answer)
+        : element("p", {}, say("journal.noanswer"))));
 }

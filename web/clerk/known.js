@@ -1,5 +1,5 @@
-// What no look of the office shows yet, and this desk knows of what it sent: terms of notices, what examinations found, names that were used. All of it from the
-// journal; where a look comes to show it, it is to be asked there. Pure: runs in node too.
+// What no look of the office shows yet, and this desk knows of what it sent: terms of notices, what examinations found, names that were used. All of it from
+// the journal; where a look comes to show it, it is to be asked there. Pure: runs in node too.
 import { doneOf } from "./journal.js";
 
 const EXAMINATION = /^\/tenders\/\d+\/examine$/;
@@ -29,8 +29,8 @@ export function termsOf(journal, notice) {
     late: body.late_withdrawal ?? "refused", performance: body.performance ?? 0, lots: new Map(body.lots.map((lot) => [lot.id, lot])) };
 }
 
-/** What was found of tenders, by receipt: `responsive` and `quality`. Where the office said that it was decided already, and not by this journal, `responsive` is
- * null: it was examined elsewhere, or withdrawn late. */
+/** What was found of tenders, by receipt: `responsive` and `quality`. Where the office said that it was decided already, and not by this journal, `responsive`
+ * is null: it was examined elsewhere, or withdrawn late. */
 export function examinationsOf(journal) {
   const own = doneOf(journal, EXAMINATION).map((entry) => [Number(lastPart(entry.path, 2)), valueOf(entry)]);
   const decided = journal.entries.filter(({ path, answer }) => EXAMINATION.test(path) && /"name":"AlreadyDecided"/.test(answer ?? ""));

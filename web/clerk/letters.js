@@ -18,7 +18,8 @@ export async function drawLetter(again, name, lotId) {
   }
   const winner = lot.tenders.find((one) => `T-${one.tenderer}` === lot.active.suppliers[0].id && !one.isFailed);
   const letters = lot.tenders.filter((one) => one !== winner && !one.isFailed).map((one) => letter(notice, lot, one));
-  return { title: say("letters.title", { lot: lotId }), isSheet: true, content: [head, element("p", { class: "noprint" }, say("letters.what", { count: letters.length })), back,
+  return { title: say("letters.title", { lot: lotId }), isSheet: true, content: [head, element("p", { class: "noprint" },
+    say("letters.what", { count: letters.length })), back,
     ...(letters.length > 0 ? sheet(...letters[0]) : []), ...letters.slice(1).map((parts) => element("div", { class: "sheet" }, ...parts))] };
 }
 
@@ -41,11 +42,14 @@ function letter(notice, lot, one) {
   more.element.classList.add("noprint");
   const until = lot.standstillUntil === null ? "" : sayParts("letter.standstill", { until: moment(momentText(lot.standstillUntil)) });
   const price = one.reading === "priced" ? sayParts("letter.own", { price: money(one.corrected, currency) }) : "";
-  return [element("p", {}, given(compiled.buyer.name)), element("p", { class: "address" }, given(one.name), element("span", { class: "below" }, given(one.address))),
+  return [element("p", {}, given(compiled.buyer.name)), element("p", { class: "address" }, given(one.name),
+    element("span", { class: "below" }, given(one.address))),
     element("p", {}, moment(momentText(officeNow()))),
     element("h2", {}, sayParts("letter.subject", { notice: notice.name, title: given(compiled.tender.title), lot: lot.id, lottitle: given(lot.title) })),
     element("p", {}, sayParts("letter.thanks", { receipt: String(one.receipt) })),
-    element("p", {}, sayParts("letter.winner", { name: given(lot.active.suppliers[0].name), price: money(lot.active.value.amount, currency), moment: moment(lot.active.date) })),
+    element("p", {}, sayParts("letter.winner", { name: given(lot.active.suppliers[0].name), price: money(lot.active.value.amount, currency),
+      moment: moment(lot.active.date) })),
     element("p", {}, price), element("p", {}, reason(notice, one)), printed, element("p", {}, until),
-    element("p", {}, say("letter.look", { address: `${location.origin}/#notice/${notice.name}` })), element("div", { class: "signs shown" }, element("div", {}, say("letter.sign"))), more.element];
+    element("p", {}, say("letter.look", { address: `${location.origin}/#notice/${notice.name}` })),
+      element("div", { class: "signs shown" }, element("div", {}, say("letter.sign"))), more.element];
 }

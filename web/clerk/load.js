@@ -14,14 +14,16 @@ export async function loadNotice(name) {
   keepRecord(name, compiled);
   const terms = termsOf(journal(), name);
   const stage = stageOf({ compiled, releases: all, tenders: tendersOf(minutes), terms, examined: examinationsOf(journal()), now: officeNow() });
-  return { name, compiled, releases: all, minutes, terms, stage, currency: compiled.tender.lots[0].value.currency, byPoints: compiled.tender.awardCriteria !== "priceOnly" };
+  return { name, compiled, releases: all, minutes, terms, stage, currency: compiled.tender.lots[0].value.currency,
+    byPoints: compiled.tender.awardCriteria !== "priceOnly" };
 }
 
 const KINDS = { receiving: "open", due: "running", opened: "running", cancelled: "stopped" };
 
 /** The stage as a badge. */
 export function stageBadge(stage) {
-  const isOver = stage.kind === "opened" && stage.lots.every(({ state, contract }) => !["undecided", "awarded"].includes(state) && (contract === null || contract.status === "terminated"));
+  const isOver = stage.kind === "opened" && stage.lots.every(({ state, contract }) => !["undecided", "awarded"].includes(state)
+    && (contract === null || contract.status === "terminated"));
   return isOver ? badge("done", say("stage.over")) : badge(KINDS[stage.kind], say(`stage.${stage.kind}`));
 }
 
@@ -34,11 +36,13 @@ export function lotBadge(lot) {
 /** A moment in milliseconds, with how far away it is. */
 export function momentAndSpan(milliseconds) {
   const seconds = Math.round((milliseconds - officeNow()) / 1000);
-  return [moment(momentText(milliseconds) ?? ""), " ", element("span", { class: "quiet" }, seconds >= 0 ? say("in", { span: span(seconds) }) : say("ago", { span: span(-seconds) }))];
+  return [moment(momentText(milliseconds) ?? ""), " ", element("span", { class: "quiet" }, seconds >= 0 ? say("in", { span: span(seconds) })
+    : say("ago", { span: span(-seconds) }))];
 }
 
 /** What is to be done next, each as a sentence. */
 export function tasks(stage) {
-  return tasksOf(stage, officeNow()).map((task) => sayParts(`task.${task.code}`, { lot: given(task.lot ?? ""), count: task.count ?? 0, contract: task.contract ?? "",
+  return tasksOf(stage, officeNow()).map((task) => sayParts(`task.${task.code}`, { lot: given(task.lot ?? ""), count: task.count ?? 0,
+    contract: task.contract ?? "",
     until: task.until ? element("span", {}, momentAndSpan(task.until)) : "", since: task.since ? element("span", {}, momentAndSpan(task.since)) : "" }));
 }

@@ -13,7 +13,8 @@ const UNFOLDED = 3;
 
 /** A table that is pasted takes the place of the lots. */
 export function pasting(editor) {
-  const text = field({ label: say("lots.paste"), hint: say("lots.paste.hint", { columns: Object.keys(COLUMNS).map((name) => say(`column.${name}`)).join(", ") }), kind: "lines" });
+  const text = field({ label: say("lots.paste"), hint: say("lots.paste.hint", { columns: Object.keys(COLUMNS).map((name) =>
+    say(`column.${name}`)).join(", ") }), kind: "lines" });
   const told = element("div", { "aria-live": "polite" });
   const take = () => {
     const { lots, faults, changes } = lotsOf(text.value());
@@ -23,7 +24,8 @@ export function pasting(editor) {
       editor.redrawLots();
     }
   };
-  return element("details", {}, element("summary", {}, say("lots.pasting")), text.element, element("div", { class: "steps" }, button(say("lots.take"), take)), told);
+  return element("details", {}, element("summary", {}, say("lots.pasting")), text.element, element("div", { class: "steps" }, button(say("lots.take"), take)),
+    told);
 }
 
 const MOST_TOLD = 20;
@@ -33,7 +35,8 @@ function outcome(lots, faults, changes) {
   const items = lots.reduce((sum, lot) => sum + lot.items.length, 0);
   const wrong = faults.slice(0, MOST_TOLD).map(({ line, code, value = "", name = "", told = "" }) =>
     element("li", {}, say(`paste.${code}`, { line: String(line), value, told, name: name ? say(`column.${name}`) : "" })));
-  const changed = changes.slice(0, MOST_TOLD).map(({ line, name, value, told }) => element("li", {}, say("paste.changed", { line: String(line), name: say(`column.${name}`), value, told })));
+  const changed = changes.slice(0, MOST_TOLD).map(({ line, name, value, told }) => element("li", {},
+    say("paste.changed", { line: String(line), name: say(`column.${name}`), value, told })));
   return [lots.length > 0 ? note("good", say("paste.taken", { lots: lots.length, items })) : null,
     wrong.length > 0 ? note("bad", say("paste.wrong", { count: faults.length }), element("ul", {}, wrong)) : null,
     changed.length > 0 ? note("look", say("paste.read", { count: changes.length }), element("ul", {}, changed)) : null].filter(Boolean);
@@ -52,8 +55,10 @@ export function drawLots(editor) {
     editor.inputs.get(`lots.${lots.length - 1}.id`).input.closest("details").open = true;
     editor.inputs.get(`lots.${lots.length - 1}.id`).input.focus();
   }, "second");
-  const choices = element("datalist", { id: "lines" }, [...editor.lines.values()].map(({ line, free }) => element("option", { value: line }, say("lots.free", { free }))));
-  editor.lots.replaceChildren(choices, ...lots.map((lot, at) => lotPart(editor, lot, at)), element("div", { class: "steps" }, lots.length < MOST.lots ? add : ""));
+  const choices = element("datalist", { id: "lines" }, [...editor.lines.values()].map(({ line, free }) =>
+    element("option", { value: line }, say("lots.free", { free }))));
+  editor.lots.replaceChildren(choices, ...lots.map((lot, at) => lotPart(editor, lot, at)),
+    element("div", { class: "steps" }, lots.length < MOST.lots ? add : ""));
 }
 
 /** The next identifier that no other has, as `L3`. */
@@ -84,8 +89,10 @@ function lotPart(editor, lot, at) {
     editor.redrawLots();
   }, "second");
   return element("details", { class: "card", ...(editor.draft.lots.length <= UNFOLDED ? { open: "" } : {}) }, summary, element("div", { class: "fields" },
-    own("id", { label: say("column.lot"), more: id }), own("title", { label: say("column.lotTitle") }), own("line", { label: say("column.line"), more: { ...id, list: "lines" } }),
-    element("div", {}, own("estimate", { label: say("column.estimate"), more: digits }), money), own("security", { label: say("column.security"), hint: say("lots.security.hint"), more: digits })),
+    own("id", { label: say("column.lot"), more: id }), own("title", { label: say("column.lotTitle") }),
+      own("line", { label: say("column.line"), more: { ...id, list: "lines" } }),
+    element("div", {}, own("estimate", { label: say("column.estimate"), more: digits }), money),
+      own("security", { label: say("column.security"), hint: say("lots.security.hint"), more: digits })),
   itemTable(editor, lot, path), element("div", { class: "steps" }, addItem(editor, lot, path), editor.draft.lots.length > 1 ? away : ""));
 }
 
@@ -102,14 +109,16 @@ function addItem(editor, lot, path) {
 /** The items of a lot: a row of fields for each. */
 function itemTable(editor, lot, path) {
   const rows = lot.items.map((item, at) => {
-    const own = (name, more) => bound(editor, `${path}.items.${at}.${name}`, item, name, { label: say(`column.${name === "id" ? "item" : name}`), more }).element;
+    const own = (name, more) => bound(editor, `${path}.items.${at}.${name}`, item, name, { label: say(`column.${name === "id" ? "item" : name}`),
+      more }).element;
     const away = button("×", () => {
       lot.items.splice(at, 1);
       editor.redrawLots();
     }, "second small");
     away.setAttribute("aria-label", say("lots.removeitem", { item: item.id || String(at + 1) }));
     return element("div", { class: "item", role: "group", "aria-label": say("lots.item", { number: String(at + 1) }) },
-      own("id", { maxlength: "32", autocapitalize: "none", spellcheck: "false" }), own("title", {}), own("quantity", { inputmode: "numeric" }), lot.items.length > 1 ? away : "");
+      own("id", { maxlength: "32", autocapitalize: "none", spellcheck: "false" }), own("title", {}), own("quantity", { inputmode: "numeric" }),
+        lot.items.length > 1 ? away : "");
   });
   return element("div", { class: "items" }, element("p", { class: "quiet" }, say("lots.items.hint")), rows);
 }

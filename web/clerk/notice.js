@@ -5,7 +5,8 @@ import { DAY, MOST, isAskable, lineFault, millisecondsOf, momentText, wholeNumbe
 
 /** What the editor begins with: all values are texts, as they are typed. */
 export function newDraft() {
-  return { name: "", title: "", deadline: null, validity: "90", standstill: "10", criteria: "price", weight: "60", late: "refused", performance: "0", lots: [newLot("L1")] };
+  return { name: "", title: "", deadline: null, validity: "90", standstill: "10", criteria: "price", weight: "60", late: "refused", performance: "0",
+    lots: [newLot("L1")] };
 }
 
 export function newLot(id) {
@@ -66,7 +67,8 @@ export function refusalOf(draft, lines, now, isUsed) {
   if (of("line.unknown")) {
     return { name: "NoSuch", what: "line" };
   }
-  const name = isUsed ? "Exists" : of("deadline.passed") ? "DeadlinePassed" : of("money") ? "InsufficientFunds" : of("lots.many") || of("items.many") ? "LimitReached" : null;
+  const name = isUsed ? "Exists" : of("deadline.passed") ? "DeadlinePassed" : of("money") ? "InsufficientFunds" : of("lots.many") || of("items.many")
+    ? "LimitReached" : null;
   return name ? { name } : null;
 }
 

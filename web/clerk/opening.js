@@ -12,7 +12,8 @@ export function openingPart(notice, again) {
   const { name, stage } = notice;
   const told = element("p", { class: "clock" });
   const open = button(say("open.send"), async () => {
-    const done = await send({ kind: "open", values: { notice: name }, path: `/notices/${name}/open`, body: null, isFinal: true, again: "AlreadyOpened", find: () => ofOpening(name),
+    const done = await send({ kind: "open", values: { notice: name }, path: `/notices/${name}/open`, body: null, isFinal: true, again: "AlreadyOpened",
+      find: () => ofOpening(name),
       says: [say("open.does"), say("open.late"), say("open.minutes")] });
     if (done) {
       again();

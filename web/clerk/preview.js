@@ -14,8 +14,10 @@ function compiledOf(body, name) {
   const unit = currency() || say("preview.currency");
   const value = (amount) => ({ amount, currency: unit });
   const buyer = [...recordsSeen().values()][0]?.buyer.name ?? say("preview.buyer");
-  const items = body.lots.flatMap((lot) => lot.items.map((item) => ({ description: item.title, id: `${lot.id}/${item.id}`, quantity: item.quantity, relatedLot: lot.id })));
-  return { buyer: { name: buyer }, language: document.documentElement.lang, tender: { awardCriteria: body.criteria === "price" ? "priceOnly" : "ratedCriteria", id: name, items,
+  const items = body.lots.flatMap((lot) => lot.items.map((item) => ({ description: item.title, id: `${lot.id}/${item.id}`, quantity: item.quantity,
+    relatedLot: lot.id })));
+  return { buyer: { name: buyer }, language: document.documentElement.lang, tender: { awardCriteria: body.criteria === "price" ? "priceOnly" : "ratedCriteria",
+    id: name, items,
     lots: body.lots.map((lot) => ({ id: lot.id, status: "active", title: lot.title, value: value(lot.estimate) })), status: "active", title: body.title,
     tenderPeriod: { startDate: momentText(officeNow()), endDate: body.deadline }, value: value(body.lots.reduce((sum, { estimate }) => sum + estimate, 0)) } };
 }
@@ -24,11 +26,13 @@ export async function drawPreview() {
   const written = draft();
   const lines = new Map((await ledger()).map((one) => [one.line, one]));
   if (!written || faultsOf(written, lines, officeNow()).length > 0) {
-    return { title: say("editor.preview"), content: [element("h1", { tabindex: "-1" }, say("editor.preview")), note("look", say("preview.none")), element("p", {}, linkTo(say("preview.back"), "new"))] };
+    return { title: say("editor.preview"), content: [element("h1", { tabindex: "-1" }, say("editor.preview")), note("look", say("preview.none")),
+      element("p", {}, linkTo(say("preview.back"), "new"))] };
   }
   const compiled = compiledOf(bodyOf(written), written.name);
   const release = { tag: ["planning", "tender"], date: momentText(officeNow()), tender: compiled.tender };
   const drawn = drawProcess(written.name, compiled, [release], { lots: new Map(), refused: { message: say("preview.sealed") } });
   // (the last part links to what isn't there before it is published)
-  return { title: say("editor.preview"), content: [note("look", say("preview.note"), say("preview.hidden")), element("p", {}, linkTo(say("preview.back"), "new")), ...drawn.slice(0, -1)] };
+  return { title: say("editor.preview"), content: [note("look", say("preview.note"), say("preview.hidden")),
+    element("p", {}, linkTo(say("preview.back"), "new")), ...drawn.slice(0, -1)] };
 }

@@ -27,24 +27,30 @@ export async function drawProcurement(again, name) {
 /** What is to be done next. */
 function doing({ stage }) {
   const list = tasks(stage);
-  return list.length === 0 ? note("good", say("task.none")) : element("div", { class: "look" }, element("p", {}, say("task.title")), element("ul", {}, list.map((task) => element("li", {}, task))));
+  return list.length === 0 ? note("good", say("task.none")) : element("div", { class: "look" }, element("p", {}, say("task.title")),
+    element("ul", {}, list.map((task) => element("li", {}, task))));
 }
 
 /** The terms that the record doesn't tell. */
 function termsNote({ terms, stage, currency }) {
   if (terms === null) {
-    return element("div", { class: "look" }, element("p", {}, say("terms.unknown")), element("p", {}, say("terms.unknown.do"), " ", linkTo(say("page.journal"), "journal")));
+    return element("div", { class: "look" }, element("p", {}, say("terms.unknown")), element("p", {}, say("terms.unknown.do"), " ",
+      linkTo(say("page.journal"), "journal")));
   }
   const { validity, standstill, criteria, weight, late, performance } = terms;
-  return element("details", {}, element("summary", {}, say("terms.title")), facts([[say("editor.validity"), element("span", {}, `${validity} (`, momentAndSpan(stage.bindsUntil), ")")],
-    [say("editor.standstill"), String(standstill)], [say("editor.criteria"), criteria === "price" ? say("editor.price") : say("terms.points", { weight, quality: 100 - weight })],
-    [say("editor.late"), say(`editor.late.${late}`)], [say("editor.performance"), performance === 0 ? say("terms.noperformance") : money(performance, currency)]]));
+  return element("details", {}, element("summary", {}, say("terms.title")), facts([[say("editor.validity"),
+    element("span", {}, `${validity} (`, momentAndSpan(stage.bindsUntil), ")")],
+    [say("editor.standstill"), String(standstill)], [say("editor.criteria"), criteria === "price" ? say("editor.price")
+      : say("terms.points", { weight, quality: 100 - weight })],
+    [say("editor.late"), say(`editor.late.${late}`)], [say("editor.performance"), performance === 0 ? say("terms.noperformance")
+      : money(performance, currency)]]));
 }
 
 function parts(notice, again) {
   const { kind, canCancel } = notice.stage;
   const cancel = canCancel ? [cancelPart(notice, again)] : [];
-  const before = { receiving: [movePart, openingPart, registerPart], due: [openingPart, registerPart], opened: [minutesPart, lotParts, contractParts, registerPart], cancelled: [registerPart] };
+  const before = { receiving: [movePart, openingPart, registerPart], due: [openingPart, registerPart],
+    opened: [minutesPart, lotParts, contractParts, registerPart], cancelled: [registerPart] };
   return [...before[kind].map((part) => part(notice, again)), ...cancel, publicPart(notice)];
 }
 
@@ -55,5 +61,6 @@ function minutesPart({ name }) {
 /** Where anybody sees this notice. */
 function publicPart({ name }) {
   const paths = ["record", "releases"].map((path) => `/notices/${name}/${path}`);
-  return section(say("public.title"), element("p", {}, element("a", { href: `/#notice/${name}` }, say("public.page")), ...paths.flatMap((path) => [" · ", element("a", { href: path }, path)])));
+  return section(say("public.title"), element("p", {}, element("a", { href: `/#notice/${name}` }, say("public.page")),
+    ...paths.flatMap((path) => [" · ", element("a", { href: path }, path)])));
 }

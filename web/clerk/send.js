@@ -1,5 +1,5 @@
-// A command of the clerk: shown as it is sent, asked for once more, sent once, and kept in the journal with what came back. Where no answer comes, what became of it is
-// asked by looks.
+// A command of the clerk: shown as it is sent, asked for once more, sent once, and kept in the journal with what came back. Where no answer comes, what became
+// of it is asked by looks.
 import { element } from "../draw.js";
 import { bytesOf, inGroups, sha256 } from "../common/digest.js";
 import { Refused, command, officeNow, sentenceOf } from "../common/office.js";
@@ -11,9 +11,10 @@ import { momentText, textOf } from "./values.js";
 
 const LONGEST_SHOWN = 6000;
 
-/** An order: `kind` names its texts, `values` stand in them; `says` is what it will do; `path` and `body` (bytes, or null) are sent. One that `isFinal` can't be undone
- * and is confirmed by a tick, one with a `word` by typing it. `find` looks whether it was done where no answer came (true, false, or null where no look tells), and
- * `again` is the refusal that tells it when the same is sent once more, or null where that would do it twice. Gives the office's answer once it is done, else null. */
+/** An order: `kind` names its texts, `values` stand in them; `says` is what it will do; `path` and `body` (bytes, or null) are sent. One that `isFinal` can't
+ * be undone and is confirmed by a tick, one with a `word` by typing it. `find` looks whether it was done where no answer came (true, false, or null where no
+ * look tells), and `again` is the refusal that tells it when the same is sent once more, or null where that would do it twice. Gives the office's answer once
+ * it is done, else null. */
 export function send(order) {
   return new Promise((finish) => {
     const dialog = element("dialog", { class: "order", "aria-labelledby": "order-title" });
@@ -76,7 +77,8 @@ export function requestShown(order, bytes, digest) {
   const text = textOf(bytes) ?? say("order.notext");
   const head = `POST ${order.path}\nOffice-Caller: clerk\nOffice-Key: ••••••\nContent-Length: ${bytes.length}`;
   const body = text.length > LONGEST_SHOWN ? `${text.slice(0, LONGEST_SHOWN)}\n${say("order.more", { count: text.length - LONGEST_SHOWN })}` : text;
-  return element("details", { open: "" }, element("summary", {}, say("order.request")), element("pre", { tabindex: "0" }, bytes.length > 0 ? `${head}\n\n${body}` : head),
+  return element("details", { open: "" }, element("summary", {}, say("order.request")), element("pre", { tabindex: "0" }, bytes.length > 0
+    ? `${head}\n\n${body}` : head),
     element("p", { class: "quiet" }, say("order.digest"), " ", element("span", { class: "code" }, inGroups(digest))));
 }
 
@@ -85,7 +87,8 @@ async function transmit(state) {
   const { order } = state;
   state.isBusy = true;
   draw(state, element("p", {}, say("order.sending")), []);
-  const outcome = await command(order.path, caller(), order.body ?? undefined).then((answer) => ({ answer: { status: 200, text: answer.text }, value: answer.value }),
+  const outcome = await command(order.path, caller(), order.body ?? undefined).then((answer) =>
+    ({ answer: { status: 200, text: answer.text }, value: answer.value }),
     (fault) => ({ fault, answer: fault instanceof Refused && fault.text ? { status: fault.status, text: fault.text } : null }));
   state.isBusy = false;
   await keep(state, outcome);
@@ -105,7 +108,8 @@ async function keep(state, { answer, fault }) {
   const isDone = wasOpen && fault instanceof Refused && fault.name === order.again;
   const { path, body, kind, values = {} } = order;
   const told = fault instanceof Refused && fault.isOpen && answer === null ? null : answer;
-  const entry = await addEntry(journal(), { moment: momentText(officeNow()), who: who(), title: say(`order.${kind}.title`, values), method: "POST", path, body, answer: told,
+  const entry = await addEntry(journal(), { moment: momentText(officeNow()), who: who(), title: say(`order.${kind}.title`, values), method: "POST", path, body,
+    answer: told,
     found: isDone ? "done" : null });
   if (wasOpen && (isDone || answer?.status === 200)) {
     state.entry.found = isDone ? "done" : "not done";
@@ -160,7 +164,8 @@ async function drawOpen(state, fault) {
     draw(state, note("look", say("order.found.not"), say("order.found.not.do")), [button(say("order.sendagain"), () => transmit(state)), asks, closing(state)]);
   } else {
     const again = order.again ? say("order.found.unknown.again", { name: order.again }) : say("order.found.unknown.look");
-    draw(state, note("look", say("order.found.unknown"), again), [order.again ? button(say("order.sendagain"), () => transmit(state)) : null, asks, closing(state)].filter(Boolean));
+    draw(state, note("look", say("order.found.unknown"), again), [order.again ? button(say("order.sendagain"), () => transmit(state)) : null, asks,
+      closing(state)].filter(Boolean));
   }
   focusFirst(state);
 }

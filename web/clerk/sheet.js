@@ -16,8 +16,8 @@ export const COLUMNS = {
 const NAMES = Object.keys(COLUMNS);
 const NUMBERS = ["estimate", "security", "quantity"];
 
-/** The rows of a pasted text, each a list of cells, with the line where it begins; empty rows aren't there. The sign between cells is the tab where there is one,
- * else the semicolon, else the comma; quotation marks are read as sheets write them. */
+/** The rows of a pasted text, each a list of cells, with the line where it begins; empty rows aren't there. The sign between cells is the tab where there is
+ * one, else the semicolon, else the comma; quotation marks are read as sheets write them. */
 export function rowsOf(text) {
   const sign = SIGNS.find((it) => text.includes(it)) ?? "\t";
   const read = { rows: [], cells: [], cell: "", isQuoted: false, line: 1, begun: 1 };

@@ -1,5 +1,5 @@
-// Where a procurement stands, and what can be done with it now: from its record, its releases and its minutes, and from the terms and the examinations as far as
-// they are known. Pure: runs in node too.
+// Where a procurement stands, and what can be done with it now: from its record, its releases and its minutes, and from the terms and the examinations as far
+// as they are known. Pure: runs in node too.
 import { DAY } from "./values.js";
 
 /** The stage of a notice: `receiving` up to its deadline, `due` behind it, `opened`, or `cancelled`, which it is before its opening alone. */
@@ -18,7 +18,8 @@ export function stageOf({ compiled, releases, tenders, terms, examined, now }) {
   const kind = kindOf(compiled, now);
   const passed = passedOver(releases);
   const lots = compiled.tender.lots.map((lot) => lotOf({ compiled, lot, passed, terms, examined, kind, tenders: tenders.filter((one) => one.lot === lot.id) }));
-  return { kind, deadline, bindsUntil, isExpired: bindsUntil !== null && now >= bindsUntil, lots, canCancel: lots.some(({ state }) => ["sealed", "undecided", "awarded"].includes(state)) };
+  return { kind, deadline, bindsUntil, isExpired: bindsUntil !== null && now >= bindsUntil, lots,
+    canCancel: lots.some(({ state }) => ["sealed", "undecided", "awarded"].includes(state)) };
 }
 
 /** The awards that were passed over: those that a release cancels without cancelling the tender. */
@@ -55,14 +56,15 @@ export function isElsewhere(tender) {
   return tender.found?.responsive === null && !tender.isFailed;
 }
 
-/** Thousandths of points: the lowest price of the admissible has the whole weight, each other the share that the lowest is of it, and quality counts as it is. */
+/** Thousandths of points: the lowest price of the admissible has the whole weight, each other the share that the lowest is of it, and quality counts as it is.
+ * */
 export function pointsOf(tender, lowest, weight) {
   const ofPrice = tender.corrected === 0 ? weight * 1000 : Number((BigInt(weight) * 1000n * BigInt(lowest)) / BigInt(tender.corrected));
   return ofPrice + (tender.found.quality ?? 0) * 1000;
 }
 
-/** The tenders of a lot, from the best to the last: the admissible ones by the notice's criteria, then those that wait by price, then the others. By points, only
- * where the weight is known. */
+/** The tenders of a lot, from the best to the last: the admissible ones by the notice's criteria, then those that wait by price, then the others. By points,
+ * only where the weight is known. */
 function ranked(tenders, terms, criteria) {
   const admissible = tenders.filter(isAdmissible);
   const lowest = Math.min(...admissible.map(({ corrected }) => corrected));
@@ -70,15 +72,16 @@ function ranked(tenders, terms, criteria) {
   const weight = byPoints ? (terms?.weight ?? null) : null;
   const withPoints = tenders.map((tender) => ({ ...tender, points: weight !== null && isAdmissible(tender) ? pointsOf(tender, lowest, weight) : null }));
   const group = (tender) => (isAdmissible(tender) ? 0 : isWaiting(tender) ? 1 : tender.reading === "priced" ? 2 : 3);
-  return withPoints.sort((one, other) => group(one) - group(other) || (other.points ?? 0) - (one.points ?? 0) || price(one) - price(other) || one.receipt - other.receipt);
+  return withPoints.sort((one, other) => group(one) - group(other) || (other.points ?? 0) - (one.points ?? 0) || price(one) - price(other)
+    || one.receipt - other.receipt);
 }
 
 function price(tender) {
   return tender.reading === "priced" ? tender.corrected : 0;
 }
 
-/** What an award would do now, as far as this desk knows: `waits`, with how many; `nobody`; `best`, with the tender; `unknown`, where points decide and their weight
- * isn't known here. The office decides. */
+/** What an award would do now, as far as this desk knows: `waits`, with how many; `nobody`; `best`, with the tender; `unknown`, where points decide and their
+ * weight isn't known here. The office decides. */
 export function outlookOf(lot, byPoints, terms) {
   const waiting = lot.tenders.filter(isWaiting);
   if (waiting.length > 0) {

@@ -14,7 +14,8 @@ import { isAskable, textOf } from "./values.js";
 export function registrationIn(text) {
   try {
     const told = JSON.parse(text);
-    return typeof told?.key === "string" ? { tenderer: String(told.tenderer ?? ""), name: String(told.name ?? ""), address: String(told.address ?? ""), key: told.key } : null;
+    return typeof told?.key === "string" ? { tenderer: String(told.tenderer ?? ""), name: String(told.name ?? ""), address: String(told.address ?? ""),
+      key: told.key } : null;
   } catch {
     const key = /(?:[0-9a-f][ \t]*){64}/i.exec(text)?.[0].replace(/\s/g, "");
     return key ? { tenderer: "", name: "", address: "", key } : null;
@@ -47,14 +48,17 @@ async function register(fields, again) {
   const [tenderer, name, address] = [fields.tenderer, fields.name, fields.address].map((one) => one.value().trim());
   const key = fields.key.value().replace(/\s/g, "").toLowerCase();
   const wrong = [
-    [fields.tenderer, !isAskable(tenderer) ? say("id.wrong") : tenderer === "clerk" ? say("tenderer.clerk") : isUsed(journal(), `/tenderers/${tenderer}`) ? say("tenderer.used") : ""],
+    [fields.tenderer, !isAskable(tenderer) ? say("id.wrong") : tenderer === "clerk" ? say("tenderer.clerk") : isUsed(journal(), `/tenderers/${tenderer}`)
+      ? say("tenderer.used") : ""],
     [fields.name, lineText(name)], [fields.address, lineText(address)], [fields.key, /^[0-9a-f]{64}$/.test(key) ? "" : say("tenderer.key.wrong")],
   ].filter(([, sentence]) => sentence !== "");
   if (!allRight(Object.values(fields), wrong)) {
     return;
   }
-  const done = await send({ kind: "tenderer", values: { tenderer, name }, path: `/tenderers/${tenderer}`, body: jsonBody({ name, address, key }), isFinal: true, again: "Exists",
-    says: [say("tenderer.does", { tenderer, name, address }), [say("tenderer.shown"), " ", element("span", { class: "code" }, inGroups(key))], say("tenderer.stays")] });
+  const done = await send({ kind: "tenderer", values: { tenderer, name }, path: `/tenderers/${tenderer}`, body: jsonBody({ name, address, key }),
+    isFinal: true, again: "Exists",
+    says: [say("tenderer.does", { tenderer, name, address }), [say("tenderer.shown"), " ", element("span", { class: "code" }, inGroups(key))],
+      say("tenderer.stays")] });
   if (done) {
     again();
   }

@@ -2,7 +2,8 @@
 import { bytesOf } from "../common/digest.js";
 import { isId } from "../common/csv.js";
 
-export const MOST = { body: 65_536, rows: 500, line: 10 ** 15, amount: 10 ** 12, lots: 20, items: 50, quantity: 10 ** 6, text: 200, validity: 365, standstill: 90 };
+export const MOST = { body: 65_536, rows: 500, line: 10 ** 15, amount: 10 ** 12, lots: 20, items: 50, quantity: 10 ** 6, text: 200, validity: 365,
+  standstill: 90 };
 export const DAY = 86_400_000;
 const LAST_SECOND = Date.UTC(2099, 11, 31, 23, 59, 59);
 /** The text that bytes are in UTF-8, or null where they are none. */
@@ -42,8 +43,8 @@ export function wholeNumber(text, least, most) {
   return number >= least && number <= most ? number : null;
 }
 
-/** What somebody typed or a sheet wrote for a whole number, as its digits: groups of three and places of nothing but 0 are dropped, so `1.200,00` is `1200`. Null
- * where more than this would have to be guessed. */
+/** What somebody typed or a sheet wrote for a whole number, as its digits: groups of three and places of nothing but 0 are dropped, so `1.200,00` is `1200`.
+ * Null where more than this would have to be guessed. */
 export function digitsOf(text) {
   const typed = text.trim().replace(/[.,]0{1,2}$/, "");
   if (/^[0-9]+$/.test(typed)) {
