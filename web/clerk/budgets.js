@@ -75,7 +75,7 @@ function faultTable(faults) {
 }
 
 function values({ value = "", free = 0n, amount = 0 }) {
-  return { value, free, amount };
+  return { value, free, amount, count: Number(value) };
 }
 
 /** Of a number that is none, the sentence is that of all desks. */

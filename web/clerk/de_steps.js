@@ -86,6 +86,7 @@ export default {
   "fail.again": "Los {lot} ist neu zuzuschlagen, dem Nächstbesten.",
   "letters.link": "Schreiben an die Unterlegenen", "letters.title": "Schreiben, Los {lot}", "letters.none": "Noch gibt es keinen Zuschlag.",
   "letters.what": ["1 Schreiben, zum Drucken und Unterschreiben.", "{count} Schreiben, jedes auf einer Seite, zum Drucken und Unterschreiben."],
+  "letters.nobody": "Für dieses Los hat sonst niemand geboten.",
   "letter.subject": "Bekanntmachung {notice}, {title}: Los {lot}, {lottitle}",
   "letter.thanks": "Wir danken für Ihr Angebot (Quittung {receipt}) und müssen Ihnen mitteilen, dass es nicht angenommen wird.",
   "letter.winner": "Der Zuschlag ging an {name} für {price}, am {moment}.", "letter.own": "Ihr Preis: {price}.",
@@ -130,7 +131,7 @@ export default {
   "order.sending": "Es ist gesendet. Die Antwort der Vergabestelle wird erwartet …",
   "order.kept": "Das ist Eintrag {number} des Journals.",
   "order.refused": "Die Vergabestelle hat es abgelehnt. Nichts wurde geändert.",
-  "order.unchanged": "Berichtigen Sie es, und senden Sie es noch einmal.",
+ 
   "order.again": "Noch einmal ansehen",
   "order.open": "Es kam keine Antwort, die sagt, was daraus wurde.",
   "order.asking": "Es wird gefragt, was daraus wurde …",

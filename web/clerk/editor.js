@@ -167,7 +167,7 @@ async function publish(editor, faults) {
     again: "Exists",
     find: () => ofNotice(draft.name),
     says: [[say("editor.does.deadline"), " ", moment(momentText(draft.deadline))], say("editor.does.money", { sum: number(sum), lines: lines.join(", ") }),
-      say("editor.does.lots", { lots: draft.lots.length, items }), say("editor.does.stays")] });
+      say("editor.does.lots", { lots: draft.lots.length, items, count: draft.lots.length }), say("editor.does.stays")] });
   if (done) {
     keepDraft(null);
     location.hash = `#notice/${draft.name}`;

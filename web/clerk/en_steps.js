@@ -73,6 +73,7 @@ export default {
   "fail.again": "Lot {lot} is to be awarded again, to the next best.",
   "letters.link": "Letters to those who didn't win", "letters.title": "Letters, lot {lot}", "letters.none": "There is no award yet.",
   "letters.what": ["1 letter, to print and to sign.", "{count} letters, a page each, to print and to sign."],
+  "letters.nobody": "Nobody else tendered for this lot.",
   "letter.subject": "Notice {notice}, {title}: lot {lot}, {lottitle}",
   "letter.thanks": "We thank you for your tender (receipt {receipt}), and have to tell you that it isn't accepted.",
   "letter.winner": "The lot was awarded to {name} for {price}, on {moment}.", "letter.own": "Your price: {price}.",
@@ -114,7 +115,7 @@ export default {
   "order.sending": "It was sent. The office's answer is waited for …",
   "order.kept": "It is entry {number} of the journal.",
   "order.refused": "The office refused it. Nothing was changed.",
-  "order.unchanged": "Mend it, and send it again.",
+ 
   "order.again": "Look at it again",
   "order.open": "No answer came that says what became of it.",
   "order.asking": "What became of it is asked …",

@@ -19,7 +19,7 @@ export async function drawLetter(again, name, lotId) {
   const winner = lot.tenders.find((one) => `T-${one.tenderer}` === lot.active.suppliers[0].id && !one.isFailed);
   const letters = lot.tenders.filter((one) => one !== winner && !one.isFailed).map((one) => letter(notice, lot, one));
   return { title: say("letters.title", { lot: lotId }), isSheet: true, content: [head, element("p", { class: "noprint" },
-    say("letters.what", { count: letters.length })), back,
+    say(letters.length === 0 ? "letters.nobody" : "letters.what", { count: letters.length })), back,
     ...(letters.length > 0 ? sheet(...letters[0]) : []), ...letters.slice(1).map((parts) => element("div", { class: "sheet" }, ...parts))] };
 }
 

@@ -37,7 +37,7 @@ function outcome(lots, faults, changes) {
     element("li", {}, say(`paste.${code}`, { line: String(line), value, told, name: name ? say(`column.${name}`) : "" })));
   const changed = changes.slice(0, MOST_TOLD).map(({ line, name, value, told }) => element("li", {},
     say("paste.changed", { line: String(line), name: say(`column.${name}`), value, told })));
-  return [lots.length > 0 ? note("good", say("paste.taken", { lots: lots.length, items })) : null,
+  return [lots.length > 0 ? note("good", say("paste.taken", { lots: lots.length, items, count: lots.length })) : null,
     wrong.length > 0 ? note("bad", say("paste.wrong", { count: faults.length }), element("ul", {}, wrong)) : null,
     changed.length > 0 ? note("look", say("paste.read", { count: changes.length }), element("ul", {}, changed)) : null].filter(Boolean);
 }
@@ -75,7 +75,7 @@ function lotPart(editor, lot, at) {
   const id = { maxlength: "32", autocapitalize: "none", spellcheck: "false" };
   const digits = { inputmode: "numeric" };
   const summary = element("summary", {});
-  const entitle = () => summary.replaceChildren(say("lots.lot", { lot: lot.id, title: lot.title, items: lot.items.length }));
+  const entitle = () => summary.replaceChildren(say("lots.lot", { lot: lot.id, title: lot.title, items: lot.items.length, count: lot.items.length }));
   const own = (name, options) => {
     const made = bound(editor, `${path}.${name}`, lot, name, options);
     made.input.addEventListener("input", entitle);

@@ -124,7 +124,7 @@ function receipt(state, text) {
 function drawDone(state, { value, answer }) {
   state.value = value;
   const { kind, values = {} } = state.order;
-  draw(state, note("good", say(`order.${kind}.done`, { ...values, ...flat(value) }), receipt(state, answer.text)), [closing(state)]);
+  draw(state, note("good", say(`order.${kind}.done`, { ...values, ...flat(value), count: value.opened ?? 0 }), receipt(state, answer.text)), [closing(state)]);
   focusFirst(state);
 }
 
@@ -144,7 +144,7 @@ function drawRefused(state, fault) {
     draw(state, note("good", say("order.found.done"), receipt(state, fault.text)), [closing(state)]);
   } else {
     const advice = `order.${order.kind}.after.${fault.name}`;
-    draw(state, note("bad", say("order.refused"), order.explain?.(fault) ?? sentenceOf(fault), hasText(advice) ? say(advice) : say("order.unchanged"),
+    draw(state, note("bad", say("order.refused"), order.explain?.(fault) ?? sentenceOf(fault), hasText(advice) ? say(advice) : "",
       receipt(state, fault.text ?? "")), [button(say("order.again"), () => drawAsked(state)), closing(state)]);
   }
   focusFirst(state);
