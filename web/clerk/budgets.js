@@ -8,11 +8,24 @@ import { changesOf, readBudget } from "./budget.js";
 import { ofBudget } from "./fate.js";
 import { allRight, dropped, field, form, note, section, table } from "./forms.js";
 import { isUsed } from "./known.js";
-import { send } from "./send.js";
+import { sendThen } from "./send.js";
 import { journal } from "./session.js";
 import { MOST, isAskable } from "./values.js";
 
 const MOST_SHOWN = 50;
+const COLUMNS = ["appropriation", "free", "reserved", "contracted", "paid"];
+// In the order in which a bar has them.
+const POTS = ["paid", "contracted", "reserved", "free"];
+// The titles of lines, which change with a budget file alone: the front takes only so many looks a second.
+const titles = new Map();
+
+/** The title of a line, or null where it can't be had. */
+async function titleOf(name) {
+  if (!titles.has(name)) {
+    titles.set(name, await lineOf(name).then(({ title }) => title, () => null));
+  }
+  return titles.get(name);
+}
 
 export async function drawBudget(again) {
   const lines = await ledger();
@@ -21,9 +34,14 @@ export async function drawBudget(again) {
     place.replaceChildren(...await checked(file.name, await bytesOfFile(file), new Map(lines.map((one) => [one.line, one])), again));
     place.querySelector("h3")?.focus();
   };
+  const file = section(say("budget.file"), dropped(say("budget.drop"), say("budget.drop.hint"), ".csv,text/csv", take), place);
   return { title: say("page.budget"), content: [element("h1", { tabindex: "-1" }, say("page.budget")), element("p", { class: "intro" }, say("budget.intro")),
-    section(say("budget.file"), dropped(say("budget.drop"), say("budget.drop.hint"), ".csv,text/csv", take), place),
-      section(say("budget.lines"), lineTable(lines))] };
+    file, section(say("budget.lines"), lineTable(lines))] };
+}
+
+/** Parts of a bar, each with the amount that is told of its pot. */
+function partsOf(amountOf) {
+  return POTS.map((kind) => ({ kind, name: say(`pot.${kind}`), amount: amountOf(kind) }));
 }
 
 /** The lines that are there, with a bar of their four pots. */
@@ -31,29 +49,35 @@ function lineTable(lines) {
   if (lines.length === 0) {
     return element("p", {}, say("budget.none"));
   }
-  const pots = ["paid", "contracted", "reserved", "free"];
-  const heads = [[say("line"), false], ...["appropriation", "free", "reserved", "contracted", "paid"].map((name) => [say(`pot.${name}`), true]),
-    [say("budget.bar"), false]];
-  const rows = lines.slice(0, MOST_SHOWN).map((one) => [titled(one.line), ...["appropriation", "free", "reserved", "contracted", "paid"].map((name) =>
-    number(one[name])),
-    bar(`${say("line")} ${one.line}`, pots.map((kind) => ({ kind, name: say(`pot.${kind}`), amount: one[kind] })))]);
-  const keys = legend(pots.map((kind) => ({ kind, name: say(`pot.${kind}`), amount: lines.reduce((sum, one) => sum + one[kind], 0) })), "");
-  const more = lines.length > MOST_SHOWN ? element("p", { class: "quiet" }, say("budget.more", { count: lines.length - MOST_SHOWN })) : null;
-  return [table(say("budget.table"), heads, rows), element("p", { class: "quiet" }, say("budget.sums")), keys, more];
+  const heads = [[say("line"), false], ...COLUMNS.map((name) => [say(`pot.${name}`), true]), [say("budget.bar"), false]];
+  const rows = lines.slice(0, MOST_SHOWN).map((one) => [titled(one.line), ...COLUMNS.map((name) => number(one[name])),
+    bar(`${say("line")} ${one.line}`, partsOf((kind) => one[kind]))]);
+  return [table(say("budget.table"), heads, rows), andMore(lines), sums(lines)];
+}
+
+/** That there are more than are shown. */
+function andMore(list) {
+  return list.length > MOST_SHOWN ? element("p", { class: "quiet" }, say("budget.more", { count: list.length - MOST_SHOWN })) : null;
+}
+
+/** What all lines have together, where a Number holds it. */
+function sums(lines) {
+  const all = partsOf((kind) => lines.reduce((sum, one) => sum + one[kind], 0));
+  return all.every(({ amount }) => Number.isSafeInteger(amount)) ? [element("p", { class: "quiet" }, say("budget.sums")), legend(all, "")] : [];
 }
 
 /** A line's identifier, with its title once that has come. */
 function titled(name) {
-  const title = element("span", { class: "quiet below" });
-  lineOf(name).then((one) => title.append(given(one.title)), () => {});
-  return [name, title];
+  const place = element("span", { class: "quiet below" });
+  titleOf(name).then((title) => place.append(given(title ?? "")));
+  return [name, place];
 }
 
 /** What a file says, what is wrong in it, what it would change, and the form that sends it. */
 async function checked(name, bytes, lines, again) {
   const reading = readBudget(bytes);
-  const head = element("h3", { tabindex: "-1" }, name, " ", element("span", { class: "quiet" },
-    say("budget.size", { bytes: bytes.length, rows: reading.rows.length })));
+  const size = say("budget.size", { bytes: bytes.length, rows: reading.rows.length });
+  const head = element("h3", { tabindex: "-1" }, name, " ", element("span", { class: "quiet" }, size));
   const { changes, faults } = changesOf(reading.rows, lines);
   const all = [...reading.faults, ...(reading.faults.length === 0 ? faults : []), ...limits(reading)];
   if (all.length > 0) {
@@ -63,15 +87,14 @@ async function checked(name, bytes, lines, again) {
 }
 
 function limits({ bytes, rows }) {
-  return [...(bytes > MOST.body ? [{ line: 1, code: "size", value: bytes }] : []), ...(rows.length > MOST.rows
-    ? [{ line: 1, code: "many", value: rows.length }] : [])];
+  return [...(bytes > MOST.body ? [{ line: 1, code: "size", value: bytes }] : []),
+    ...(rows.length > MOST.rows ? [{ line: 1, code: "many", value: rows.length }] : [])];
 }
 
 function faultTable(faults) {
   const heads = [[say("budget.fileline"), true], [say("budget.wrong"), false], [say("budget.mend"), false]];
   const rows = faults.slice(0, MOST_SHOWN).map((fault) => [number(fault.line), wrongText(fault), mendText(fault)]);
-  const more = faults.length > MOST_SHOWN ? [element("p", { class: "quiet" }, say("budget.more", { count: faults.length - MOST_SHOWN }))] : [];
-  return element("div", {}, table(say("budget.faults"), heads, rows), more);
+  return element("div", {}, table(say("budget.faults"), heads, rows), andMore(faults));
 }
 
 function values({ value = "", free = 0n, amount = 0 }) {
@@ -93,39 +116,47 @@ function mendText(fault) {
 
 /** What each line has before and after, and its title where another one comes. */
 async function changeTable(changes) {
-  const titles = await Promise.all(changes.slice(0, MOST_SHOWN).map(({ id, isNew }) => (isNew ? null : lineOf(id).then(({ title }) => title, () => null))));
+  const before = await Promise.all(changes.slice(0, MOST_SHOWN).map(({ id, isNew }) => (isNew ? null : titleOf(id))));
   const heads = [[say("line"), false], [say("budget.appropriation"), true], [say("budget.difference"), true], [say("budget.free"), true],
     [say("budget.newtitle"), false]];
-  const step = (before, after) => [number(before), " → ", element("b", {}, number(after))];
+  const step = (from, to) => [number(from), " → ", element("b", {}, number(to))];
   const rows = changes.slice(0, MOST_SHOWN).map((change, at) => {
     const difference = change.appropriation - change.before.appropriation;
-    const title = titles[at] === null || titles[at] === change.title ? given(change.title) : [given(titles[at]), " → ", element("b", {}, given(change.title))];
-    return [[change.id, change.isNew ? element("span", { class: "quiet below" }, say("budget.new")) : ""],
-      step(change.before.appropriation, change.appropriation),
-      `${difference < 0n ? "−" : "+"}${number(difference < 0n ? -difference : difference)}`, step(change.before.free, change.free), title];
+    const isSame = before[at] === null || before[at] === change.title;
+    const title = isSame ? given(change.title) : [given(before[at]), " → ", element("b", {}, given(change.title))];
+    const name = [change.id, change.isNew ? element("span", { class: "quiet below" }, say("budget.new")) : ""];
+    return [name, step(change.before.appropriation, change.appropriation), signed(difference), step(change.before.free, change.free), title];
   });
-  const more = changes.length > MOST_SHOWN ? [element("p", { class: "quiet" }, say("budget.more", { count: changes.length - MOST_SHOWN }))] : [];
-  return element("div", {}, table(say("budget.changes"), heads, rows), more);
+  return element("div", {}, table(say("budget.changes"), heads, rows), andMore(changes));
+}
+
+/** The name that a file may have in the office, from that which it has here. */
+function nameOf(file) {
+  return file.replace(/\.csv$/i, "").replace(/[^A-Za-z0-9_.-]/g, "-").slice(0, 32);
 }
 
 function sending(name, bytes, changes, again) {
-  const batch = field({ label: say("budget.batch"), hint: say("budget.batch.hint"), value: name.replace(/\.csv$/i, "").replace(/[^A-Za-z0-9_.-]/g,
-    "-").slice(0, 32),
+  const batch = field({ label: say("budget.batch"), hint: say("budget.batch.hint"), value: nameOf(name),
     more: { maxlength: "32", autocapitalize: "none", spellcheck: "false" } });
-  const run = async () => {
+  const run = () => {
     const typed = batch.value().trim();
-    const wrong = !isAskable(typed) ? say("id.wrong") : isUsed(journal(), `/budget/${typed}`) ? say("budget.used") : "";
-    if (!allRight([batch], wrong ? [[batch, wrong]] : [])) {
-      return;
-    }
-    const sum = changes.reduce((all, change) => all + change.appropriation - change.before.appropriation, 0n);
-    const done = await send({ kind: "budget", values: { batch: typed }, path: `/budget/${typed}`, body: bytes, again: "Exists", find: () => ofBudget(changes),
-      says: [say("budget.does", { count: changes.length, sum: `${sum < 0n ? "−" : "+"}${number(sum < 0n ? -sum : sum)}` }),
-        say("budget.once", { batch: typed })],
-      explain: (fault) => (/^row \d+$/.test(fault.what) ? say("budget.row", { row: fault.what.slice(4) }) : sentenceOf(fault)) });
-    if (done) {
-      again();
+    if (allRight([[batch, !isAskable(typed) ? say("id.wrong") : isUsed(journal(), `/budget/${typed}`) ? say("budget.used") : ""]])) {
+      sendThen(importOrder(typed, bytes, changes), () => {
+        titles.clear();
+        again();
+      });
     }
   };
   return form(say("budget.send"), [batch.element], say("budget.send"), run);
+}
+
+function signed(amount) {
+  return `${amount < 0n ? "−" : "+"}${number(amount < 0n ? -amount : amount)}`;
+}
+
+function importOrder(batch, bytes, changes) {
+  const sum = changes.reduce((all, change) => all + change.appropriation - change.before.appropriation, 0n);
+  return { kind: "budget", values: { batch }, path: `/budget/${batch}`, body: bytes, again: "Exists", find: () => ofBudget(changes),
+    says: [say("budget.does", { count: changes.length, sum: signed(sum) }), say("budget.once", { batch })],
+    explain: (fault) => (/^row \d+$/.test(fault.what) ? say("budget.row", { row: fault.what.slice(4) }) : sentenceOf(fault)) };
 }

@@ -7,7 +7,7 @@ import { say } from "../common/texts.js";
 import { ofRelease, own } from "./fate.js";
 import { allRight, button, field, form, lineText, section, table } from "./forms.js";
 import { entriesOf, usesOf } from "./known.js";
-import { jsonBody, send } from "./send.js";
+import { jsonBody, sendThen } from "./send.js";
 import { caller, journal, recordsSeen } from "./session.js";
 import { MOST, wholeNumber } from "./values.js";
 
@@ -17,7 +17,7 @@ export function contractParts(notice, again) {
 }
 
 /** What was paid of a contract, what it is worth, and what is outstanding. */
-export function sumsOf(contract) {
+function sumsOf(contract) {
   const paid = (contract.implementation?.transactions ?? []).reduce((sum, { value }) => sum + value.amount, 0);
   const isEnded = contract.status === "terminated";
   return { worth: contract.value.amount, paid, isEnded, outstanding: isEnded ? 0 : contract.value.amount - paid };
@@ -26,41 +26,55 @@ export function sumsOf(contract) {
 function contractPart(notice, lot, again) {
   const { contract } = lot;
   const sums = sumsOf(contract);
-  const { currency } = notice;
+  // What stands in the texts of this contract, and in its orders.
+  const contracted = { notice, lot, contract, sums, again, amount: (units) => money(units, notice.currency) };
+  const name = say("contract", { contract: contract.id });
+  const state = sums.isEnded ? badge("done", say("contract.ended")) : badge("running", say("contract.runs"));
+  return element("article", { class: "card", "aria-label": name },
+    element("h3", {}, name, " ", given(lot.active.suppliers[0].name), " ", state),
+    facts([[say("column.lot"), lot.id], [say("contract.worth"), contracted.amount(sums.worth)], [say("contract.paid"), contracted.amount(sums.paid)],
+      [say("contract.outstanding"), contracted.amount(sums.outstanding)], [say("contract.dated"), moment(contract.dateSigned)]]),
+    paidBar(contracted, name), entryTable(contracted), performancePart(contracted),
+    ...(sums.isEnded ? [] : [payPart(contracted), changePart(contracted), endPart(contracted)]));
+}
+
+/** How much of a contract is paid. */
+function paidBar({ sums, notice }, name) {
   const left = Math.max(sums.worth - sums.paid, 0);
   const rest = sums.isEnded ? { kind: "free", name: say("contract.freed"), amount: left }
     : { kind: "contracted", name: say("contract.outstanding"), amount: left };
   const parts = [{ kind: "paid", name: say("contract.paid"), amount: sums.paid }, rest];
-  const order = { notice, lot, contract, sums, again };
-  return element("article", { class: "card", "aria-label": say("contract", { contract: contract.id }) },
-    element("h3", {}, say("contract", { contract: contract.id }), " ", given(lot.active.suppliers[0].name), " ", sums.isEnded
-      ? badge("done", say("contract.ended")) : badge("running", say("contract.runs"))),
-    facts([[say("column.lot"), lot.id], [say("contract.worth"), money(sums.worth, currency)], [say("contract.paid"), money(sums.paid, currency)],
-      [say("contract.outstanding"), money(sums.outstanding, currency)], [say("contract.dated"), moment(contract.dateSigned)]]),
-    bar(say("contract", { contract: contract.id }), parts), legend(parts, ` ${currency}`), entryTable(contract, currency), performancePart(contract, currency),
-    ...(sums.isEnded ? [] : [payPart(order), changePart(order), endPart(order)]));
+  return [bar(name, parts), legend(parts, ` ${notice.currency}`)];
 }
 
-function entryTable(contract, currency) {
+function entryTable({ contract, amount }) {
   const entries = entriesOf(contract);
   if (entries.length === 0) {
     return element("p", {}, say("contract.noentries"));
   }
   const heads = [[say("contract.entry"), false], [say("contract.when"), false], [say("contract.what"), false], [say("contract.amount"), true]];
-  return table(say("contract.entries"), heads, entries.map(({ id, date, kind, amount, description, rationale }) => [id, moment(date),
-    kind === "payment" ? say("contract.payment") : [say(/^Raised/.test(description) ? "contract.raise" : "contract.cut"), ": ", given(rationale)],
-    money(kind === "payment" ? amount : Number(/\d+/.exec(description)?.[0] ?? 0), currency)]));
+  return table(say("contract.entries"), heads, entries.map((entry) => [entry.id, moment(entry.date), ...whatAndAmount(entry, amount)]));
+}
+
+/** A payment tells its amount, and a change tells it in words alone. */
+function whatAndAmount({ kind, amount, description, rationale }, shown) {
+  if (kind === "payment") {
+    return [say("contract.payment"), shown(amount)];
+  }
+  const word = say(/^Raised/.test(description) ? "contract.raise" : "contract.cut");
+  return [[word, ": ", given(rationale)], shown(Number(/\d+/.exec(description)?.[0] ?? 0))];
 }
 
 /** The performance security, for whom it concerns. */
-function performancePart(contract, currency) {
+function performancePart({ contract, amount }) {
   const place = element("p", {});
-  if (caller() === null) {
-    return place;
+  const held = ({ reference, amount: units, state }) => {
+    place.append(say("contract.performance", { reference, amount: amount(units), state: say(`security.${state}`) }));
+  };
+  const none = (fault) => place.append(fault.name === "NoSuch" ? say("contract.noperformance") : sentenceOf(fault));
+  if (caller() !== null) {
+    performance(contract.id, caller()).then(held, none);
   }
-  performance(contract.id, caller()).then((one) => place.append(say("contract.performance",
-    { reference: one.reference, amount: money(one.amount, currency), state: say(`security.${one.state}`) })),
-    (fault) => place.append(fault.name === "NoSuch" ? say("contract.noperformance") : sentenceOf(fault)));
   return place;
 }
 
@@ -72,10 +86,13 @@ function amountField(hint) {
   return field({ label: say("contract.amount"), hint, more: { inputmode: "numeric" } });
 }
 
-/** The amount that is typed, and why it is none, or more than may be. */
-function amountOf(one, most, tooMuch) {
-  const units = wholeNumber(one.value().replace(/[\s\u00a0\u202f]/g, ""), 1, MOST.amount);
-  return [units, units === null ? say("amount.wrong") : units > most ? tooMuch : ""];
+function unitsOf(one) {
+  return wholeNumber(one.value().replace(/[\s\u00a0\u202f]/g, ""), 1, MOST.amount);
+}
+
+/** Why an amount is none, or more than may be. */
+function amountFault(units, most, tooMuch) {
+  return units === null ? say("amount.wrong") : units > most ? tooMuch : "";
 }
 
 function idFault(one, contract) {
@@ -83,82 +100,93 @@ function idFault(one, contract) {
   return !isId(typed) ? say("id.wrong") : entriesOf(contract).some(({ id }) => id === typed) ? say("contract.used") : "";
 }
 
-/** A payment, with a warning where its identifier, or its amount, was there before. */
-function payPart({ notice, contract, sums, again }) {
-  const [id, amount] = [identity(), amountField(say("pay.most", { amount: money(sums.outstanding, notice.currency) }))];
+/** That a payment's identifier, or its amount, was there before; or nothing. */
+function warningOf({ contract, amount }, typed, units) {
+  const elsewhere = typed === "" ? [] : usesOf(journal(), [...recordsSeen().values()], typed, contract.id);
+  const same = entriesOf(contract).find((one) => one.kind === "payment" && one.amount === units);
+  return [elsewhere.length > 0 ? say("pay.elsewhere", { id: typed, contracts: elsewhere.join(", ") }) : "",
+    same ? say("pay.same", { id: same.id, amount: amount(units) }) : ""].join(" ").trim();
+}
+
+function payPart(contracted) {
+  const { contract, sums, again, amount } = contracted;
+  const most = say("pay.most", { amount: amount(sums.outstanding) });
+  const [id, sum] = [identity(), amountField(most)];
   const warning = element("p", { class: "wrong", role: "status" });
-  const warn = () => {
-    const typed = id.value().trim();
-    const elsewhere = typed === "" ? [] : usesOf(journal(), [...recordsSeen().values()], typed, contract.id);
-    const units = wholeNumber(amount.value().replace(/\s/g, ""), 1, MOST.amount);
-    const same = entriesOf(contract).find((one) => one.kind === "payment" && one.amount === units);
-    warning.textContent = [elsewhere.length > 0 ? say("pay.elsewhere", { id: typed, contracts: elsewhere.join(", ") }) : "", same
-      ? say("pay.same", { id: same.id, amount: money(units, notice.currency) }) : ""].join(" ").trim();
-    return warning.textContent;
-  };
+  const warn = () => { warning.textContent = warningOf(contracted, id.value().trim(), unitsOf(sum)); };
   id.input.addEventListener("input", warn);
-  amount.input.addEventListener("input", warn);
-  const run = async () => {
-    const [units, wrong] = amountOf(amount, sums.outstanding, say("pay.most", { amount: money(sums.outstanding, notice.currency) }));
-    if (!allRight([id, amount], [[id, idFault(id, contract)], [amount, wrong]].filter(([, sentence]) => sentence !== ""))) {
-      return;
-    }
-    const typed = id.value().trim();
-    const done = await send({ kind: "pay", values: { contract: contract.id }, path: `/contracts/${contract.id}/pay`,
-      body: jsonBody({ id: typed, amount: units }), isFinal: true, again: "Exists",
-      find: () => ofRelease(notice.name, notice.releases.length, own.pay(contract.id, typed)),
-      says: [say("pay.does", { amount: money(units, notice.currency), id: typed }), say("pay.left",
-        { amount: money(sums.outstanding - units, notice.currency) }), ...(warn() ? [element("span", { class: "wrong" }, warn())] : [])] });
-    if (done) {
-      again();
+  sum.input.addEventListener("input", warn);
+  const run = () => {
+    const units = unitsOf(sum);
+    if (allRight([[id, idFault(id, contract)], [sum, amountFault(units, sums.outstanding, most)]])) {
+      sendThen(payOrder(contracted, { id: id.value().trim(), amount: units }), again);
     }
   };
   return sums.outstanding === 0 ? element("p", {}, say("pay.nothing"))
-    : element("div", {}, element("h4", {}, say("pay.title")), form(say("pay.title"), [id.element, amount.element, warning], say("pay.send"), run));
+    : element("div", {}, element("h4", {}, say("pay.title")), form(say("pay.title"), [id.element, sum.element, warning], say("pay.send"), run));
+}
+
+/** What all orders of a contract share: its release is one behind those that were seen. */
+function orderOf({ notice, contract }, kind, path, body, isOwn, rest) {
+  return { kind, values: { contract: contract.id }, path: `/contracts/${contract.id}/${path}`, body: jsonBody(body),
+    find: () => ofRelease(notice.name, notice.releases.length, isOwn), ...rest };
+}
+
+function payOrder(contracted, body) {
+  const { contract, sums, amount } = contracted;
+  const warning = warningOf(contracted, body.id, body.amount);
+  const says = [say("pay.does", { amount: amount(body.amount), id: body.id }), say("pay.left", { amount: amount(sums.outstanding - body.amount) }),
+    ...(warning ? [element("span", { class: "wrong" }, warning)] : [])];
+  return orderOf(contracted, "pay", "pay", body, own.pay(contract.id, body.id), { says, isFinal: true, again: "Exists" });
 }
 
 /** A raise takes what the line has free; a cut frees what is outstanding. */
-function changePart({ notice, lot, contract, sums, again }) {
-  const kind = field({ label: say("change.kind"), kind: "choice", options: [["raise", say("contract.raise")], ["cut", say("contract.cut")]], value: "raise" });
-  const [id, amount, why] = [identity(), amountField(say("change.hint", { amount: money(sums.outstanding, notice.currency) })),
-    field({ label: say("rationale"), hint: say("rationale.hint") })];
-  const free = element("p", { class: "quiet" });
-  const budgetLine = notice.terms?.lots.get(lot.id)?.line;
-  if (budgetLine) {
-    line(budgetLine).then((one) => free.append(say("change.free", { line: budgetLine, free: money(one.free, notice.currency) })), () => {});
-  }
-  const run = async () => {
-    const isCut = kind.value() === "cut";
-    const [units, wrong] = amountOf(amount, isCut ? sums.outstanding : Infinity, say("change.most", { amount: money(sums.outstanding, notice.currency) }));
-    const rationale = why.value().trim();
-    if (!allRight([id, amount, why], [[id, idFault(id, contract)], [amount, wrong], [why, lineText(rationale)]].filter(([, sentence]) => sentence !== ""))) {
-      return;
-    }
-    const typed = id.value().trim();
-    const done = await send({ kind: "change", values: { contract: contract.id }, path: `/contracts/${contract.id}/amend`,
-      body: jsonBody({ id: typed, kind: kind.value(), amount: units, rationale }), isFinal: true, again: "Exists",
-      find: () => ofRelease(notice.name, notice.releases.length, own.change(contract.id, typed)),
-      says: [say(`change.does.${kind.value()}`, { amount: money(units, notice.currency), after: money(sums.worth + (isCut ? -units : units),
-        notice.currency) }), say("published.reason")] });
-    if (done) {
-      again();
+function changePart(contracted) {
+  const { contract, sums, again, amount } = contracted;
+  const kinds = [["raise", say("contract.raise")], ["cut", say("contract.cut")]];
+  const kind = field({ label: say("change.kind"), kind: "choice", options: kinds, value: "raise" });
+  const [id, sum] = [identity(), amountField(say("change.hint", { amount: amount(sums.outstanding) }))];
+  const why = field({ label: say("rationale"), hint: say("rationale.hint") });
+  const run = () => {
+    const [units, rationale] = [unitsOf(sum), why.value().trim()];
+    const most = kind.value() === "cut" ? sums.outstanding : Infinity;
+    const tooMuch = say("change.most", { amount: amount(sums.outstanding) });
+    if (allRight([[id, idFault(id, contract)], [sum, amountFault(units, most, tooMuch)], [why, lineText(rationale)]])) {
+      sendThen(changeOrder(contracted, { id: id.value().trim(), kind: kind.value(), amount: units, rationale }), again);
     }
   };
-  return element("details", {}, element("summary", {}, say("change.title")), free, form(say("change.title"),
-    [kind.element, id.element, amount.element, why.element], say("change.send"), run));
+  const fields = [kind.element, id.element, sum.element, why.element];
+  return element("details", {}, element("summary", {}, say("change.title")), freePart(contracted), form(say("change.title"), fields, say("change.send"), run));
 }
 
-function endPart({ notice, contract, sums, again }) {
-  const end = async (how) => {
-    const says = [say(`end.does.${how}`), ...(sums.outstanding > 0 ? [say("end.frees", { amount: money(sums.outstanding, notice.currency) })] : []),
-      say("end.stays")];
-    const done = await send({ kind: "end", values: { contract: contract.id }, path: `/contracts/${contract.id}/end`, body: jsonBody({ how }),
-      ...(how === "default" ? { word: say("end.word") } : { isFinal: true }),
-      again: "ContractEnded", find: () => ofRelease(notice.name, notice.releases.length, own.end(contract.id)), says });
-    if (done) {
-      again();
-    }
-  };
+/** What the lot's line has free, where the line is known here. */
+function freePart({ notice, lot, amount }) {
+  const place = element("p", { class: "quiet" });
+  const name = notice.terms?.lots.get(lot.id)?.line;
+  if (name) {
+    line(name).then((one) => place.append(say("change.free", { line: name, free: amount(one.free) })), () => {});
+  }
+  return place;
+}
+
+function changeOrder(contracted, body) {
+  const { contract, sums, amount } = contracted;
+  const after = sums.worth + (body.kind === "cut" ? -body.amount : body.amount);
+  const says = [say(`change.does.${body.kind}`, { amount: amount(body.amount), after: amount(after) }), say("published.reason")];
+  return orderOf(contracted, "change", "amend", body, own.change(contract.id, body.id), { says, isFinal: true, again: "Exists" });
+}
+
+function endPart(contracted) {
+  const end = (how) => () => sendThen(endOrder(contracted, how), contracted.again);
   return element("details", {}, element("summary", {}, say("end.title")), element("p", {}, say("end.what")),
-    element("div", { class: "steps" }, button(say("end.regular"), () => end("regular")), button(say("end.default"), () => end("default"), "harm")));
+    element("div", { class: "steps" }, button(say("end.regular"), end("regular")), button(say("end.default"), end("default"), "harm")));
+}
+
+/** A default is confirmed by its word: the security is lost. */
+function endOrder(contracted, how) {
+  const { contract, sums, amount } = contracted;
+  const freed = sums.outstanding > 0 ? [say("end.frees", { amount: amount(sums.outstanding) })] : [];
+  const sure = how === "default" ? { word: say("end.word") } : { isFinal: true };
+  const says = [say(`end.does.${how}`), ...freed, say("end.stays")];
+  return orderOf(contracted, "end", "end", { how }, own.end(contract.id), { says, ...sure, again: "ContractEnded" });
 }

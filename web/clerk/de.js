@@ -26,6 +26,7 @@ export default {
   "amount.wrong": "Eine ganze Zahl von 1 bis 1.000.000.000.000: nur Ziffern.",
   "text.empty": "Das fehlt.", "text.control": "Ein Zeilenumbruch, ein Tabulator oder ein anderes Steuerzeichen steht darin.",
   "text.coding": "Ein Zeichen darin lässt sich nicht schreiben.", "text.long": "Das ist zu lang: höchstens 200 Byte, wobei ein Umlaut für zwei zählt.",
+  "kind.fault": "In dieser Seite ist etwas schiefgegangen. Sichern Sie das Journal, bevor Sie sie neu laden: Der Schlüssel wird dann neu verlangt.",
   "page.today": "Heute", "page.budget": "Haushalt", "page.tenderers": "Bieter", "page.new": "Neue Bekanntmachung", "page.journal": "Journal",
   "key.bar": "Schlüssel", "key.held": "{who} hat in diesem Reiter den Schlüssel der Vergabestelle.",
   "key.none": "Ohne Schlüssel: Sie sehen, was öffentlich ist, und können nichts senden.", "key.give": "Schlüssel eingeben", "key.forget": "Schlüssel vergessen",

@@ -5,7 +5,7 @@ import { officeNow, registerText, security, sentenceOf } from "../common/office.
 import { say } from "../common/texts.js";
 import { ofRelease, own } from "./fate.js";
 import { allRight, button, field, form, lineText, note, section, table } from "./forms.js";
-import { jsonBody, send } from "./send.js";
+import { jsonBody, sendThen } from "./send.js";
 import { caller } from "./session.js";
 import { localMilliseconds, localText, momentText } from "./values.js";
 
@@ -13,7 +13,7 @@ import { localMilliseconds, localText, momentText } from "./values.js";
 const BETWEEN = 15;
 
 export function movePart(notice, again) {
-  const { name, stage } = notice;
+  const { stage } = notice;
   const later = field({ label: say("move.deadline"), hint: say("editor.deadline.hint"), kind: "datetime-local", value: localText(stage.deadline),
     more: { step: "1" } });
   const told = element("p", { class: "quiet" });
@@ -24,45 +24,42 @@ export function movePart(notice, again) {
   };
   later.input.addEventListener("input", tell);
   tell();
-  const run = async () => {
-    const found = localMilliseconds(later.value());
-    const wrong = [[later, found === null ? say("fault.deadline") : found <= stage.deadline ? say("move.earlier") : ""], [why, lineText(why.value().trim())]];
-    if (!allRight([later, why], wrong.filter(([, sentence]) => sentence !== ""))) {
-      return;
-    }
-    const deadline = momentText(found);
-    const done = await send({ kind: "amend", values: { notice: name }, path: `/notices/${name}/amend`,
-      body: jsonBody({ deadline, rationale: why.value().trim() }), isFinal: true, again: null,
-      find: () => ofRelease(name, notice.releases.length, own.amend(deadline)), says: [[say("move.does"), " ", moment(deadline)], say("published.reason"),
-        say("move.stays")] });
-    if (done) {
-      again();
+  const run = () => {
+    const [found, rationale] = [localMilliseconds(later.value()), why.value().trim()];
+    const wrong = found === null ? say("fault.deadline") : found <= stage.deadline ? say("move.earlier") : "";
+    if (allRight([[later, wrong], [why, lineText(rationale)]])) {
+      sendThen(moveOrder(notice, { deadline: momentText(found), rationale }), again);
     }
   };
-  return section(say("move.title"), element("details", {}, element("summary", {}, say("move.open")),
-    form(say("move.title"), [later.element, told, why.element], say("move.send"), run)));
+  const fields = [later.element, told, why.element];
+  return section(say("move.title"), element("details", {}, element("summary", {}, say("move.open")), form(say("move.title"), fields, say("move.send"), run)));
+}
+
+function moveOrder({ name, releases }, body) {
+  return { kind: "amend", values: { notice: name }, path: `/notices/${name}/amend`, body: jsonBody(body), isFinal: true,
+    says: [[say("move.does"), " ", moment(body.deadline)], say("published.reason"), say("move.stays")],
+    // (sent again it would be moved again)
+    again: null, find: () => ofRelease(name, releases.length, own.amend(body.deadline)) };
 }
 
 export function cancelPart(notice, again) {
-  const { name, stage } = notice;
   const why = field({ label: say("rationale"), hint: say("rationale.hint") });
-  const ending = stage.lots.filter(({ state }) => ["sealed", "undecided", "awarded"].includes(state)).map(({ id }) => id);
-  const run = async () => {
-    if (!allRight([why], lineText(why.value().trim()) ? [[why, lineText(why.value().trim())]] : [])) {
-      return;
-    }
-    const done = await send({ kind: "cancel", values: { notice: name }, path: `/notices/${name}/cancel`, body: jsonBody({ rationale: why.value().trim() }),
-      word: say("cancel.word"),
-      again: "NothingToCancel", find: () => ofRelease(name, notice.releases.length, own.cancel()),
-      says: [say("cancel.does", { lots: ending.join(", "), count: ending.length }), say(stage.kind === "opened" ? "cancel.opened" : "cancel.sealed"),
-        say("published.reason"), say("cancel.stays")] });
-    if (done) {
-      again();
+  const lots = notice.stage.lots.filter(({ state }) => ["sealed", "undecided", "awarded"].includes(state)).map(({ id }) => id);
+  const ending = { lots: lots.join(", "), count: lots.length };
+  const run = () => {
+    const rationale = why.value().trim();
+    if (allRight([[why, lineText(rationale)]])) {
+      sendThen(cancelOrder(notice, ending, { rationale }), again);
     }
   };
-  return section(say("cancel.title"), element("details", {}, element("summary", {}, say("cancel.open")),
-    element("p", {}, say("cancel.what", { lots: ending.join(", "), count: ending.length })),
+  return section(say("cancel.title"), element("details", {}, element("summary", {}, say("cancel.open")), element("p", {}, say("cancel.what", ending)),
     form(say("cancel.title"), [why.element], say("cancel.send"), run, "harm")));
+}
+
+function cancelOrder({ name, stage, releases }, ending, body) {
+  return { kind: "cancel", values: { notice: name }, path: `/notices/${name}/cancel`, body: jsonBody(body), word: say("cancel.word"),
+    says: [say("cancel.does", ending), say(stage.kind === "opened" ? "cancel.opened" : "cancel.sealed"), say("published.reason"), say("cancel.stays")],
+    again: "NothingToCancel", find: () => ofRelease(name, releases.length, own.cancel()) };
 }
 
 /** The register, asked again while it is shown and may grow. */
@@ -70,17 +67,19 @@ export function registerPart(notice) {
   if (caller() === null) {
     return section(say("register.title"), element("p", {}, say("register.key"), " ", element("a", { href: "#key" }, say("key.give"))));
   }
-  const place = element("div", {});
+  const [place, looked] = [element("div", {}), element("p", { class: "quiet" })];
   const shown = { text: null };
   const look = async () => {
     try {
       const text = await registerText(notice.name, caller());
+      // Where nothing came, what was looked at stays open.
       if (text !== shown.text) {
         shown.text = text;
         place.replaceChildren(...registerTable(text));
       }
+      looked.replaceChildren(say("register.looked"), " ", moment(momentText(officeNow())));
     } catch (fault) {
-      place.replaceChildren(note("bad", sentenceOf(fault)));
+      looked.replaceChildren(note("bad", sentenceOf(fault)));
     }
   };
   look();
@@ -92,7 +91,7 @@ export function registerPart(notice) {
     }
   }, BETWEEN * 1000);
   const grows = notice.stage.kind === "receiving" ? element("p", { class: "quiet" }, say("register.grows", { seconds: BETWEEN })) : null;
-  return section(say("register.title"), element("p", {}, say("register.what")), grows, place);
+  return section(say("register.title"), element("p", {}, say("register.what")), grows, place, looked);
 }
 
 function registerTable(text) {
@@ -106,10 +105,10 @@ function registerTable(text) {
   }
   const heads = [[say("receipt"), true], [say("column.lot"), false], [say("register.came"), false], [say("register.length"), true], [say("state"), false],
     [say("register.security"), false]];
-  const cells = rows.map(([receipt, lot, came, length, state]) => [receipt, lot, moment(came), number(Number(length)), say(`tender.${state}`),
-    securityLook(receipt)]);
-  return [element("p", {}, say("register.counts", { counts: [...counts].map(([lot, count]) => `${lot}: ${count}`).join(", "), at: momentText(officeNow()) })),
-    table(say("register.table", { count: rows.length }), heads, cells)];
+  const cells = rows.map(([receipt, lot, came, length, state]) =>
+    [receipt, lot, moment(came), number(Number(length)), say(`tender.${state}`), securityLook(receipt)]);
+  const told = [...counts].map(([lot, count]) => `${lot}: ${count}`).join(", ");
+  return [element("p", {}, say("register.counts", { counts: told })), table(say("register.table", { count: rows.length }), heads, cells)];
 }
 
 /** A security is looked at when that is asked for, since it names its tenderer. */

@@ -2,6 +2,7 @@
 import { element } from "../draw.js";
 import { sentenceOf } from "../common/office.js";
 import { addTexts, chooseLanguage, language, languages, say } from "../common/texts.js";
+import { linkTo } from "./address.js";
 import { drawBudget } from "./budgets.js";
 import de from "./de.js";
 import en from "./en.js";
@@ -88,12 +89,13 @@ async function show(takesFocus) {
     return;
   }
   document.body.classList.toggle("one-sheet", view.isSheet === true);
+  const hadFocus = main.contains(document.activeElement) && document.activeElement !== main;
   main.replaceChildren(...view.content.flat(Infinity).filter(Boolean));
   main.setAttribute("aria-busy", "false");
   document.title = `${view.title} – ${say("site")}`;
   byId("status").textContent = view.title;
-  if (takesFocus) {
-    main.querySelector("h1")?.focus();
+  if (takesFocus || hadFocus) {
+    main.querySelector("h1")?.focus({ preventScroll: !takesFocus });
   }
 }
 
@@ -102,6 +104,14 @@ byId("skip").addEventListener("click", (event) => {
   main.focus();
 });
 addEventListener("hashchange", () => show(true));
+// A fault of a script is told where one looks; what was sent stays in the journal.
+for (const kind of ["error", "unhandledrejection"]) {
+  addEventListener(kind, () => {
+    const told = main.querySelector(".fault") ?? element("div", { class: "fault", role: "alert" });
+    told.replaceChildren(note("bad", say("kind.fault"), linkTo(say("page.journal"), "journal")));
+    main.prepend(told);
+  });
+}
 // What is dropped beside a field for files would else be opened in the place of the desk, and the key would be gone.
 for (const kind of ["dragover", "drop"]) {
   addEventListener(kind, (event) => event.preventDefault());

@@ -1,16 +1,16 @@
 // A notice is written: its terms, its lots, what the office would refuse of it, what one should think of, and how large it is.
 import { element } from "../draw.js";
-import { moment, number } from "../common/money.js";
+import { moment } from "../common/money.js";
 import { ledger, officeNow } from "../common/office.js";
 import { say } from "../common/texts.js";
-import { linkTo } from "./address.js";
+import { addressOf, linkTo } from "./address.js";
 import { bound } from "./bound.js";
 import { ofNotice } from "./fate.js";
 import { button, field, section } from "./forms.js";
 import { isUsed, noticesOf, publicationOf } from "./known.js";
 import { drawLots, drawMoney, pasting } from "./lots.js";
 import { bodyBytes, draftOf, faultsOf, newDraft, warningsOf } from "./notice.js";
-import { send } from "./send.js";
+import { sendThen } from "./send.js";
 import { draft as kept, journal, keepDraft } from "./session.js";
 import { MOST, localMilliseconds, localText, momentText } from "./values.js";
 
@@ -38,8 +38,8 @@ function earlier(editor) {
   if (names.length === 0) {
     return null;
   }
-  const chosen = field({ label: say("editor.earlier"), kind: "choice", options: names.map((name) =>
-    [name, `${name}: ${publicationOf(journal(), name).title}`]), value: names[0] });
+  const options = names.map((name) => [name, `${name}: ${publicationOf(journal(), name).title}`]);
+  const chosen = field({ label: say("editor.earlier"), kind: "choice", options, value: names[0] });
   const take = button(say("editor.take"), () => {
     keepDraft({ ...draftOf(publicationOf(journal(), chosen.value())), deadline: null });
     editor.again();
@@ -95,9 +95,12 @@ function faultText({ code, value = "", least = 0, most = 0, amount = 0, free = 0
 function placeText(editor, path) {
   const [, lot, , item] = path.split(".");
   const label = editor.inputs.get(path)?.element.querySelector("label")?.textContent ?? say("editor.lots");
-  const name = editor.draft.lots[lot]?.id;
-  return lot === undefined ? label : [say("editor.at.lot", { lot: name || `#${Number(lot) + 1}` }), item === undefined ? ""
-    : say("editor.at.item", { item: String(Number(item) + 1) }), label].filter(Boolean).join(", ");
+  if (lot === undefined) {
+    return label;
+  }
+  const name = editor.draft.lots[lot]?.id || `#${Number(lot) + 1}`;
+  const parts = [say("editor.at.lot", { lot: name }), item === undefined ? "" : say("editor.at.item", { item: String(Number(item) + 1) }), label];
+  return parts.filter(Boolean).join(", ");
 }
 
 /** Beside what is written: its size, the money, what would be refused, and what one should think of. */
@@ -113,18 +116,20 @@ function drawSummary(editor) {
     const fault = faults.find((it) => it.field === path);
     one.tell(editor.isChecked && fault ? faultText(fault) : "");
   }
-  const size = bodyBytes(draft).length;
-  summary.replaceChildren(
-    element("p", {}, say("editor.size", { bytes: size, most: MOST.body }), " ", element("meter",
-      { min: "0", max: String(MOST.body), high: String(MOST.body * 0.9), value: String(Math.min(size, MOST.body)),
-      "aria-label": say("editor.sizename") })),
-    faultList(editor, faults), ...warnings(draft, now),
-    element("div", { class: "steps" }, button(say("editor.publish"), () => publish(editor, faults)), faults.length === 0
-      ? linkTo(say("editor.preview"), "preview") : "",
-      button(say("editor.empty"), () => {
-        keepDraft(null);
-        editor.again();
-      }, "second")));
+  const empty = button(say("editor.empty"), () => {
+    keepDraft(null);
+    editor.again();
+  }, "second");
+  const preview = faults.length === 0 ? linkTo(say("editor.preview"), "preview") : "";
+  summary.replaceChildren(sizePart(bodyBytes(draft).length), faultList(editor, faults), ...warnings(draft, now),
+    element("div", { class: "steps" }, button(say("editor.publish"), () => publish(editor, faults)), preview, empty));
+}
+
+/** How large the notice is, in words and as a bar. */
+function sizePart(bytes) {
+  const meter = element("meter", { min: "0", max: String(MOST.body), high: String(MOST.body * 0.9), value: String(Math.min(bytes, MOST.body)),
+    "aria-label": say("editor.sizename") });
+  return element("p", {}, say("editor.size", { bytes, most: MOST.body }), " ", meter);
 }
 
 const MOST_FAULTS = 12;
@@ -133,15 +138,18 @@ function faultList(editor, faults) {
   if (faults.length === 0) {
     return element("div", { class: "good" }, element("p", {}, say("editor.right")));
   }
-  const go = (fault) => button(placeText(editor, fault.field), () => {
-    const at = editor.inputs.get(fault.field);
-    at?.input.closest("details")?.setAttribute("open", "");
-    at?.input.focus();
-  }, "second small");
+  const go = (fault) => button(placeText(editor, fault.field), () => focusOn(editor, fault), "second small");
   const listed = faults.slice(0, MOST_FAULTS).map((fault) => element("li", {}, go(fault), " ", faultText(fault)));
   const more = faults.length > MOST_FAULTS ? element("p", { class: "quiet" }, say("budget.more", { count: faults.length - MOST_FAULTS })) : null;
   return element("div", { class: editor.isChecked ? "bad" : "look" }, element("p", {}, say("editor.faults", { count: faults.length })),
     element("ul", { class: "plain" }, listed), more);
+}
+
+/** Goes to the field of a fault, where it has one. */
+function focusOn(editor, fault) {
+  const at = editor.inputs.get(fault.field);
+  at?.input.closest("details")?.setAttribute("open", "");
+  at?.input.focus();
 }
 
 function warnings(draft, now) {
@@ -150,26 +158,27 @@ function warnings(draft, now) {
     element("ul", {}, found.map((text) => element("li", {}, text))))];
 }
 
-async function publish(editor, faults) {
+function publish(editor, faults) {
   const { draft } = editor;
   editor.isChecked = true;
   drawSummary(editor);
   if (faults.length > 0) {
-    const first = editor.inputs.get(faults[0].field);
-    first?.input.closest("details")?.setAttribute("open", "");
-    first?.input.focus();
+    focusOn(editor, faults[0]);
     return;
   }
+  sendThen(publication(draft), () => {
+    keepDraft(null);
+    location.hash = addressOf("notice", draft.name);
+  });
+}
+
+/** The order by which a draft is published. */
+function publication(draft) {
   const sum = draft.lots.reduce((all, { estimate }) => all + Number(estimate), 0);
   const items = draft.lots.reduce((all, lot) => all + lot.items.length, 0);
-  const lines = [...new Set(draft.lots.map(({ line }) => line))];
-  const done = await send({ kind: "notice", values: { notice: draft.name }, path: `/notices/${draft.name}`, body: bodyBytes(draft), isFinal: true,
-    again: "Exists",
-    find: () => ofNotice(draft.name),
-    says: [[say("editor.does.deadline"), " ", moment(momentText(draft.deadline))], say("editor.does.money", { sum: number(sum), lines: lines.join(", ") }),
-      say("editor.does.lots", { lots: draft.lots.length, items, count: draft.lots.length }), say("editor.does.stays")] });
-  if (done) {
-    keepDraft(null);
-    location.hash = `#notice/${draft.name}`;
-  }
+  const lines = [...new Set(draft.lots.map(({ line }) => line))].join(", ");
+  return { kind: "notice", values: { notice: draft.name }, path: `/notices/${draft.name}`, body: bodyBytes(draft), isFinal: true,
+    says: [[say("editor.does.deadline"), " ", moment(momentText(draft.deadline))], say("editor.does.money", { sum, lines }),
+      say("editor.does.lots", { lots: draft.lots.length, items, count: draft.lots.length }), say("editor.does.stays")],
+    again: "Exists", find: () => ofNotice(draft.name) };
 }

@@ -25,6 +25,7 @@ export default {
   "amount.wrong": "A whole number from 1 to 1,000,000,000,000: digits alone.",
   "text.empty": "This is missing.", "text.control": "A line break, a tab or another control character stands in it.",
   "text.coding": "A character of it can't be written.", "text.long": "It is too long: at most 200 bytes, where a letter with an accent counts as two or more.",
+  "kind.fault": "Something went wrong in this page. Save the journal before you load it again: the key is asked for anew then.",
   "page.today": "Today", "page.budget": "Budget", "page.tenderers": "Tenderers", "page.new": "New notice", "page.journal": "Journal",
   "key.bar": "Key", "key.held": "{who} holds the clerk's key in this tab.", "key.none": "No key: you see what is public, and can send nothing.",
   "key.give": "Give the key", "key.forget": "Forget the key", "key.title": "The clerk's key", "key.hold": "Hold the key in this tab",

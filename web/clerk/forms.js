@@ -52,13 +52,15 @@ export function form(name, parts, text, run, kind = "") {
   return made;
 }
 
-/** Tells the fields what is wrong, puts the focus on the first, and says whether all is right. `wrong` is a list of a field and a sentence. */
-export function allRight(fields, wrong) {
-  for (const one of fields) {
-    one.tell(wrong.find(([other]) => other === one)?.[1] ?? "");
+/** Tells fields what is wrong with each, puts the focus on the first of these, and says whether all is right. `pairs` are fields with a sentence each, which is
+ * empty where nothing is wrong. */
+export function allRight(pairs) {
+  for (const [one, sentence] of pairs) {
+    one.tell(sentence);
   }
-  wrong[0]?.[0].input.focus();
-  return wrong.length === 0;
+  const wrong = pairs.find(([, sentence]) => sentence !== "");
+  wrong?.[0].input.focus();
+  return wrong === undefined;
 }
 
 /** A section with a heading that names it. */

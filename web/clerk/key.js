@@ -16,8 +16,8 @@ export function drawKey() {
   const place = element("div", { role: "alert" });
   const hold = async () => {
     const typed = keyIn(key.value());
-    if (!allRight([name, key], [...(name.value().trim() === "" ? [[name, say("key.name.wrong")]] : []),
-      ...(/^[\x21-\x7e]{1,200}$/.test(typed) ? [] : [[key, say("key.key.wrong")]])])) {
+    const isKey = /^[\x21-\x7e]{1,200}$/.test(typed);
+    if (!allRight([[name, name.value().trim() === "" ? say("key.name.wrong") : ""], [key, isKey ? "" : say("key.key.wrong")]])) {
       return;
     }
     try {

@@ -13,8 +13,8 @@ const UNFOLDED = 3;
 
 /** A table that is pasted takes the place of the lots. */
 export function pasting(editor) {
-  const text = field({ label: say("lots.paste"), hint: say("lots.paste.hint", { columns: Object.keys(COLUMNS).map((name) =>
-    say(`column.${name}`)).join(", ") }), kind: "lines" });
+  const columns = Object.keys(COLUMNS).map((name) => say(`column.${name}`)).join(", ");
+  const text = field({ label: say("lots.paste"), hint: say("lots.paste.hint", { columns }), kind: "lines" });
   const told = element("div", { "aria-live": "polite" });
   const take = () => {
     const { lots, faults, changes } = lotsOf(text.value());
@@ -24,8 +24,8 @@ export function pasting(editor) {
       editor.redrawLots();
     }
   };
-  return element("details", {}, element("summary", {}, say("lots.pasting")), text.element, element("div", { class: "steps" }, button(say("lots.take"), take)),
-    told);
+  const steps = element("div", { class: "steps" }, button(say("lots.take"), take));
+  return element("details", {}, element("summary", {}, say("lots.pasting")), text.element, steps, told);
 }
 
 const MOST_TOLD = 20;
@@ -35,8 +35,8 @@ function outcome(lots, faults, changes) {
   const items = lots.reduce((sum, lot) => sum + lot.items.length, 0);
   const wrong = faults.slice(0, MOST_TOLD).map(({ line, code, value = "", name = "", told = "" }) =>
     element("li", {}, say(`paste.${code}`, { line: String(line), value, told, name: name ? say(`column.${name}`) : "" })));
-  const changed = changes.slice(0, MOST_TOLD).map(({ line, name, value, told }) => element("li", {},
-    say("paste.changed", { line: String(line), name: say(`column.${name}`), value, told })));
+  const changed = changes.slice(0, MOST_TOLD).map(({ line, name, value, told }) =>
+    element("li", {}, say("paste.changed", { line: String(line), name: say(`column.${name}`), value, told })));
   return [lots.length > 0 ? note("good", say("paste.taken", { lots: lots.length, items, count: lots.length })) : null,
     wrong.length > 0 ? note("bad", say("paste.wrong", { count: faults.length }), element("ul", {}, wrong)) : null,
     changed.length > 0 ? note("look", say("paste.read", { count: changes.length }), element("ul", {}, changed)) : null].filter(Boolean);
@@ -52,13 +52,19 @@ export function drawLots(editor) {
   const add = button(say("lots.add"), () => {
     lots.push(newLot(nextId("L", lots)));
     editor.redrawLots();
-    editor.inputs.get(`lots.${lots.length - 1}.id`).input.closest("details").open = true;
-    editor.inputs.get(`lots.${lots.length - 1}.id`).input.focus();
+    unfold(editor, `lots.${lots.length - 1}.id`);
   }, "second");
   const choices = element("datalist", { id: "lines" }, [...editor.lines.values()].map(({ line, free }) =>
     element("option", { value: line }, say("lots.free", { free }))));
   editor.lots.replaceChildren(choices, ...lots.map((lot, at) => lotPart(editor, lot, at)),
     element("div", { class: "steps" }, lots.length < MOST.lots ? add : ""));
+}
+
+/** Goes to a field, and unfolds what it stands in. */
+function unfold(editor, path) {
+  const { input } = editor.inputs.get(path);
+  input.closest("details").open = true;
+  input.focus();
 }
 
 /** The next identifier that no other has, as `L3`. */
@@ -88,37 +94,35 @@ function lotPart(editor, lot, at) {
     editor.draft.lots.splice(at, 1);
     editor.redrawLots();
   }, "second");
-  return element("details", { class: "card", ...(editor.draft.lots.length <= UNFOLDED ? { open: "" } : {}) }, summary, element("div", { class: "fields" },
-    own("id", { label: say("column.lot"), more: id }), own("title", { label: say("column.lotTitle") }),
-      own("line", { label: say("column.line"), more: { ...id, list: "lines" } }),
+  const fields = [own("id", { label: say("column.lot"), more: id }), own("title", { label: say("column.lotTitle") }),
+    own("line", { label: say("column.line"), more: { ...id, list: "lines" } }),
     element("div", {}, own("estimate", { label: say("column.estimate"), more: digits }), money),
-      own("security", { label: say("column.security"), hint: say("lots.security.hint"), more: digits })),
-  itemTable(editor, lot, path), element("div", { class: "steps" }, addItem(editor, lot, path), editor.draft.lots.length > 1 ? away : ""));
+    own("security", { label: say("column.security"), hint: say("lots.security.hint"), more: digits })];
+  const isOpen = editor.draft.lots.length <= UNFOLDED ? { open: "" } : {};
+  return element("details", { class: "card", ...isOpen }, summary, element("div", { class: "fields" }, fields), itemTable(editor, lot, path),
+    element("div", { class: "steps" }, addItem(editor, lot, path), editor.draft.lots.length > 1 ? away : ""));
 }
 
 function addItem(editor, lot, path) {
   return button(say("lots.additem"), () => {
     lot.items.push({ id: nextId("I", lot.items), title: "", quantity: "" });
     editor.redrawLots();
-    const last = editor.inputs.get(`${path}.items.${lot.items.length - 1}.title`);
-    last.input.closest("details").open = true;
-    last.input.focus();
+    unfold(editor, `${path}.items.${lot.items.length - 1}.title`);
   }, "second");
 }
 
 /** The items of a lot: a row of fields for each. */
 function itemTable(editor, lot, path) {
   const rows = lot.items.map((item, at) => {
-    const own = (name, more) => bound(editor, `${path}.items.${at}.${name}`, item, name, { label: say(`column.${name === "id" ? "item" : name}`),
-      more }).element;
+    const own = (name, label, more) => bound(editor, `${path}.items.${at}.${name}`, item, name, { label: say(`column.${label}`), more }).element;
     const away = button("×", () => {
       lot.items.splice(at, 1);
       editor.redrawLots();
     }, "second small");
     away.setAttribute("aria-label", say("lots.removeitem", { item: item.id || String(at + 1) }));
     return element("div", { class: "item", role: "group", "aria-label": say("lots.item", { number: String(at + 1) }) },
-      own("id", { maxlength: "32", autocapitalize: "none", spellcheck: "false" }), own("title", {}), own("quantity", { inputmode: "numeric" }),
-        lot.items.length > 1 ? away : "");
+      own("id", "item", { maxlength: "32", autocapitalize: "none", spellcheck: "false" }), own("title", "title", {}),
+      own("quantity", "quantity", { inputmode: "numeric" }), lot.items.length > 1 ? away : "");
   });
   return element("div", { class: "items" }, element("p", { class: "quiet" }, say("lots.items.hint")), rows);
 }

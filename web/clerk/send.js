@@ -34,6 +34,13 @@ export function send(order) {
   });
 }
 
+/** The same, and what is to be done behind it. */
+export async function sendThen(order, behind) {
+  if (await send(order)) {
+    behind();
+  }
+}
+
 function draw(state, content, steps) {
   const { kind, values = {} } = state.order;
   const status = element("div", { role: "status" }, content);

@@ -6,7 +6,7 @@ import { moment } from "../common/money.js";
 import { say } from "../common/texts.js";
 import { allRight, dropped, field, form, lineText, note, section, table } from "./forms.js";
 import { isUsed, tenderersOf } from "./known.js";
-import { jsonBody, send } from "./send.js";
+import { jsonBody, sendThen } from "./send.js";
 import { journal } from "./session.js";
 import { isAskable, textOf } from "./values.js";
 
@@ -44,24 +44,27 @@ export async function drawTenderers(again) {
   return { title: say("page.tenderers"), content: [...content, section(say("tenderer.list"), known())] };
 }
 
-async function register(fields, again) {
+function register(fields, again) {
   const [tenderer, name, address] = [fields.tenderer, fields.name, fields.address].map((one) => one.value().trim());
   const key = fields.key.value().replace(/\s/g, "").toLowerCase();
-  const wrong = [
-    [fields.tenderer, !isAskable(tenderer) ? say("id.wrong") : tenderer === "clerk" ? say("tenderer.clerk") : isUsed(journal(), `/tenderers/${tenderer}`)
-      ? say("tenderer.used") : ""],
-    [fields.name, lineText(name)], [fields.address, lineText(address)], [fields.key, /^[0-9a-f]{64}$/.test(key) ? "" : say("tenderer.key.wrong")],
-  ].filter(([, sentence]) => sentence !== "");
-  if (!allRight(Object.values(fields), wrong)) {
-    return;
+  const isKey = /^[0-9a-f]{64}$/.test(key);
+  if (allRight([[fields.tenderer, idFault(tenderer)], [fields.name, lineText(name)], [fields.address, lineText(address)],
+    [fields.key, isKey ? "" : say("tenderer.key.wrong")]])) {
+    sendThen(registration(tenderer, { name, address, key }), again);
   }
-  const done = await send({ kind: "tenderer", values: { tenderer, name }, path: `/tenderers/${tenderer}`, body: jsonBody({ name, address, key }),
-    isFinal: true, again: "Exists",
-    says: [say("tenderer.does", { tenderer, name, address }), [say("tenderer.shown"), " ", element("span", { class: "code" }, inGroups(key))],
-      say("tenderer.stays")] });
-  if (done) {
-    again();
+}
+
+function idFault(tenderer) {
+  if (!isAskable(tenderer)) {
+    return say("id.wrong");
   }
+  return tenderer === "clerk" ? say("tenderer.clerk") : isUsed(journal(), `/tenderers/${tenderer}`) ? say("tenderer.used") : "";
+}
+
+function registration(tenderer, body) {
+  const digest = [say("tenderer.shown"), " ", element("span", { class: "code" }, inGroups(body.key))];
+  return { kind: "tenderer", values: { tenderer, name: body.name }, path: `/tenderers/${tenderer}`, body: jsonBody(body), isFinal: true, again: "Exists",
+    says: [say("tenderer.does", { tenderer, ...body }), digest, say("tenderer.stays")] };
 }
 
 function known() {

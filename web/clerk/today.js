@@ -44,7 +44,7 @@ function opening() {
   const name = field({ label: say("today.name"), hint: say("today.name.hint"), more: { maxlength: "32", autocapitalize: "none", spellcheck: "false" } });
   return form(say("today.open"), [name.element], say("today.show"), () => {
     const typed = name.value().trim();
-    if (allRight([name], isAskable(typed) ? [] : [[name, say("id.wrong")]])) {
+    if (allRight([[name, isAskable(typed) ? "" : say("id.wrong")]])) {
       location.hash = addressOf("notice", typed);
     }
   });
