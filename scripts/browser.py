@@ -60,7 +60,8 @@ class Browser:
         self.count += 1
         where = {"sessionId": session} if session else {}
         self.stream.sendall(json.dumps({"id": self.count, "method": method, "params": parameters, **where}).encode() + b"\0")
-        while (message := self.receive()).get("id") != self.count:
+        number = self.count
+        while (message := self.receive()).get("id") != number:
             # (An answer that came too late for its command is none.)
             self.events += [message] if "method" in message else []
         if "error" in message:
@@ -75,6 +76,11 @@ class Browser:
             self.rest += part
         message, _, self.rest = self.rest.partition(b"\0")
         told: Event = json.loads(message)
+        if told.get("method") == "Page.javascriptDialogOpening":
+            # A page that asks before it is left may be left.
+            self.count += 1
+            accepts = {"id": self.count, "method": "Page.handleJavaScriptDialog", "params": {"accept": True}, "sessionId": told["sessionId"]}
+            self.stream.sendall(json.dumps(accepts).encode() + b"\0")
         return told
 
 
@@ -86,8 +92,8 @@ class Page:
         self.browser = browser
         self.answers: Answers = {}
         self.session: str | None = None
-        context = self.ask("Target.createBrowserContext")["browserContextId"]
-        target = self.ask("Target.createTarget", url="about:blank", browserContextId=context)["targetId"]
+        self.context = self.ask("Target.createBrowserContext")["browserContextId"]
+        target = self.ask("Target.createTarget", url="about:blank", browserContextId=self.context)["targetId"]
         self.session = self.ask("Target.attachToTarget", targetId=target, flatten=True)["sessionId"]
         for domain in DOMAINS:
             self.ask(f"{domain}.enable")
@@ -140,12 +146,13 @@ class Page:
                 self.ask("Fetch.failRequest", requestId=request, errorReason="ConnectionClosed")
             else:
                 status, body = answer
-                self.ask("Fetch.fulfillRequest", requestId=request, responseCode=status, body=base64.b64encode(body).decode())
+                media = [{"name": "Content-Type", "value": "text/javascript"}] if path.endswith(".js") else []
+                self.ask("Fetch.fulfillRequest", requestId=request, responseCode=status, responseHeaders=media, body=base64.b64encode(body).decode())
 
-    def answer_for(self, answers: Answers) -> None:
-        """From now on these are the answers."""
+    def answer_for(self, answers: Answers, *kinds: str) -> None:
+        """From now on these are the answers, to what is fetched, or to other kinds of requests."""
         self.answers = answers
-        self.ask("Fetch.enable", patterns=[{"urlPattern": "*", "resourceType": "Fetch"}])
+        self.ask("Fetch.enable", patterns=[{"urlPattern": "*", "resourceType": kind} for kind in kinds or ("Fetch",)])
 
     def go(self, address: str) -> None:
         """Loads a page anew, until it has drawn what its address asks for."""
@@ -157,6 +164,16 @@ class Page:
         """The text that is seen of the content, in lines without space around them."""
         lines = (self.run("(document.querySelector('main') ?? document.body).innerText") or "").split("\n")
         return "".join(f"{' '.join(line.split())}\n" for line in lines if line.strip())
+
+    def keep_in(self, folder: str) -> None:
+        """From now on what the page saves goes into a folder."""
+        self.browser.ask("Browser.setDownloadBehavior", behavior="allow", browserContextId=self.context, downloadPath=folder)
+
+    def choose(self, name: str, path: str) -> None:
+        """Chooses a file in the field of this name."""
+        self.wait(f"document.getElementById({json.dumps(name)})")
+        field = self.ask("Runtime.evaluate", expression=f"document.getElementById({json.dumps(name)})")["result"]
+        self.ask("DOM.setFileInputFiles", files=[path], objectId=field["objectId"])
 
     def press(self, name: str) -> None:
         code, text = KEYS[name]

@@ -1,4 +1,5 @@
-// What pages are filled in by: fields with a label and what is wrong beside them, files that are dropped or chosen, buttons, tables, and what is saved or printed.
+// What pages are filled in by: fields with a label and what is wrong beside them, files that are dropped or chosen, buttons; tables; and what is saved or
+// printed.
 import { element } from "../draw.js";
 import { say } from "./texts.js";
 

@@ -12,7 +12,8 @@ export function money(amount, currency) {
   return currency ? `${number(amount)} ${currency}` : number(amount);
 }
 
-/** A typed amount: its value, or by a name why it is none. Blanks between and beside digits are no matter, points and commas are: nobody knows what they mean. */
+/** A typed amount: its value, or by a name why it is none. Blanks between and beside digits are no matter; points and commas are, since nobody knows what they
+ * mean. */
 export function typed(text, most) {
   const digits = text.replace(/[\s\u00a0\u202f']/g, "");
   if (digits === "") {

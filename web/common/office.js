@@ -7,8 +7,8 @@ const LONGEST = 90_000;
 const TRIES = 60, PAUSE = 2;
 let ahead = 0;
 
-/** What isn't answered as it was asked. `name` is the office's own word, or empty; `what`, `status` and the whole `text` as it said them. `isOpen`: whether a command
- * was done isn't known. */
+/** What isn't answered as it was asked. `name` is the office's own word, or empty; `what`, `status` and the whole `text` as it said them. `isOpen`: whether a
+ * command was done isn't known. */
 export class Refused extends Error {
   constructor({ name = "", what = "", status = 0, kind = "", wait = 0, text = "" }) {
     super(name || kind || String(status));

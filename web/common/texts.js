@@ -1,9 +1,12 @@
-// Languages: which one is spoken, and its texts by their names. The texts of a language stand in a file of its own; a page adds those that it needs beside these.
+// Languages: which one is spoken, and its texts by their names. The texts of a language stand in a file of its own; a page adds those that it needs beside
+// these.
 import de from "./de.js";
 import en from "./en.js";
 
 const NAMES = { en: "English", de: "Deutsch" };
 const books = { en: { ...en }, de: { ...de } };
+// What a page's texts are loaded by, once their language is spoken.
+const loaders = { en: [], de: [] };
 let spoken = first();
 
 /** The language that the address asks for (`?language=de`), else the first of the browser's that is known, else English. */
@@ -13,10 +16,24 @@ function first() {
   return wanted.find((tag) => Object.hasOwn(NAMES, tag)) ?? "en";
 }
 
-/** Adds texts, as `{ en: { name: text }, de: { name: text } }`. A name that is there already gets the new text. */
-export function addTexts(more) {
+/** Adds texts, as `{ en: { name: text }, de: { name: text } }`, or for each language a function that loads a module of them, which is called where the
+ * language is spoken. A name that is there already gets the new text. */
+export async function addTexts(more) {
   for (const [tag, texts] of Object.entries(more)) {
-    Object.assign(books[tag], texts);
+    if (typeof texts === "function") {
+      loaders[tag].push(texts);
+    } else {
+      Object.assign(books[tag], texts);
+    }
+  }
+  await load(spoken);
+}
+
+async function load(tag) {
+  while (loaders[tag].length > 0) {
+    const loaded = await loaders[tag][0]();
+    Object.assign(books[tag], loaded.default);
+    loaders[tag].shift();
   }
 }
 
@@ -30,9 +47,14 @@ export function languages() {
   return Object.entries(NAMES);
 }
 
-/** Speaks another language from now on, and says so in the address, since nothing is stored. What is drawn already is for the page to draw anew. */
-export function chooseLanguage(tag) {
-  spoken = Object.hasOwn(NAMES, tag) ? tag : "en";
+/** Speaks another language from now on, once its texts are there, and says so in the address, since nothing is stored. What is drawn already is for the page
+ * to draw anew. */
+export async function chooseLanguage(tag) {
+  const wanted = Object.hasOwn(NAMES, tag) ? tag : "en";
+  if (loaders[wanted].length > 0) {
+    await load(wanted);
+  }
+  spoken = wanted;
   if (globalThis.history?.replaceState) {
     const address = new URL(location.href);
     address.searchParams.set("language", spoken);

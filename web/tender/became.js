@@ -38,8 +38,8 @@ async function ofWithdrawal(sent, caller) {
   return { kind: (await security(old.security, caller)).state === "forfeited" ? "done" : "not", tender: old };
 }
 
-/** `done`, with the caller's tender as it stands; `not` (up to now); `other`, where something else became of it; or `unknown`. `progress` is told each receipt that
- * is looked at. Where the office doesn't answer, its fault. */
+/** `done`, with the caller's tender as it stands; `not` (up to now); `other`, where something else became of it; or `unknown`. `progress` is told each receipt
+ * that is looked at. Where the office doesn't answer, its fault. */
 export async function becameOf(sent, caller, progress = () => {}) {
   if (sent.kind === "withdraw") {
     return { ...await ofWithdrawal(sent, caller), moment: officeNow() };

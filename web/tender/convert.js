@@ -1,5 +1,5 @@
-// A file of prices as sheets write it, made to the file that the office reads: each change is told, and where a figure could mean two things, or the tenderer has
-// to decide, it is refused with the line and the reason. What comes out is always read by papers.js as a price without a correction.
+// A file of prices as sheets write it, made to the file that the office reads: each change is told, and where a figure could mean two things, or the tenderer
+// has to decide, it is refused with the line and the reason. What comes out is always read by papers.js as a price without a correction.
 import { binaryOf, contentOf, isUtf8, recordsOf, textOf } from "../common/csv.js";
 import { KINDS, SEPARATORS, faultsOf, meantBy } from "./faults.js";
 import { figureOf } from "./figures.js";
@@ -17,8 +17,8 @@ const WORDS = {
   total: ["total", "sum", "line total", "total price", "summe", "gesamt", "gesamtpreis", "gp", "betrag", "gesamtbetrag"],
 };
 // Columns that say what is bought and no price. What stands in any other one may change what is offered.
-const SILENT = ["title", "titel", "description", "name", "text", "bezeichnung", "beschreibung", "leistung", "artikelbezeichnung", "me", "mengeneinheit", "einheit",
-  "uom", "unit of measure"];
+const SILENT = ["title", "titel", "description", "name", "text", "bezeichnung", "beschreibung", "leistung", "artikelbezeichnung", "me", "mengeneinheit",
+  "einheit", "uom", "unit of measure"];
 const SUMS = ["total", "sum", "grand total", "summe", "gesamt", "gesamtsumme", "endsumme"];
 
 function fault(line, name, values = {}) {
@@ -88,15 +88,21 @@ function tableIn(found) {
   }
   const head = records[at];
   const columns = columnsOf(head.fields);
-  changes.push(...records.slice(0, at).filter(({ fields }) => !isBlank(fields)).map(({ line, fields }) => fault(line, "above", { found: cut(fields.join(separator)) })));
+  const above = records.slice(0, at).filter(({ fields }) => !isBlank(fields));
+  changes.push(...above.map(({ line, fields }) => fault(line, "above", { found: cut(fields.join(separator)) })));
   if (head.fields.slice(0, HEAD.length).join() !== HEAD.join()) {
     changes.push(fault(head.line, "headWords", { found: cut(head.fields.join(separator)) }));
   }
-  const more = head.fields.map((name, place) => ({ name: cut(name.trim()), place })).filter(({ name, place }) => name !== "" && !Object.values(columns).includes(place));
+  const places = Object.values(columns);
+  const more = head.fields.map((name, place) => ({ name: cut(name.trim()), place })).filter(({ name, place }) => name !== "" && !places.includes(place));
   const body = records.slice(at + 1);
   const speaks = more.filter(({ name, place }) => !SILENT.includes(plain(name)) && body.some(({ fields }) => (fields[place] ?? "").trim() !== ""));
   if (speaks.length > 0) {
     return { faults: speaks.map(({ name }) => fault(head.line, "columnUnknown", { name })) };
+  }
+  const width = Math.max(...[...places, ...more.map(({ place }) => place)]) + 1;
+  if ([head, ...body].some(({ fields }) => fields.length > width)) {
+    changes.push(fault(head.line, "column"));
   }
   changes.push(...more.map(({ name }) => fault(head.line, "columnOut", { name })));
   return { columns, body, changes, named: new Set(more.map(({ place }) => place)) };
@@ -166,7 +172,8 @@ function rowOf({ line, fields }, table, items, currency) {
 
 /** What the sum's record changes or has wrong. */
 function sumOf({ line, fields }, { columns, named }, price, currency) {
-  const others = fields.map((field, place) => ({ field: field.trim(), place })).filter(({ field, place }) => field !== "" && place !== columns.item && !named?.has(place));
+  const others = fields.map((field, place) => ({ field: field.trim(), place }))
+    .filter(({ field, place }) => field !== "" && place !== columns.item && !named?.has(place));
   const last = others.find(({ place }) => place === columns.total) ?? others.at(-1);
   const changes = fields[columns.item] === "TOTAL" ? [] : [fault(line, "sumWord", { found: cut(fields[columns.item]) })];
   changes.push(...others.filter((one) => one !== last).map(({ field }) => fault(line, "sumCleared", { found: cut(field) })));
@@ -189,7 +196,8 @@ function offerOf(table, items, currency) {
   const faults = [...rows.flatMap((row) => row.faults), ...(sum ? body.slice(at + 1).map(({ line }) => fault(line, "behind")) : [])];
   const changes = [...blank, ...rows.flatMap((row) => row.changes)];
   const found = rows.filter(({ item }) => item);
-  faults.push(...found.filter(({ item }, place) => found.findIndex((other) => other.item === item) < place).map(({ line, item }) => fault(line, "again", { id: item.id })));
+  const again = found.filter(({ item }, place) => found.findIndex((other) => other.item === item) < place);
+  faults.push(...again.map(({ line, item }) => fault(line, "again", { id: item.id })));
   const last = table.body.at(-1)?.line ?? 1;
   const isUnsure = rows.some((row) => !row.item);
   faults.push(...items.filter((item) => !isUnsure && !found.some((row) => row.item === item)).map(({ id, title }) => fault(last, "missing", { id, title })));
@@ -220,7 +228,8 @@ export function converted(bytes, items, currency = "") {
   if (price > MOST_PRICE) {
     offer.faults.push(fault(offer.last, "great", { sum: price, most: MOST_PRICE }));
   }
-  const closing = offer.sum && offer.faults.length === 0 ? sumOf(offer.sum, table, price, currency) : { changes: [fault(offer.last, "sumAdded", { value: price })], faults: [] };
+  const closing = offer.sum && offer.faults.length === 0 ? sumOf(offer.sum, table, price, currency)
+    : { changes: [fault(offer.last, "sumAdded", { value: price })], faults: [] };
   const faults = [...offer.faults, ...closing.faults];
   return faults.length > 0 ? refused(faults) : finished(offer, items, [...told.changes, ...table.changes, ...offer.changes, ...closing.changes], bytes.length);
 }
@@ -230,6 +239,8 @@ function finished(offer, items, changes, length) {
   const isInOrder = places.every((place, at) => place === at);
   const units = items.map((item) => offer.rows.find((row) => row.item === item).unit);
   const made = fileOf(items, units);
-  const all = [...(length > MOST_BYTES ? [fault(1, "shorter", { count: length })] : []), ...changes, ...(isInOrder ? [] : [fault(offer.rows[0].line, "order")])];
+  const shorter = length > MOST_BYTES ? [fault(1, "shorter", { count: length })] : [];
+  const told = [...shorter, ...changes, ...(isInOrder ? [] : [fault(offer.rows[0].line, "order")])];
+  const all = told.length > 0 ? told : [fault(1, "written")];
   return { kind: "converted", bytes: made, reading: readingOf(made, items), changes: all.toSorted((one, other) => one.line - other.line), faults: [] };
 }

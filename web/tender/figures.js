@@ -7,6 +7,8 @@ const TWICE_GROUPED = /^\d{1,3}(?:\.\d{3}){2,}$|^\d{1,3}(?:,\d{3}){2,}$/;
 const BOTH = /^(\d{1,3}(?:\.\d{3})+),(\d+)$|^(\d{1,3}(?:,\d{3})+)\.(\d+)$/;
 const PLACES = new RegExp(`^(\\d+|\\d{1,3}(?:${GAP}\\d{3})+)[.,](\\d+)$`);
 const MOST_DIGITS = 15;
+const NO_FIGURES = [["empty", /^$/], ["formula", /^=/], ["sheet", /^#/], ["sign", /^[-+\u2212]|-$/], ["exponent", /^\d+(?:[.,]\d+)?[eE][-+]?\d+$/],
+  ["beside", /\d/]];
 
 /** The text without blanks around it and without a currency at one of its ends (`€`, `EUR`, the notice's own), or the dash for no cents (`150.-`). */
 function bareOf(text, currency) {
@@ -40,8 +42,7 @@ function read(text) {
   if (places) {
     return parted(places[1], places[2], false);
   }
-  const forms = [["empty", /^$/], ["formula", /^=/], ["sheet", /^#/], ["sign", /^[-+\u2212]|-$/], ["exponent", /^\d+(?:[.,]\d+)?[eE][-+]?\d+$/], ["beside", /\d/]];
-  return { why: forms.find(([, form]) => form.test(text))?.[0] ?? "none" };
+  return { why: NO_FIGURES.find(([, form]) => form.test(text))?.[0] ?? "none" };
 }
 
 /** A field's whole number and whether it had to be changed to be one; or `why` it is none, by the name of a text (`number.NAME`, `number.ambiguous`). */

@@ -38,7 +38,8 @@ function linesOf(caption, kind, entries) {
 /** What became of the offer's file. */
 export function outcome({ file, terms }) {
   if (file.kind === "refused") {
-    return told("bad", say("file.refused", { file: file.name }), ...linesOf(say("file.refused.caption"), "fault", file.faults), element("p", {}, say("file.refused.what")));
+    return told("bad", say("file.refused", { file: file.name }), ...linesOf(say("file.refused.caption"), "fault", file.faults),
+      element("p", {}, say("file.refused.what")));
   }
   const price = money(file.reading.price, terms.currency);
   if (file.kind === "converted") {
@@ -56,7 +57,7 @@ export function drawFile(offer, changed) {
     const tooLong = { kind: "refused", faults: [{ line: 1, name: "size", values: { count: file.size } }] };
     const found = file.size > MOST_READ ? tooLong : converted(await bytesOfFile(file), offer.lot.items, offer.terms.currency);
     offer.file = { name: file.name, ...found };
-    changed();
+    changed(say(`file.is.${found.kind.replaceAll(" ", "").toLowerCase()}`, { file: file.name }), found.kind === "refused");
   };
   return [element("p", {}, say("file.why")), drop("offer-file", say("file.drop"), say("file.drop.hint"), take), offer.file ? outcome(offer) : null];
 }

@@ -1,5 +1,5 @@
-// Tenders of the caller, found by their receipts. The office numbers all receipts from 1 without a gap, and tells each caller which are its own: so the last number
-// is found by halving, and the caller's own by going back from there.
+// Tenders of the caller, found by their receipts. The office numbers all receipts from 1 without a gap, and tells each caller which are its own: so the last
+// number is found by halving, and the caller's own by going back from there.
 import { tender } from "../common/office.js";
 
 /** What stands under a number: the caller's tender, `other` where it is another's, or `none`. */

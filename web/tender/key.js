@@ -10,7 +10,7 @@ import { putAway, session } from "./session.js";
 /** The name and the key of a key's file: two lines, as `curl -H @FILE` reads them. Null where it has none. */
 export function keyIn(text) {
   const [, caller] = /^\ufeff?Office-Caller:[ \t]*(\S+)[ \t]*$/m.exec(text) ?? [];
-  const [, key] = /^Office-Key:[ \t]*([!-~]+)[ \t]*$/m.exec(text) ?? [];
+  const [, key] = /^Office-Key:[ \t]*([!-~](?:[ -~]*[!-~])?)[ \t]*$/m.exec(text) ?? [];
   return caller && key && isId(caller) ? { caller, key } : null;
 }
 
@@ -65,8 +65,8 @@ async function make(fields, context) {
   }
   const key = newKey();
   const caller = fields.tenderer.input.value.trim();
-  session.registration = { tenderer: caller, name: fields.name.input.value.trim(), address: fields.address.input.value.trim(), digest: await sha256(bytesOf(key)),
-    isSaved: false };
+  session.registration = { tenderer: caller, name: fields.name.input.value.trim(), address: fields.address.input.value.trim(),
+    digest: await sha256(bytesOf(key)), isSaved: false };
   save(`${caller}.key`, keyFile({ caller, key }));
   putAway();
   context.redraw(say("key.made", { file: `${caller}.key` }));
@@ -80,8 +80,13 @@ function isLine(text) {
 
 function ofMaking(context) {
   const { registration } = session;
-  const made = (name, more = {}) => field(`key-${name}`, say(`key.${name}`), { hint: say(`key.${name}.hint`), value: registration[name], ...more });
-  const fields = { tenderer: made("tenderer", { maxlength: 32 }), name: made("name", { autocapitalize: "words" }), address: made("address", { autocapitalize: "words" }) };
+  const made = (name, more = {}) => {
+    const one = field(`key-${name}`, say(`key.${name}`), { hint: say(`key.${name}.hint`), value: registration.typed?.[name] ?? registration[name], ...more });
+    one.input.addEventListener("input", () => { registration.typed = { ...registration.typed, [name]: one.input.value }; });
+    return one;
+  };
+  const fields = { tenderer: made("tenderer", { maxlength: 32 }), name: made("name", { autocapitalize: "words" }),
+    address: made("address", { autocapitalize: "words" }) };
   return [element("p", {}, say("key.make.why")), form(Object.values(fields).map((one) => one.made), say("key.make"), () => make(fields, context))];
 }
 
@@ -89,7 +94,8 @@ function ofMaking(context) {
 function sheet() {
   const { tenderer, name, address, digest } = session.registration;
   const file = `${JSON.stringify({ tenderer, name, address, key: digest })}\n`;
-  return [element("div", { class: "steps" }, printButton(), button(say("key.sheet.save"), () => save(`registration-${tenderer}.json`, file, "application/json"), "second")),
+  const keep = button(say("key.sheet.save"), () => save(`registration-${tenderer}.json`, file, "application/json"), "second");
+  return [element("div", { class: "steps" }, printButton(), keep),
     element("section", { class: "sheet", "aria-labelledby": "sheet-head" }, element("h2", { id: "sheet-head" }, say("key.sheet")),
       element("p", {}, say("key.sheet.why")),
       facts([[say("key.tenderer"), given(tenderer)], [say("key.name"), given(name)], [say("key.address"), given(address)]]),
@@ -103,7 +109,8 @@ export function drawKey(context) {
   const isMade = registration.digest !== "";
   return { title: say("key.title"), content: [
     element("h1", { tabindex: "-1" }, say("key.title")),
-    isMade && !registration.isSaved ? told("look", say("key.dropMade", { file: `${registration.tenderer}.key` }), element("p", {}, say("key.dropMade.why"))) : null,
+    isMade && !registration.isSaved ? told("look", say("key.dropMade", { file: `${registration.tenderer}.key` }),
+      element("p", {}, say("key.dropMade.why"))) : null,
     element("section", { "aria-labelledby": "key-use" }, element("h2", { id: "key-use" }, say("key.use")), ofKey(context)),
     ...(isMade ? sheet() : []),
     session.caller ? null : element("section", { "aria-labelledby": "key-new" }, element("h2", { id: "key-new" }, say("key.new")), ofMaking(context)),

@@ -3,8 +3,6 @@ import { element } from "../draw.js";
 import { told } from "../common/forms.js";
 import { sentenceOf } from "../common/office.js";
 import { addTexts, chooseLanguage, language, languages, say } from "../common/texts.js";
-import de from "./de.js";
-import en from "./en.js";
 import { drawHome } from "./home.js";
 import { drawKey } from "./key.js";
 import { drawOffer } from "./offer.js";
@@ -13,7 +11,7 @@ import { drawSend } from "./send.js";
 import { session } from "./session.js";
 import { drawTender, drawTenders } from "./tenders.js";
 
-addTexts({ en, de });
+await addTexts({ en: () => import("./en.js"), de: () => import("./de.js") });
 const main = document.getElementById("content");
 const status = document.getElementById("status");
 const PAGES = { "": drawHome, key: drawKey, offer: drawOffer, send: drawSend, tenders: drawTenders, tender: drawTender, check: drawCheck };
@@ -50,9 +48,10 @@ function drawFrame(page) {
   document.getElementById("who").textContent = session.caller ? say("who.key", { name: session.caller.caller }) : say("who.none");
   document.getElementById("languages").replaceChildren(...languages().map(([tag, name]) => {
     const one = element("button", { type: "button", lang: tag, "aria-pressed": String(tag === language()) }, name);
-    one.addEventListener("click", () => {
-      chooseLanguage(tag);
-      show().then(() => document.querySelector(`#languages [lang=${tag}]`).focus());
+    one.addEventListener("click", async () => {
+      await chooseLanguage(tag).catch((fault) => console.warn(fault));
+      await show();
+      document.querySelector(`#languages [lang=${language()}]`).focus();
     });
     return one;
   }));
@@ -98,7 +97,8 @@ for (const kind of ["dragover", "drop"]) {
 }
 // What was typed and what has no answer yet is told of before the tab is closed.
 addEventListener("beforeunload", (event) => {
-  if (session.sent?.isOpen || Object.values(session.offer?.units ?? {}).some((text) => text !== "")) {
+  const isUnkept = session.sent?.isOpen || (session.sent?.receipt?.digest && !session.sent.isKept);
+  if (isUnkept || Object.values(session.offer?.units ?? {}).some((text) => text !== "")) {
     event.preventDefault();
   }
 });

@@ -5,7 +5,6 @@ import { button, field, form, save, told } from "../common/forms.js";
 import { money, moment, number, span, typed } from "../common/money.js";
 import { officeNow, terms } from "../common/office.js";
 import { say } from "../common/texts.js";
-import { drawFile } from "./file.js";
 import { MOST_PRICE } from "./papers.js";
 import { beginOffer, readyOf, session } from "./session.js";
 import { drawTable } from "./table.js";
@@ -32,8 +31,8 @@ function orUnknown(value, shown) {
 
 /** What is known of a notice. */
 export function termsOf(one) {
-  return [facts([[say("offer.notice"), one.notice], [say("offer.buyer"), given(one.buyer)], [say("offer.deadline"), [moment(one.deadline), " – ", clock(one.deadline)]],
-    [say("offer.criteria"), say(`offer.criteria.${one.criteria}`)]]),
+  return [facts([[say("offer.notice"), one.notice], [say("offer.buyer"), given(one.buyer)],
+    [say("offer.deadline"), [moment(one.deadline), " – ", clock(one.deadline)]], [say("offer.criteria"), say(`offer.criteria.${one.criteria}`)]]),
   element("details", {}, element("summary", {}, say("offer.more")), facts([
     [say("offer.validity"), orUnknown(one.validity_days, (count) => say("span.days", { count }))],
     [say("offer.standstill"), orUnknown(one.standstill_days, (count) => say("span.days", { count }))],
@@ -57,7 +56,7 @@ function ask(notice) {
 }
 
 function lotCard(one, lot) {
-  return element("li", { class: "card" }, element("h3", {}, say("offer.lot", { lot: lot.id }), ": ", given(lot.title)),
+  return element("li", { class: "card" }, element("h3", {}, say("offer.lotHead", { lot: lot.id }), ": ", given(lot.title)),
     facts([[say("offer.estimate"), money(lot.estimate, one.currency)], [say("offer.items"), number(lot.items.length)],
       [say("offer.security"), orUnknown(lot.security, (amount) => (amount === 0 ? say("offer.security.none") : money(amount, one.currency)))]]),
     isTaking(one) ? element("a", { class: "button", href: `#offer/${one.notice}/${lot.id}` }, say("offer.begin", { lot: lot.id })) : null);
@@ -78,16 +77,20 @@ function securityFields(offer) {
   const asked = lot.security;
   const reference = field("security-reference", say("offer.reference"), { hint: say("offer.reference.hint"), value: security.reference, maxlength: 32 });
   const amount = field("security-amount", say("offer.amount", { currency: one.currency }), { value: security.amount, inputmode: "numeric" });
+  const keep = () => Object.assign(security, { reference: reference.input.value.trim(), amount: amount.input.value.trim() });
   const check = () => {
-    Object.assign(security, { reference: reference.input.value.trim(), amount: amount.input.value.trim() });
+    keep();
     const faults = securityFaults(offer);
     reference.tell(faults.reference ?? "");
     amount.tell(faults.amount ?? "");
   };
-  reference.input.addEventListener("change", check);
-  amount.input.addEventListener("change", check);
+  for (const { input } of [reference, amount]) {
+    input.addEventListener("input", keep);
+    input.addEventListener("change", check);
+  }
   check();
-  const why = asked === null ? say("offer.security.ask") : asked === 0 ? say("offer.security.none") : say("offer.security.asked", { amount: money(asked, one.currency) });
+  const why = asked === null ? say("offer.security.ask") : asked === 0 ? say("offer.security.none")
+    : say("offer.security.asked", { amount: money(asked, one.currency) });
   return element("section", { "aria-labelledby": "security" }, element("h2", { id: "security" }, say("offer.security")), element("p", {}, why),
     element("div", { class: "fields" }, reference.made, amount.made));
 }
@@ -129,6 +132,12 @@ function sources(offer, redraw) {
   return element("div", { class: "steps", role: "group", "aria-label": say("offer.source") }, made("table"), made("file"));
 }
 
+/** The part that takes a file: what reads files is loaded where it is wanted alone. */
+async function filePart(offer, redraw) {
+  const { drawFile } = await import("./file.js");
+  return drawFile(offer, (sentence, isWrong) => redraw(sentence, isWrong, "offer-file"));
+}
+
 /** The view of an offer for a lot. */
 async function drawLot(notice, name, { redraw }) {
   const one = await terms(notice);
@@ -144,7 +153,7 @@ async function drawLot(notice, name, { redraw }) {
     const isReady = readyOf(offer) !== null;
     go.hidden = keep.hidden = !isReady;
   };
-  const prices = offer.source === "table" ? drawTable(offer, update) : drawFile(offer, () => redraw("", false, "offer-file"));
+  const prices = offer.source === "table" ? drawTable(offer, update) : await filePart(offer, redraw);
   update();
   return { title: say("offer.for", { lot: name, notice }), content: [
     element("h1", { tabindex: "-1" }, say("offer.for", { lot: name, notice })), element("p", {}, given(one.title), " – ", given(lot.title)), ...termsOf(one),

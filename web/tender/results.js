@@ -21,7 +21,8 @@ function readPart(found, tenders, currency) {
 
 /** All tenders for the lot, as everybody may read them. */
 function allOf(found, tenders, currency) {
-  const rows = tenders.filter(({ lot }) => lot === found.lot).map((one) => [given(one.name), one.reading === "priced" ? money(one.corrected, currency) : say(`results.${one.reading}.short`)]);
+  const rows = tenders.filter(({ lot }) => lot === found.lot)
+    .map(({ name, reading, corrected }) => [given(name), reading === "priced" ? money(corrected, currency) : say(`results.${reading}.short`)]);
   return table(say("results.caption", { count: rows.length, lot: found.lot }), [say("results.tenderer"), say("results.price")], rows, { figures: [1] });
 }
 
@@ -50,12 +51,15 @@ async function contractPart(one) {
 export async function drawResults(found, { currency }) {
   const [text, compiled] = await Promise.all([minutesText(found.notice), record(found.notice)]);
   const tenders = tendersOf(text);
-  const own = (compiled.awards ?? []).filter(({ suppliers, relatedLots }) => suppliers?.[0]?.id === `T-${session.caller.caller}` && relatedLots?.includes(found.lot));
+  const isOwn = ({ suppliers, relatedLots }) => suppliers?.[0]?.id === `T-${session.caller.caller}` && relatedLots?.includes(found.lot);
+  const own = (compiled.awards ?? []).filter(isOwn);
   const contracts = (compiled.contracts ?? []).filter(({ awardID }) => own.some(({ id }) => id === awardID));
-  const won = own.map(({ id, status, value }) => element("p", {}, badge(status === "active" ? "done" : "stopped", say(`results.award.${status === "active" ? "active" : "ended"}`)), " ",
+  const badgeOf = (status) => (status === "active" ? badge("done", say("results.award.active")) : badge("stopped", say("results.award.ended")));
+  const won = own.map(({ id, status, value }) => element("p", {}, badgeOf(status), " ",
     say("results.award", { number: id, price: money(value.amount, value.currency) })));
   const lot = compiled.tender.lots.find(({ id }) => id === found.lot);
   const none = own.length > 0 ? null : element("p", {}, say(lot?.status === "active" ? "results.waits" : "results.notWon"));
-  return [element("h2", {}, say("results.title")), readPart(found, tenders, currency), allOf(found, tenders, currency), ...won, none, ...await Promise.all(contracts.map(contractPart)),
+  const parts = await Promise.all(contracts.map(contractPart));
+  return [element("h2", {}, say("results.title")), readPart(found, tenders, currency), allOf(found, tenders, currency), ...won, none, ...parts,
     element("p", {}, element("a", { href: `/#notice/${found.notice}` }, say("offer.public")))].filter(Boolean);
 }

@@ -1,9 +1,10 @@
-// Before sending: what the office will read at the opening, and the digest of the bytes. Sending; and behind it the receipt, or what became of what got no answer.
+// Before sending: what the office will read at the opening, and the digest of the bytes. Sending; and behind it the receipt, or what became of what got no
+// answer.
 import { element, facts, given } from "../draw.js";
 import { inGroups, sha256 } from "../common/digest.js";
 import { button, table, tick, told } from "../common/forms.js";
 import { money, moment, number } from "../common/money.js";
-import { Refused, modify, officeNow, present, sentenceOf, tender } from "../common/office.js";
+import { Refused, modify, officeNow, present, sentenceOf, tender, terms } from "../common/office.js";
 import { hasText, say } from "../common/texts.js";
 import { becameOf } from "./became.js";
 import { clock, securityFaults, securityOf } from "./offer.js";
@@ -61,16 +62,16 @@ async function taken(sent, answer, text) {
     keep({ receipt: sent.receipt, state: "withdrawn" });
   }
   session.changing = null;
-  session.sent = { ...sent, receipt: found, text, isOpen: false, fault: null };
+  session.sent = { ...sent, receipt: found, text, isOpen: false, isGoing: false, fault: null };
   session.offer = null;
 }
 
 /** Sends an offer, once. What came of it stands in `session.sent` then. */
 async function send(offer, ready, digest) {
-  const sent = { kind: offer.changes === null ? "present" : "modify", notice: offer.terms.notice, lot: offer.lot.id, receipt: offer.changes, digest, price: ready.reading.price,
-    currency: offer.terms.currency, length: ready.bytes.length, name: `${offer.terms.notice}-${offer.lot.id}.csv`, bytes: ready.bytes,
-    known: Math.max(0, ...session.tenders.keys()) };
-  session.sent = { ...sent, isOpen: true };
+  const sent = { kind: offer.changes === null ? "present" : "modify", notice: offer.terms.notice, lot: offer.lot.id, receipt: offer.changes, digest,
+    price: ready.reading.price, currency: offer.terms.currency, length: ready.bytes.length, name: `${offer.terms.notice}-${offer.lot.id}.csv`,
+    bytes: ready.bytes, known: Math.max(0, ...session.tenders.keys()) };
+  session.sent = { ...sent, isOpen: true, isGoing: true };
   try {
     const { value, text } = sent.kind === "present" ? await present(sent.notice, sent.lot, ready.bytes, securityOf(offer), session.caller)
       : await modify(offer.changes, ready.bytes, session.caller);
@@ -120,39 +121,61 @@ function again(sent, where, redraw) {
 
 /** What is shown where no answer came: that it isn't known, and the way to know it. Sending the same again is no danger before the deadline. */
 function openPart(sent, redraw) {
-  const where = element("div", {}, again(sent, null, redraw));
-  where.replaceChildren(again(sent, where, redraw));
+  const where = element("div", {});
+  where.append(again(sent, where, redraw));
   return [told("bad", say("send.open"), element("p", {}, sent.fault ? sentenceOf(sent.fault) : ""), element("p", {}, say("send.open.what"))), where];
+}
+
+/** How far a sending is that has no receipt. */
+function sentPart(sent, redraw) {
+  return sent.isGoing ? told("look", say("send.going")) : sent.isOpen ? openPart(sent, redraw) : refusedPart(sent.fault);
 }
 
 function sendButton(offer, ready, digest, redraw) {
   const isLate = Date.parse(offer.terms.deadline) < officeNow();
   const press = button(offer.changes === null ? say("send.send") : say("send.change", { receipt: String(offer.changes) }), async () => {
+    if (!isLate && Date.parse(offer.terms.deadline) < officeNow()) {
+      // It came while the view stood there.
+      redraw("");
+      return;
+    }
     await send(offer, ready, digest);
     redraw(session.sent.isOpen || session.sent.fault ? "" : say("send.sent"), Boolean(session.sent.fault));
   });
   press.disabled = isLate;
+  const back = element("a", { class: "button second", href: `#offer/${offer.terms.notice}/${offer.lot.id}` }, say("send.back"));
   return [isLate ? told("bad", say("send.late"), tick("send-late", say("send.late.tick"), (isTicked) => { press.disabled = !isTicked; })) : null,
-    element("div", { class: "steps" }, press, element("a", { class: "button second", href: `#offer/${offer.terms.notice}/${offer.lot.id}` }, say("send.back")))];
+    element("div", { class: "steps" }, press, back)];
+}
+
+/** The bytes that are sent, and their digest. */
+function bytesPart(bytes, digest) {
+  return element("section", { "aria-labelledby": "bytes" }, element("h2", { id: "bytes" }, say("send.bytes")),
+    element("p", {}, say("send.bytes.why", { count: bytes.length })), element("pre", {}, new TextDecoder().decode(bytes)),
+    element("p", {}, say("send.digest")), element("p", { class: "code", id: "digest" }, inGroups(digest)));
 }
 
 /** The view before the sending. */
 async function drawBefore(offer, { redraw }) {
+  try {
+    offer.terms = await terms(offer.terms.notice);
+  } catch {
+    // What was known of the notice stays.
+  }
   const ready = readyOf(offer);
   const digest = ready ? await sha256(ready.bytes) : "";
   const named = ready ? securityOf(offer) : null;
-  const what = facts([[say("offer.notice"), `${offer.terms.notice}, ${say("offer.lot", { lot: offer.lot.id })}`], [say("send.as"), session.caller?.caller ?? "–"],
-    [say("offer.deadline"), [moment(offer.terms.deadline), " – ", clock(offer.terms.deadline)]],
+  const what = facts([[say("offer.notice"), `${offer.terms.notice}, ${say("offer.lot", { lot: offer.lot.id })}`],
+    [say("send.as"), session.caller?.caller ?? "–"], [say("offer.deadline"), [moment(offer.terms.deadline), " – ", clock(offer.terms.deadline)]],
     offer.changes === null ? [say("offer.security"), named ? `${named.security}, ${money(named.amount, offer.terms.currency)}` : say("send.noSecurity")]
       : [say("send.replaces"), String(offer.changes)]]);
   const hindered = hindrances(offer, ready);
   const sent = session.sent?.fault || session.sent?.isOpen ? session.sent : null;
   const isOf = sent && sent.notice === offer.terms.notice && sent.lot === offer.lot.id;
   return { title: say("send.title"), content: [element("h1", { tabindex: "-1" }, say("send.title")),
-    isOf ? (sent.isOpen ? openPart(sent, redraw) : refusedPart(sent.fault)) : null, what, ready ? readingTable(ready.reading, offer) : null,
-    ready ? element("section", { "aria-labelledby": "bytes" }, element("h2", { id: "bytes" }, say("send.bytes")), element("p", {}, say("send.bytes.why", { count: ready.bytes.length })),
-      element("pre", {}, new TextDecoder().decode(ready.bytes)), element("p", {}, say("send.digest")), element("p", { class: "code", id: "digest" }, inGroups(digest))) : null,
-    hindered.length > 0 ? hindered : sendButton(offer, ready, digest, redraw)].flat(2).filter(Boolean) };
+    isOf ? sentPart(sent, redraw) : null, what, ready ? readingTable(ready.reading, offer) : null,
+    ready ? bytesPart(ready.bytes, digest) : null,
+    hindered.length > 0 ? hindered : isOf && sent.isGoing ? null : sendButton(offer, ready, digest, redraw)].flat(2).filter(Boolean) };
 }
 
 /** The view at `#send`: before the sending, or the receipt behind it. */

@@ -44,7 +44,8 @@ export function sumOf(offer) {
 /** The bytes of an offer and what the office will read in them, or null where they aren't ready. Bytes without a price are never ready. */
 export function readyOf(offer) {
   if (offer?.source === "file") {
-    return offer.file && offer.file.kind !== "refused" && offer.file.reading.kind === "priced" ? { bytes: offer.file.bytes, reading: offer.file.reading } : null;
+    const { kind, bytes, reading } = offer.file ?? { kind: "refused" };
+    return kind !== "refused" && reading.kind === "priced" ? { bytes, reading } : null;
   }
   if (!offer || !sumOf(offer).isWhole) {
     return null;

@@ -25,8 +25,9 @@ function list() {
     return element("p", {}, say("tenders.none"));
   }
   const heads = ["receipt.number", "tenders.what", "receipt.moment", "receipt.state"].map((name) => say(name));
-  return table(say("tenders.caption", { count: known.length }), heads, known.map((one) => [element("a", { href: `#tender/${one.receipt}` }, String(one.receipt)),
-    [given(one.notice ?? "–"), ", ", say("offer.lot", { lot: one.lot ?? "–" })], one.moment ? moment(one.moment) : "–", stateBadge(one.state)]));
+  return table(say("tenders.caption", { count: known.length }), heads, known.map(({ receipt, notice, lot, moment: came, state }) => [
+    element("a", { href: `#tender/${receipt}` }, String(receipt)), [given(notice ?? "–"), ", ", say("offer.lot", { lot: lot ?? "–" })],
+    came ? moment(came) : "–", stateBadge(state)]));
 }
 
 /** Goes back over all receipts, and keeps those that are the caller's. */
@@ -54,8 +55,8 @@ async function search(where, redraw) {
 /** The view of all tenders that are known. */
 export function drawTenders({ redraw }) {
   if (!session.caller) {
-    return { title: say("tenders.title"), content: [element("h1", { tabindex: "-1" }, say("tenders.title")), told("bad", say("send.noKey"),
-      element("p", {}, element("a", { href: "#key" }, say("key.title"))))] };
+    return { title: say("tenders.title"), content: [element("h1", { tabindex: "-1" }, say("tenders.title")),
+      told("bad", say("send.noKey"), element("p", {}, element("a", { href: "#key" }, say("key.title"))))] };
   }
   const receipt = field("tender-number", say("tenders.number"), { inputmode: "numeric", maxlength: 10 });
   const byNumber = form([receipt.made], say("offer.show"), () => {
@@ -132,10 +133,12 @@ function withdrawPart(found, one, held, redraw) {
   const isLate = Date.parse(one.deadline) <= officeNow();
   const { kind, sentence, isRefused } = priceOf(one, held, isLate);
   const where = element("div", { "aria-live": "polite" });
-  const press = button(say("withdraw.press", { receipt: String(found.receipt) }), () => take({ kind: "withdraw", receipt: found.receipt, isLate }, where, redraw), "harm");
+  const sent = { kind: "withdraw", receipt: found.receipt, isLate };
+  const press = button(say("withdraw.press", { receipt: String(found.receipt) }), () => take(sent, where, redraw), "harm");
   press.disabled = true;
-  return element("section", { "aria-labelledby": "withdraw" }, element("h2", { id: "withdraw" }, say("withdraw.title")), told(kind, say("withdraw.price"), element("p", {}, sentence)),
-    isRefused ? null : [tick("withdraw-sure", say("withdraw.sure"), (isTicked) => { press.disabled = !isTicked; }), element("div", { class: "steps" }, press)], where);
+  const sure = tick("withdraw-sure", say("withdraw.sure"), (isTicked) => { press.disabled = !isTicked; });
+  return element("section", { "aria-labelledby": "withdraw" }, element("h2", { id: "withdraw" }, say("withdraw.title")),
+    told(kind, say("withdraw.price"), element("p", {}, sentence)), isRefused ? null : [sure, element("div", { class: "steps" }, press)], where);
 }
 
 function changePart(found, one) {
@@ -162,10 +165,12 @@ export async function drawTender({ redraw }, receipt) {
   const found = await tender(receipt, session.caller);
   keep(found);
   const [one, held] = await Promise.all([terms(found.notice), found.security === null ? null : security(found.security, session.caller)]);
-  const isOut = found.state === "withdrawn" || found.state === "returned" || held?.state === "forfeited";
+  const isDecided = one.lots.find(({ id }) => id === found.lot)?.state !== "active";
+  const isOut = found.state === "withdrawn" || found.state === "returned" || held?.state === "forfeited" || isDecided;
   const isBefore = Date.parse(one.deadline) > officeNow();
   const results = found.state === "opened" ? await drawResults(found, one) : [];
-  return { title: say("receipt.title", { receipt: String(receipt) }), content: [element("h1", { tabindex: "-1" }, say("tenders.one", { receipt: String(receipt) })),
+  const title = say("tenders.one", { receipt: String(receipt) });
+  return { title, content: [element("h1", { tabindex: "-1" }, title),
     element("p", {}, stateBadge(found.state)), element("p", {}, given(one.title)), factsOf(found),
     element("p", {}, say("tenders.digest", { count: found.length })), element("p", { class: "code" }, inGroups(found.digest)),
     ...results, held ? securityPart(held) : null, found.state === "sealed" && isBefore ? changePart(found, one) : null,

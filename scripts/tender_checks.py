@@ -1,0 +1,287 @@
+"""What `tests/tender_desk` asks of the tenderer's desk, in a browser: a tender's life by the desk alone, what can't be sent, and answers that are lost."""
+import json
+import os
+from collections.abc import Callable
+from typing import Any
+
+from client import wait_until
+from common import check
+from page_checks import is_quiet, keeps_nothing, refusals
+from tender_office import Scene
+from tender_page import MADE, RIGHT, SHEET, Desk, digest_of
+
+
+def key(scene: Scene) -> None:
+    """A key is made, saved, dropped in again; its digest is on the sheet; the clerk registers by the sheet's file; and the office knows it then."""
+    desk = Desk(scene)
+    desk.at("key", "Key")
+    desk.press("Make the key")
+    check("nothing is told of a missing name", "1 to 32 letters" in desk.page.text())
+    for name, text in (("tenderer", "T9"), ("name", 'Gamma "Bau" & Söhne'), ("address", "Mill Lane 3")):
+        desk.fill(f"key-{name}", text)
+    desk.press("Make the key")
+    desk.says("Now drop the file T9.key")
+    lines = desk.saved("T9.key").decode().split("\n")
+    made = lines[1].removeprefix("Office-Key: ")
+    check(f"the file of the key is {lines}", lines[0] == "Office-Caller: T9" and len(made) == 64 and lines[2:] == [""])
+    sheet = desk.page.run("document.querySelector('.sheet').innerText")
+    check(f"the sheet is {sheet}", digest_of(made.encode()) in sheet.replace(" ", "") and made not in sheet and "Mill Lane 3" in sheet)
+    desk.page.choose("key-file", scene.path("T9.key"))
+    desk.says("its file was saved")
+    desk.press("Ask whether")
+    desk.says("The name and the key don't go together.")
+    desk.press("Save it as a file for the clerk")
+    told = json.loads(desk.saved("registration-T9.json"))
+    check(f"the file for the clerk has {told}", told["key"] == digest_of(made.encode()))
+    scene.client.clerk("/tenderers/T9", {name: told[name] for name in ("name", "address", "key")})
+    desk.press("Ask whether")
+    desk.says("The office knows T9 by this key.")
+    scene.put("none.key", b"Office-Key: x\n")
+    desk.press("Put it away")
+    desk.says("No key is in this tab.")
+    desk.page.choose("key-file", scene.path("none.key"))
+    desk.says("There is no key in this file.")
+    keeps_nothing(scene, desk.page)
+
+
+def offer(scene: Scene) -> None:
+    """A notice by its number, a price for each item, sums as one types, what is out of range told at once; what is sent, its digest, the receipt, its file; and
+    whether both belong together."""
+    desk = Desk(scene, "T1")
+    desk.at("offer", "Make an offer")
+    desk.fill("offer-notice", "N 1")
+    desk.press("Show")
+    desk.says("That is no number of the office.")
+    desk.fill("offer-notice", "N1")
+    desk.press("Show")
+    desk.shows("Road repair")
+    desk.press("Offer for lot L1")
+    desk.shows("Offer for lot L1")
+    for unit, text in (("12.5", "no point"), ("1000000001", "too much"), ("x", "Digits alone")):
+        desk.fill("unit-1", unit)
+        check(f"{unit}: {desk.page.text()}", text in desk.page.text() and not desk.can_press("Look at it"))
+    desk.prices("N1", "L1", 150, 12)
+    check(f"the sums are {desk.page.text()}", all(text in desk.page.text() for text in ("450", "120", "570 EUR")))
+    desk.fill("security-reference", "G 1")
+    desk.fill("security-amount", "50")
+    desk.press("Look at it")
+    desk.shows("Before it is sent")
+    check("a wrong reference can be sent", desk.has("bad", "The security isn't named rightly.") and not desk.can_press("Send the tender"))
+    desk.at("offer/N1/L1", "Offer for")
+    desk.fill("security-reference", "G1")
+    desk.press("Look at it")
+    desk.shows("Before it is sent")
+    shown = desk.page.run("document.querySelector('pre').textContent"), desk.page.run("document.getElementById('digest').textContent").replace(" ", "")
+    check(f"what will be sent is {shown}", shown == (RIGHT.decode(), digest_of(RIGHT)))
+    desk.press("Send the tender")
+    receipt = desk.receipt()
+    check(f"the receipt is {desk.page.text()}", desk.has("good", "The office received exactly what was sent.") and not desk.has("bad", ""))
+    found = scene.client.tender("T1", receipt)
+    check(f"the office has {found.body!r}", (found["digest"], found["security"], found["lot"]) == (digest_of(RIGHT), receipt, "L1"))
+    desk.press("Save the receipt")
+    desk.press("Save what was sent")
+    kept, sent = json.loads(desk.saved(f"receipt-{receipt}.json")), desk.saved("N1-L1.csv")
+    check(f"the receipt's file has {kept}", sent == RIGHT and all(kept[name] == found[name] for name in ("digest", "receipt", "moment", "state", "notice")))
+    belongs(scene, desk, receipt)
+    is_quiet(desk.page)
+
+
+def belongs(scene: Scene, desk: Desk, receipt: int) -> None:
+    """The file and its receipt belong together, another file doesn't, and the office has the same."""
+    desk.at("check", "Do a file")
+    desk.page.choose("check-file", scene.path("N1-L1.csv"))
+    desk.says("63 bytes")
+    desk.page.choose("check-receipt", scene.path(f"receipt-{receipt}.json"))
+    desk.says("They belong together.")
+    desk.press("Ask the office")
+    desk.says("The office has the same.")
+    desk.page.choose("check-file", scene.put("other.csv", RIGHT + b"\n"))
+    desk.says("They don't belong together.")
+    check("a wrong file is green", not desk.has("good", "belong") and "another length" in desk.page.text())
+    desk.page.choose("check-receipt", scene.put("none.json", b"[1]"))
+    desk.says("There is no receipt in this file.")
+
+
+def files(scene: Scene) -> None:
+    """A file with semicolons, cents of zero and a formula is made to what the office reads, each change shown; one that can't be is refused with its lines, and
+    can't be sent; one that is right goes as it is, dropped or chosen."""
+    desk = Desk(scene, "T1")
+    desk.at("offer/N1/L2", "Offer for")
+    desk.press("Take a file")
+    desk.page.choose("offer-file", scene.put("bad.csv", b"item;quantity;unit;total\nI1;1;1.500;1500\nI7;1;5;5\nTOTAL;;;1505\n"))
+    desk.says("bad.csv can't be sent")
+    for text in ("could mean two things", "no item I7"):
+        check(f"the refusal says {desk.page.text()}", desk.has("bad", text))
+    check("a refused file can be sent", not desk.can_press("Look at it"))
+    desk.at("send", "Before it is sent")
+    check("a refused file can be sent", desk.has("bad", "The prices aren't complete.") and not desk.can_press("Send"))
+    desk.at("offer/N1/L2", "Offer for")
+    desk.page.choose("offer-file", scene.put("sheet.csv", SHEET.encode("cp1252")))
+    desk.says("was made to what the office reads: 1,500 EUR")
+    for text in ("Commas in place of semicolons", "L2/I1 was made to I1", "1.500,00 € was read as 1,500", "The column Bezeichnung was left out",
+                 "in place of “=C2*D2”"):
+        check(f"{text}: {desk.page.text()}", desk.has("look", text))
+    desk.page.run(f"""(() => {{
+        const data = new DataTransfer();
+        data.items.add(new File([{json.dumps(MADE.decode())}], 'own.csv'));
+        document.querySelector('.drop').dispatchEvent(new DragEvent('drop', {{ dataTransfer: data, bubbles: true, cancelable: true }}));
+    }})()""")
+    desk.says("own.csv is sent as it is: 1,500 EUR")
+    desk.page.choose("offer-file", scene.path("sheet.csv"))
+    desk.says("sheet.csv was made")
+    desk.press("Look at it")
+    desk.shows("Before it is sent")
+    desk.press("Send the tender")
+    check("another file was sent", scene.client.tender("T1", desk.receipt())["digest"] == digest_of(MADE))
+    is_quiet(desk.page)
+
+
+def changes(scene: Scene) -> None:
+    """A tender is changed by its receipt, and withdrawn: what it costs is said before, and the button wants a tick."""
+    old = scene.client.present("T2", "N1", "L1", RIGHT, "G5", 55)["receipt"]
+    desk = Desk(scene, "T2")
+    desk.at("tenders", "My tenders")
+    desk.fill("tender-number", str(old))
+    desk.press("Show")
+    desk.shows(f"Tender with receipt {old}")
+    desk.says("G5")
+    desk.press("Change the tender")
+    desk.prices("N1", "L1", 140, 12)
+    desk.press("Look at it")
+    desk.press(f"Send it in the place of receipt {old}")
+    new = desk.receipt()
+    states = [scene.client.tender("T2", receipt)["state"] for receipt in (old, new)]
+    check(f"the tenders are {states}", states == ["withdrawn", "sealed"])
+    desk.at(f"tender/{new}", f"Tender with receipt {new}")
+    check(f"the price of a withdrawal is told so: {desk.page.text()}", desk.has("look", "Nothing: the security of 55 (G5) goes back."))
+    check("it can be withdrawn without a tick", not desk.can_press("Withdraw the tender"))
+    desk.tick("withdraw-sure")
+    desk.press("Withdraw the tender")
+    desk.says("The tender was withdrawn.")
+    told = scene.client.tender("T2", new)["state"], scene.client.security("T2", old)["state"]
+    check(f"the office has {told}", told == ("withdrawn", "returned"))
+    desk.at("tenders", "My tenders")
+    desk.press("Look for all")
+    desk.says("tenders are yours")
+    check("own tenders aren't found", desk.page.run("document.querySelectorAll('tbody tr').length") >= 4)
+    is_quiet(desk.page)
+
+
+def lost(scene: Scene) -> None:
+    """Where no answer comes, that is told, and the office is asked what became of it: what was done is found, and what wasn't may be sent again."""
+    desk = Desk(scene, "T1")
+    for lot_name, is_done in (("L2", False), ("L3", True)):
+        path = f"/notices/N4/lots/{lot_name}/tenders"
+        desk.prices("N4", lot_name, 150, 12)
+        desk.press("Look at it")
+        desk.shows("Before it is sent")
+        desk.page.answer_for({path: None})
+        desk.press("Send the tender")
+        desk.says("Whether it was done isn't known yet.")
+        if is_done:
+            scene.client.present("T1", "N4", lot_name, RIGHT)
+        desk.page.answer_for({})
+        desk.press("Ask the office what became of it")
+        if not is_done:
+            desk.says("The office has nothing of it up to now.")
+            desk.press("Send the tender")
+        receipt = desk.receipt()
+        check("its receipt isn't green", desk.has("good", "The office received exactly what was sent."))
+        check("it isn't there", scene.client.tender("T1", receipt)["digest"] == digest_of(RIGHT))
+    desk.at(f"tender/{receipt}", "Tender with")
+    desk.page.answer_for({f"/tenders/{receipt}/withdraw": None})
+    desk.tick("withdraw-sure")
+    desk.press("Withdraw the tender")
+    desk.says("Whether it was done isn't known yet.")
+    desk.page.answer_for({})
+    desk.press("Ask the office")
+    desk.says("It wasn't withdrawn up to now.")
+    scene.client.withdraw("T1", receipt)
+    desk.press("Ask the office")
+    desk.says("The tender was withdrawn.")
+
+
+def stopped(scene: Scene) -> None:
+    """The office is stopped in the middle of a sending: that is told, and once it serves again it is asked, and the tender sent."""
+    desk = Desk(scene, "T1")
+    desk.prices("N4", "L4", 150, 12)
+    desk.press("Look at it")
+    desk.shows("Before it is sent")
+    scene.stop()
+    desk.press("Send the tender")
+    desk.says("Whether it was done isn't known yet.")
+    desk.press("Ask the office")
+    desk.says("The office can't be asked now.")
+    scene.start()
+    desk.press("Ask the office")
+    desk.says("The office has nothing of it up to now.")
+    desk.press("Send the tender")
+    check("it isn't there", scene.client.tender("T1", desk.receipt())["state"] == "sealed")
+
+
+def each_refusal(scene: Scene) -> None:
+    """Each refusal of the office is a sentence of its own, in English and in German; what the front or the net says is one too."""
+    answers = [*refusals(), *((status, b'{"front":"no"}') for status in (400, 403, 404, 408, 413, 502, 504)), None, (200, b"{")]
+    said: dict[str, list[str]] = {}
+    for language in ("en", "de"):
+        desk = Desk(scene, "T1", language=language)
+        for number, answer in enumerate(answers, 1001):
+            desk.page.answer_for({f"/tenders/{number}": answer})
+            desk.at(f"tender/{number}", "Not shown" if language == "en" else "Nicht gezeigt")
+            said.setdefault(language, []).append(desk.page.run("document.querySelector('main .bad').innerText"))
+        is_quiet(desk.page)
+    own = len(list(refusals()))
+    for language, sentences in said.items():
+        check(f"two refusals have one sentence: {sentences}", len(set(sentences[:own])) == own)
+        generic = [it for it in sentences if "status" in it.lower() or not it.endswith((".", "-")) or "went wrong" in it or "schiefgegangen" in it]
+        check(f"no sentence of its own: {generic}", not generic)
+    check("German is English", not set(said["en"]) & set(said["de"]))
+
+
+def late(scene: Scene) -> None:
+    """Behind the deadline: a tender is warned of and given back; a late withdrawal costs the security where the notice says so, which is told before; else it
+    is refused in a sentence."""
+    wait_until(scene.deadline + 1.05)
+    desk = Desk(scene, "T1")
+    desk.prices("N2", "L1", 150, 12)
+    desk.press("Look at it")
+    desk.shows("Before it is sent")
+    check("a late tender can be sent without a tick", desk.has("bad", "The deadline has passed") and not desk.can_press("Send the tender"))
+    desk.tick("send-late")
+    desk.press("Send the tender")
+    desk.receipt()
+    check("a late tender is green", desk.has("bad", "The tender came late and was given back."))
+    beta = Desk(scene, "T2")
+    beta.at("tender/1", "Tender with receipt 1")
+    check(f"the price is told so: {beta.page.text()}", beta.has("bad", "the security of 60 (G2) is forfeited"))
+    check("it can be withdrawn without a tick", not beta.can_press("Withdraw the tender"))
+    beta.tick("withdraw-sure")
+    beta.press("Withdraw the tender")
+    beta.says("withdrawn late")
+    check("the security isn't forfeited", scene.client.security("T2", 1)["state"] == "forfeited")
+    beta.at("tender/2", "Tender with receipt 2")
+    beta.tick("withdraw-sure")
+    beta.press("Withdraw the tender")
+    beta.says("This notice lets nobody withdraw from the deadline on.")
+    check("it was withdrawn", scene.client.tender("T2", 2)["state"] == "sealed")
+
+
+def results(scene: Scene) -> None:
+    """Behind the opening: what was read, what was corrected, the award, the contract with what is outstanding, and its security."""
+    wait_until(scene.deadline + 1.05)
+    client = scene.client
+    client.open("N3")
+    client.examine(2)
+    award = client.award("N3", "L1")["award"]
+    client.sign(award, "P1", 70)
+    client.pay(award, "E1", 200)
+    desk = Desk(scene, "T2")
+    desk.at("tender/2", "Tender with receipt 2")
+    for text in ("It was read with a price of 570 EUR.", "It stated 550 EUR; 1 figure was corrected.", "Award 1 to you for 570 EUR", "370 EUR", "70 (P1): held",
+                 "returned"):
+        check(f"{text}: {desk.page.text()}", text in desk.page.text())
+    desk.page.picture(os.path.join(scene.pictures, "results-desktop-light.png"))
+    is_quiet(desk.page)
+
+
+CHECKS: list[Callable[[Scene], Any]] = [key, offer, files, changes, lost, stopped, each_refusal, late, results]
