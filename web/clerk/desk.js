@@ -4,8 +4,6 @@ import { sentenceOf } from "../common/office.js";
 import { addTexts, chooseLanguage, language, languages, say } from "../common/texts.js";
 import { linkTo } from "./address.js";
 import { drawBudget } from "./budgets.js";
-import de from "./de.js";
-import en from "./en.js";
 import { button, note } from "./forms.js";
 import { drawJournal } from "./journals.js";
 import { drawKey } from "./key.js";
@@ -17,7 +15,8 @@ import { caller, forgetKey, who } from "./session.js";
 import { drawTenderers } from "./tenderers.js";
 import { drawToday } from "./today.js";
 
-addTexts({ en, de });
+// The texts of the language that is spoken alone are loaded.
+await addTexts({ en: () => import("./en.js"), de: () => import("./de.js") });
 const byId = (id) => document.getElementById(id);
 const main = byId("content");
 const PAGES = ["today", "budget", "tenderers", "new", "journal"];
@@ -46,9 +45,9 @@ function drawFrame(page) {
     say(`page.${name}`))));
   byId("languages").setAttribute("aria-label", say("language.choose"));
   byId("languages").replaceChildren(...languages().map(([tag, name]) => {
-    const made = button(name, () => {
-      chooseLanguage(tag);
-      show(false);
+    const made = button(name, async () => {
+      await chooseLanguage(tag);
+      await show(false);
       byId("languages").querySelector("[aria-pressed='true']").focus();
     });
     made.setAttribute("lang", tag);
