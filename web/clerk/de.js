@@ -54,6 +54,8 @@ export default {
   "stage.over": "Abgeschlossen",
   "lot.sealed": "Angebote verschlossen", "lot.undecided": "Nicht entschieden", "lot.awarded": "Zuschlag erteilt, nicht unterzeichnet",
   "lot.contracted": "Vertrag geschlossen", "lot.cancelled": "Aufgehoben", "lot.unsuccessful": "Ohne Vertrag beendet",
+  "step.title": "Schritte", "step.tenders": "Angebote kommen", "step.opening": "Öffnung", "step.examination": "Prüfung", "step.award": "Zuschlag",
+  "step.signing": "Unterzeichnung", "step.contract": "Vertrag",
   "task.title": "Was zu tun ist", "task.none": "Nichts ist zu tun.", "task.wait": "Angebote kommen bis {until}",
   "task.open": "Die Angebote sind zu öffnen. Die Frist endete {since}",
   "task.examine": ["Los {lot}: 1 Angebot wartet auf die Prüfung", "Los {lot}: {count} Angebote warten auf die Prüfung"],

@@ -46,6 +46,8 @@ export default {
   "stage.over": "Over",
   "lot.sealed": "Tenders sealed", "lot.undecided": "Not decided", "lot.awarded": "Awarded, not signed", "lot.contracted": "Contracted",
   "lot.cancelled": "Cancelled", "lot.unsuccessful": "Ended without a contract",
+  "step.title": "Steps", "step.tenders": "Tenders come", "step.opening": "Opening", "step.examination": "Examination", "step.award": "Award",
+  "step.signing": "Signing", "step.contract": "Contract",
   "task.title": "What is to be done", "task.none": "Nothing is to be done.", "task.wait": "Tenders come until {until}",
   "task.open": "The tenders are to be opened. The deadline came {since}",
   "task.examine": ["Lot {lot}: 1 tender waits for its examination", "Lot {lot}: {count} tenders wait for their examination"],

@@ -9,12 +9,13 @@ import { lotParts } from "./evaluation.js";
 import { note, section } from "./forms.js";
 import { loadNotice, momentAndSpan, stageBadge, tasks } from "./load.js";
 import { openingPart } from "./opening.js";
+import { STEPS, stepOf } from "./stage.js";
 
 export async function drawProcurement(again, name) {
   const notice = await loadNotice(name);
   const { compiled, stage, currency } = notice;
   const { title, tenderPeriod, value } = compiled.tender;
-  const content = [element("h1", { tabindex: "-1" }, given(title)), element("p", {}, stageBadge(stage)),
+  const content = [element("h1", { tabindex: "-1" }, given(title)), element("p", {}, stageBadge(stage)), path(stage),
     facts([[say("notice"), name], [say("buyer"), given(compiled.buyer.name)], [say("estimate"), money(value.amount, currency)],
       [say("editor.deadline"), element("span", {}, moment(tenderPeriod.endDate))]]),
     doing(notice), termsNote(notice), ...parts(notice, again)];
@@ -22,6 +23,13 @@ export async function drawProcurement(again, name) {
     text.lang = compiled.language;
   }
   return { title: `${name}: ${title}`, content };
+}
+
+/** The steps, with the one that it is at. */
+function path(stage) {
+  const at = stepOf(stage);
+  const steps = STEPS.map((step) => element("li", step === at ? { "aria-current": "step" } : {}, say(`step.${step}`)));
+  return at === null ? null : element("ol", { class: "path", "aria-label": say("step.title") }, steps);
 }
 
 /** What is to be done next. */

@@ -94,6 +94,25 @@ export function outlookOf(lot, byPoints, terms) {
   return admissible.length === 0 ? { code: "nobody" } : { code: "best", tender: admissible[0] };
 }
 
+/** The steps of a procurement, in their order. */
+export const STEPS = ["tenders", "opening", "examination", "award", "signing", "contract"];
+
+/** The step that a notice is at: that of the lot that is behind all others; `over` behind the last one, null where it was cancelled. */
+export function stepOf({ kind, lots }) {
+  if (kind !== "opened") {
+    return { receiving: "tenders", due: "opening" }[kind] ?? null;
+  }
+  const places = lots.map((lot) => STEPS.indexOf(stepOfLot(lot))).filter((place) => place >= 0);
+  return places.length > 0 ? STEPS[Math.min(...places)] : "over";
+}
+
+function stepOfLot({ state, tenders, contract }) {
+  if (state === "undecided") {
+    return tenders.some(isWaiting) ? "examination" : "award";
+  }
+  return state === "awarded" ? "signing" : state === "contracted" && contract?.status !== "terminated" ? "contract" : "over";
+}
+
 /** What is to be done next with a notice, in the order in which it presses: codes with a lot, a contract or a moment. */
 export function tasksOf(stage, now) {
   if (stage.kind === "cancelled") {
