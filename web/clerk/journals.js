@@ -21,14 +21,20 @@ export async function drawJournal(again) {
   const take = async (file) => told.replaceChildren(await taken(textOf(await bytesOfFile(file)), again));
   const keep = button(say("journal.save"), save);
   keep.disabled = entries.length === 0;
-  const state = entries.length === 0 ? note("look", say("journal.empty")) : entries.length > saved
-    ? note("look", say("journal.unsaved", { count: entries.length - saved }), say("journal.unsaved.do")) : note("good", say("journal.saved"));
+  const list = entries.length === 0 ? element("p", {}, say("journal.empty")) : element("ol", { class: "entries" }, [...entries].reverse().map(entryPart));
   return { title: say("page.journal"), content: [element("h1", { tabindex: "-1" }, say("page.journal")),
-    element("p", { class: "intro" }, say("journal.intro")), state,
+    element("p", { class: "intro" }, say("journal.intro")), savedNote(entries.length, saved),
     element("div", { class: "steps" }, keep, button(say("print"), () => print(), "second")),
     section(say("journal.take"), dropped(say("journal.drop"), say("journal.drop.hint"), ".jsonl,application/jsonl", take), told),
-    section(say("journal.entries"), entries.length === 0 ? element("p", {}, say("journal.empty"))
-      : element("ol", { class: "entries" }, [...entries].reverse().map(entryPart)))] };
+    section(say("journal.entries"), list)] };
+}
+
+/** Whether something would be lost with the tab. */
+function savedNote(count, saved) {
+  if (count === saved) {
+    return count === 0 ? null : note("good", say("journal.saved"));
+  }
+  return note("look", say("journal.unsaved", { count: count - saved }), say("journal.unsaved.do"));
 }
 
 /** What a file holds goes in front of what was done since. */
@@ -50,8 +56,8 @@ function outcome({ status, found }) {
   if (status === 200 || found === "done") {
     return ["right", say("journal.done")];
   }
-  return found === null ? ["wrong", say("journal.refused", { status: String(status) })] : ["wrong",
-    say(found === "not done" ? "journal.notdone" : "journal.unknown")];
+  const told = found === null ? say("journal.refused", { status: String(status) }) : say(found === "not done" ? "journal.notdone" : "journal.unknown");
+  return ["wrong", told];
 }
 
 function entryPart(entry) {
@@ -60,6 +66,6 @@ function entryPart(entry) {
     element("span", { class: "quiet below" }, moment(entry.moment), ` · ${entry.who}`),
     element("details", {}, element("summary", {}, say("journal.more")), element("p", { class: "code" }, `${entry.method} ${entry.path}`),
       element("p", { class: "quiet" }, say("journal.body", { bytes: entry.bytes }), " ", element("span", { class: "code" }, inGroups(entry.digest))),
-      entry.body ? element("pre", { tabindex: "0" }, entry.body) : "", entry.answer ? element("pre", { tabindex: "0" }, entry.answer)
-        : element("p", {}, say("journal.noanswer"))));
+      entry.body ? element("pre", { tabindex: "0" }, entry.body) : "",
+      entry.answer ? element("pre", { tabindex: "0" }, entry.answer) : element("p", {}, say("journal.noanswer"))));
 }

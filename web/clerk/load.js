@@ -5,7 +5,7 @@ import { minutesText, officeNow, record, releases, tendersOf } from "../common/o
 import { say, sayParts } from "../common/texts.js";
 import { examinationsOf, termsOf } from "./known.js";
 import { journal, keepRecord } from "./session.js";
-import { stageOf, tasksOf } from "./stage.js";
+import { stageOf, stepOf, tasksOf } from "./stage.js";
 import { momentText } from "./values.js";
 
 /** The record, the releases and the minutes of a notice, its terms as far as they are known here (or null), and its stage. */
@@ -22,9 +22,7 @@ const KINDS = { receiving: "open", due: "running", opened: "running", cancelled:
 
 /** The stage as a badge. */
 export function stageBadge(stage) {
-  const isOver = stage.kind === "opened" && stage.lots.every(({ state, contract }) => !["undecided", "awarded"].includes(state)
-    && (contract === null || contract.status === "terminated"));
-  return isOver ? badge("done", say("stage.over")) : badge(KINDS[stage.kind], say(`stage.${stage.kind}`));
+  return stepOf(stage) === "over" ? badge("done", say("stage.over")) : badge(KINDS[stage.kind], say(`stage.${stage.kind}`));
 }
 
 const LOTS = { sealed: "open", undecided: "running", awarded: "running", contracted: "done", cancelled: "stopped", unsuccessful: "stopped" };
@@ -36,13 +34,13 @@ export function lotBadge(lot) {
 /** A moment in milliseconds, with how far away it is. */
 export function momentAndSpan(milliseconds) {
   const seconds = Math.round((milliseconds - officeNow()) / 1000);
-  return [moment(momentText(milliseconds) ?? ""), " ", element("span", { class: "quiet" }, seconds >= 0 ? say("in", { span: span(seconds) })
-    : say("ago", { span: span(-seconds) }))];
+  const away = seconds >= 0 ? say("in", { span: span(seconds) }) : say("ago", { span: span(-seconds) });
+  return [moment(momentText(milliseconds) ?? ""), " ", element("span", { class: "quiet" }, away)];
 }
 
 /** What is to be done next, each as a sentence. */
 export function tasks(stage) {
-  return tasksOf(stage, officeNow()).map((task) => sayParts(`task.${task.code}`, { lot: given(task.lot ?? ""), count: task.count ?? 0,
-    contract: task.contract ?? "",
-    until: task.until ? element("span", {}, momentAndSpan(task.until)) : "", since: task.since ? element("span", {}, momentAndSpan(task.since)) : "" }));
+  const shown = (milliseconds) => (milliseconds ? element("span", {}, momentAndSpan(milliseconds)) : "");
+  return tasksOf(stage, officeNow()).map(({ code, lot = "", count = 0, contract = "", until, since }) =>
+    sayParts(`task.${code}`, { lot: given(lot), count, contract, until: shown(until), since: shown(since) }));
 }

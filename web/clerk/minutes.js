@@ -19,15 +19,15 @@ export async function drawMinutes(again, name) {
   const currency = compiled.tender.lots[0].value.currency;
   const lots = lines.filter(([first]) => first === "lot").map(([, id, title]) => lotPart(id, title, tenders.filter(({ lot }) => lot === id), currency));
   const signs = ["minutes.opener", "minutes.witness", "minutes.witness"].map((who) => element("div", {}, say(who)));
-  return { title: say("minutes.of", { notice: name }), isSheet: true, content: [back, ...sheet(element("h1", { tabindex: "-1" },
-    say("minutes.of", { notice: name })),
+  const title = say("minutes.of", { notice: name });
+  const from = say("minutes.from", { address: `${location.origin}/notices/${name}/minutes` });
+  const digest = element("span", { class: "code" }, inGroups(await sha256(bytesOf(text))));
+  return { title, isSheet: true, content: [back, ...sheet(element("h1", { tabindex: "-1" }, title),
     element("p", {}, given(compiled.buyer.name)), element("p", {}, given(lines[0][2] ?? "")),
     element("p", {}, say("minutes.deadline"), " ", moment(told("deadline"))), element("p", {}, say("minutes.opened"), " ", moment(told("opened"))),
-    element("p", {}, say("minutes.count", { count: tenders.length })), ...lots,
-    element("p", { class: "quiet" }, say("minutes.prices")),
-    element("p", { class: "quiet" }, say("minutes.from", { address: `${location.origin}/notices/${name}/minutes` }), " ", say("order.digest"), " ",
-      element("span", { class: "code" }, inGroups(await sha256(bytesOf(text))))),
-    element("p", { class: "below" }, say("minutes.place")), element("div", { class: "signs shown" }, signs))] };
+    element("p", {}, say("minutes.count", { count: tenders.length })), ...lots, element("p", { class: "quiet" }, say("minutes.prices")),
+    element("p", { class: "quiet" }, from, " ", say("order.digest"), " ", digest), element("p", { class: "below" }, say("minutes.place")),
+    element("div", { class: "signs shown" }, signs))] };
 }
 
 function lotPart(id, title, tenders, currency) {
@@ -39,9 +39,9 @@ function lotPart(id, title, tenders, currency) {
     [say("minutes.corrections"), true]];
   const rows = tenders.map((one) => {
     const who = [given(one.name), element("span", { class: "quiet below" }, `${one.tenderer} · `, given(one.address))];
-    const isPriced = one.reading === "priced";
-    return [String(one.receipt), who, isPriced ? number(one.stated) : "–", isPriced ? money(one.corrected, currency) : say(`reading.${one.reading}`), isPriced
-      ? number(one.corrections) : "–"];
+    const read = one.reading === "priced" ? [number(one.stated), money(one.corrected, currency), number(one.corrections)]
+      : ["–", say(`reading.${one.reading}`), "–"];
+    return [String(one.receipt), who, ...read];
   });
   return [head, table("", heads, rows)];
 }

@@ -14,12 +14,11 @@ function compiledOf(body, name) {
   const unit = currency() || say("preview.currency");
   const value = (amount) => ({ amount, currency: unit });
   const buyer = [...recordsSeen().values()][0]?.buyer.name ?? say("preview.buyer");
-  const items = body.lots.flatMap((lot) => lot.items.map((item) => ({ description: item.title, id: `${lot.id}/${item.id}`, quantity: item.quantity,
-    relatedLot: lot.id })));
-  return { buyer: { name: buyer }, language: document.documentElement.lang, tender: { awardCriteria: body.criteria === "price" ? "priceOnly" : "ratedCriteria",
-    id: name, items,
+  const itemsOf = (lot) => lot.items.map(({ id, title, quantity }) => ({ description: title, id: `${lot.id}/${id}`, quantity, relatedLot: lot.id }));
+  const tender = { awardCriteria: body.criteria === "price" ? "priceOnly" : "ratedCriteria", id: name, items: body.lots.flatMap(itemsOf),
     lots: body.lots.map((lot) => ({ id: lot.id, status: "active", title: lot.title, value: value(lot.estimate) })), status: "active", title: body.title,
-    tenderPeriod: { startDate: momentText(officeNow()), endDate: body.deadline }, value: value(body.lots.reduce((sum, { estimate }) => sum + estimate, 0)) } };
+    tenderPeriod: { startDate: momentText(officeNow()), endDate: body.deadline }, value: value(body.lots.reduce((sum, { estimate }) => sum + estimate, 0)) };
+  return { buyer: { name: buyer }, language: document.documentElement.lang, tender };
 }
 
 export async function drawPreview() {

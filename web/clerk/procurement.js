@@ -35,23 +35,20 @@ function path(stage) {
 /** What is to be done next. */
 function doing({ stage }) {
   const list = tasks(stage);
-  return list.length === 0 ? note("good", say("task.none")) : element("div", { class: "look" }, element("p", {}, say("task.title")),
-    element("ul", {}, list.map((task) => element("li", {}, task))));
+  return list.length === 0 ? note("good", say("task.none")) : note("look", say("task.title"), element("ul", {}, list.map((task) => element("li", {}, task))));
 }
 
 /** The terms that the record doesn't tell. */
 function termsNote({ terms, stage, currency }) {
   if (terms === null) {
-    return element("div", { class: "look" }, element("p", {}, say("terms.unknown")), element("p", {}, say("terms.unknown.do"), " ",
-      linkTo(say("page.journal"), "journal")));
+    return note("look", say("terms.unknown"), element("p", {}, say("terms.unknown.do"), " ", linkTo(say("page.journal"), "journal")));
   }
   const { validity, standstill, criteria, weight, late, performance } = terms;
-  return element("details", {}, element("summary", {}, say("terms.title")), facts([[say("editor.validity"),
-    element("span", {}, `${validity} (`, momentAndSpan(stage.bindsUntil), ")")],
-    [say("editor.standstill"), String(standstill)], [say("editor.criteria"), criteria === "price" ? say("editor.price")
-      : say("terms.points", { weight, quality: 100 - weight })],
-    [say("editor.late"), say(`editor.late.${late}`)], [say("editor.performance"), performance === 0 ? say("terms.noperformance")
-      : money(performance, currency)]]));
+  const decides = criteria === "price" ? say("editor.price") : say("terms.points", { weight, quality: 100 - weight });
+  const secured = performance === 0 ? say("terms.noperformance") : money(performance, currency);
+  return element("details", {}, element("summary", {}, say("terms.title")), facts([
+    [say("editor.validity"), element("span", {}, `${validity}: `, momentAndSpan(stage.bindsUntil))], [say("editor.standstill"), String(standstill)],
+    [say("editor.criteria"), decides], [say("editor.late"), say(`editor.late.${late}`)], [say("editor.performance"), secured]]));
 }
 
 function parts(notice, again) {

@@ -18,7 +18,8 @@ const LONGEST_SHOWN = 6000;
 export function send(order) {
   return new Promise((finish) => {
     const dialog = element("dialog", { class: "order", "aria-labelledby": "order-title" });
-    const state = { order, dialog, isBusy: false, entry: null, value: null };
+    // `isOpen`: what was sent last got no answer.
+    const state = { order, dialog, isBusy: false, isOpen: false, entry: null, value: null };
     dialog.addEventListener("cancel", (event) => state.isBusy && event.preventDefault());
     dialog.addEventListener("close", () => {
       dialog.remove();
@@ -61,8 +62,8 @@ async function drawAsked(state) {
   const sending = button(say(`order.${order.kind}.send`), () => transmit(state), order.isFinal || order.word ? "harm" : "");
   sending.disabled = sure !== null;
   sure?.input.addEventListener("input", () => { sending.disabled = !sure.isGiven(); });
-  draw(state, [element("ul", {}, order.says.map((part) => element("li", {}, part))), requestShown(order, bytes, digest), sure?.element ?? null].filter(Boolean),
-    [sending, closing(state, say("order.back"))]);
+  const says = element("ul", {}, order.says.map((part) => element("li", {}, part)));
+  draw(state, [says, requestShown(order, bytes, digest), sure?.element ?? ""], [sending, closing(state, say("order.back"))]);
   (sure?.input ?? sending).focus();
 }
 
@@ -80,12 +81,12 @@ function confirmation(order) {
 }
 
 /** The request as it is sent, but for the key. */
-export function requestShown(order, bytes, digest) {
+function requestShown(order, bytes, digest) {
   const text = textOf(bytes) ?? say("order.notext");
   const head = `POST ${order.path}\nOffice-Caller: clerk\nOffice-Key: ••••••\nContent-Length: ${bytes.length}`;
   const body = text.length > LONGEST_SHOWN ? `${text.slice(0, LONGEST_SHOWN)}\n${say("order.more", { count: text.length - LONGEST_SHOWN })}` : text;
-  return element("details", { open: "" }, element("summary", {}, say("order.request")), element("pre", { tabindex: "0" }, bytes.length > 0
-    ? `${head}\n\n${body}` : head),
+  const whole = bytes.length > 0 ? `${head}\n\n${body}` : head;
+  return element("details", { open: "" }, element("summary", {}, say("order.request")), element("pre", { tabindex: "0" }, whole),
     element("p", { class: "quiet" }, say("order.digest"), " ", element("span", { class: "code" }, inGroups(digest))));
 }
 
@@ -94,9 +95,7 @@ async function transmit(state) {
   const { order } = state;
   state.isBusy = true;
   draw(state, element("p", {}, say("order.sending")), []);
-  const outcome = await command(order.path, caller(), order.body ?? undefined).then((answer) =>
-    ({ answer: { status: 200, text: answer.text }, value: answer.value }),
-    (fault) => ({ fault, answer: fault instanceof Refused && fault.text ? { status: fault.status, text: fault.text } : null }));
+  const outcome = await outcomeOf(order);
   state.isBusy = false;
   await keep(state, outcome);
   if (outcome.value) {
@@ -108,20 +107,26 @@ async function transmit(state) {
   }
 }
 
+/** The office's answer, and its value, or the fault in its place. */
+async function outcomeOf({ path, body }) {
+  try {
+    const { text, value } = await command(path, caller(), body ?? undefined);
+    return { answer: { status: 200, text }, value };
+  } catch (fault) {
+    return { fault, answer: fault instanceof Refused && fault.text ? { status: fault.status, text: fault.text } : null };
+  }
+}
+
 /** The entry of a command. One that is sent again has an entry of its own, and where it is refused since it was done, both are done. */
 async function keep(state, { answer, fault }) {
-  const { order } = state;
-  const wasOpen = state.entry !== null;
-  const isDone = wasOpen && fault instanceof Refused && fault.name === order.again;
-  const { path, body, kind, values = {} } = order;
-  const told = fault instanceof Refused && fault.isOpen && answer === null ? null : answer;
-  const entry = await addEntry(journal(), { moment: momentText(officeNow()), who: who(), title: say(`order.${kind}.title`, values), method: "POST", path, body,
-    answer: told,
-    found: isDone ? "done" : null });
-  if (wasOpen && (isDone || answer?.status === 200)) {
+  const { path, body, kind, values = {}, again } = state.order;
+  const isDone = state.isOpen && fault instanceof Refused && fault.name === again;
+  if (state.isOpen && (isDone || answer?.status === 200)) {
     state.entry.found = isDone ? "done" : "not done";
   }
-  state.entry = entry;
+  state.isOpen = fault instanceof Refused && fault.isOpen;
+  state.entry = await addEntry(journal(), { moment: momentText(officeNow()), who: who(), title: say(`order.${kind}.title`, values), method: "POST", path, body,
+    answer, found: isDone ? "done" : null });
 }
 
 function receipt(state, text) {

@@ -56,8 +56,7 @@ export function isElsewhere(tender) {
   return tender.found?.responsive === null && !tender.isFailed;
 }
 
-/** Thousandths of points: the lowest price of the admissible has the whole weight, each other the share that the lowest is of it, and quality counts as it is.
- * */
+/** Thousandths of points: the lowest price of the admissible has the whole weight, each other the share that the lowest is of it; quality counts as it is. */
 export function pointsOf(tender, lowest, weight) {
   const ofPrice = tender.corrected === 0 ? weight * 1000 : Number((BigInt(weight) * 1000n * BigInt(lowest)) / BigInt(tender.corrected));
   return ofPrice + (tender.found.quality ?? 0) * 1000;

@@ -51,6 +51,6 @@ function opening() {
 }
 
 function ways() {
-  return element("ul", {}, ["budget", "tenderers", "new", "journal"].map((page) => element("li", {}, linkTo(say(`page.${page}`), page), ": ",
-    say(`today.way.${page}`))));
+  const way = (page) => element("li", {}, linkTo(say(`page.${page}`), page), ": ", say(`today.way.${page}`));
+  return element("ul", {}, ["budget", "tenderers", "new", "journal"].map(way));
 }
