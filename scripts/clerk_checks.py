@@ -301,8 +301,7 @@ def stops(scene: Scene) -> None:
     desk.press("Send the same again")
     desk.says("It is done.")
     found = desk.page.run("import('/clerk/session.js').then(({ journal }) => journal().entries.map(({ status, found }) => [status, found]))")
-    check(f"the journal says what was found: {found}", found == [[None, "not done"], [None, "done"], [504, "not done"], [409, "done"]]
-          or found == [[None, "not done"], [None, "done"], [None, "done"], [409, "done"]])
+    check(f"the journal says what was found: {found}", found == [[None, "not done"], [None, "done"], [504, "done"], [409, "done"]])
 
 
 def refused_as(desk: Desk, at: int, status: int, body: bytes) -> str:
