@@ -98,7 +98,8 @@ class Desk:
         self.says(done)
         told = self.told()
         self.press("Close")
-        self.page.wait("!document.querySelector('dialog')")
+        # The screen is drawn anew then.
+        self.page.wait("!document.querySelector('dialog') && document.querySelector('main').getAttribute('aria-busy') === 'false'")
         return told
 
     def give_key(self, key: str = "abc") -> None:
