@@ -82,7 +82,8 @@ async function show(takesFocus) {
   drawFrame(page);
   main.setAttribute("aria-busy", "true");
   byId("status").textContent = say("asking");
-  const again = () => turn === turns && show(false);
+  const place = location.hash;
+  const again = () => location.hash === place && show(false);
   const view = await Promise.resolve().then(() => SCREENS[page](again, ...rest)).catch(refused);
   if (turn !== turns) {
     return;
