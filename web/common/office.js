@@ -80,8 +80,9 @@ function pause(seconds) {
   return new Promise((done) => { setTimeout(done, seconds * 1000); });
 }
 
-// The server before the office keeps public answers for a second: so long behind a command of one's own they may be those from before it.
-const KEPT = 1100;
+// The server before the office keeps public answers for a second, counted in whole ones: so for two seconds behind a command of one's own they may be those
+// from before it.
+const KEPT = 2100;
 let changed = 0;
 
 /** A look: asked again for as long as the front says that looks come too often. */
