@@ -76,7 +76,7 @@ function titled(name) {
 /** What a file says, what is wrong in it, what it would change, and the form that sends it. */
 async function checked(name, bytes, lines, again) {
   const reading = readBudget(bytes);
-  const size = say("budget.size", { bytes: bytes.length, rows: reading.rows.length });
+  const size = say("budget.size", { bytes: bytes.length, rows: reading.rows.length, count: reading.rows.length });
   const head = element("h3", { tabindex: "-1" }, name, " ", element("span", { class: "quiet" }, size));
   const { changes, faults } = changesOf(reading.rows, lines);
   const all = [...reading.faults, ...(reading.faults.length === 0 ? faults : []), ...limits(reading)];

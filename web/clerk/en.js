@@ -61,7 +61,7 @@ export default {
   "budget.none": "No budget line is there yet.", "budget.table": "Budget lines of the office", "budget.bar": "How it is used",
   "budget.sums": "All lines together:", "budget.more": "and {count} more",
   "pot.appropriation": "Appropriation", "pot.free": "Free", "pot.reserved": "Reserved", "pot.contracted": "Contracted", "pot.paid": "Paid",
-  "budget.size": "({bytes} bytes, {rows} right rows)", "budget.right": "The office would take this file in.",
+  "budget.size": ["({bytes} bytes, 1 right row)", "({bytes} bytes, {rows} right rows)"], "budget.right": "The office would take this file in.",
   "budget.right.more": "Look whether it changes what it should.",
   "budget.refused": ["The office would refuse this file: 1 thing is wrong in it.", "The office would refuse this file: {count} things are wrong in it."],
   "budget.refused.whole": "Nothing of it would be taken in. Mend the file and drop it again.", "budget.faults": "What is wrong",

@@ -2,7 +2,7 @@
 import { element, given } from "../draw.js";
 import { money, moment } from "../common/money.js";
 import { officeNow } from "../common/office.js";
-import { say, sayParts } from "../common/texts.js";
+import { language, say, sayParts } from "../common/texts.js";
 import { linkTo } from "./address.js";
 import { field, note, sheet } from "./forms.js";
 import { loadNotice } from "./load.js";
@@ -29,7 +29,7 @@ export async function drawLetter(again, name, lotId) {
 /** What the winner is told. */
 function won({ terms, currency }, { active, standstillUntil }) {
   const asked = terms?.performance ? say("letter.performance", { amount: money(terms.performance, currency) }) : "";
-  return [sayParts("letter.won", { price: money(active.value.amount, currency), moment: moment(active.date) }), standstill(standstillUntil), asked];
+  return [sayParts("letter.won", { price: money(active.value.amount, currency), moment: moment(active.date) }), standstill(active, standstillUntil), asked];
 }
 
 /** What another is told. */
@@ -37,11 +37,17 @@ function lost(notice, { active, standstillUntil }, one) {
   const { currency } = notice;
   const winner = sayParts("letter.winner", { name: given(active.suppliers[0].name), price: money(active.value.amount, currency), moment: moment(active.date) });
   const own = one.reading === "priced" ? say("letter.own", { price: money(one.corrected, currency) }) : "";
-  return [say("letter.thanks", { receipt: String(one.receipt) }), winner, own, reason(notice, one), standstill(standstillUntil)];
+  return [say("letter.thanks", { receipt: String(one.receipt) }), winner, own, reason(notice, one), standstill(active, standstillUntil)];
 }
 
-function standstill(until) {
-  return until === null ? "" : sayParts("letter.standstill", { until: moment(momentText(until)) });
+/** Until when nothing is signed, where there is a standstill and it is known. */
+function standstill({ date }, until) {
+  return until === null || until <= Date.parse(date) ? "" : sayParts("letter.standstill", { until: moment(momentText(until)) });
+}
+
+/** The day, as a letter has it. */
+function today() {
+  return new Intl.DateTimeFormat(language() === "en" ? "en-GB" : language(), { dateStyle: "long" }).format(officeNow());
 }
 
 /** Why a tender didn't win, as far as this desk knows. */
@@ -63,7 +69,7 @@ function letter({ name, compiled }, lot, one, told) {
   const subject = sayParts("letter.subject", { notice: name, title: given(compiled.tender.title), lot: lot.id, lottitle: given(lot.title) });
   const address = element("p", { class: "address" }, given(one.name), element("span", { class: "below" }, given(one.address)));
   const paragraphs = told.filter((part) => part !== "").map((part) => element("p", {}, part));
-  return [element("p", {}, given(compiled.buyer.name)), address, element("p", {}, moment(momentText(officeNow()))), element("h2", {}, subject),
+  return [element("p", {}, given(compiled.buyer.name)), address, element("p", {}, today()), element("h2", {}, subject),
     paragraphs, printed, element("p", {}, say("letter.look", { address: `${location.origin}/#notice/${name}` })),
     element("div", { class: "signs shown" }, element("div", {}, say("letter.sign"))), more.element];
 }

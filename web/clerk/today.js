@@ -35,7 +35,8 @@ function noticeTable(found) {
   const heads = [[say("notice"), false], [say("state"), false], [say("today.next"), false]];
   return table(say("today.table"), heads, found.map(({ name, compiled, stage, fault }) => {
     const title = compiled ? element("span", { class: "below" }, given(compiled.tender.title)) : null;
-    const next = fault ? sentenceOf(fault) : element("ul", {}, tasks(stage).map((task) => element("li", {}, task)));
+    const list = stage ? tasks(stage) : [];
+    const next = fault ? sentenceOf(fault) : list.length === 0 ? say("task.none") : element("ul", {}, list.map((task) => element("li", {}, task)));
     return [[linkTo(name, "notice", name), title].filter(Boolean), stage ? stageBadge(stage) : "–", next];
   }));
 }
