@@ -149,10 +149,11 @@ class Page:
                 media = [{"name": "Content-Type", "value": "text/javascript"}] if path.endswith(".js") else []
                 self.ask("Fetch.fulfillRequest", requestId=request, responseCode=status, responseHeaders=media, body=base64.b64encode(body).decode())
 
-    def answer_for(self, answers: Answers, *kinds: str) -> None:
-        """From now on these are the answers, to what is fetched, or to other kinds of requests."""
+    def answer_for(self, answers: Answers, kind: str = "Fetch") -> None:
+        """From now on these are the answers to what scripts fetch; or to another kind of requests, of which no others wait to be let through."""
         self.answers = answers
-        self.ask("Fetch.enable", patterns=[{"urlPattern": "*", "resourceType": kind} for kind in kinds or ("Fetch",)])
+        places = ["*"] if kind == "Fetch" else [f"*{path}" for path in answers]
+        self.ask("Fetch.enable", patterns=[{"urlPattern": place, "resourceType": kind} for place in places])
 
     def go(self, address: str) -> None:
         """Loads a page anew, until it has drawn what its address asks for."""

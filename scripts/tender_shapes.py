@@ -13,6 +13,12 @@ from tender_page import MADE, RIGHT, SHEET, Desk
 
 WIDTHS = (320, 375, 768, 1280, 1920)
 PICTURED = {"phone": 375, "desktop": 1280}
+# Whether what has the focus is seen, to a pixel, with an outline around it.
+SEEN = """(() => {
+  const at = document.activeElement, box = at.getBoundingClientRect(), style = getComputedStyle(at);
+  const isWithin = box.left >= -1 && box.top >= -1 && box.right <= innerWidth + 1 && box.bottom <= innerHeight + 1;
+  return isWithin && style.outlineStyle === "solid" && parseFloat(style.outlineWidth) >= 2;
+})()"""
 # What must have a name.
 NAMED = ("link", "button", "textbox", "checkbox", "table", "region", "navigation")
 
@@ -21,8 +27,9 @@ def tab_to(page: Page, name: str) -> None:
     """Goes on by the keyboard to what has this name, which must be seen there."""
     for _ in range(80):
         page.press("Tab")
-        found, seen = focused(page)
-        check(f"{found} isn't seen where the keyboard is", seen)
+        # (The window may still be on its way there.)
+        page.expect("what has the focus is seen", lambda: page.run(SEEN))
+        found = focused(page)[0]
         if found.startswith(name):
             return
     check(f"the keyboard doesn't come to {name}", False)
@@ -91,14 +98,25 @@ def shapes(scene: Scene) -> None:
             desk.page.run("new Promise((done) => { setTimeout(done, 0); })")
             desk.page.wait("document.querySelector('main').getAttribute('aria-busy') === 'false'")
             looked_at(scene, desk, name, language)
+            if name == "send":
+                is_sent(scene, desk, language)
             if name == "list":
                 # The view of what is sent is that of the offer for N1 again.
                 desk.page.run("location.hash = '#offer/N1/L1'")
                 desk.page.wait("document.getElementById('unit-1') && !document.getElementById('unit-2')")
                 desk.fill("unit-0", "150")
                 desk.fill("unit-1", "999999999")
+                desk.fill("security-reference", "G8")
+                desk.fill("security-amount", "60")
         with_file(scene, desk, language)
         keeps_nothing(scene, desk.page)
+
+
+def is_sent(scene: Scene, desk: Desk, language: str) -> None:
+    """The receipt; and where a tender is there already, the refusal."""
+    desk.press("Send the tender" if language == "en" else "Angebot senden")
+    desk.page.wait("document.querySelector('main .good, main .bad')")
+    looked_at(scene, desk, "receipt" if language == "en" else "already", language)
 
 
 def with_file(scene: Scene, desk: Desk, language: str) -> None:
@@ -124,7 +142,7 @@ def looked_at(scene: Scene, desk: Desk, name: str, language: str) -> None:
         for dark in (False, True):
             page.shape(width, dark=dark)
             has_contrast(f"{called}, {shape}, {'dark' if dark else 'light'}", page)
-            if language == "en" or (shape == "phone" and not dark):
+            if language == "en" or not dark:
                 page.picture(os.path.join(scene.pictures, f"{name}-{shape}-{'dark' if dark else 'light'}-{language}.png"))
     page.shape(1280)
     is_read_out(called, page)
@@ -226,7 +244,7 @@ def planted_desk(scene: Scene, who: str, module: str, old: str, new: str) -> Des
     check(f"{module}.js has {old!r} {text.count(old)} times", text.count(old) == 1)
     desk = object.__new__(Desk)
     desk.scene, desk.page = scene, Page(scene.browser, 1280)
-    desk.page.answer_for({f"/tender/{module}.js": (200, text.replace(old, new).encode())}, "Script", "Fetch")
+    desk.page.answer_for({f"/tender/{module}.js": (200, text.replace(old, new).encode())}, "Script")
     desk.page.go(scene.front.address("tender/?language=en"))
     desk.at("key", "Key")
     desk.page.choose("key-file", scene.path(f"{who}.key"))

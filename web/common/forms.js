@@ -100,7 +100,7 @@ export function told(kind, head, ...content) {
 export function table(caption, heads, rows, { figures = [], foot = null, kind = "figures" } = {}) {
   const kindOf = (at) => (figures.includes(at) ? { class: "figure" } : {});
   const rowOf = (cells, name) => element("tr", { role: "row" }, cells.map((cell, at) => (at === 0
-    ? element("th", { scope: "row", role: "rowheader", ...kindOf(at) }, cell)
+    ? element("th", { scope: "row", role: "rowheader", "data-name": heads[at], ...kindOf(at) }, cell)
     : element("td", { role: "cell", ...(name ? { "data-name": heads[at] } : {}), ...kindOf(at) }, cell))));
   return element("table", { role: "table", class: kind }, element("caption", {}, caption),
     element("thead", { role: "rowgroup" }, element("tr", { role: "row" },

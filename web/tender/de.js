@@ -148,7 +148,8 @@ export default {
   "change.shorter": "Die Datei hatte {count} Byte; was nicht gebraucht wird, wurde weggelassen.",
 
   "send.title": "Vor dem Senden", "send.as": "Bieter", "send.replaces": "Tritt an die Stelle von Quittung", "send.noSecurity": "keine",
-  "send.reads": "Was die Vergabestelle bei der Öffnung lesen wird", "send.corrects": "die Datei sagt {found}: das wird berichtigt",
+  "send.reads": "Was die Vergabestelle bei der Öffnung lesen wird", "send.caption": "Die Preise für Los {lot}, in {currency}",
+  "send.corrects": "die Datei sagt {found}: das wird berichtigt",
   "send.corrections": ["{count} Zahl wird berichtigt werden.", "{count} Zahlen werden berichtigt werden."],
   "send.corrections.what": "Es gelten die Einzelpreise. Die Niederschrift sagt allen, wie viele Zahlen berichtigt wurden.",
   "send.bytes": "Was gesendet wird", "send.bytes.why": ["{count} Byte, genau dieses:", "{count} Byte, genau diese:"],

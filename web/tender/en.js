@@ -121,7 +121,8 @@ export default {
   "change.order": "The items were put in the notice's order.", "change.shorter": "The file had {count} bytes; what isn't wanted was left out.",
 
   "send.title": "Before it is sent", "send.as": "Tenderer", "send.replaces": "Takes the place of receipt", "send.noSecurity": "none",
-  "send.reads": "What the office will read at the opening", "send.corrects": "the file says {found}: it is corrected",
+  "send.reads": "What the office will read at the opening", "send.caption": "The prices of lot {lot}, in {currency}",
+  "send.corrects": "the file says {found}: it is corrected",
   "send.corrections": ["{count} figure will be corrected.", "{count} figures will be corrected."],
   "send.corrections.what": "Unit prices count. The minutes tell everybody how many figures were corrected.", "send.bytes": "What is sent",
   "send.bytes.why": ["{count} byte, just these:", "{count} bytes, just these:"],

@@ -58,7 +58,7 @@ function drawFrame(page) {
 }
 
 async function viewOf([page, ...names]) {
-  const context = { redraw: (sentence, isWrong = false, focus = "") => show({ sentence, isWrong, focus }) };
+  const context = { redraw: (sentence, isWrong = false, focus = "h1") => show({ sentence, isWrong, focus }) };
   try {
     return await PAGES[page](context, ...names);
   } catch (fault) {

@@ -20,7 +20,9 @@ export function readingTable({ rows, price, stated, corrections }, { lot, terms 
     return [given(name), given(lot.items[at].title), number(quantity), number(unit), [number(right), wrong]];
   });
   const sum = [money(price, terms.currency), stated === price ? null : element("span", { class: "wrong below" }, say("send.corrects", { found: stated }))];
-  return [table(say("send.reads"), heads, cells, { figures: [2, 3, 4], foot: [say("table.sum"), "", "", "", sum] }),
+  const caption = say("send.caption", { lot: lot.id, currency: terms.currency });
+  return [element("h2", {}, say("send.reads")),
+    table(caption, heads, cells, { figures: [2, 3, 4], foot: [say("table.sum"), "", "", "", sum] }),
     corrections > 0 ? told("look", say("send.corrections", { count: corrections }), element("p", {}, say("send.corrections.what"))) : null];
 }
 
