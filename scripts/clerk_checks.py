@@ -302,6 +302,7 @@ def stops(scene: Scene) -> None:
     desk.says("It is done.")
     found = desk.page.run("import('/clerk/session.js').then(({ journal }) => journal().entries.map(({ status, found }) => [status, found]))")
     check(f"the journal says what was found: {found}", found == [[None, "not done"], [None, "done"], [504, "done"], [409, "done"]])
+    desk.leave()
 
 
 def refused_as(desk: Desk, at: int, status: int, body: bytes) -> str:
@@ -333,6 +334,7 @@ def each_refusal(scene: Scene) -> None:
             said = refused_as(desk, 100 + at, status, b'{"front":"no"}')
             check(f"{status} in {language} is told as {said!r}", re.fullmatch(r"[A-Z].*\.", said) and str(status) not in said)
         page_checks.is_quiet(desk.page)
+        desk.leave()
 
 
 def keyboard(scene: Scene) -> None:

@@ -116,6 +116,12 @@ class Desk:
         self.settle("today")
         check(f"the page speaks {language}", self.page.run("document.documentElement.lang") == language)
 
+    def leave(self) -> None:
+        """Leaves the desk, so that nothing of it asks any more."""
+        self.page.ask("Fetch.disable")
+        self.page.ask("Page.navigate", url="about:blank")
+        self.page.browser.events = [event for event in self.page.browser.events if event["method"] != "Fetch.requestPaused"]
+
     def picture(self, name: str) -> None:
         """The screen, narrow and wide, light and dark: within the window, and with contrast."""
         for width in WIDTHS:
