@@ -32,7 +32,7 @@ function tenderTable({ byPoints, currency }, lot) {
   const heads = [[say("evaluation.place"), true], [say("tenderer"), false], [say("receipt"), true], [say("minutes.price"), true], ...points,
     [say("evaluation.found"), false]];
   const rows = lot.tenders.map((one, at) => [isAdmissible(one) ? String(at + 1) : "–", firm(one), String(one.receipt), priceText(one, currency),
-    ...(byPoints ? [one.points === null ? "–" : number(one.points / 1000)] : []), foundText(one)]);
+    ...(byPoints ? [one.points === null ? "–" : number(one.points / 1000)] : []), foundText(one, lot)]);
   return table(say("evaluation.table", { lot: lot.id }), heads, rows);
 }
 
@@ -44,11 +44,14 @@ function priceText({ reading, corrected, corrections, stated }, currency) {
   return [money(corrected, currency), corrections > 0 ? element("span", { class: "quiet below" }, told) : ""];
 }
 
-/** What was found of a tender, as far as this desk knows. */
-function foundText(one) {
+/** What was found of a tender, as far as this desk knows. Where the lot is decided, the winner was responsive, and none waits. */
+function foundText(one, { state, active }) {
   const { quality, responsive } = one.found ?? {};
   if (one.reading !== "priced") {
     return say(`reading.${one.reading}`);
+  }
+  if (state !== "undecided" && isWaiting(one)) {
+    return say(active?.suppliers[0].id === `T-${one.tenderer}` ? "found.won" : "found.unknown");
   }
   if (one.isFailed || isWaiting(one) || isElsewhere(one)) {
     return say(one.isFailed ? "found.failed" : isWaiting(one) ? "found.waits" : "found.elsewhere");
