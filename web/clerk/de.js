@@ -71,7 +71,8 @@ export default {
   "budget.none": "Es gibt noch keinen Haushaltstitel.", "budget.table": "Haushaltstitel der Vergabestelle", "budget.bar": "Wie er verwendet ist",
   "budget.sums": "Alle Titel zusammen:", "budget.more": "und {count} weitere",
   "pot.appropriation": "Ansatz", "pot.free": "Frei", "pot.reserved": "Vorgemerkt", "pot.contracted": "Vertraglich gebunden", "pot.paid": "Ausgezahlt",
-  "budget.size": ["({bytes} Byte, 1 richtige Zeile)", "({bytes} Byte, {rows} richtige Zeilen)"], "budget.right": "Die Vergabestelle würde diese Datei aufnehmen.",
+  "budget.size": ["({bytes} Byte, 1 richtige Zeile)", "({bytes} Byte, {rows} richtige Zeilen)"],
+  "budget.right": "Die Vergabestelle würde diese Datei aufnehmen.",
   "budget.right.more": "Sehen Sie nach, ob sie ändert, was sie soll.",
   "budget.refused": [
     "Die Vergabestelle würde diese Datei ablehnen: 1 Stelle ist falsch.",
