@@ -22,14 +22,14 @@ KINDS = {"/": ("text/html", "no-cache"), "/page.css": ("text/css", "no-cache"), 
          "/icon.svg": ("image/svg+xml", "no-cache"), "/ledger": ("text/plain; charset=utf-8", "no-store"),
          "/notices/N9/record": ("application/json", "no-store"),
          "/tender/": ("text/html", "no-cache"), "/tender/main.js": ("application/javascript", "no-cache"),
-         "/common/style.css": ("text/css", "no-cache"),
+         "/common/style.css": ("text/css", "no-cache"), "/clerk/": ("text/html", "no-cache"), "/clerk/desk.js": ("application/javascript", "no-cache"),
          "/openapi.yaml": ("application/yaml", "no-cache"), "/nothing": ("application/json", "no-store")}
 FOR_ALL_SITES = ("/ledger", "/notices/N9/record", "/openapi.yaml")
 # Ways to write a path that the office doesn't know, and that a location of the front might take for another.
 ODD_PATHS = ["/%6cedger", "//ledger", "/notices/N1%2frecord", "/notices/%4e1/record", "/notices/../ledger", "/notices/N1/../../ledger", "/./ledger",
              "/notices/%2e%2e/ledger", "/lines/x/%2e%2e/%2e%2e/notices/N1/register", "/lines//1100", "/notices/N1/record/.", "/notices/N1//open"]
 NOWHERE = ["/ledger/", "/Ledger", "/index.html", "/nginx.conf", "/web", "/notices/", "/notices/N1/record/x", "/favicon.ico", "/.git/config", "/page.css.map",
-           "/common/", "/tender/index.html", "/tender/style.css"]
+           "/common/", "/tender/index.html", "/tender/style.css", "/clerk/index.html", "/clerk/none.js"]
 PLACES = {"notice": "N1", "lot": "L1", "line": "1100", "batch": "B1", "tenderer": "T1", "receipt": "1", "award": "1", "contract": "1", "security": "1"}
 MOST = 65_536
 

@@ -147,7 +147,8 @@ def keeps_nothing(scene: Scene, page: Page) -> None:
     policy."""
     check("there is a cookie", page.ask("Network.getAllCookies")["cookies"] == [])
     check("something is stored", page.run("localStorage.length + sessionStorage.length === 0 && indexedDB.databases().then((all) => all.length === 0)"))
-    asked = {event["request"]["url"] for event in page.events("Network.requestWillBeSent")} - {"about:blank"}
+    # (What the browser draws its own fields with is asked of no server.)
+    asked = {url for event in page.events("Network.requestWillBeSent") if not (url := event["request"]["url"]).startswith(("about:", "data:"))}
     check(f"foreign things were asked for: {asked}", asked and all(url.startswith(scene.front.address()) for url in asked))
     is_quiet(page)
 

@@ -80,8 +80,17 @@ function pause(seconds) {
   return new Promise((done) => { setTimeout(done, seconds * 1000); });
 }
 
+// The server before the office keeps public answers for a second, counted in whole ones: so for two seconds behind a command of one's own they may be those
+// from before it.
+const KEPT = 2100;
+let changed = 0;
+
 /** A look: asked again for as long as the front says that looks come too often. */
 export async function look(path, caller = null) {
+  const left = changed + KEPT - Date.now();
+  if (caller === null && left > 0) {
+    await pause(left / 1000);
+  }
   for (let turn = 1; ; turn += 1) {
     try {
       return await send(path, { caller });
@@ -108,8 +117,12 @@ function valueOf(text) {
 
 /** A command: sent once, and never again by itself. Its answer as the office wrote it, and as a value. */
 export async function command(path, caller, body = undefined) {
-  const text = await send(path, { method: "POST", caller, body });
-  return { text, value: valueOf(text) };
+  try {
+    const text = await send(path, { method: "POST", caller, body });
+    return { text, value: valueOf(text) };
+  } finally {
+    changed = Date.now();
+  }
 }
 
 /** An identifier as a part of a path. Two can't be one: browsers take `.` and `..` for folders. */

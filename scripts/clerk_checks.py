@@ -1,0 +1,453 @@
+"""What `tests/clerk` asks of the clerk's desk in a browser: a procurement from the budget to the last payment by its screens, and what can't break it."""
+import base64
+import contextlib
+import hashlib
+import json
+import os
+import re
+import time
+from collections.abc import Callable
+from typing import Any
+
+import client
+import page_checks
+from browser import Page
+from clerk_desk import Desk
+from client import Answer, Client, tender, wait_until
+from common import check
+from front import OUTSIDE
+from page_office import key_of
+from scene import Scene
+
+# Seconds from the publication to the deadline: for all that comes between, by the screens.
+SOON = int(os.environ.get("AHEAD", "4")) + 14
+TABLE = "Lot\tTitle of the lot\tBudget line\tEstimate\tTender security\tItem\tTitle\tQuantity\nL1\tNorth\t1000\t1.600,00\t50\tI1\tPaving, square metres\t3\n" \
+    "\t\t\t\t\tI2\tKerbs, 10 m\t10\nL2\tSouth\t1000\t300\t0\tI1\tSigns\t1\n"
+BUDGET = "line,kind,amount,title\n1000,add,5000,Roads\n2000,add,50,Parks\n"
+FIRMS = {"T1": ("Alpha & S\u00f6hne", "High Street 1"), "T2": ("Beta Ltd", "Low Street 2")}
+
+def firms(scene: Scene) -> Client[Answer]:
+    """The tenderers, who aren't at this desk."""
+    return Client(client.Front(scene.front.address().rstrip("/"), scene.front.context), key_of)
+
+
+def budget_part(desk: Desk) -> None:
+    """A file with semicolons is told, one that is right shows what it changes, and is taken in."""
+    desk.go("budget")
+    desk.drop(BUDGET.replace(",", ";"), "budget.csv")
+    desk.says("The fields are parted by semicolons")
+    desk.drop("line,kind,amount,title\n1000,add,1.5,Roads\n2000,cut,5,Parks\n", "budget.csv")
+    desk.says("has cents, or a part of a unit")
+    desk.picture("budget-wrong")
+    desk.drop(BUDGET, "B1.csv")
+    desk.says("The office would take this file in.")
+    desk.picture("budget-right")
+    desk.press("Take the file in")
+    desk.says("POST /budget/B1")
+    desk.picture("order")
+    told = desk.confirm("Take it in", "The budget file B1 was taken in.")
+    check(f"the receipt is shown: {told}", '"rows":2' in told)
+    desk.page.wait("document.querySelector('main').innerText.includes('5,000')")
+
+
+def tenderers_part(desk: Desk) -> None:
+    desk.go("tenderers")
+    for name, (firm, address) in FIRMS.items():
+        digest = hashlib.sha256(key_of(name).encode()).hexdigest()
+        desk.drop(json.dumps({"tenderer": name, "name": firm, "address": address, "key": digest}), f"registration-{name}.json")
+        desk.says("The file was read into the fields below.")
+        desk.press("Register a tenderer")
+        desk.confirm("Register", f"{name} is registered.")
+        desk.says("Tenderers of this journal")
+    desk.picture("tenderers")
+
+
+def local(desk: Desk, second: float) -> str:
+    """A second as a field for date and time holds it, where the browser is."""
+    return str(desk.page.run(f"import('/clerk/values.js').then(({{ localText }}) => localText({int(second) * 1000}))"))
+
+
+def write_notice(desk: Desk, name: str, deadline: float, title: str) -> None:
+    """A notice from a pasted table, with its terms."""
+    desk.go("new")
+    desk.press("Paste lots from a sheet")
+    desk.field("Table", TABLE)
+    desk.press("Take the table over")
+    desk.says("2 lots were taken over, with 3 items.")
+    desk.field("Number of the notice", name)
+    desk.field("Title", title, place="Terms")
+    desk.field("Days of standstill", "0")
+    desk.field("Performance security", "70")
+    desk.field("Deadline", local(desk, deadline))
+
+
+def notice_part(desk: Desk) -> None:
+    """A draft that is short of money and of a title is told; one that is right is shown as the public will see it."""
+    desk.go("new")
+    desk.press("Publish \u2026")
+    desk.says("things are missing or wrong")
+    desk.picture("notice-empty")
+    write_notice(desk, "N1", time.time() + 86_400 * 40, "Road repair")
+    desk.says("The office would take this notice.")
+    check("the free money stands beside the estimate", "Line 1000 has 5,000 free; this notice wants 1,900; 3,100 are left." in desk.told())
+    check("what a sheet wrote is told", "\u201c1.600,00\u201d as 1600" in desk.told())
+    check("the size is told", re.search(r"The notice has \d+ of at most 65,536 bytes", desk.told()) is not None)
+    desk.picture("notice-right")
+    desk.press("See it as the public will")
+    desk.settle("preview")
+    desk.says("Lots, awards and contracts")
+    desk.picture("preview")
+
+
+def publish_part(desk: Desk, name: str, title: str, deadline: float) -> None:
+    write_notice(desk, name, deadline, title)
+    desk.says("The office would take this notice.")
+    desk.press("Publish \u2026")
+    desk.confirm("Publish", f"Notice {name} is published.")
+    desk.settle(f"notice/{name}")
+
+
+def tenders_part(desk: Desk, scene: Scene) -> None:
+    """Two firms tender, one of them for both lots, and the register grows."""
+    tenderers = firms(scene)
+    tenderers.present("T1", "N1", "L1", tender((3, 150), (10, 12)), "G1", 50)
+    tenderers.present("T2", "N1", "L1", tender((3, 140), (10, 12), wrong=20), "G2", 60)
+    tenderers.present("T1", "N1", "L2", "290 for all of it")
+    desk.go("today")
+    desk.go("notice/N1")
+    desk.says("In time, by lots: L1: 2, L2: 1.")
+    desk.press("Look")
+    desk.picture("receiving")
+
+
+def opening_part(desk: Desk, deadline: float) -> None:
+    check("before the deadline the button is off", desk.page.run("hands.button('Open the tenders \u2026').disabled"))
+    wait_until(deadline + 1.1)
+    desk.press("Open the tenders \u2026")
+    desk.confirm("Open them", "3 tenders of notice N1 were opened.")
+    desk.says("Evaluation")
+    desk.go("minutes/N1")
+    desk.says("3 tenders were opened.")
+    check(f"the minutes are shown: {desk.told()}", all(word in desk.told() for word in ("Alpha & S\u00f6hne", "unreadable", "In the presence of", "540 EUR")))
+    desk.picture("minutes")
+    desk.go("notice/N1")
+
+
+def award_part(desk: Desk) -> None:
+    """Both tenders are examined; the best doesn't sign, and is passed over; the next one signs with the performance security."""
+    desk.says("2 tenders to examine")
+    desk.picture("evaluation")
+    check("before the examination the award is off", desk.page.run("hands.button('Award \u2026', hands.part('Lot L1')).disabled"))
+    for name, receipt in (("Alpha & S\u00f6hne", 1), ("Beta Ltd", 2)):
+        desk.press("Responsive \u2026", place=f"Examination of {name}, receipt {receipt}")
+        desk.confirm("That is what was found", f"The tender of {name} is examined.")
+    desk.says("Lot L1 goes to Beta Ltd for 540 EUR.")
+    desk.press("Award \u2026", place="Lot L1")
+    desk.confirm("Award it", "Lot L1 is decided. Price: 540; receipt: 2.")
+    desk.press("Award \u2026", place="Lot L2")
+    desk.confirm("Award it", "Lot L2 is decided.")
+    desk.press("Letters to those who tendered")
+    desk.settle("letter/N1/L1")
+    check(f"there is a letter to each: {desk.told()}", "Your tender is accepted, at 540 EUR." in desk.told() and "Your price isn't the lowest." in desk.told())
+    desk.picture("letters")
+    desk.go("notice/N1")
+    desk.press("The winner doesn't sign")
+    desk.picture("awarded")
+    desk.press("Pass over \u2026")
+    desk.confirm("Pass over", "The winner of award 1 was passed over.")
+    desk.says("Beta Ltd, for 540 EUR, was passed over.")
+    desk.press("Award \u2026", place="Lot L1")
+    desk.confirm("Award it", "Lot L1 is decided. Price: 570; receipt: 1.")
+    desk.field("Reference of the performance security", "P1")
+    desk.field("Its amount", "60")
+    desk.press("Sign \u2026")
+    desk.says("The notice asks for at least 70.")
+    desk.field("Its amount", "70")
+    desk.press("Sign \u2026")
+    desk.confirm("Sign", "Contract 2 is signed.")
+
+
+def contract_part(desk: Desk) -> None:
+    desk.says("Contract 2")
+    desk.press("Raise or cut the contract")
+    form = "Raise or cut the contract"
+    for field, value in (("Number of the invoice or the change", "A1"), ("Amount", "60"), ("Reason", "More kerbs")):
+        desk.field(field, value, place=form)
+    desk.press("Change \u2026", place=form)
+    desk.confirm("Change it", "Contract 2 was changed. Outstanding: 630.")
+    for number, amount, left in (("I-17", "400", "230"), ("I-18", "100", "130")):
+        desk.field("Number of the invoice or the change", number, place="A payment")
+        desk.field("Amount", amount, place="A payment")
+        desk.press("Pay \u2026", place="A payment")
+        desk.confirm("Pay", f"Paid. Outstanding: {left}.")
+    desk.field("Number of the invoice or the change", "I-17", place="A payment")
+    desk.field("Amount", "400", place="A payment")
+    desk.says("Careful: 400 EUR were paid under I-17 already.")
+    desk.press("Pay \u2026", place="A payment")
+    desk.says("This number was used in this contract.")
+    desk.picture("contract")
+    desk.press("End the contract")
+    desk.press("End regularly \u2026")
+    desk.confirm("End it", "Contract 2 has ended.")
+    desk.says("Performance security P1, 70 EUR: given back")
+
+
+def journal_part(desk: Desk) -> None:
+    """The journal has an entry for each that was sent, comes back from its file, and knows then what no look shows."""
+    desk.go("journal")
+    desk.picture("journal")
+    entries = desk.page.run("import('/clerk/session.js').then(({ journal }) => journal().entries.map(({ path, status, who }) => [path, status, who]))")
+    check(f"the journal has each command: {entries}", len(entries) == 16 and all(status == 200 and who == "Anna" for _, status, who in entries))
+    text = desk.page.run("Promise.all([import('/clerk/session.js'), import('/clerk/journal.js')]).then(([{ journal }, { fileOf }]) => fileOf(journal()))")
+    check("the key is in the journal", '"abc"' not in text and "Office-Key" not in text)
+    other = Desk(desk.scene, place="#notice/N1")
+    check("without the journal the terms aren't known", "This tab doesn't know" in other.told())
+    other.go("journal")
+    other.drop(text.replace("More kerbs", "Less kerbs"), "journal.jsonl")
+    other.says("What was sent doesn't match its SHA-256")
+    other.drop(text, "journal.jsonl")
+    other.says("Entries, the last one first")
+    other.page.wait("document.querySelectorAll('.entries > li').length === 16")
+    other.go("notice/N1")
+    check(f"with the journal they are: {other.told()}", "Terms that no record tells" in other.told() and "responsive" in other.told())
+
+
+def life(scene: Scene) -> None:
+    """A procurement from the budget to the last payment, by the desk's screens; the tenders come by scripts."""
+    desk = Desk(scene)
+    desk.go("today")
+    desk.picture("today-empty")
+    desk.give_key("wrong")
+    desk.says("The name and the key don't go together.")
+    desk.picture("key")
+    time.sleep(2.2)
+    desk.field("Key", "abc")
+    desk.press("Hold the key in this tab")
+    desk.settle("today")
+    budget_part(desk)
+    tenderers_part(desk)
+    notice_part(desk)
+    deadline = int(time.time()) + SOON
+    publish_part(desk, "N1", "Road repair", deadline)
+    tenders_part(desk, scene)
+    opening_part(desk, deadline)
+    award_part(desk)
+    contract_part(desk)
+    journal_part(desk)
+    desk.go("today")
+    desk.picture("today")
+    ledger = scene.front.ask("GET", "/ledger").body.decode().split("\n")[2]
+    check(f"the ledger has what was done: {ledger}", ledger == "1000\t5000\t4500\t0\t0\t500")
+    page_checks.keeps_nothing(scene, desk.page)
+
+
+def moved_and_cancelled(scene: Scene) -> None:
+    """A deadline is moved, and what is cancelled is cancelled only once the word is typed."""
+    desk = Desk(scene)
+    desk.give_key()
+    desk.settle("today")
+    publish_part(desk, "N2", "Crossing", time.time() + 86_400)
+    desk.press("Move the deadline")
+    desk.field("New deadline", local(desk, time.time() + 3600))
+    desk.field("Reason", "Less time")
+    desk.press("Move the deadline \u2026")
+    desk.says("It can be moved to a later moment alone.")
+    desk.field("New deadline", local(desk, time.time() + 200_000))
+    desk.press("Move the deadline \u2026")
+    desk.confirm("Move it", "The deadline of N2 was moved.")
+    desk.press("Cancel the notice")
+    desk.field("Reason", "No need")
+    desk.press("Cancel \u2026")
+    desk.says("To confirm, type: cancel")
+    check("without the word nothing is sent", desk.page.run("hands.button('Cancel it').disabled"))
+    desk.picture("cancel")
+    desk.confirm("Cancel it", "What could be cancelled of notice N2 was cancelled.")
+    desk.says("Nothing is to be done.")
+
+
+def stops(scene: Scene) -> None:
+    """Where no answer comes, what became of the command is asked: done, not done, or not to be told, and then it is sent again."""
+    desk = Desk(scene)
+    desk.give_key()
+    desk.settle("today")
+    write_notice(desk, "N3", time.time() + 86_400, "Bridge")
+    body = desk.page.run("Promise.all([import('/clerk/session.js'), import('/clerk/notice.js')])"
+                         ".then(([{ draft }, { bodyBytes }]) => new TextDecoder().decode(bodyBytes(draft())))")
+    desk.press("Publish \u2026")
+    desk.page.answer_for({"/notices/N3": None})
+    desk.page.wait("document.querySelector('dialog[open] .steps button')")
+    desk.page.run("hands.sure()")
+    desk.press("Publish")
+    desk.says("It isn't done: the office shows nothing of it.")
+    desk.picture("notdone")
+    # Now it reaches the office, and the answer is lost.
+    firms(scene).publish("N3", body)
+    desk.press("Send the same again")
+    desk.says("It is done.")
+    desk.picture("done")
+    desk.page.answer_for({})
+    desk.press("Close")
+    desk.settle("notice/N3")
+    desk.go("tenderers")
+    for label, value in (("Identifier", "T9"), ("Name", "Gamma"), ("Address", "Mill Lane 3"), ("SHA-256 of the key", "ab " * 32)):
+        desk.field(label, value)
+    desk.press("Register a tenderer")
+    desk.page.answer_for({"/tenderers/T9": (504, b'{"front":"no answer"}')})
+    desk.page.wait("document.querySelector('dialog[open] .steps button')")
+    desk.page.run("hands.sure()")
+    desk.press("Register")
+    desk.says("What became of it can't be told by a look.")
+    desk.page.answer_for({"/tenderers/T9": (409, b'{"name":"Exists","refusal":10}')})
+    desk.press("Send the same again")
+    desk.says("It is done.")
+    found = desk.page.run("import('/clerk/session.js').then(({ journal }) => journal().entries.map(({ status, found }) => [status, found]))")
+    check(f"the journal says what was found: {found}", found == [[None, "not done"], [None, "done"], [504, "done"], [409, "done"]])
+    desk.leave()
+
+
+def refused_as(desk: Desk, at: int, status: int, body: bytes) -> str:
+    """The sentence that stands where a command is answered so."""
+    path = f"/tenderers/R{at}"
+    desk.page.answer_for({path: (status, body)})
+    order = {"kind": "tenderer", "values": {"tenderer": "R", "name": "x"}, "path": path, "body": None, "again": None, "says": []}
+    desk.page.run(f"import('/clerk/send.js').then(({{ send }}) => {{ send({json.dumps(order)}); }})")
+    desk.page.wait("document.querySelectorAll('dialog[open] .steps button').length === 2")
+    desk.page.run("document.querySelector('dialog[open] .steps button').click()")
+    desk.page.wait("document.querySelector('dialog[open] :is(.bad, .look) + *, dialog[open] :is(.bad, .look)')")
+    lines = desk.page.run("[...document.querySelectorAll('dialog[open] :is(.bad, .look) p')].map((at) => at.textContent)")
+    desk.page.wait("document.querySelector('dialog[open] .steps button.second')")
+    desk.page.run("document.querySelector('dialog[open]').close()")
+    return str(lines[1])
+
+
+def each_refusal(scene: Scene) -> None:
+    """Each refusal of the office is a sentence of its own where a command is answered by it, in English and in German; so is what the front says."""
+    for language in ("en", "de"):
+        desk = Desk(scene, place=f"?language={language}", language=language)
+        desk.give_key_by(language)
+        told = {body: refused_as(desk, at, status, body) for at, (status, body) in enumerate(page_checks.refusals())}
+        odd = [said for said in told.values() if not re.fullmatch(r"[A-Z\u00c4\u00d6\u00dc].*\.", said) or "status" in said.lower()]
+        check(f"in {language} these are no sentences: {odd}", not odd)
+        sentences = [said for body, said in told.items() if b'"Unavailable"' not in body]
+        check(f"in {language} two refusals have one sentence: {sorted(sentences)}", len(set(sentences)) == len(sentences))
+        for at, status in enumerate((403, 404, 413, 429)):
+            said = refused_as(desk, 100 + at, status, b'{"front":"no"}')
+            check(f"{status} in {language} is told as {said!r}", re.fullmatch(r"[A-Z].*\.", said) and str(status) not in said)
+        page_checks.is_quiet(desk.page)
+        desk.leave()
+
+
+def keyboard(scene: Scene) -> None:
+    """The key is given, and a command is sent, by the keyboard alone, and it is seen where one is."""
+    desk = Desk(scene, place="#key")
+    page = desk.page
+    page.run("document.querySelector('main h1').focus()")
+    order = page_checks.tab(page, 3)
+    check(f"tabs lead to {order}", all(seen for _, seen in order))
+    page.run("hands.field('Your name').focus()")
+    page.type("Anna")
+    page.press("Tab")
+    page.type("abc")
+    page.press("Enter")
+    desk.settle("today")
+    desk.go("tenderers")
+    page.run("hands.field('Identifier').focus()")
+    for text in ("T8", "Delta", "Quay 4", "ab" * 32):
+        page.type(text)
+        page.press("Tab")
+    page.press("Enter")
+    page.wait("document.activeElement.type === 'checkbox'")
+    page.ask("Input.dispatchKeyEvent", type="keyDown", key=" ", code="Space", windowsVirtualKeyCode=32, text=" ")
+    page.ask("Input.dispatchKeyEvent", type="keyUp", key=" ", code="Space", windowsVirtualKeyCode=32)
+    ways: list[Any] = []
+    while len(ways) < 6 and (not ways or ways[-1][0] != "Register"):
+        ways += page_checks.tab(page, 1)
+    check(f"tabs lead to the button: {ways}", ways[-1] == ["Register", True])
+    page.press("Enter")
+    desk.says("T8 is registered.")
+    page.press("Enter")
+    page.wait("!document.querySelector('dialog')")
+    page_checks.is_quiet(page)
+
+
+# The English texts of the desk that are shown.
+ENGLISH = """Promise.all([import('/clerk/en.js'), import('/clerk/de.js')]).then(([{ default: en }, { default: de }]) => Object.keys(en).filter((name) =>
+  typeof en[name] === "string" && en[name] !== de[name] && en[name].length > 12 && !en[name].includes("{") && hands.told().includes(en[name])))"""
+
+
+def german(scene: Scene) -> None:
+    """In German each screen is whole: no English word of the desk's books is left, and no text lacks."""
+    desk = Desk(scene, place="?language=de", language="de")
+    for screen in ("today", "budget", "tenderers", "new", "journal", "key", "notice/N1", "minutes/N1", "letter/N1/L1"):
+        desk.go(screen)
+        desk.picture(f"german-{screen.replace('/', '-')}")
+        left = desk.page.run(ENGLISH)
+        check(f"{screen} has English texts: {left}", not left)
+    check("the page says its language", desk.page.run("document.documentElement.lang === 'de'"))
+    page_checks.is_quiet(desk.page)
+
+
+def from_clerks_alone(scene: Scene) -> None:
+    """The desk is served to the clerks' networks alone, under the policy without a script or a style within the page; without scripts it says so."""
+    for path, media in (("/clerk/", "text/html"), ("/clerk/desk.js", "application/javascript"), ("/clerk/clerk.css", "text/css")):
+        answer = scene.front.ask("GET", path)
+        policy = answer.head["Content-Security-Policy"] or ""
+        kinds = (answer.status, answer.head["Content-Type"], answer.head["Cache-Control"])
+        check(f"{path}: {kinds}", kinds == (200, media, "no-cache"))
+        check(f"{path} has the policy {policy}", "script-src 'self'" in policy and "unsafe" not in policy)
+        answer = scene.front.ask("GET", path, source=OUTSIDE)
+        check(f"{path} from {OUTSIDE}: {answer}", answer.status == 403 and b"front" in answer.body)
+    for path in ("/clerk/nothing.js", "/clerk/README.md", "/clerk/x/desk.js"):
+        answer = scene.front.ask("GET", path)
+        check(f"{path}: {answer}", answer.status == 404 and b"front" in answer.body)
+    page = Page(scene.browser, 375)
+    page.ask("Emulation.setScriptExecutionDisabled", value=True)
+    page.ask("Page.navigate", url=scene.front.address("clerk/"))
+    page.wait("document.readyState === 'complete' && document.querySelector('main')")
+    check(f"without scripts it says {page.text()!r}", "needs a browser with scripts" in page.text())
+
+
+def printed(scene: Scene) -> None:
+    """On paper the minutes and the letters stand alone: neither the bar with the name nor a button is printed; each letter begins a page."""
+    desk = Desk(scene)
+    for screen in ("minutes/N1", "letter/N1/L1"):
+        desk.go(screen)
+        desk.page.ask("Emulation.setEmulatedMedia", media="print")
+        shown = desk.page.run("[...document.querySelectorAll('header, .who, button, nav, footer, .noprint')].filter((at) => at.checkVisibility())"
+                              ".map((at) => at.outerHTML.slice(0, 80))")
+        check(f"{screen}: on paper there is {shown}", not shown)
+        paper = desk.page.ask("Page.printToPDF", paperWidth=8.27, paperHeight=11.69)["data"]
+        with open(os.path.join(scene.pictures, f"{screen.replace('/', '-')}.pdf"), "wb") as file:
+            file.write(base64.b64decode(paper))
+        desk.page.ask("Emulation.setEmulatedMedia", media="")
+
+
+# Faults that are planted in the desk's screen, and which of the checks must find each.
+PLANTS: list[tuple[str, Callable[[Scene, Desk], None]]] = [
+    ("document.querySelector('main h2').style.color = '#ddd'", lambda _, desk: page_checks.has_contrast("planted", desk.page)),
+    ("document.querySelector('main').style.width = '2000px'", lambda _, desk: page_checks.is_within("planted", 1280, desk.page)),
+    ("localStorage.setItem('x', 'y')", lambda scene, desk: page_checks.keeps_nothing(scene, desk.page)),
+    ("document.cookie = 'x=y'", lambda scene, desk: page_checks.keeps_nothing(scene, desk.page)),
+    ("console.log('x')", lambda _, desk: page_checks.is_quiet(desk.page)),
+    ("document.querySelector('main h2').textContent = 'A notice by its number'", lambda _, desk: speaks_german(desk)),
+]
+
+
+def speaks_german(desk: Desk) -> None:
+    check("an English text is shown", "A notice by its number" not in desk.told())
+
+
+def plants(scene: Scene) -> None:
+    """A fault in a screen is found by the check that is for it."""
+    passed_over = []
+    for fault, judge in PLANTS:
+        desk = Desk(scene, place="?language=de#today", language="de")
+        judge(scene, desk)
+        desk.page.run(f"void ({fault})")
+        with contextlib.suppress(AssertionError):
+            judge(scene, desk)
+            passed_over.append(fault)
+    check(f"these are passed over: {passed_over}", not passed_over)
+
+
+CHECKS = [from_clerks_alone, life, moved_and_cancelled, stops, each_refusal, keyboard, german, printed, plants]

@@ -1,0 +1,135 @@
+"""The clerk's desk in a page of a browser, and what a hand does there: fields are found by their labels, buttons by their texts."""
+import json
+import os
+
+import page_checks
+from browser import Page
+from common import check
+from scene import Scene
+
+SHAPES = {"phone": 375, "desktop": 1280}
+WIDTHS = (320, 375, 1280, 1920)
+# What a hand does: a field is found by its label, a button by its text; of several the last that is seen, which is the one in front.
+HANDS = """(() => {
+  const seen = (at) => at.checkVisibility() && !at.closest("details:not([open]) > :not(summary)");
+  const dialog = () => document.querySelector("dialog[open]");
+  const all = (selector, place) => [...(place ?? dialog() ?? document).querySelectorAll(selector)];
+  const nameOf = (at) => at.getAttribute("aria-label") ?? text(at.querySelector("h2, h3"));
+  const text = (at) => at.textContent.replace(/\\s+/g, " ").trim();
+  window.hands = {
+    field(label, place) {
+      const labels = all("label", place).filter((at) => text(at) === label);
+      return labels.map((at) => document.getElementById(at.htmlFor)).filter((at) => at && seen(at)).at(-1);
+    },
+    set(label, value, place) {
+      const at = hands.field(label, place);
+      at.value = value;
+      at.dispatchEvent(new Event("input", { bubbles: true }));
+      at.dispatchEvent(new Event("change", { bubbles: true }));
+    },
+    button: (name, place) => all("button, summary, nav a, main a", place).filter((at) => text(at) === name && seen(at)).at(-1),
+    press: (name, place) => hands.button(name, place).click(),
+    part: (name) => all("article, section, form, [role=group]").filter((at) => nameOf(at) === name).at(-1),
+    drop(text, name, at = 0) {
+      const files = new DataTransfer();
+      files.items.add(new File([text], name));
+      const input = document.querySelectorAll("main input[type=file]")[at];
+      input.files = files.files;
+      input.dispatchEvent(new Event("change"));
+    },
+    told: () => (dialog() ?? document.querySelector("main")).innerText,
+    sure() {
+      const at = dialog().querySelector("input");
+      if (at?.type === "checkbox") at.click();
+      else if (at) {
+        at.value = dialog().innerText.match(/(?:type|schreiben): (.+)/)[1].trim();
+        at.dispatchEvent(new Event("input", { bubbles: true }));
+      }
+    },
+  };
+})()"""
+
+
+class Desk:
+    """The desk in a page of its own, and what a hand does there."""
+
+    def __init__(self, scene: Scene, width: int = 1280, place: str = "", language: str = "en", zone: str = "Europe/Berlin") -> None:
+        self.scene, self.page, self.language = scene, Page(scene.browser, width), language
+        self.page.ask("Emulation.setTimezoneOverride", timezoneId=zone)
+        self.page.ask("Emulation.setUserAgentOverride", userAgent="a browser", acceptLanguage=language)
+        self.page.go(scene.front.address(f"clerk/{place}"))
+        self.page.run(HANDS)
+
+    def go(self, screen: str) -> None:
+        self.page.run(f"location.hash = {json.dumps('#' + screen)}")
+        self.settle(screen)
+
+    def settle(self, screen: str) -> None:
+        self.page.wait(f"location.hash === {json.dumps('#' + screen)} && document.querySelector('main').getAttribute('aria-busy') === 'false' "
+                       "&& document.title.length > 0 && document.querySelector('main h1, main .look')")
+
+    def told(self) -> str:
+        return str(self.page.run("hands.told()"))
+
+    def says(self, text: str) -> None:
+        """Waits until the desk says this."""
+        self.page.wait(f"hands.told().includes({json.dumps(text)})")
+
+    def field(self, label: str, value: str, place: str = "") -> None:
+        self.hand("set", label, value, place=place)
+
+    def press(self, name: str, place: str = "") -> None:
+        where = f", hands.part({json.dumps(place)})" if place else ""
+        self.page.wait(f"hands.button({json.dumps(name)}{where}) && !hands.button({json.dumps(name)}{where}).disabled")
+        self.hand("press", name, place=place)
+
+    def hand(self, what: str, *words: str, place: str = "") -> None:
+        where = f", hands.part({json.dumps(place)})" if place else ""
+        self.page.run(f"hands.{what}({', '.join(map(json.dumps, words))}{where})")
+
+    def drop(self, text: str, name: str, at: int = 0) -> None:
+        self.page.run(f"hands.drop({json.dumps(text)}, {json.dumps(name)}, {at})")
+
+    def confirm(self, send: str, done: str) -> str:
+        """Says once more that it is meant, sends, and gives what the desk tells then."""
+        self.page.wait("document.querySelector('dialog[open] .steps button')")
+        self.page.run("hands.sure()")
+        self.press(send)
+        self.says(done)
+        told = self.told()
+        self.press("Close")
+        # The screen is drawn anew then.
+        self.page.wait("!document.querySelector('dialog') && document.querySelector('main').getAttribute('aria-busy') === 'false'")
+        return told
+
+    def give_key(self, key: str = "abc") -> None:
+        self.go("key")
+        self.field("Your name", "Anna")
+        self.field("Key", f"Office-Key: {key}")
+        self.press("Hold the key in this tab")
+
+    def give_key_by(self, language: str) -> None:
+        """The key, in a language that the hand doesn't read."""
+        self.go("key")
+        self.page.run("[...document.querySelectorAll('main form input')].forEach((at, number) => { at.value = ['Anna', 'abc'][number]; })")
+        self.page.run("document.querySelector('main form button').click()")
+        self.settle("today")
+        check(f"the page speaks {language}", self.page.run("document.documentElement.lang") == language)
+
+    def leave(self) -> None:
+        """Leaves the desk, so that nothing of it asks any more."""
+        self.page.ask("Fetch.disable")
+        self.page.ask("Page.navigate", url="about:blank")
+        self.page.browser.events = [event for event in self.page.browser.events if event["method"] != "Fetch.requestPaused"]
+
+    def picture(self, name: str) -> None:
+        """The screen, narrow and wide, light and dark: within the window, and with contrast."""
+        for width in WIDTHS:
+            self.page.shape(width)
+            page_checks.is_within(name, width, self.page)
+        for shape, width in SHAPES.items():
+            for dark in (False, True):
+                self.page.shape(width, dark=dark)
+                self.page.picture(os.path.join(self.scene.pictures, f"{name}-{shape}-{'dark' if dark else 'light'}.png"))
+                page_checks.has_contrast(f"{name}, {shape}, {'dark' if dark else 'light'}", self.page)
+        self.page.shape(1280)

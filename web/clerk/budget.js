@@ -1,0 +1,141 @@
+// A budget file as the office takes it in: its rows, what is wrong in each record, what the office would answer, and what the file would change.
+import { binaryOf, contentOf, isId, isTextLine, isUtf8, numberOf, recordsOf, textOf, whyNoNumber } from "../common/csv.js";
+import { MOST } from "./values.js";
+
+const HEAD = ["line", "kind", "amount", "title"];
+const SEPARATORS = { ";": "semicolons", "\t": "tabs", "|": "strokes" };
+// How files begin that are no text of this kind.
+const KINDS = [[[0x50, 0x4b, 3, 4], "workbook"], [[0xd0, 0xcf, 0x11, 0xe0], "workbook"], [[0x25, 0x50, 0x44, 0x46], "pdf"], [[0xff, 0xfe], "utf16"],
+  [[0xfe, 0xff], "utf16"]];
+
+/** What stands in a budget file: `rows` in order, and `faults`, each with the number of its record (the head is 1), the line of the file, a code and what it is
+ * about. The first fault is the one that the office names. */
+export function readBudget(bytes) {
+  const { records, isOpen } = recordsOf(contentOf(binaryOf(bytes)));
+  const faults = headFaults(bytes, records);
+  const rows = [];
+  for (const [at, record] of records.slice(1).entries()) {
+    const row = rowOf(record);
+    const place = { record: at + 2, line: record.line };
+    if (row.code) {
+      faults.push({ ...place, ...row });
+    } else {
+      rows.push({ ...place, ...row });
+    }
+  }
+  if (isOpen && faults.length > 0) {
+    faults.push({ record: records.length, line: records.at(-1).line, code: "open" });
+  }
+  return { bytes: bytes.length, rows, faults };
+}
+
+/** Why the first record isn't the head; nothing where it is. */
+function headFaults(bytes, records) {
+  const kind = KINDS.find(([sign]) => sign.every((byte, at) => bytes[at] === byte))?.[1];
+  const [first] = records;
+  const place = { record: 1, line: first?.line ?? 1 };
+  if (!first) {
+    return [{ ...place, code: kind ?? "nothing" }];
+  }
+  const { fields } = first;
+  if (isHead(fields)) {
+    return [];
+  }
+  const sign = fields.length === 1 ? Object.keys(SEPARATORS).find((it) => fields[0].includes(it)) : undefined;
+  const isAlike = isHead(fields.map((field) => field.trim().toLowerCase()));
+  return [{ ...place, code: kind ?? (sign ? SEPARATORS[sign] : isAlike ? "capitals" : "head"), value: shown(fields.join(",")) }];
+}
+
+function isHead(fields) {
+  return fields.length === HEAD.length && fields.every((field, at) => field === HEAD[at]);
+}
+
+/** A field as it is told, cut short. */
+function shown(field) {
+  const text = textOf(field);
+  return text.length > 40 ? `${text.slice(0, 39)}…` : text;
+}
+
+/** The row that a record is, or what is wrong in it. */
+function rowOf({ fields }) {
+  if (fields.length !== HEAD.length) {
+    return { code: "fields", value: fields.length };
+  }
+  const [id, kind, amount, title] = fields;
+  const wrong = !isId(id) ? ["line", id] : kind !== "add" && kind !== "cut" ? ["kind", kind]
+    : amountFault(amount) ? [amountFault(amount), amount] : titleFault(title) ? [titleFault(title), title] : null;
+  return wrong ? { code: wrong[0], value: shown(wrong[1]) } : { id, kind, amount: numberOf(amount), title: textOf(title) };
+}
+
+/** Why a field is no amount of at least 1. */
+function amountFault(field) {
+  const why = whyNoNumber(field);
+  return why ? `amount.${why}` : numberOf(field) === 0 ? "amount.zero" : null;
+}
+
+/** Why a field is no title. */
+function titleFault(field) {
+  if (isTextLine(field)) {
+    return null;
+  }
+  return field === "" ? "title.empty" : field.length > MOST.text ? "title.long" : isUtf8(field) ? "title.control" : "title.coding";
+}
+
+/** Takes the rows in order over the lines that are there (a map from identifiers to `appropriation` and `free`): what each line has before and after, and what
+ * is refused at which rows. Amounts of the lines are BigInt, since sums of rows may pass what a Number holds. */
+export function changesOf(rows, lines) {
+  const changes = new Map();
+  const faults = [];
+  for (const row of rows) {
+    const change = changes.get(row.id) ?? begun(row.id, lines.get(row.id));
+    changes.set(row.id, change);
+    const wrong = wrongAt(change, BigInt(row.amount), row.kind);
+    if (wrong) {
+      faults.push({ record: row.record, line: row.line, code: wrong, value: row.id, free: change.free, amount: row.amount });
+    }
+    take(change, BigInt(row.amount), row.kind);
+    change.title = row.title;
+  }
+  return { changes: [...changes.values()], faults };
+}
+
+/** A line before the first of its rows. */
+function begun(id, held) {
+  const [appropriation, free] = [BigInt(held?.appropriation ?? 0), BigInt(held?.free ?? 0)];
+  return { id, isNew: held === undefined, isThere: held !== undefined, before: { appropriation, free }, appropriation, free, title: null };
+}
+
+/** What the office refuses at a row of this line. */
+function wrongAt(line, amount, kind) {
+  if (kind === "add") {
+    return line.appropriation + amount > BigInt(MOST.line) ? "past" : null;
+  }
+  return !line.isThere ? "unknown" : line.free < amount ? "short" : null;
+}
+
+/** Adds to a line, or cuts from it, what a row says; below 0 nothing goes. */
+function take(line, amount, kind) {
+  const after = (held) => (kind === "add" ? held + amount : held > amount ? held - amount : 0n);
+  line.appropriation = after(line.appropriation);
+  line.free = after(line.free);
+  line.isThere = true;
+}
+
+/** What the office would answer to this file, where its name wasn't used: `{ rows }` where it takes it in, else `{ name, what }`. */
+export function answerOf(reading, lines) {
+  if (reading.bytes > MOST.body) {
+    return { name: "TooLong" };
+  }
+  if (reading.faults.length > 0) {
+    return { name: "BadBody", what: `row ${Math.min(...reading.faults.map(({ record }) => record))}` };
+  }
+  const { faults } = changesOf(reading.rows, lines);
+  const has = (code) => faults.some((fault) => fault.code === code);
+  if (has("unknown")) {
+    return { name: "NoSuch", what: "line" };
+  }
+  if (has("short")) {
+    return { name: "InsufficientFunds" };
+  }
+  return has("past") || reading.rows.length > MOST.rows ? { name: "LimitReached" } : { rows: reading.rows.length };
+}

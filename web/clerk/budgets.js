@@ -1,0 +1,162 @@
+// The budget: its lines, and a file that is checked row by row and shown with what it would change before it is sent.
+import { bar, element, given, key as legend } from "../draw.js";
+import { number } from "../common/money.js";
+import { bytesOfFile } from "../common/digest.js";
+import { ledger, line as lineOf, sentenceOf } from "../common/office.js";
+import { hasText, say } from "../common/texts.js";
+import { changesOf, readBudget } from "./budget.js";
+import { ofBudget } from "./fate.js";
+import { allRight, dropped, field, form, note, section, table } from "./forms.js";
+import { isUsed } from "./known.js";
+import { sendThen } from "./send.js";
+import { journal } from "./session.js";
+import { MOST, isAskable } from "./values.js";
+
+const MOST_SHOWN = 50;
+const COLUMNS = ["appropriation", "free", "reserved", "contracted", "paid"];
+// In the order in which a bar has them.
+const POTS = ["paid", "contracted", "reserved", "free"];
+// The titles of lines, which change with a budget file alone: the front takes only so many looks a second.
+const titles = new Map();
+
+/** The title of a line, or null where it can't be had. */
+async function titleOf(name) {
+  if (!titles.has(name)) {
+    titles.set(name, await lineOf(name).then(({ title }) => title, () => null));
+  }
+  return titles.get(name);
+}
+
+export async function drawBudget(again) {
+  const lines = await ledger();
+  const place = element("div", { "aria-live": "polite" });
+  const take = async (file) => {
+    place.replaceChildren(...await checked(file.name, await bytesOfFile(file), new Map(lines.map((one) => [one.line, one])), again));
+    place.querySelector("h3")?.focus();
+  };
+  const file = section(say("budget.file"), dropped(say("budget.drop"), say("budget.drop.hint"), ".csv,text/csv", take), place);
+  return { title: say("page.budget"), content: [element("h1", { tabindex: "-1" }, say("page.budget")), element("p", { class: "intro" }, say("budget.intro")),
+    file, section(say("budget.lines"), lineTable(lines))] };
+}
+
+/** Parts of a bar, each with the amount that is told of its pot. */
+function partsOf(amountOf) {
+  return POTS.map((kind) => ({ kind, name: say(`pot.${kind}`), amount: amountOf(kind) }));
+}
+
+/** The lines that are there, with a bar of their four pots. */
+function lineTable(lines) {
+  if (lines.length === 0) {
+    return element("p", {}, say("budget.none"));
+  }
+  const heads = [[say("line"), false], ...COLUMNS.map((name) => [say(`pot.${name}`), true]), [say("budget.bar"), false]];
+  const rows = lines.slice(0, MOST_SHOWN).map((one) => [titled(one.line), ...COLUMNS.map((name) => number(one[name])),
+    bar(`${say("line")} ${one.line}`, partsOf((kind) => one[kind]))]);
+  return [table(say("budget.table"), heads, rows), andMore(lines), sums(lines)];
+}
+
+/** That there are more than are shown. */
+function andMore(list) {
+  return list.length > MOST_SHOWN ? element("p", { class: "quiet" }, say("budget.more", { count: list.length - MOST_SHOWN })) : null;
+}
+
+/** What all lines have together, where a Number holds it. */
+function sums(lines) {
+  const all = partsOf((kind) => lines.reduce((sum, one) => sum + one[kind], 0));
+  return all.every(({ amount }) => Number.isSafeInteger(amount)) ? [element("p", { class: "quiet" }, say("budget.sums")), legend(all, "")] : [];
+}
+
+/** A line's identifier, with its title once that has come. */
+function titled(name) {
+  const place = element("span", { class: "quiet below" });
+  titleOf(name).then((title) => place.append(given(title ?? "")));
+  return [name, place];
+}
+
+/** What a file says, what is wrong in it, what it would change, and the form that sends it. */
+async function checked(name, bytes, lines, again) {
+  const reading = readBudget(bytes);
+  const size = say("budget.size", { bytes: bytes.length, rows: reading.rows.length, count: reading.rows.length });
+  const head = element("h3", { tabindex: "-1" }, name, " ", element("span", { class: "quiet" }, size));
+  const { changes, faults } = changesOf(reading.rows, lines);
+  const all = [...reading.faults, ...(reading.faults.length === 0 ? faults : []), ...limits(reading)];
+  if (all.length > 0) {
+    return [head, note("bad", say("budget.refused", { count: all.length }), say("budget.refused.whole")), faultTable(all)];
+  }
+  return [head, note("good", say("budget.right"), say("budget.right.more")), await changeTable(changes), sending(name, bytes, changes, again)];
+}
+
+function limits({ bytes, rows }) {
+  return [...(bytes > MOST.body ? [{ line: 1, code: "size", value: bytes }] : []),
+    ...(rows.length > MOST.rows ? [{ line: 1, code: "many", value: rows.length }] : [])];
+}
+
+function faultTable(faults) {
+  const heads = [[say("budget.fileline"), true], [say("budget.wrong"), false], [say("budget.mend"), false]];
+  const rows = faults.slice(0, MOST_SHOWN).map((fault) => [number(fault.line), wrongText(fault), mendText(fault)]);
+  return element("div", {}, table(say("budget.faults"), heads, rows), andMore(faults));
+}
+
+function values({ value = "", free = 0n, amount = 0 }) {
+  return { value, free, amount, count: Number(value) };
+}
+
+/** Of a number that is none, the sentence is that of all desks. */
+function wrongText(fault) {
+  const { code, value = "" } = fault;
+  const name = `budget.fault.${code}`;
+  return hasText(name) ? say(name, values(fault)) : say("budget.fault.amount", { value, why: say(code.replace("amount.", "number.")) });
+}
+
+function mendText(fault) {
+  const [first] = fault.code.split(".");
+  const names = [`budget.mend.${fault.code}`, `budget.mend.${first}`, "budget.mend.head"];
+  return say(names.find(hasText), values(fault));
+}
+
+/** What each line has before and after, and its title where another one comes. */
+async function changeTable(changes) {
+  const before = await Promise.all(changes.slice(0, MOST_SHOWN).map(({ id, isNew }) => (isNew ? null : titleOf(id))));
+  const heads = [[say("line"), false], [say("budget.appropriation"), true], [say("budget.difference"), true], [say("budget.free"), true],
+    [say("budget.newtitle"), false]];
+  const step = (from, to) => [number(from), " → ", element("b", {}, number(to))];
+  const rows = changes.slice(0, MOST_SHOWN).map((change, at) => {
+    const difference = change.appropriation - change.before.appropriation;
+    const isSame = before[at] === null || before[at] === change.title;
+    const title = isSame ? given(change.title) : [given(before[at]), " → ", element("b", {}, given(change.title))];
+    const name = [change.id, change.isNew ? element("span", { class: "quiet below" }, say("budget.new")) : ""];
+    return [name, step(change.before.appropriation, change.appropriation), signed(difference), step(change.before.free, change.free), title];
+  });
+  return element("div", {}, table(say("budget.changes"), heads, rows), andMore(changes));
+}
+
+/** The name that a file may have in the office, from that which it has here. */
+function nameOf(file) {
+  return file.replace(/\.csv$/i, "").replace(/[^A-Za-z0-9_.-]/g, "-").slice(0, 32);
+}
+
+function sending(name, bytes, changes, again) {
+  const batch = field({ label: say("budget.batch"), hint: say("budget.batch.hint"), value: nameOf(name),
+    more: { maxlength: "32", autocapitalize: "none", spellcheck: "false" } });
+  const run = () => {
+    const typed = batch.value().trim();
+    if (allRight([[batch, !isAskable(typed) ? say("id.wrong") : isUsed(journal(), `/budget/${typed}`) ? say("budget.used") : ""]])) {
+      sendThen(importOrder(typed, bytes, changes), () => {
+        titles.clear();
+        again();
+      });
+    }
+  };
+  return form(say("budget.send"), [batch.element], say("budget.send"), run);
+}
+
+function signed(amount) {
+  return `${amount < 0n ? "−" : "+"}${number(amount < 0n ? -amount : amount)}`;
+}
+
+function importOrder(batch, bytes, changes) {
+  const sum = changes.reduce((all, change) => all + change.appropriation - change.before.appropriation, 0n);
+  return { kind: "budget", values: { batch }, path: `/budget/${batch}`, body: bytes, again: "Exists", find: () => ofBudget(changes),
+    says: [say("budget.does", { count: changes.length, sum: signed(sum) }), say("budget.once", { batch })],
+    explain: (fault) => (/^row \d+$/.test(fault.what) ? say("budget.row", { row: fault.what.slice(4) }) : sentenceOf(fault)) };
+}

@@ -1,0 +1,184 @@
+// A notice is written: its terms, its lots, what the office would refuse of it, what one should think of, and how large it is.
+import { element } from "../draw.js";
+import { moment } from "../common/money.js";
+import { ledger, officeNow } from "../common/office.js";
+import { say } from "../common/texts.js";
+import { addressOf, linkTo } from "./address.js";
+import { bound } from "./bound.js";
+import { ofNotice } from "./fate.js";
+import { button, field, section } from "./forms.js";
+import { isUsed, noticesOf, publicationOf } from "./known.js";
+import { drawLots, drawMoney, pasting } from "./lots.js";
+import { bodyBytes, draftOf, faultsOf, newDraft, warningsOf } from "./notice.js";
+import { sendThen } from "./send.js";
+import { draft as kept, journal, keepDraft } from "./session.js";
+import { MOST, localMilliseconds, localText, momentText } from "./values.js";
+
+export { drawPreview } from "./preview.js";
+
+export async function drawEditor(again) {
+  const lines = new Map((await ledger()).map((one) => [one.line, one]));
+  const draft = kept() ?? newDraft();
+  keepDraft(draft);
+  const editor = { draft, lines, isChecked: false, again, inputs: new Map(), summary: element("div", {}), lots: element("div", {}) };
+  editor.changed = () => drawSummary(editor);
+  editor.redrawLots = () => {
+    drawLots(editor);
+    drawSummary(editor);
+  };
+  const content = [element("h1", { tabindex: "-1" }, say("page.new")), element("p", { class: "intro" }, say("editor.intro")), earlier(editor),
+    section(say("editor.terms"), terms(editor)), section(say("editor.lots"), pasting(editor), editor.lots), section(say("editor.check"), editor.summary)];
+  editor.redrawLots();
+  return { title: say("page.new"), content };
+}
+
+/** A notice that was published before, to begin with. */
+function earlier(editor) {
+  const names = noticesOf(journal()).filter((name) => publicationOf(journal(), name));
+  if (names.length === 0) {
+    return null;
+  }
+  const options = names.map((name) => [name, `${name}: ${publicationOf(journal(), name).title}`]);
+  const chosen = field({ label: say("editor.earlier"), kind: "choice", options, value: names[0] });
+  const take = button(say("editor.take"), () => {
+    keepDraft({ ...draftOf(publicationOf(journal(), chosen.value())), deadline: null });
+    editor.again();
+  }, "second");
+  return element("details", {}, element("summary", {}, say("editor.fromearlier")), chosen.element, element("div", { class: "steps" }, take));
+}
+
+function terms(editor) {
+  const { draft } = editor;
+  const id = { maxlength: "32", autocapitalize: "none", spellcheck: "false" };
+  const digits = { inputmode: "numeric" };
+  const choice = (name) => [["refused", say(`editor.${name}.refused`)], ["forfeits", say(`editor.${name}.forfeits`)]];
+  const weight = bound(editor, "weight", draft, "weight", { label: say("editor.weight"), hint: say("editor.weight.hint"), more: digits });
+  const criteria = bound(editor, "criteria", draft, "criteria", { label: say("editor.criteria"), kind: "choice",
+    options: [["price", say("editor.price")], ["points", say("editor.points")]] });
+  const showWeight = () => { weight.element.hidden = draft.criteria !== "points"; };
+  criteria.input.addEventListener("input", showWeight);
+  showWeight();
+  return element("div", { class: "fields" },
+    bound(editor, "name", draft, "name", { label: say("editor.name"), hint: say("editor.name.hint"), more: id }).element,
+    bound(editor, "title", draft, "title", { label: say("editor.title") }).element,
+    deadline(editor),
+    bound(editor, "validity", draft, "validity", { label: say("editor.validity"), hint: say("editor.validity.hint"), more: digits }).element,
+    bound(editor, "standstill", draft, "standstill", { label: say("editor.standstill"), hint: say("editor.standstill.hint"), more: digits }).element,
+    criteria.element, weight.element,
+    bound(editor, "late", draft, "late", { label: say("editor.late"), kind: "choice", options: choice("late") }).element,
+    bound(editor, "performance", draft, "performance", { label: say("editor.performance"), hint: say("editor.performance.hint"), more: digits }).element);
+}
+
+/** The deadline is chosen in local time, and shown as it will be published. */
+function deadline(editor) {
+  const { draft } = editor;
+  const told = element("p", { class: "quiet" });
+  const made = field({ label: say("editor.deadline"), hint: say("editor.deadline.hint"), kind: "datetime-local", value: localText(draft.deadline),
+    more: { step: "1" } });
+  const tell = () => told.replaceChildren(draft.deadline === null ? "" : moment(momentText(draft.deadline) ?? ""));
+  made.input.addEventListener("input", () => {
+    draft.deadline = localMilliseconds(made.value());
+    tell();
+    editor.changed();
+  });
+  tell();
+  editor.inputs.set("deadline", made);
+  return element("div", {}, made.element, told);
+}
+
+/** A fault as a sentence. */
+function faultText({ code, value = "", least = 0, most = 0, amount = 0, free = 0 }) {
+  return say(code.startsWith("text.") ? code : `fault.${code}`, { value, least, most, amount, free });
+}
+
+/** Where a fault is, in words. */
+function placeText(editor, path) {
+  const [, lot, , item] = path.split(".");
+  const label = editor.inputs.get(path)?.element.querySelector("label")?.textContent ?? say("editor.lots");
+  if (lot === undefined) {
+    return label;
+  }
+  const name = editor.draft.lots[lot]?.id || `#${Number(lot) + 1}`;
+  const parts = [say("editor.at.lot", { lot: name }), item === undefined ? "" : say("editor.at.item", { item: String(Number(item) + 1) }), label];
+  return parts.filter(Boolean).join(", ");
+}
+
+/** Beside what is written: its size, the money, what would be refused, and what one should think of. */
+function drawSummary(editor) {
+  const { draft, lines, summary } = editor;
+  drawMoney(editor);
+  const now = officeNow();
+  const faults = faultsOf(draft, lines, now);
+  if (isUsed(journal(), `/notices/${draft.name}`)) {
+    faults.push({ field: "name", code: "used", value: draft.name });
+  }
+  for (const [path, one] of editor.inputs) {
+    const fault = faults.find((it) => it.field === path);
+    one.tell(editor.isChecked && fault ? faultText(fault) : "");
+  }
+  const empty = button(say("editor.empty"), () => {
+    keepDraft(null);
+    editor.again();
+  }, "second");
+  const preview = faults.length === 0 ? linkTo(say("editor.preview"), "preview") : "";
+  summary.replaceChildren(sizePart(bodyBytes(draft).length), faultList(editor, faults), ...warnings(draft, now),
+    element("div", { class: "steps" }, button(say("editor.publish"), () => publish(editor, faults)), preview, empty));
+}
+
+/** How large the notice is, in words and as a bar. */
+function sizePart(bytes) {
+  const meter = element("meter", { min: "0", max: String(MOST.body), high: String(MOST.body * 0.9), value: String(Math.min(bytes, MOST.body)),
+    "aria-label": say("editor.sizename") });
+  return element("p", {}, say("editor.size", { bytes, most: MOST.body }), " ", meter);
+}
+
+const MOST_FAULTS = 12;
+
+function faultList(editor, faults) {
+  if (faults.length === 0) {
+    return element("div", { class: "good" }, element("p", {}, say("editor.right")));
+  }
+  const go = (fault) => button(placeText(editor, fault.field), () => focusOn(editor, fault), "second small");
+  const listed = faults.slice(0, MOST_FAULTS).map((fault) => element("li", {}, go(fault), " ", faultText(fault)));
+  const more = faults.length > MOST_FAULTS ? element("p", { class: "quiet" }, say("budget.more", { count: faults.length - MOST_FAULTS })) : null;
+  return element("div", { class: editor.isChecked ? "bad" : "look" }, element("p", {}, say("editor.faults", { count: faults.length })),
+    element("ul", { class: "plain" }, listed), more);
+}
+
+/** Goes to the field of a fault, where it has one. */
+function focusOn(editor, fault) {
+  const at = editor.inputs.get(fault.field);
+  at?.input.closest("details")?.setAttribute("open", "");
+  at?.input.focus();
+}
+
+function warnings(draft, now) {
+  const found = warningsOf(draft, now).map(({ code, value = "", amount = 0, least = 0 }) => say(`warning.${code}`, { value, amount, least }));
+  return found.length === 0 ? [] : [element("div", { class: "look" }, element("p", {}, say("editor.warnings")),
+    element("ul", {}, found.map((text) => element("li", {}, text))))];
+}
+
+function publish(editor, faults) {
+  const { draft } = editor;
+  editor.isChecked = true;
+  drawSummary(editor);
+  if (faults.length > 0) {
+    focusOn(editor, faults[0]);
+    return;
+  }
+  sendThen(publication(draft), () => {
+    keepDraft(null);
+    location.hash = addressOf("notice", draft.name);
+  });
+}
+
+/** The order by which a draft is published. */
+function publication(draft) {
+  const sum = draft.lots.reduce((all, { estimate }) => all + Number(estimate), 0);
+  const items = draft.lots.reduce((all, lot) => all + lot.items.length, 0);
+  const lines = [...new Set(draft.lots.map(({ line }) => line))].join(", ");
+  return { kind: "notice", values: { notice: draft.name }, path: `/notices/${draft.name}`, body: bodyBytes(draft), isFinal: true,
+    says: [[say("editor.does.deadline"), " ", moment(momentText(draft.deadline))], say("editor.does.money", { sum, lines }),
+      say("editor.does.lots", { lots: draft.lots.length, items, count: draft.lots.length }), say("editor.does.stays")],
+    again: "Exists", find: () => ofNotice(draft.name) };
+}

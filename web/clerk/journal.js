@@ -1,0 +1,110 @@
+// The journal of what was sent from this desk: an entry for each command, as a line of JSON that holds the digest of the line before it. Pure: runs in node
+// too.
+import { bytesOf, sha256 } from "../common/digest.js";
+import { textOf } from "./values.js";
+
+const KIND = "procure clerk's journal";
+const VERSION = 1;
+const NONE = "0".repeat(64);
+
+/** A journal without an entry, of the office at this address. */
+export function newJournal(office) {
+  return { office, entries: [], saved: 0 };
+}
+
+/** Adds an entry: when it was sent by the office's clock as far as it is known, who sat at the desk, what was sent, and what came back. `answer` is `{ status,
+ * text }`, or null where none came; `found` is what was found out then. */
+export async function addEntry(journal, { moment, who, title, method, path, body, answer, found }) {
+  const bytes = body ?? new Uint8Array();
+  const entry = { number: journal.entries.length + 1, moment, who, title, method, path, bytes: bytes.length, digest: await sha256(bytes),
+    body: textOf(bytes), status: answer?.status ?? null, answer: answer?.text ?? null, found: found ?? null };
+  journal.entries.push(entry);
+  return entry;
+}
+
+/** The file of a journal: a line that tells what it is, one for each entry, and one that ends it. Each holds the digest of the line before, so that a file in
+ * which something was changed or is missing is known by it. */
+export async function fileOf(journal) {
+  let before = NONE;
+  let text = "";
+  for (const part of [{ journal: KIND, version: VERSION, office: journal.office }, ...journal.entries, { end: journal.entries.length }]) {
+    const line = JSON.stringify({ ...part, before });
+    text += `${line}\n`;
+    before = await sha256(bytesOf(line));
+  }
+  return text;
+}
+
+/** What a file that was saved holds: a journal, or the first line that is wrong and why (`none`, `chain`, `body`, `end`). */
+export async function readFile(text) {
+  const lines = text.replace(/\n$/, "").split("\n");
+  const journal = newJournal(null);
+  let before = NONE;
+  for (const [at, line] of lines.entries()) {
+    const part = parsed(line);
+    const wrong = at === 0 ? headFault(part) : at < lines.length - 1 ? await entryFault(part, before, at) : endFault(part, before, at - 1);
+    if (wrong) {
+      return { fault: { line: at + 1, code: wrong } };
+    }
+    journal.office = at === 0 ? part.office : journal.office;
+    if (at > 0 && at < lines.length - 1) {
+      const { before: _, ...entry } = part;
+      journal.entries.push(entry);
+    }
+    before = await sha256(bytesOf(line));
+  }
+  journal.saved = journal.entries.length;
+  return lines.length > 1 ? { journal } : { fault: { line: 2, code: "end" } };
+}
+
+function parsed(line) {
+  try {
+    return JSON.parse(line);
+  } catch {
+    return null;
+  }
+}
+
+function headFault(part) {
+  return part?.journal === KIND && part.version === VERSION && part.before === NONE ? null : "none";
+}
+
+async function entryFault(part, before, number) {
+  if (typeof part?.path !== "string" || typeof part.digest !== "string") {
+    return "none";
+  }
+  if (part.before !== before || part.number !== number) {
+    return "chain";
+  }
+  return typeof part.body === "string" && (await sha256(bytesOf(part.body))) !== part.digest ? "body" : null;
+}
+
+function endFault(part, before, count) {
+  return part?.end !== count ? "end" : part.before === before ? null : "chain";
+}
+
+/** Puts what a file holds in front of what was done since: a journal goes on from it. Null where both are of different offices. */
+export function joined(earlier, later) {
+  if (later.office !== null && earlier.office !== later.office) {
+    return null;
+  }
+  const known = new Set(earlier.entries.map(keyOf));
+  const more = later.entries.filter((entry) => !known.has(keyOf(entry)));
+  const entries = [...earlier.entries, ...more].map((entry, at) => ({ ...entry, number: at + 1 }));
+  return { office: earlier.office, entries, saved: more.length === 0 ? entries.length : earlier.entries.length };
+}
+
+/** What tells an entry from another. */
+function keyOf({ moment, method, path, digest, status, answer }) {
+  return JSON.stringify([moment, method, path, digest, status, answer]);
+}
+
+/** Whether the command of an entry is done: it was accepted, or no answer came and it was found to be done. */
+export function isDone(entry) {
+  return entry.status === 200 || entry.found === "done";
+}
+
+/** The commands of a journal that are done, of paths of this form. */
+export function doneOf(journal, form) {
+  return journal.entries.filter((entry) => isDone(entry) && form.test(entry.path));
+}

@@ -1,0 +1,71 @@
+// The journal: what was sent from this desk and what came back; saved as a file, and taken up again from one.
+import { element } from "../draw.js";
+import { bytesOfFile, inGroups } from "../common/digest.js";
+import { moment } from "../common/money.js";
+import { officeNow } from "../common/office.js";
+import { say } from "../common/texts.js";
+import { button, download, dropped, note, section } from "./forms.js";
+import { fileOf, joined, readFile } from "./journal.js";
+import { journal, replaceJournal } from "./session.js";
+import { momentText, textOf } from "./values.js";
+
+export async function drawJournal(again) {
+  const { entries, saved } = journal();
+  const told = element("div", { role: "status" });
+  const save = async () => {
+    const text = await fileOf(journal());
+    download(`journal-${momentText(officeNow()).replace(/[-:]/g, "")}.jsonl`, text, "application/jsonl");
+    journal().saved = entries.length;
+    again();
+  };
+  const take = async (file) => told.replaceChildren(await taken(textOf(await bytesOfFile(file)), again));
+  const keep = button(say("journal.save"), save);
+  keep.disabled = entries.length === 0;
+  const list = entries.length === 0 ? element("p", {}, say("journal.empty")) : element("ol", { class: "entries" }, [...entries].reverse().map(entryPart));
+  return { title: say("page.journal"), content: [element("h1", { tabindex: "-1" }, say("page.journal")),
+    element("p", { class: "intro" }, say("journal.intro")), savedNote(entries.length, saved),
+    element("div", { class: "steps" }, keep, button(say("print"), () => print(), "second")),
+    section(say("journal.take"), dropped(say("journal.drop"), say("journal.drop.hint"), ".jsonl,application/jsonl", take), told),
+    section(say("journal.entries"), list)] };
+}
+
+/** Whether something would be lost with the tab. */
+function savedNote(count, saved) {
+  if (count === saved) {
+    return count === 0 ? null : note("good", say("journal.saved"));
+  }
+  return note("look", say("journal.unsaved", { count: count - saved }), say("journal.unsaved.do"));
+}
+
+/** What a file holds goes in front of what was done since. */
+async function taken(text, again) {
+  const { journal: earlier, fault } = text === null ? { fault: { line: 1, code: "none" } } : await readFile(text);
+  if (fault) {
+    return note("bad", say(`journal.fault.${fault.code}`, { line: String(fault.line) }), say("journal.fault.do"));
+  }
+  if (earlier.office !== location.origin) {
+    return note("bad", say("journal.other", { office: earlier.office }));
+  }
+  replaceJournal(joined(earlier, journal()));
+  again();
+  return note("good", say("journal.taken", { count: earlier.entries.length }));
+}
+
+/** What came of an entry: a kind and a sentence. */
+function outcome({ status, found }) {
+  if (status === 200 || found === "done") {
+    return ["right", say("journal.done")];
+  }
+  const told = found === null ? say("journal.refused", { status: String(status) }) : say(found === "not done" ? "journal.notdone" : "journal.unknown");
+  return ["wrong", told];
+}
+
+function entryPart(entry) {
+  const [kind, text] = outcome(entry);
+  return element("li", { value: String(entry.number) }, element("b", {}, entry.title), " ", element("span", { class: kind }, text),
+    element("span", { class: "quiet below" }, moment(entry.moment), ` · ${entry.who}`),
+    element("details", {}, element("summary", {}, say("journal.more")), element("p", { class: "code" }, `${entry.method} ${entry.path}`),
+      element("p", { class: "quiet" }, say("journal.body", { bytes: entry.bytes }), " ", element("span", { class: "code" }, inGroups(entry.digest))),
+      entry.body ? element("pre", { tabindex: "0" }, entry.body) : "",
+      entry.answer ? element("pre", { tabindex: "0" }, entry.answer) : element("p", {}, say("journal.noanswer"))));
+}

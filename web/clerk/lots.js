@@ -1,0 +1,141 @@
+// The lots of a notice that is written: typed, or pasted from a sheet; the free money of each line beside its estimates.
+import { element } from "../draw.js";
+import { number } from "../common/money.js";
+import { say } from "../common/texts.js";
+import { bound } from "./bound.js";
+import { button, field, note } from "./forms.js";
+import { newLot, wantedOf } from "./notice.js";
+import { COLUMNS, lotsOf } from "./sheet.js";
+import { MOST } from "./values.js";
+
+// So many lots are shown unfolded.
+const UNFOLDED = 3;
+
+/** A table that is pasted takes the place of the lots. */
+export function pasting(editor) {
+  const columns = Object.keys(COLUMNS).map((name) => say(`column.${name}`)).join(", ");
+  const text = field({ label: say("lots.paste"), hint: say("lots.paste.hint", { columns }), kind: "lines" });
+  const told = element("div", { "aria-live": "polite" });
+  const take = () => {
+    const { lots, faults, changes } = lotsOf(text.value());
+    told.replaceChildren(...outcome(lots, faults, changes));
+    if (lots.length > 0) {
+      editor.draft.lots = lots.map((lot) => ({ ...lot, security: lot.security || "0" }));
+      editor.redrawLots();
+    }
+  };
+  const steps = element("div", { class: "steps" }, button(say("lots.take"), take));
+  return element("details", {}, element("summary", {}, say("lots.pasting")), text.element, steps, told);
+}
+
+const MOST_TOLD = 20;
+
+/** What came of a pasted table. */
+function outcome(lots, faults, changes) {
+  const items = lots.reduce((sum, lot) => sum + lot.items.length, 0);
+  const wrong = faults.slice(0, MOST_TOLD).map(({ line, code, value = "", name = "", told = "" }) =>
+    element("li", {}, say(`paste.${code}`, { line: String(line), value, told, name: name ? say(`column.${name}`) : "" })));
+  const changed = changes.slice(0, MOST_TOLD).map(({ line, name, value, told }) =>
+    element("li", {}, say("paste.changed", { line: String(line), name: say(`column.${name}`), value, told })));
+  return [lots.length > 0 ? note("good", say("paste.taken", { lots: lots.length, items, count: lots.length })) : null,
+    wrong.length > 0 ? note("bad", say("paste.wrong", { count: faults.length }), element("ul", {}, wrong)) : null,
+    changed.length > 0 ? note("look", say("paste.read", { count: changes.length }), element("ul", {}, changed)) : null].filter(Boolean);
+}
+
+/** Draws all lots anew. */
+export function drawLots(editor) {
+  for (const path of [...editor.inputs.keys()].filter((it) => it.startsWith("lots"))) {
+    editor.inputs.delete(path);
+  }
+  editor.money = new Map();
+  const { lots } = editor.draft;
+  const add = button(say("lots.add"), () => {
+    lots.push(newLot(nextId("L", lots)));
+    editor.redrawLots();
+    unfold(editor, `lots.${lots.length - 1}.id`);
+  }, "second");
+  const choices = element("datalist", { id: "lines" }, [...editor.lines.values()].map(({ line, free }) =>
+    element("option", { value: line }, say("lots.free", { free }))));
+  editor.lots.replaceChildren(choices, ...lots.map((lot, at) => lotPart(editor, lot, at)),
+    element("div", { class: "steps" }, lots.length < MOST.lots ? add : ""));
+}
+
+/** Goes to a field, and unfolds what it stands in. */
+function unfold(editor, path) {
+  const { input } = editor.inputs.get(path);
+  input.closest("details").open = true;
+  input.focus();
+}
+
+/** The next identifier that no other has, as `L3`. */
+function nextId(letter, list) {
+  let count = list.length + 1;
+  while (list.some(({ id }) => id === `${letter}${count}`)) {
+    count += 1;
+  }
+  return `${letter}${count}`;
+}
+
+function lotPart(editor, lot, at) {
+  const path = `lots.${at}`;
+  const id = { maxlength: "32", autocapitalize: "none", spellcheck: "false" };
+  const digits = { inputmode: "numeric" };
+  const summary = element("summary", {});
+  const entitle = () => summary.replaceChildren(say("lots.lot", { lot: lot.id, title: lot.title, items: lot.items.length, count: lot.items.length }));
+  const own = (name, options) => {
+    const made = bound(editor, `${path}.${name}`, lot, name, options);
+    made.input.addEventListener("input", entitle);
+    return made.element;
+  };
+  entitle();
+  const money = element("p", { class: "quiet" });
+  editor.money.set(at, money);
+  const away = button(say("lots.remove"), () => {
+    editor.draft.lots.splice(at, 1);
+    editor.redrawLots();
+  }, "second");
+  const fields = [own("id", { label: say("column.lot"), more: id }), own("title", { label: say("column.lotTitle") }),
+    own("line", { label: say("column.line"), more: { ...id, list: "lines" } }),
+    element("div", {}, own("estimate", { label: say("column.estimate"), more: digits }), money),
+    own("security", { label: say("column.security"), hint: say("lots.security.hint"), more: digits })];
+  const isOpen = editor.draft.lots.length <= UNFOLDED ? { open: "" } : {};
+  return element("details", { class: "card", ...isOpen }, summary, element("div", { class: "fields" }, fields), itemTable(editor, lot, path),
+    element("div", { class: "steps" }, addItem(editor, lot, path), editor.draft.lots.length > 1 ? away : ""));
+}
+
+function addItem(editor, lot, path) {
+  return button(say("lots.additem"), () => {
+    lot.items.push({ id: nextId("I", lot.items), title: "", quantity: "" });
+    editor.redrawLots();
+    unfold(editor, `${path}.items.${lot.items.length - 1}.title`);
+  }, "second");
+}
+
+/** The items of a lot: a row of fields for each. */
+function itemTable(editor, lot, path) {
+  const rows = lot.items.map((item, at) => {
+    const own = (name, label, more) => bound(editor, `${path}.items.${at}.${name}`, item, name, { label: say(`column.${label}`), more }).element;
+    const away = button("×", () => {
+      lot.items.splice(at, 1);
+      editor.redrawLots();
+    }, "second small");
+    away.setAttribute("aria-label", say("lots.removeitem", { item: item.id || String(at + 1) }));
+    return element("div", { class: "item", role: "group", "aria-label": say("lots.item", { number: String(at + 1) }) },
+      own("id", "item", { maxlength: "32", autocapitalize: "none", spellcheck: "false" }), own("title", "title", {}),
+      own("quantity", "quantity", { inputmode: "numeric" }), lot.items.length > 1 ? away : "");
+  });
+  return element("div", { class: "items" }, element("p", { class: "quiet" }, say("lots.items.hint")), rows);
+}
+
+/** Beside each estimate: what its line has free, and what is left when the notice is published. */
+export function drawMoney(editor) {
+  const wanted = wantedOf(editor.draft);
+  for (const [at, place] of editor.money) {
+    const { line } = editor.draft.lots[at];
+    const held = editor.lines.get(line);
+    const left = held ? held.free - wanted.get(line) : 0;
+    place.className = held && left < 0 ? "wrong" : "quiet";
+    place.textContent = !held ? (line === "" ? say("lots.noline") : say("lots.unknown", { line }))
+      : say(left < 0 ? "lots.short" : "lots.left", { line, free: held.free, wanted: wanted.get(line), left: number(Math.abs(left)) });
+  }
+}

@@ -1,0 +1,196 @@
+// A notice before it is published: its body as it is sent, what the office would refuse of it, and what one should think of. Pure: runs in node too.
+import { isId } from "../common/csv.js";
+import { bytesOf } from "../common/digest.js";
+import { DAY, MOST, isAskable, lineFault, millisecondsOf, momentText, wholeNumber } from "./values.js";
+
+/** What the editor begins with: all values are texts, as they are typed. */
+export function newDraft() {
+  return { name: "", title: "", deadline: null, validity: "90", standstill: "10", criteria: "price", weight: "60", late: "refused", performance: "0",
+    lots: [newLot("L1")] };
+}
+
+export function newLot(id) {
+  return { id, title: "", line: "", estimate: "", security: "0", items: [{ id: "I1", title: "", quantity: "" }] };
+}
+
+/** A number of the body, or the text as it stands, of which the faults tell. */
+function numeric(text) {
+  return wholeNumber(text, 0, 10 ** 15) ?? text;
+}
+
+/** The body of the publication, its members in the order in which the office tests them. `deadline` is in milliseconds, or null. */
+export function bodyOf(draft) {
+  const byPoints = draft.criteria === "points";
+  return {
+    title: draft.title, deadline: draft.deadline === null ? "" : (momentText(draft.deadline) ?? ""), validity_days: numeric(draft.validity),
+    standstill_days: numeric(draft.standstill), criteria: draft.criteria, ...(byPoints ? { price_weight: numeric(draft.weight) } : {}),
+    late_withdrawal: draft.late, performance: numeric(draft.performance),
+    lots: draft.lots.map(({ id, title, line, estimate, security, items }) => ({ id, title, line, estimate: numeric(estimate), security: numeric(security),
+      items: items.map((item) => ({ id: item.id, title: item.title, quantity: numeric(item.quantity) })) })),
+  };
+}
+
+/** The bytes of the body, as they are sent. */
+export function bodyBytes(draft) {
+  return bytesOf(JSON.stringify(bodyOf(draft)));
+}
+
+/** What the office would refuse, in its order: each fault has the field, a code, and what it is about. `lines` are the budget lines that are there, `now` the
+ * office's time. */
+export function faultsOf(draft, lines, now) {
+  const found = [...headFaults(draft), ...draft.lots.flatMap((lot, at) => lotFaults(draft, lot, `lots.${at}`))];
+  if (draft.lots.length === 0) {
+    found.push({ field: "lots", code: "lots.none" });
+  }
+  if (bodyBytes(draft).length > MOST.body) {
+    found.push({ field: "lots", code: "size", value: bodyBytes(draft).length });
+  }
+  found.push(...lineFaults(draft, lines));
+  if (draft.deadline !== null && draft.deadline <= now) {
+    found.push({ field: "deadline", code: "deadline.passed" });
+  }
+  found.push(...moneyFaults(draft, lines), ...limitFaults(draft));
+  return found;
+}
+
+/** What the office would answer to the body: `{ name, what }`, or null where it takes it. */
+export function refusalOf(draft, lines, now, isUsed) {
+  const faults = faultsOf(draft, lines, now);
+  if (faults.some(({ code }) => code === "size")) {
+    return { name: "TooLong" };
+  }
+  const of = (code) => faults.find((fault) => fault.code === code);
+  const wrong = faults.find(({ code }) => !["size", "line.unknown", "deadline.passed", "money", "lots.many", "items.many"].includes(code) && code !== "name");
+  if (wrong) {
+    return { name: "BadBody", what: WHAT[wrong.field] ?? "lots" };
+  }
+  if (of("line.unknown")) {
+    return { name: "NoSuch", what: "line" };
+  }
+  const name = isUsed ? "Exists" : of("deadline.passed") ? "DeadlinePassed" : of("money") ? "InsufficientFunds" : of("lots.many") || of("items.many")
+    ? "LimitReached" : null;
+  return name ? { name } : null;
+}
+
+const WHAT = { title: "title", deadline: "deadline", validity: "validity_days", standstill: "standstill_days", criteria: "criteria", weight: "price_weight",
+  performance: "performance" };
+
+function headFaults(draft) {
+  const range = (field, least, most) => (wholeNumber(draft[field], least, most) === null ? [{ field, code: "number", least, most, value: draft[field] }] : []);
+  return [
+    ...(isAskable(draft.name) ? [] : [{ field: "name", code: "name", value: draft.name }]),
+    ...textFaults("title", draft.title),
+    ...(draft.deadline === null || momentText(draft.deadline) === null ? [{ field: "deadline", code: "deadline" }] : []),
+    ...range("validity", 1, MOST.validity), ...range("standstill", 0, MOST.standstill),
+    ...(draft.criteria === "points" ? range("weight", 1, 100) : []), ...range("performance", 0, MOST.amount),
+  ];
+}
+
+function textFaults(field, text) {
+  const code = lineFault(text);
+  return code ? [{ field, code: `text.${code}`, value: bytesOf(text).length }] : [];
+}
+
+function lotFaults(draft, lot, at) {
+  const range = (field, text, least, most) => (wholeNumber(text, least, most) === null ? [{ field, code: "number", least, most, value: text }] : []);
+  const ids = draft.lots.map(({ id }) => id);
+  return [
+    ...idFaults(`${at}.id`, lot.id, ids), ...textFaults(`${at}.title`, lot.title),
+    ...(isId(lot.line) ? [] : [{ field: `${at}.line`, code: "id", value: lot.line }]),
+    ...range(`${at}.estimate`, lot.estimate, 1, MOST.amount), ...range(`${at}.security`, lot.security, 0, MOST.amount),
+    ...(lot.items.length === 0 ? [{ field: `${at}.items`, code: "items.none" }] : []),
+    ...lot.items.flatMap((item, each) => [
+      ...idFaults(`${at}.items.${each}.id`, item.id, lot.items.map(({ id }) => id)), ...textFaults(`${at}.items.${each}.title`, item.title),
+      ...range(`${at}.items.${each}.quantity`, item.quantity, 1, MOST.quantity)]),
+  ];
+}
+
+function idFaults(field, id, all) {
+  const again = all.filter((one) => one === id).length > 1;
+  return isId(id) ? (again ? [{ field, code: "again", value: id }] : []) : [{ field, code: "id", value: id }];
+}
+
+function lineFaults(draft, lines) {
+  return draft.lots.flatMap(({ line }, at) => (isId(line) && !lines.has(line) ? [{ field: `lots.${at}.line`, code: "line.unknown", value: line }] : []));
+}
+
+/** What the lots of each line want of it together. */
+export function wantedOf(draft) {
+  const wanted = new Map();
+  for (const { line, estimate } of draft.lots) {
+    wanted.set(line, (wanted.get(line) ?? 0) + (wholeNumber(estimate, 1, MOST.amount) ?? 0));
+  }
+  return wanted;
+}
+
+function moneyFaults(draft, lines) {
+  return [...wantedOf(draft)].flatMap(([line, amount]) => (lines.has(line) && amount > lines.get(line).free
+    ? [{ field: `lots.${draft.lots.findIndex((lot) => lot.line === line)}.estimate`, code: "money", value: line, amount, free: lines.get(line).free }] : []));
+}
+
+function limitFaults(draft) {
+  const many = draft.lots.findIndex(({ items }) => items.length > MOST.items);
+  return [
+    ...(draft.lots.length > MOST.lots ? [{ field: "lots", code: "lots.many", value: draft.lots.length }] : []),
+    ...(many >= 0 ? [{ field: `lots.${many}.items`, code: "items.many", value: draft.lots[many].items.length }] : [])];
+}
+
+/** What is allowed, and seldom meant: codes with what each is about. */
+export function warningsOf(draft, now) {
+  const validity = wholeNumber(draft.validity, 1, MOST.validity);
+  const standstill = wholeNumber(draft.standstill, 0, MOST.standstill);
+  return [...timeWarnings(draft, now), ...termWarnings(draft, validity, standstill), ...itemWarnings(draft)];
+}
+
+const NEAR_DAYS = 15;
+const EXAMINATION_DAYS = 14;
+
+function timeWarnings({ deadline }, now) {
+  if (deadline === null || deadline <= now) {
+    return [];
+  }
+  const days = Math.floor((deadline - now) / DAY);
+  const local = new Date(deadline);
+  const isAtWork = ![0, 6].includes(local.getDay()) && local.getHours() >= 8 && local.getHours() < 18;
+  return [...(days < NEAR_DAYS ? [{ code: "near", value: days, least: NEAR_DAYS }] : []), ...(isAtWork ? [] : [{ code: "hour" }])];
+}
+
+function termWarnings(draft, validity, standstill) {
+  const found = [];
+  if (standstill === 0) {
+    found.push({ code: "standstill.none" });
+  }
+  if (validity !== null && standstill !== null && validity <= standstill) {
+    found.push({ code: "validity.never", value: validity, amount: standstill });
+  } else if (validity !== null && standstill !== null && validity < 2 * standstill + EXAMINATION_DAYS) {
+    found.push({ code: "validity", value: validity, amount: standstill, least: 2 * standstill + EXAMINATION_DAYS });
+  }
+  if (draft.criteria === "points" && draft.weight === "100") {
+    found.push({ code: "weight" });
+  }
+  const performance = wholeNumber(draft.performance, 1, MOST.amount);
+  const least = Math.min(...draft.lots.map(({ estimate }) => wholeNumber(estimate, 1, MOST.amount) ?? Infinity));
+  if (performance !== null && performance * 5 > least) {
+    found.push({ code: "performance", value: performance, least });
+  }
+  return found;
+}
+
+function itemWarnings(draft) {
+  const items = draft.lots.flatMap(({ items: own }) => own);
+  const odd = items.find(({ id }) => isId(id) && !/^[A-Za-z]/.test(id));
+  const dear = draft.lots.find(({ estimate, security }) => wholeNumber(security, 1, MOST.amount) * 20 > (wholeNumber(estimate, 1, MOST.amount) ?? Infinity));
+  const size = bodyBytes(draft).length;
+  return [...(odd ? [{ code: "item.id", value: odd.id }] : []), ...(dear ? [{ code: "security", value: dear.id }] : []),
+    ...(size > MOST.body * 0.9 && size <= MOST.body ? [{ code: "size", value: size }] : [])];
+}
+
+/** The draft of a body that was published before, to begin a new notice with. */
+export function draftOf(body) {
+  const text = (value, none) => String(value ?? none);
+  return { name: "", title: body.title, deadline: millisecondsOf(body.deadline), validity: text(body.validity_days, "90"),
+    standstill: text(body.standstill_days, "10"), criteria: body.criteria, weight: text(body.price_weight, "60"), late: body.late_withdrawal ?? "refused",
+    performance: text(body.performance, "0"),
+    lots: body.lots.map((lot) => ({ ...lot, estimate: text(lot.estimate, ""), security: text(lot.security, "0"),
+      items: lot.items.map((item) => ({ ...item, quantity: text(item.quantity, "") })) })) };
+}

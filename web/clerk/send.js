@@ -1,0 +1,188 @@
+// A command of the clerk: shown as it is sent, asked for once more, sent once, and kept in the journal with what came back. Where no answer comes, what became
+// of it is asked by looks.
+import { element } from "../draw.js";
+import { bytesOf, inGroups, sha256 } from "../common/digest.js";
+import { Refused, command, officeNow, sentenceOf } from "../common/office.js";
+import { hasText, say } from "../common/texts.js";
+import { button, field, note, tick } from "./forms.js";
+import { addEntry } from "./journal.js";
+import { caller, journal, who } from "./session.js";
+import { momentText, textOf } from "./values.js";
+
+const LONGEST_SHOWN = 6000;
+
+/** An order: `kind` names its texts, `values` stand in them; `says` is what it will do; `path` and `body` (bytes, or null) are sent. One that `isFinal` can't
+ * be undone and is confirmed by a tick, one with a `word` by typing it. `find` looks whether it was done where no answer came (true, false, or null where no
+ * look tells), and `again` is the refusal that tells it when the same is sent once more, or null where that would do it twice. Gives the office's answer once
+ * it is done, else null. */
+export function send(order) {
+  return new Promise((finish) => {
+    const dialog = element("dialog", { class: "order", "aria-labelledby": "order-title" });
+    // `isOpen`: what was sent last got no answer.
+    const state = { order, dialog, isBusy: false, isOpen: false, entry: null, value: null };
+    dialog.addEventListener("cancel", (event) => state.isBusy && event.preventDefault());
+    dialog.addEventListener("close", () => {
+      dialog.remove();
+      finish(state.value);
+    });
+    document.body.append(dialog);
+    if (caller() === null) {
+      draw(state, note("bad", say("order.nokey"), say("order.nokey.do")), [closing(state)]);
+    } else {
+      drawAsked(state);
+    }
+    dialog.showModal();
+  });
+}
+
+/** The same, and what is to be done behind it. */
+export async function sendThen(order, behind) {
+  if (await send(order)) {
+    behind();
+  }
+}
+
+function draw(state, content, steps) {
+  const { kind, values = {} } = state.order;
+  const status = element("div", { role: "status" }, content);
+  state.dialog.replaceChildren(element("h2", { id: "order-title", tabindex: "-1" }, say(`order.${kind}.title`, values)), status,
+    element("div", { class: "steps" }, steps));
+}
+
+function closing(state, text = say("order.close")) {
+  return button(text, () => state.dialog.close(), "second");
+}
+
+/** What is to be sent, and the button that sends it. */
+async function drawAsked(state) {
+  const { order } = state;
+  const bytes = order.body ?? new Uint8Array();
+  const digest = await sha256(bytes);
+  const sure = confirmation(order);
+  const sending = button(say(`order.${order.kind}.send`), () => transmit(state), order.isFinal || order.word ? "harm" : "");
+  sending.disabled = sure !== null;
+  sure?.input.addEventListener("input", () => { sending.disabled = !sure.isGiven(); });
+  const says = element("ul", {}, order.says.map((part) => element("li", {}, part)));
+  draw(state, [says, requestShown(order, bytes, digest), sure?.element ?? ""], [sending, closing(state, say("order.back"))]);
+  (sure?.input ?? sending).focus();
+}
+
+/** By what one says once more that it is meant: a tick, or a word; null where it can be undone. */
+function confirmation(order) {
+  if (order.word) {
+    const typed = field({ label: say("order.word", { word: order.word }), more: { autocapitalize: "none", spellcheck: "false" } });
+    return { element: typed.element, input: typed.input, isGiven: () => typed.value().trim() === order.word };
+  }
+  if (order.isFinal) {
+    const ticked = tick(say("order.final"));
+    return { ...ticked, isGiven: () => ticked.input.checked };
+  }
+  return null;
+}
+
+/** The request as it is sent, but for the key. */
+function requestShown(order, bytes, digest) {
+  const text = textOf(bytes) ?? say("order.notext");
+  const head = `POST ${order.path}\nOffice-Caller: clerk\nOffice-Key: ••••••\nContent-Length: ${bytes.length}`;
+  const body = text.length > LONGEST_SHOWN ? `${text.slice(0, LONGEST_SHOWN)}\n${say("order.more", { count: text.length - LONGEST_SHOWN })}` : text;
+  const whole = bytes.length > 0 ? `${head}\n\n${body}` : head;
+  return element("details", { open: "" }, element("summary", {}, say("order.request")), element("pre", { tabindex: "0" }, whole),
+    element("p", { class: "quiet" }, say("order.digest"), " ", element("span", { class: "code" }, inGroups(digest))));
+}
+
+/** Sends the command, and keeps what came back. */
+async function transmit(state) {
+  const { order } = state;
+  state.isBusy = true;
+  draw(state, element("p", {}, say("order.sending")), []);
+  const outcome = await outcomeOf(order);
+  state.isBusy = false;
+  await keep(state, outcome);
+  if (outcome.value) {
+    drawDone(state, outcome);
+  } else if (outcome.fault instanceof Refused && outcome.fault.isOpen) {
+    await drawOpen(state, outcome.fault);
+  } else {
+    drawRefused(state, outcome.fault);
+  }
+}
+
+/** The office's answer, and its value, or the fault in its place. */
+async function outcomeOf({ path, body }) {
+  try {
+    const { text, value } = await command(path, caller(), body ?? undefined);
+    return { answer: { status: 200, text }, value };
+  } catch (fault) {
+    return { fault, answer: fault instanceof Refused && fault.text ? { status: fault.status, text: fault.text } : null };
+  }
+}
+
+/** The entry of a command. One that is sent again has an entry of its own, and where it is refused since it was done, both are done. */
+async function keep(state, { answer, fault }) {
+  const { path, body, kind, values = {}, again } = state.order;
+  const isDone = state.isOpen && fault instanceof Refused && fault.name === again;
+  if (state.isOpen && (isDone || answer?.status === 200)) {
+    state.entry.found = isDone ? "done" : "not done";
+  }
+  state.isOpen = fault instanceof Refused && fault.isOpen;
+  state.entry = await addEntry(journal(), { moment: momentText(officeNow()), who: who(), title: say(`order.${kind}.title`, values), method: "POST", path, body,
+    answer, found: isDone ? "done" : null });
+}
+
+function receipt(state, text) {
+  return [text ? element("pre", {}, text) : "", element("p", { class: "quiet" }, say("order.kept", { number: String(state.entry.number) }))];
+}
+
+function drawDone(state, { value, answer }) {
+  state.value = value;
+  const { kind, values = {} } = state.order;
+  draw(state, note("good", say(`order.${kind}.done`, { ...values, ...flat(value), count: value.opened ?? 0 }), receipt(state, answer.text)), [closing(state)]);
+  focusFirst(state);
+}
+
+/** An answer's members as values of a text. */
+function flat(value) {
+  return Object.fromEntries(Object.entries(value).map(([name, one]) => [name, one === null ? "–" : typeof one === "boolean" ? String(one) : one]));
+}
+
+function focusFirst(state) {
+  state.dialog.querySelector(".steps button")?.focus();
+}
+
+function drawRefused(state, fault) {
+  const { order } = state;
+  if (state.entry.found === "done") {
+    state.value = {};
+    draw(state, note("good", say("order.found.done"), receipt(state, fault.text)), [closing(state)]);
+  } else {
+    const advice = `order.${order.kind}.after.${fault.name}`;
+    draw(state, note("bad", say("order.refused"), order.explain?.(fault) ?? sentenceOf(fault), hasText(advice) ? say(advice) : "",
+      receipt(state, fault.text ?? "")), [button(say("order.again"), () => drawAsked(state)), closing(state)]);
+  }
+  focusFirst(state);
+}
+
+/** No answer came: what became of the command is asked. */
+async function drawOpen(state, fault) {
+  const { order, entry } = state;
+  draw(state, note("look", say("order.open"), sentenceOf(fault), say("order.asking")), []);
+  const found = await Promise.resolve(order.find?.() ?? null).catch(() => null);
+  entry.found = found === true ? "done" : found === false ? "not done" : "unknown";
+  const asks = button(say("order.askagain"), () => drawOpen(state, fault), "second");
+  if (found === true) {
+    state.value = {};
+    draw(state, note("good", say("order.found.done"), say("order.found.how"), receipt(state, "")), [closing(state)]);
+  } else if (found === false) {
+    draw(state, note("look", say("order.found.not"), say("order.found.not.do")), [button(say("order.sendagain"), () => transmit(state)), asks, closing(state)]);
+  } else {
+    const again = order.again ? say("order.found.unknown.again", { name: order.again }) : say("order.found.unknown.look");
+    draw(state, note("look", say("order.found.unknown"), again), [order.again ? button(say("order.sendagain"), () => transmit(state)) : null, asks,
+      closing(state)].filter(Boolean));
+  }
+  focusFirst(state);
+}
+
+/** A body of JSON, as it is sent. */
+export function jsonBody(value) {
+  return bytesOf(JSON.stringify(value));
+}

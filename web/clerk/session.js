@@ -1,0 +1,69 @@
+// What this tab holds while it is open, and nothing else does: the key, who sits here, the journal, and the records that were seen. Nothing of it is stored.
+import { Refused, registerText } from "../common/office.js";
+import { newJournal } from "./journal.js";
+
+const session = { caller: null, who: "", journal: newJournal(globalThis.location?.origin ?? null), records: new Map(), draft: null };
+
+export function journal() {
+  return session.journal;
+}
+
+export function replaceJournal(other) {
+  session.journal = other;
+}
+
+/** The caller of the clerk's requests, or null where no key is held. */
+export function caller() {
+  return session.caller;
+}
+
+export function who() {
+  return session.who;
+}
+
+/** Holds a key, once the office has taken it: it is asked for the register of a notice that can't be there. Throws what the office refuses. */
+export async function holdKey(key, name) {
+  const asked = { caller: "clerk", key };
+  try {
+    await registerText("-", asked);
+  } catch (fault) {
+    if (!(fault instanceof Refused) || fault.name !== "NoSuch") {
+      throw fault;
+    }
+  }
+  session.caller = asked;
+  session.who = name;
+}
+
+export function forgetKey() {
+  session.caller = null;
+}
+
+/** Keeps a record that was seen, for what is looked up over several notices. */
+export function keepRecord(notice, compiled) {
+  session.records.set(notice, compiled);
+}
+
+export function recordsSeen() {
+  return session.records;
+}
+
+/** The currency that the office publishes in, as far as a record told it. */
+export function currency() {
+  return [...session.records.values()][0]?.tender.lots[0]?.value.currency ?? "";
+}
+
+/** The draft of a notice, which stays while other screens are looked at. */
+export function draft() {
+  return session.draft;
+}
+
+export function keepDraft(other) {
+  session.draft = other;
+}
+
+addEventListener?.("beforeunload", (event) => {
+  if (session.journal.entries.length > session.journal.saved) {
+    event.preventDefault();
+  }
+});

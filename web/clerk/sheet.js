@@ -1,0 +1,142 @@
+// Tables that are pasted from a sheet, as TSV or CSV: their cells, and lots with items from them. Nothing of the page: runs in node too.
+import { digitsOf } from "./values.js";
+
+const SIGNS = ["\t", ";", ","];
+// The columns, in the order that is taken where no head names them, and the words by which a head may name each.
+export const COLUMNS = {
+  lot: ["lot", "los", "losnummer", "lot id"],
+  lotTitle: ["lot title", "title of the lot", "lostitel", "bezeichnung des loses", "titel des loses"],
+  line: ["line", "budget line", "haushaltsstelle", "budgetlinie", "linie"],
+  estimate: ["estimate", "estimated value", "schätzung", "schätzwert", "auftragswert"],
+  security: ["security", "tender security", "sicherheit", "bietsicherheit"],
+  item: ["item", "position", "pos", "pos.", "item id"],
+  title: ["title", "item title", "description", "bezeichnung", "titel", "beschreibung"],
+  quantity: ["quantity", "qty", "menge", "anzahl"],
+};
+const NAMES = Object.keys(COLUMNS);
+const NUMBERS = ["estimate", "security", "quantity"];
+
+/** The rows of a pasted text, each a list of cells, with the line where it begins; empty rows aren't there. The sign between cells is the tab where there is
+ * one, else the semicolon, else the comma; quotation marks are read as sheets write them. */
+export function rowsOf(text) {
+  const sign = SIGNS.find((it) => text.includes(it)) ?? "\t";
+  const read = { rows: [], cells: [], cell: "", isQuoted: false, line: 1, begun: 1 };
+  const content = text.replace(/^\ufeff/, "").replace(/\r\n?/g, "\n");
+  for (let at = 0; at < content.length; at += 1) {
+    at += take(read, content, at, sign);
+  }
+  endRow(read);
+  return read.rows;
+}
+
+/** Takes the character at a place, and says how many more it took. */
+function take(read, content, at, sign) {
+  const char = content[at];
+  read.line += char === "\n" ? 1 : 0;
+  if (read.isQuoted) {
+    if (char !== '"') {
+      read.cell += char;
+    } else if (content[at + 1] === '"') {
+      read.cell += '"';
+      return 1;
+    } else {
+      read.isQuoted = false;
+    }
+  } else if (char === '"' && read.cell === "") {
+    read.isQuoted = true;
+  } else if (char === sign) {
+    read.cells.push(read.cell);
+    read.cell = "";
+  } else if (char === "\n") {
+    endRow(read);
+  } else {
+    read.cell += char;
+  }
+  return 0;
+}
+
+function endRow(read) {
+  const cells = [...read.cells, read.cell].map((cell) => cell.replace(/\s+/g, " ").trim());
+  if (cells.some((cell) => cell !== "")) {
+    read.rows.push({ line: read.begun, cells });
+  }
+  Object.assign(read, { cells: [], cell: "", begun: read.line });
+}
+
+/** Which column has which name, by the words of a head; null where the row is no head. */
+function headOf(cells) {
+  const named = cells.map((cell) => NAMES.find((name) => COLUMNS[name].includes(cell.toLowerCase())) ?? null);
+  return named.filter(Boolean).length >= 2 ? named : null;
+}
+
+/** Lots with their items, from a table with a row for each item: `lots` as the editor has them, in texts; `faults` and `changes`, each with a line, a code and
+ * what it is about. A lot's own columns may stand in its first row alone. Without a head the columns are those of COLUMNS, in order. */
+export function lotsOf(text) {
+  const rows = rowsOf(text);
+  const head = rows.length > 0 ? headOf(rows[0].cells) : null;
+  const names = head ?? NAMES;
+  const found = { lots: [], faults: [], changes: [], lot: null };
+  if (rows.length === 0) {
+    found.faults.push({ line: 1, code: "nothing" });
+  }
+  const missing = NAMES.filter((name) => !names.includes(name) && ["lot", "item", "title", "quantity"].includes(name));
+  if (head && missing.length > 0) {
+    found.faults.push({ line: 1, code: "column", name: missing[0] });
+    return { lots: [], faults: found.faults, changes: [] };
+  }
+  for (const row of head ? rows.slice(1) : rows) {
+    takeRow(found, row, names);
+  }
+  return { lots: found.lots, faults: found.faults, changes: found.changes };
+}
+
+function takeRow(found, { line, cells }, names) {
+  if (cells.length > names.length && cells.slice(names.length).some((cell) => cell !== "")) {
+    found.faults.push({ line, code: "cells", value: cells.length });
+  }
+  const row = Object.fromEntries(NAMES.map((name) => [name, cells[names.indexOf(name)] ?? ""]));
+  for (const name of NUMBERS) {
+    row[name] = number(found, line, name, row[name]);
+  }
+  const own = row.lot === "" ? found.lot : (found.lots.find(({ id }) => id === row.lot) ?? begun(found, row));
+  found.lot = own;
+  if (!own) {
+    found.faults.push({ line, code: "lot" });
+    return;
+  }
+  disagree(found, line, own, row);
+  if (row.item !== "" || row.title !== "" || row.quantity !== "") {
+    own.items.push({ id: row.item, title: row.title, quantity: row.quantity });
+  }
+}
+
+function begun(found, row) {
+  const lot = { id: row.lot, title: row.lotTitle, line: row.line, estimate: row.estimate, security: row.security, items: [] };
+  found.lots.push(lot);
+  return lot;
+}
+
+/** Where a later row says something else of its lot than the first. */
+function disagree(found, line, lot, row) {
+  for (const [name, held] of [["lotTitle", lot.title], ["line", lot.line], ["estimate", lot.estimate], ["security", lot.security]]) {
+    if (row[name] !== "" && held !== row[name]) {
+      found.faults.push({ line, code: "differs", value: lot.id, name, told: row[name] });
+    }
+  }
+}
+
+/** A number of a cell as digits; what was changed for it is told, and what can't be read stays as it is, to be mended by hand. */
+function number(found, line, name, cell) {
+  if (cell === "") {
+    return "";
+  }
+  const digits = digitsOf(cell);
+  if (digits === null) {
+    found.faults.push({ line, code: "number", value: cell, name });
+    return cell;
+  }
+  if (digits !== cell) {
+    found.changes.push({ line, name, value: cell, told: digits });
+  }
+  return digits;
+}
