@@ -1,6 +1,7 @@
 """What `tests/tender_desk` asks of the tenderer's desk, in a browser: a tender's life by the desk alone, what can't be sent, and answers that are lost."""
 import json
 import os
+import time
 from collections.abc import Callable
 from typing import Any
 
@@ -275,6 +276,8 @@ def results(scene: Scene) -> None:
     award = client.award("N3", "L1")["award"]
     client.sign(award, "P1", 70)
     client.pay(award, "E1", 200)
+    # (For so long the front keeps what is public.)
+    time.sleep(1.1)
     desk = Desk(scene, "T2")
     desk.at("tender/2", "Tender with receipt 2")
     for text in ("It was read with a price of 570 EUR.", "It stated 550 EUR; 1 figure was corrected.", "Award 1 to you for 570 EUR", "370 EUR", "70 (P1): held",
