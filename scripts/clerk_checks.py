@@ -142,6 +142,7 @@ def award_part(desk: Desk) -> None:
         desk.press("Responsive \u2026", place=f"Examination of {name}, receipt {receipt}")
         desk.confirm("That is what was found", f"The tender of {name} is examined.")
     desk.says("Lot L1 goes to Beta Ltd for 540 EUR.")
+    examined_elsewhere(desk.scene)
     desk.press("Award \u2026", place="Lot L1")
     desk.confirm("Award it", "Lot L1 is decided. Price: 540; receipt: 2.")
     desk.press("Award \u2026", place="Lot L2")
@@ -165,6 +166,25 @@ def award_part(desk: Desk) -> None:
     desk.field("Its amount", "70")
     desk.press("Sign \u2026")
     desk.confirm("Sign", "Contract 2 is signed.")
+
+
+def examined_elsewhere(scene: Scene) -> None:
+    """Another tab, which doesn't know of the examinations, is told so by the office, and may ask for the award anyway."""
+    other = Desk(scene)
+    other.give_key()
+    other.settle("today")
+    other.go("notice/N1")
+    other.press("Responsive \u2026", place="Examination of Alpha & S\u00f6hne, receipt 1")
+    other.page.wait("document.querySelector('dialog[open] .steps button')")
+    other.page.run("hands.sure()")
+    other.press("That is what was found")
+    other.says("It was examined elsewhere, or withdrawn late, and that stays.")
+    other.press("Close")
+    other.says("1 tender waits for its examination first.")
+    check("what the office said of the other stands there", "examined elsewhere, or withdrawn late" in other.told())
+    other.press("Were they examined elsewhere?")
+    other.page.wait("hands.button('Ask the office \u2026') && !hands.button('Ask the office \u2026').disabled")
+    other.leave()
 
 
 def contract_part(desk: Desk) -> None:
