@@ -48,7 +48,7 @@ export default {
   "key.sheet": "Eintragung eines Bieters",
   "key.sheet.why": "Für die Vergabestelle: Bitte tragen Sie diesen Bieter unter dieser Kennung ein. Der Schlüssel selbst ist das Geheimnis des "
     + "Bieters und steht nicht auf diesem Blatt.",
-  "key.sheet.digest": "SHA-256 des Schlüssels, 64 hexadezimale Ziffern (Leerzeichen nur zum Lesen):",
+  "key.sheet.digest": "SHA-256 des Schlüssels, 64 hexadezimale Ziffern (Leerzeichen nur zum Lesen):", "key.another": "Einen anderen Schlüssel machen",
   "key.sheet.save": "Als Datei für die Vergabestelle speichern", "key.sheet.sign.tenderer": "Datum, Unterschrift für den Bieter",
   "key.sheet.sign.clerk": "Eingetragen am, Unterschrift der Vergabestelle",
 

@@ -36,7 +36,7 @@ export default {
   "key.dropMade.why": "Only then it is sure that it was saved. This page keeps no copy of the key.", "key.sheet": "Registration of a tenderer",
   "key.sheet.why": "For the clerk of the procurement office: please register this tenderer under this identifier. The key itself is the "
     + "tenderer's secret and isn't on this sheet.",
-  "key.sheet.digest": "SHA-256 of the key, 64 hexadecimal digits (blanks are for reading alone):",
+  "key.sheet.digest": "SHA-256 of the key, 64 hexadecimal digits (blanks are for reading alone):", "key.another": "Make another key",
   "key.sheet.save": "Save it as a file for the clerk", "key.sheet.sign.tenderer": "Date, signature for the tenderer",
   "key.sheet.sign.clerk": "Registered on, signature of the clerk",
 

@@ -91,11 +91,15 @@ function ofMaking(context) {
 }
 
 /** The sheet for the clerk: who is to be registered, and the key's SHA-256. */
-function sheet() {
+function sheet(context) {
   const { tenderer, name, address, digest } = session.registration;
   const file = `${JSON.stringify({ tenderer, name, address, key: digest })}\n`;
   const keep = button(say("key.sheet.save"), () => save(`registration-${tenderer}.json`, file, "application/json"), "second");
-  return [element("div", { class: "steps" }, printButton(), keep),
+  const other = button(say("key.another"), () => {
+    session.registration = { tenderer: "", name: "", address: "", digest: "" };
+    context.redraw("");
+  }, "second");
+  return [element("div", { class: "steps" }, printButton(), keep, other),
     element("section", { class: "sheet", "aria-labelledby": "sheet-head" }, element("h2", { id: "sheet-head" }, say("key.sheet")),
       element("p", {}, say("key.sheet.why")),
       facts([[say("key.tenderer"), given(tenderer)], [say("key.name"), given(name)], [say("key.address"), given(address)]]),
@@ -112,7 +116,7 @@ export function drawKey(context) {
     isMade && !registration.isSaved ? told("look", say("key.dropMade", { file: `${registration.tenderer}.key` }),
       element("p", {}, say("key.dropMade.why"))) : null,
     element("section", { "aria-labelledby": "key-use" }, element("h2", { id: "key-use" }, say("key.use")), ofKey(context)),
-    ...(isMade ? sheet() : []),
-    session.caller ? null : element("section", { "aria-labelledby": "key-new" }, element("h2", { id: "key-new" }, say("key.new")), ofMaking(context)),
+    ...(isMade ? sheet(context) : []),
+    session.caller || isMade ? null : element("section", { "aria-labelledby": "key-new" }, element("h2", { id: "key-new" }, say("key.new")), ofMaking(context)),
   ].filter(Boolean) };
 }
