@@ -20,7 +20,7 @@ from page_office import key_of
 from scene import Scene
 
 # Seconds from the publication to the deadline: for all that comes between, by the screens.
-SOON = int(os.environ.get("AHEAD", "4")) + 14
+SOON = int(os.environ.get("AHEAD", "4")) + 26
 TABLE = "Lot\tTitle of the lot\tBudget line\tEstimate\tTender security\tItem\tTitle\tQuantity\nL1\tNorth\t1000\t1.600,00\t50\tI1\tPaving, square metres\t3\n" \
     "\t\t\t\t\tI2\tKerbs, 10 m\t10\nL2\tSouth\t1000\t300\t0\tI1\tSigns\t1\n"
 BUDGET = "line,kind,amount,title\n1000,add,5000,Roads\n2000,add,50,Parks\n"
