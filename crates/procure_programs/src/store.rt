@@ -101,8 +101,8 @@ fn serve_open<S: Start>(
 ) -> Result<(SqlShelf<FileStore<FileFrom<S>>>, Result<(), ProgramFault>), ProgramFault>
     ensures { IfOk result (λ left. ServesOpened (image_at S.Start) settings count left.0) }
 {
-    let Opened { shelf, origin: _ } = open_office(rt, path, start)?;
-    serve_shelf(rt, settings, shelf, port, count)
+    let opened = open_office(rt, path, start)?;
+    serve_shelf(rt, settings, opened.shelf, port, count)
 }
 
 /// What a stop leaves of `serve_from`, be it between two connections or, where the disk takes nothing from some call on, at any write of a
@@ -160,9 +160,9 @@ pub fn print_from<S: Start>(
 ) -> Result<(Files<FileFrom<S>>, Result<(), ProgramFault>), ProgramFault>
     ensures keeps { IfOk result (λ left. ServesFiles ⟦<FileFrom<S> as Disk>⟧ (image_at S.Start) settings 0 left.0) }
 {
-    let Opened { shelf, origin } = open_office(rt, path, start)?;
-    tell_origin(rt, path, origin);
-    let (shelf, printed) = print_shelf(rt, settings, shelf, query);
+    let opened = open_office(rt, path, start)?;
+    tell_origin(rt, path, opened.origin);
+    let (shelf, printed) = print_shelf(rt, settings, opened.shelf, query);
     close_office(shelf, printed)
 }
 

@@ -8,36 +8,36 @@ use std::alloc::Global;
 
 // What came of a row that was put into a new office's tables.
 #[derive(Drop)]
-enum Told {
+enum Outcome {
     // Its table refuses it.
     Untaken,
     // Its table takes it, and this is what the office says once it is asked.
     Said(Result<bool, ShelfFault>),
 }
 
-fn told(alloc: Global, question: Question, row: &str) -> Option<Told> {
+fn told(alloc: Global, question: Question, row: &str) -> Option<Outcome> {
     let disks = opened(alloc, Disks::blank(alloc)).ok()?.close()?;
     let mut database = Database::open(alloc, disks)?;
     if !database.changes(row) {
-        return Some(Told::Untaken);
+        return Some(Outcome::Untaken);
     }
     let mut office = opened(alloc, database.close()?).ok()?;
-    Some(Told::Said(office.asks(question)?))
+    Some(Outcome::Said(office.asks(question)?))
 }
 
 // At a second try where the first isn't right: one allocation of a test may be refused.
 fn is_read(alloc: Global, question: Question, row: &str) -> bool {
-    let is_right = |told| matches!(told, Some(Told::Said(Ok(true))));
+    let is_right = |told| matches!(told, Some(Outcome::Said(Ok(true))));
     is_right(told(alloc, question, row)) || is_right(told(alloc, question, row))
 }
 
 fn is_fault(alloc: Global, question: Question, row: &str) -> bool {
-    let is_store = |told| matches!(told, Some(Told::Said(Err(ShelfFault::Store))));
+    let is_store = |told| matches!(told, Some(Outcome::Said(Err(ShelfFault::Store))));
     is_store(told(alloc, question, row)) || is_store(told(alloc, question, row))
 }
 
 fn is_untaken(alloc: Global, row: &str) -> bool {
-    matches!(told(alloc, Question::Line, row), Some(Told::Untaken))
+    matches!(told(alloc, Question::Line, row), Some(Outcome::Untaken))
 }
 
 // Whether the first of the rows is read, each of the next is a fault of the store, and the others are refused by their table.
