@@ -40,9 +40,10 @@ fn is_found(alloc: Global, bytes: &[u8], wanted: &Option<Credentials<'_>>) -> bo
     }
 }
 
+// At a second try where the first isn't right: one allocation of a test may be refused.
 fn all_are_found(alloc: Global) -> bool {
     for (bytes, wanted) in REQUESTS {
-        if !is_found(alloc, bytes, wanted) {
+        if !is_found(alloc, bytes, wanted) && !is_found(alloc, bytes, wanted) {
             return false;
         }
     }

@@ -67,5 +67,6 @@ fn a_table_has_another_form(rt: HostRuntime) {
 fn an_index_of_others(rt: HostRuntime) {
     let alloc = rt.alloc();
     assert!(rt; are_refused(alloc, &["CREATE UNIQUE INDEX once ON lots (title)"]));
-    assert!(rt; is_refused(alloc, "CREATE INDEX titles ON lots (title)") == Some(false));
+    let other = "CREATE INDEX titles ON lots (title)";
+    assert!(rt; is_refused(alloc, other) == Some(false) || is_refused(alloc, other) == Some(false));
 }

@@ -108,7 +108,7 @@ fn budgets_are_read(rt: HostRuntime) {
 }
 
 #[test]
-fn notices_are_read(rt: HostRuntime) {
+fn tenderers_and_notices_are_read(rt: HostRuntime) {
     let alloc = rt.alloc();
     // A line feed in a name; a key of 31 bytes, and one that is a text.
     assert!(rt;
@@ -143,6 +143,11 @@ fn notices_are_read(rt: HostRuntime) {
             ]
         )
     );
+}
+
+#[test]
+fn lots_are_read(rt: HostRuntime) {
+    let alloc = rt.alloc();
     // A name that is none, and texts that are no items: a line feed is missing, a quantity begins with 0, two have one name; a word that is no state, and no estimate.
     assert!(rt;
         are_refused(
@@ -197,6 +202,11 @@ fn tenders_are_read(rt: HostRuntime) {
             ]
         )
     );
+}
+
+#[test]
+fn seals_and_securities_are_read(rt: HostRuntime) {
+    let alloc = rt.alloc();
     // No bytes, and a text.
     assert!(rt;
         are_refused(
@@ -226,7 +236,7 @@ fn tenders_are_read(rt: HostRuntime) {
 }
 
 #[test]
-fn contracts_are_read(rt: HostRuntime) {
+fn awards_and_contracts_are_read(rt: HostRuntime) {
     let alloc = rt.alloc();
     // A name that is none; a word that is no state, and no receipt.
     assert!(rt;
@@ -255,6 +265,11 @@ fn contracts_are_read(rt: HostRuntime) {
             ]
         )
     );
+}
+
+#[test]
+fn performances_and_entries_are_read(rt: HostRuntime) {
+    let alloc = rt.alloc();
     // A name that is none; a word that is no state, and nothing.
     assert!(rt;
         are_refused(
@@ -282,6 +297,11 @@ fn contracts_are_read(rt: HostRuntime) {
             ]
         )
     );
+}
+
+#[test]
+fn releases_and_merges_are_read(rt: HostRuntime) {
+    let alloc = rt.alloc();
     // A blob for a text, and no moment.
     assert!(rt;
         are_refused(

@@ -54,16 +54,13 @@ where
     Ok(counts == [0, 1, 0] && found == [true, false])
 }
 
-// The table takes the row, at the second try where the first finds no memory.
+// Whether the row is there, and a new table takes it.
 fn takes<R: Row + Drop>(alloc: Global, row: Option<R>) -> bool
 where
     R::Key: Known,
 {
     match &row {
-        Some(row) => match is_taken(alloc, row) {
-            Ok(taken) => taken,
-            Err(_) => matches!(is_taken(alloc, row), Ok(true)),
-        },
+        Some(row) => is_taken(alloc, row).unwrap_or(false),
         None => false,
     }
 }
@@ -75,34 +72,48 @@ fn standing() -> Option<Standing> {
     })
 }
 
+fn takes_rows_of_the_budget(alloc: Global) -> bool {
+    takes(alloc, rows::line(alloc, "1000", "Roads", (7, 5)))
+        && takes(alloc, rows::batch("B1", 5, 2))
+        && takes(alloc, standing())
+}
+
+fn takes_rows_of_notices(alloc: Global) -> bool {
+    takes(alloc, rows::tenderer(alloc, "T1", 7))
+        && takes(alloc, rows::notice(alloc, "N1", 1))
+        && takes(alloc, rows::lot(alloc, ("N1", "L1"), "1000", 600))
+        && takes(alloc, rows::release(alloc, "N1", 1, "{}"))
+        && takes(alloc, rows::compiled(alloc, "N1", "{}"))
+        && takes(alloc, rows::late("N1"))
+        && takes(alloc, rows::performance(1, 70))
+}
+
+fn takes_rows_of_tenders(alloc: Global) -> bool {
+    let reading = Some(Reading::Nonconforming);
+    takes(alloc, rows::envelope(1, "N1", reading))
+        && takes(alloc, rows::seal(alloc, 1, 65))
+        && takes(alloc, rows::security(1, "N1", 50))
+        && takes(alloc, rows::award(1, "N1", 1, 90))
+        && takes(alloc, rows::contract(1, ("N1", "L1"), 90))
+        && takes(alloc, rows::entry(1, "E1", EntryKind::Raise, 10))
+}
+
+// At a second try where the first isn't right, each: one allocation of a test may be refused.
+
 #[test]
 fn tables_take_rows_of_the_budget(rt: HostRuntime) {
     let alloc = rt.alloc();
-    assert!(rt; takes(alloc, rows::line(alloc, "1000", "Roads", (7, 5))));
-    assert!(rt; takes(alloc, rows::batch("B1", 5, 2)));
-    assert!(rt; takes(alloc, standing()));
+    assert!(rt; takes_rows_of_the_budget(alloc) || takes_rows_of_the_budget(alloc));
 }
 
 #[test]
 fn tables_take_rows_of_notices(rt: HostRuntime) {
     let alloc = rt.alloc();
-    assert!(rt; takes(alloc, rows::tenderer(alloc, "T1", 7)));
-    assert!(rt; takes(alloc, rows::notice(alloc, "N1", 1)));
-    assert!(rt; takes(alloc, rows::lot(alloc, ("N1", "L1"), "1000", 600)));
-    assert!(rt; takes(alloc, rows::release(alloc, "N1", 1, "{}")));
-    assert!(rt; takes(alloc, rows::compiled(alloc, "N1", "{}")));
-    assert!(rt; takes(alloc, rows::late("N1")));
-    assert!(rt; takes(alloc, rows::performance(1, 70)));
+    assert!(rt; takes_rows_of_notices(alloc) || takes_rows_of_notices(alloc));
 }
 
 #[test]
 fn tables_take_rows_of_tenders(rt: HostRuntime) {
     let alloc = rt.alloc();
-    let reading = Some(Reading::Nonconforming);
-    assert!(rt; takes(alloc, rows::envelope(1, "N1", reading)));
-    assert!(rt; takes(alloc, rows::seal(alloc, 1, 65)));
-    assert!(rt; takes(alloc, rows::security(1, "N1", 50)));
-    assert!(rt; takes(alloc, rows::award(1, "N1", 1, 90)));
-    assert!(rt; takes(alloc, rows::contract(1, ("N1", "L1"), 90)));
-    assert!(rt; takes(alloc, rows::entry(1, "E1", EntryKind::Raise, 10)));
+    assert!(rt; takes_rows_of_tenders(alloc) || takes_rows_of_tenders(alloc));
 }
