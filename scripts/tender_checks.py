@@ -276,8 +276,8 @@ def results(scene: Scene) -> None:
     award = client.award("N3", "L1")["award"]
     client.sign(award, "P1", 70)
     client.pay(award, "E1", 200)
-    # (For so long the front keeps what is public.)
-    time.sleep(1.1)
+    # (The front keeps what is public for a second, and counts whole seconds: an answer of the last moment of one is kept to the end of the next.)
+    time.sleep(2.1)
     desk = Desk(scene, "T2")
     desk.at("tender/2", "Tender with receipt 2")
     for text in ("It was read with a price of 570 EUR.", "It stated 550 EUR; 1 figure was corrected.", "Award 1 to you for 570 EUR", "370 EUR", "70 (P1): held",
