@@ -1,14 +1,23 @@
 -- Each accepted command keeps the accounts, and so does every list of them.
-use Rattle.std.proofs.Common.{◌≡◌, List, [], Some, None, refl}
+use Rattle.std.proofs.Common.{◌≡◌, ℕ, List, [], ◌∷◌, Some, None, refl}
+use Rattle.std.specs.Prelude.{max}
+use Rattle.office_acts.specs.declared.command.Caller.{Caller}
+use Rattle.office_acts.specs.declared.commands.Command.{Command}
 use Rattle.office_base.specs.Rows.{row_at}
-use Rattle.office_base.specs.Tables.{Tables, no_tables}
-use Rattle.office_machine.specs.Machine.{Means, Given, Reaches, with_trees}
+use Rattle.office_base.specs.Rules.{first_of}
+use Rattle.office_base.specs.Tables.{Tables, IsSorted, no_tables, after_puts}
+use Rattle.office_machine.specs.Machine.{Means, Given, Reaches, IsCommand, tests_for, puts_for, with_trees}
+use Rattle.office_machine.specs.Parents.{HaveParents}
+use Rattle.office_machine.specs.Readings.{Readings}
 use Rattle.office_base.specs.declared.records.CompiledRow.{CompiledRow}
 use Rattle.office_machine.specs.Accounts.{AreBalanced}
 use Rattle.office_machine.proofs.Aside.{kept_published}
 use Rattle.office_machine.proofs.Balance.{balanced}
 use Rattle.office_machine.proofs.Kept.{IsKept}
 use Rattle.office_machine.proofs.AllLawful.{lawful}
+use Rattle.office_machine.proofs.Idle.{idle_keeps}
+use Rattle.office_machine.proofs.Lawful.{given, KeepsBooks, Idle, Moving}
+use Rattle.office_machine.proofs.ParentsThere.{parents_there}
 use Rattle.office_machine.proofs.Runs.{along}
 use Rattle.office_machine.proofs.Passed.{allowed_by}
 use Rattle.office_machine.proofs.SortedTables.{sorted}
@@ -35,10 +44,20 @@ kept_beside trees xs s k = record {
   no_contract = λ number none. let n = k.no_contract number none in record { came_in = n.came_in; went_out = n.went_out; raised = n.raised; lessened = n.lessened; paid_out = n.paid_out };
 }
 
+-- each accepted command
+keeps : (readings : Readings) (xs : List Given) (s : Tables) (moment : ℕ) (caller : Caller) (command : Command) → IsKept xs s → IsSorted s → HaveParents s s → IsCommand command
+    → first_of (tests_for s (max moment s.clock.moment) caller command) ≡ None
+    → IsKept (given s moment caller command ∷ xs) (after_puts (puts_for readings s (max moment s.clock.moment) caller command) s)
+keeps readings xs s moment caller command kept order have own allowed = by (lawful command).accounts
+  where
+    by : KeepsBooks command (lawful command).touches → IsKept (given s moment caller command ∷ xs) (after_puts (puts_for readings s (max moment s.clock.moment) caller command) s)
+    by (Idle apart idle) = idle_keeps (given s moment caller command) (lawful command).touches apart _ ((lawful command).tail readings s moment caller have allowed) xs (idle s moment caller xs) kept
+    by (Moving moves) = moves readings xs s moment caller kept order own allowed
+
 pub all_kept : (means : Means) (xs : List Given) (s : Tables) → Reaches means xs s → IsKept xs s
 all_kept means = along means IsKept start (λ trees in_order. kept_beside trees)
     (λ xs x accepted kept. kept_published means x xs
-    ((lawful x.command).accounts means.readings xs x.before x.moment x.caller kept (sorted means xs x.before accepted.reached) accepted.given.0 (allowed_by x accepted.allowed)))
+    (keeps means.readings xs x.before x.moment x.caller x.command kept (sorted means xs x.before accepted.reached) (parents_there means xs x.before accepted.reached) accepted.given.0 (allowed_by x accepted.allowed)))
 
 pub lines_balanced : (means : Means) (xs : List Given) (s : Tables) → Reaches means xs s → AreBalanced xs s
 lines_balanced means xs s reached line = balanced xs s (all_kept means xs s reached) (sorted means xs s reached) line

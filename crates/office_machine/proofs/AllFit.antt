@@ -11,7 +11,7 @@ use Rattle.office_base.specs.declared.records.EnvelopeRow.{EnvelopeRow}
 use Rattle.office_acts.specs.declared.contract.ChangeKind.{ChangeKind}
 use Rattle.office_acts.specs.declared.contract.ChangeKind.TheVariants as change_kinds
 use Rattle.office_acts.specs.declared.commands.Command.{Command}
-use Rattle.office_acts.specs.declared.commands.Command.TheVariants.{Import, Register, Publish, AmendNotice, Cancel, Open, Present, Modify, Withdraw, Examine, Award, Fail, Sign, AmendContract, Pay, End}
+use Rattle.office_acts.specs.declared.commands.Command.TheVariants.{Import, Publish, Cancel, Award, Sign, AmendContract, Pay, End}
 use Rattle.office_base.specs.Tables.{Tables, IsSorted, lot_cmp, lot_key, contract_key, find_lot, notice_at, lot_at, contract_at, envelopes_of_lot, after_puts}
 use Rattle.award_core.specs.Rules.Award.{price_of, winner}
 use Rattle.office_base.specs.Joined.{outstanding, paid_under, is_on_line}
@@ -72,29 +72,22 @@ module _ (means : Means) (xs : List Given) (s : Tables) (moment : ℕ) (caller :
 
   fits : (command : Command) → FitsAfter command
   fits (Import batch rows) = λ allowed t after same q. omega (arith, import_fits means.readings xs s moment caller batch rows kept order allowed fit q, same q)
-  fits (Register tenderer name address key) = inside (Register tenderer name address key) (nothing_more (moves xs))
   fits (Publish notice content) = inside (Publish notice content) (λ q. record {
     came_is = omega (arith, sum_over-append_map (λ (m : Move). cond (Rattle.office_machine.specs.Moves.same_pot m.to Outside && same_id m.line q) m.amount 0) move_of_lot content.lots (moves xs), sum_over-zero content.lots);
     went_is = omega (arith, sum_over-append_map (λ (m : Move). cond (Rattle.office_machine.specs.Moves.same_pot m.from Outside && same_id m.line q) m.amount 0) move_of_lot content.lots (moves xs), sum_over-zero content.lots);
   })
-  fits (AmendNotice notice deadline rationale) = inside (AmendNotice notice deadline rationale) (nothing_more (moves xs))
   fits (Cancel notice rationale) = inside (Cancel notice rationale) (λ q.
       let ended = Rattle.std.proofs.Common.filter Rattle.tender_core.specs.Rules.Cancel.is_open_lot (Rattle.office_base.specs.Tables.lots_of_notice notice s) in
       record {
         came_is = omega (arith, sum_over-append_map (λ (m : Move). cond (Rattle.office_machine.specs.Moves.same_pot m.to Outside && same_id m.line q) m.amount 0) (move_back (held_for xs)) ended (moves xs), sum_over-zero ended);
         went_is = omega (arith, sum_over-append_map (λ (m : Move). cond (Rattle.office_machine.specs.Moves.same_pot m.from Outside && same_id m.line q) m.amount 0) (move_back (held_for xs)) ended (moves xs), sum_over-zero ended);
       })
-  fits (Open notice) = inside (Open notice) (nothing_more (moves xs))
-  fits (Present notice lot security bytes) = inside (Present notice lot security bytes) (nothing_more (moves xs))
-  fits (Modify receipt bytes) = inside (Modify receipt bytes) (nothing_more (moves xs))
-  fits (Withdraw receipt) = inside (Withdraw receipt) (nothing_more (moves xs))
-  fits (Examine receipt responsive quality) = inside (Examine receipt responsive quality) (nothing_more (moves xs))
   fits (Award notice lot) = inside (Award notice lot) (of_award (winner (notice_at notice s) (envelopes_of_lot notice lot s)) (line_in (lot_at (notice, lot) s)) (held_for xs (notice, lot)) (moves xs))
-  fits (Fail award) = inside (Fail award) (nothing_more (moves xs))
   fits (Sign award named) = inside (Sign award named) (λ q. record { came_is = omega arith; went_is = omega arith })
   fits (AmendContract contract entry kind amount rationale) = inside (AmendContract contract entry kind amount rationale) (of_change kind (line_in (lot_of_contract (contract_at contract s) s)) amount (moves xs))
   fits (Pay contract entry amount) = inside (Pay contract entry amount) (λ q. record { came_is = omega arith; went_is = omega arith })
   fits (End contract how) = inside (End contract how) (λ q. record { came_is = omega arith; went_is = omega arith })
+  fits command = inside command (nothing_more (moves xs))
 
 -- a publication changes no line
 published_line : (means : Means) (x : Given) (q : List ℕ) → appropriation q (next means x) ≡ appropriation q (after_puts (effect means.readings x) x.before)

@@ -1,6 +1,6 @@
 -- The table that a put is of, and what puts of other tables leave.
 use Rattle.std.proofs.Common.{◌≡◌, Bool, true, false, List, [], ◌∷◌, ◌++◌, map, Option, Some, None, refl, sym, ◌∙◌}
-use Rattle.std.specs.List.{AllByRecursion}
+use Rattle.std.specs.List.{AllByRecursion, list_any}
 use Rattle.office_base.specs.declared.puts.Put.{Put}
 use Rattle.office_base.specs.declared.puts.Put.TheVariants as puts
 use Rattle.office_base.specs.RuleParts.{put_if}
@@ -44,6 +44,29 @@ table_of (puts.Late r) = LateRules
 table_of (puts.Performance r) = Performances
 table_of (puts.Clock r) = Clock
 
+abbrev pub same_table : TableName → TableName → Bool
+same_table Lines Lines = true
+same_table Batches Batches = true
+same_table Tenderers Tenderers = true
+same_table Notices Notices = true
+same_table Lots Lots = true
+same_table Envelopes Envelopes = true
+same_table Seals Seals = true
+same_table Securities Securities = true
+same_table Awards Awards = true
+same_table Contracts Contracts = true
+same_table Entries Entries = true
+same_table Releases Releases = true
+same_table Merges Merges = true
+same_table LateRules LateRules = true
+same_table Performances Performances = true
+same_table Clock Clock = true
+same_table _ _ = false
+
+-- the table is one of those named
+abbrev pub is_in : List TableName → TableName → Bool
+is_in names name = list_any (same_table name) names
+
 -- each put is of one of these tables
 abbrev pub IsOn : (TableName → Bool) → Put → Type 0
 IsOn test p = test (table_of p) ≡ true
@@ -54,6 +77,10 @@ AreOn test ps = AllByRecursion (IsOn test) ps
 pub on-append : (test : TableName → Bool) (ps qs : List Put) → AreOn test ps → AreOn test qs → AreOn test (ps ++ qs)
 on-append test [] qs a b = b
 on-append test (p ∷ ps) qs a b = (a.0, on-append test ps qs a.1 b)
+
+pub on-wider : (test more : TableName → Bool) → ((name : TableName) → test name ≡ true → more name ≡ true) → (ps : List Put) → AreOn test ps → AreOn more ps
+on-wider test more all [] a = tt
+on-wider test more all (p ∷ ps) a = (all (table_of p) a.0, on-wider test more all ps a.1)
 
 pub on-map : {X : Type 0} (test : TableName → Bool) (make : X → Put) (xs : List X) → ((x : X) → IsOn test (make x)) → AreOn test (map make xs)
 on-map test make [] h = tt

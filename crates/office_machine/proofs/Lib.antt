@@ -29,6 +29,7 @@ mod Worked
 pub mod AllFit
 pub mod LotChanged
 pub mod ParentsPut
+mod CommandParents
 pub mod ParentsThere
 pub mod SpokenOf
 pub mod Footprint

@@ -17,7 +17,7 @@ use Rattle.office_base.specs.declared.records.EnvelopeState.TheVariants as envel
 use Rattle.office_base.specs.Rules.{first_of}
 use Rattle.office_base.specs.Tables.{Tables, same_number, notice_at, after_put, after_puts}
 use Rattle.office_machine.specs.Fates.{Reception, brought, came, came_after, fate_after, fate_of_tender, is_effective, tender_decided}
-use Rattle.office_machine.specs.Machine.{Given, Means, done, effect, may_give, next, publication, publication_puts, puts_of, refusal_of, release_of_notice, release_row, time_of, with_trees}
+use Rattle.office_machine.specs.Machine.{Given, Means, done, effect, may_give, next, publication, publication_puts, puts_of, refusal_of, release_row, time_of, with_trees}
 use Rattle.office_machine.specs.MergesApart.{FatesReadNoMerges, LooksReadNoMerges, NextReadsNoMerges, PublishesNoMerges, PutsReadNoMerges, RefusalsReadNoMerges, RepliesReadNoMerges, ShowsNoMerges, bare, beside}
 use Rattle.office_machine.specs.Publications.{published_for}
 use Rattle.office_machine.specs.Readings.{Readings}
@@ -85,9 +85,7 @@ replies_apart means trees x = ap (λ why. reply_by why means (beside trees x)) (
 module _ (means : Means) (publishes : PublishesNoMerges means) (trees : List CompiledRow) (x : Given) where
   publication_apart : publication means (beside trees x) ≡ publication means x
   publication_apart =
-      ap (λ notice. option_and_then (release_of_notice means (beside trees x)) notice)
-      (ap (λ (rule : Rule). rule.publishes x.before) ((lawful x.command).apart trees trees))
-      ∙ ap (λ text. option_and_then (λ notice. option_map (release_row x notice) text)
+      ap (λ text. option_and_then (λ notice. option_map (release_row x notice) text)
       (published_for x.before x.command)) (publishes trees x)
 
   all_apart : puts_of means (beside trees x) ≡ puts_of means x

@@ -9,8 +9,9 @@ use Rattle.office_machine.specs.Parents.{HaveParents}
 use Rattle.office_machine.specs.Publications.{published_for}
 use Rattle.office_machine.proofs.Aside.{after-append}
 use Rattle.office_machine.proofs.AllLawful.{lawful}
+use Rattle.office_machine.proofs.Footprint.{leaves}
 use Rattle.office_machine.proofs.Passed.{allowed_by}
-use Rattle.office_machine.proofs.Tail.{CountsNext, with_notice}
+use Rattle.office_machine.proofs.Tail.{CountsNext, is_touched, with_notice}
 
 -- with a release more
 abbrev pub with_release : Option ReleaseRow → List ReleaseRow → List ReleaseRow
@@ -52,6 +53,6 @@ next_is means x have allowed =
       counts = h.counts;
       notices = ap (λ (u : Tables). u.notices) apart ∙ beside.notices ∙ h.writes.notices x.before;
       clock_is = ap (λ (u : Tables). u.clock) apart ∙ beside.clock ∙ h.writes.clock_is x.before;
-      releases = ap (λ (u : Tables). u.releases) apart ∙ beside.releases ∙ ap (with_release (publication means x)) (h.writes.releases x.before);
-      compiled = ap (λ (u : Tables). u.compiled) apart ∙ beside.compiled ∙ h.writes.compiled x.before;
+      releases = ap (λ (u : Tables). u.releases) apart ∙ beside.releases ∙ ap (with_release (publication means x)) ((leaves (is_touched (lawful x.command).touches) (effect means.readings x) x.before h.touched).releases refl);
+      compiled = ap (λ (u : Tables). u.compiled) apart ∙ beside.compiled ∙ (leaves (is_touched (lawful x.command).touches) (effect means.readings x) x.before h.touched).compiled refl;
     }

@@ -1,15 +1,39 @@
 -- The refusals of each command stand in order.
-use Rattle.std.proofs.Common.{◌≡◌, ℕ, ◌≤◌, Bool, true, false, cond, List, [], ◌∷◌, Some, refl, ap, arith}
+use Rattle.std.proofs.Common.{◌≡◌, ℕ, ◌≤◌, Bool, true, false, cond, ◌&&◌, List, [], ◌∷◌, Some, nat_le, refl, ap, arith}
+use Rattle.std.proofs.lemmas.Bool.Decides.{nat_tests}
+use Rattle.office_acts.specs.declared.command.Caller.{Caller}
+use Rattle.office_acts.specs.declared.commands.Command.{Command}
+use Rattle.office_acts.specs.declared.commands.Command.TheVariants.{Import}
+use Rattle.office_base.specs.Tables.{Tables}
 use Rattle.std.specs.List.{AllByRecursion}
 use Rattle.office_machine.specs.Order.{IsLeast, LeastIsAnswered, NumbersNeverFall, NeverFall}
 use Rattle.office_values.specs.declared.refusal.Refusal.{Refusal}
 use Rattle.office_values.specs.Refusals.{number_of}
 use Rattle.office_base.specs.Rules.{first_of}
-use Rattle.office_machine.specs.Machine.{tests}
-use Rattle.office_machine.proofs.AllLawful.{lawful}
+use Rattle.office_machine.specs.Machine.{tests, tests_for, command_tests}
+
+-- no number of these refusals is lower than n, or than one before it
+abbrev rises : ℕ → List (Bool × Refusal) → Bool
+rises n [] = true
+rises n (test ∷ tests) = nat_le n (number_of test.1) && rises (number_of test.1) tests
+
+both : (a b : Bool) → (a && b) ≡ true → (a ≡ true) × (b ≡ true)
+both true b e = (refl, e)
+both false b e = cc
+
+risen : (n : ℕ) (tests : List (Bool × Refusal)) → rises n tests ≡ true → NeverFall n tests
+risen n [] e = tt
+risen n (test ∷ tests) e =
+    let rise = both (nat_le n (number_of test.1)) (rises (number_of test.1) tests) e in
+    let first : nat_le n (number_of test.1) ≡ true = rise.0 in
+    (grind (arith, nat_tests), risen (number_of test.1) tests rise.1)
+
+in_order : (s : Tables) (t : ℕ) (caller : Caller) (command : Command) → rises 7 (tests_for s t caller command) ≡ true
+in_order s t caller (Import batch rows) = refl
+in_order s t caller _ = refl
 
 pub never_fall : NumbersNeverFall
-never_fall x = (omega arith, (lawful x.command).in_order x.before _ x.caller)
+never_fall x = (omega arith, risen 7 (command_tests x) (in_order x.before _ x.caller x.command))
 
 -- numbers that never fall stay above the first
 above : (m n : ℕ) (tests : List (Bool × Refusal)) → m ≤ n → NeverFall n tests → AllByRecursion (λ (test : Bool × Refusal). test.0 ≡ true → m ≤ number_of test.1) tests

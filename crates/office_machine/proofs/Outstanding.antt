@@ -4,7 +4,7 @@ use Rattle.std.specs.Cmp.{nat_cmp_total}
 use Rattle.std.specs.List.{AllByRecursion, list_any}
 use Rattle.office_acts.specs.declared.command.Caller.{Caller}
 use Rattle.office_acts.specs.declared.commands.Command.{Command}
-use Rattle.office_acts.specs.declared.commands.Command.TheVariants.{Import, Register, Publish, AmendNotice, Cancel, Open, Present, Modify, Withdraw, Examine, Award, Fail, Sign, AmendContract, Pay, End}
+use Rattle.office_acts.specs.declared.commands.Command.TheVariants.{AmendContract, Pay, End}
 use Rattle.office_acts.specs.declared.contract.ChangeKind.{ChangeKind}
 use Rattle.office_acts.specs.declared.contract.ChangeKind.TheVariants as change_kinds
 use Rattle.office_acts.specs.declared.contract.How.{How}
@@ -131,19 +131,6 @@ Passes x = AllByRecursion (λ (test : Bool × Refusal). test.0 ≡ false) (comma
 -- by the command
 known : (readings : Readings) (s : Tables) (moment : ℕ) (caller : Caller) (command : Command) → Passes (given s moment caller command)
     → IsLeft readings (given s moment caller command) s command
-known readings s moment caller (Import batch rows) passes = tt
-known readings s moment caller (Register tenderer name address key) passes = tt
-known readings s moment caller (Publish notice content) passes = tt
-known readings s moment caller (AmendNotice notice deadline rationale) passes = tt
-known readings s moment caller (Cancel notice rationale) passes = tt
-known readings s moment caller (Open notice) passes = tt
-known readings s moment caller (Present notice lot security bytes) passes = tt
-known readings s moment caller (Modify receipt bytes) passes = tt
-known readings s moment caller (Withdraw receipt) passes = tt
-known readings s moment caller (Examine receipt responsive quality) passes = tt
-known readings s moment caller (Award notice lot) passes = tt
-known readings s moment caller (Fail award) passes = tt
-known readings s moment caller (Sign award named) passes = tt
 known readings s moment caller (AmendContract c entry kind amount rationale) passes =
     let x = given s moment caller (AmendContract c entry kind amount rationale) in
     left_amended s c (time_of x) entry amount passes.1.0 kind rationale (contract_at c s) (notice_under c s) (line_under c s) refl
@@ -153,6 +140,7 @@ known readings s moment caller (Pay c entry amount) passes =
 known readings s moment caller (End c how) passes =
     let x = given s moment caller (End c how) in
     left_ended s c (time_of x) how (contract_at c s) (notice_under c s) (line_under c s) (performance_at c s) refl
+known readings s moment caller _ passes = tt
 
 pub left_is_known : LeftIsKnown
 left_is_known readings x allowed = known readings x.before x.moment x.caller x.command (none_holds (command_tests x) (allowed_by x allowed))
@@ -229,19 +217,6 @@ module _ (means : Means) (xs : List Given) (s : Tables) (reached : Reaches means
 
 booked : (means : Means) (xs : List Given) (s : Tables) (moment : ℕ) (caller : Caller) (command : Command) → Reaches means xs s
     → Passes (given s moment caller command) → IsBooked means.readings (given s moment caller command) s command
-booked means xs s moment caller (Import batch rows) reached passes = tt
-booked means xs s moment caller (Register tenderer name address key) reached passes = tt
-booked means xs s moment caller (Publish n content) reached passes = tt
-booked means xs s moment caller (AmendNotice n deadline rationale) reached passes = tt
-booked means xs s moment caller (Cancel n rationale) reached passes = tt
-booked means xs s moment caller (Open n) reached passes = tt
-booked means xs s moment caller (Present n l security bytes) reached passes = tt
-booked means xs s moment caller (Modify receipt bytes) reached passes = tt
-booked means xs s moment caller (Withdraw receipt) reached passes = tt
-booked means xs s moment caller (Examine receipt responsive quality) reached passes = tt
-booked means xs s moment caller (Award n l) reached passes = tt
-booked means xs s moment caller (Fail award) reached passes = tt
-booked means xs s moment caller (Sign award named) reached passes = tt
 booked means xs s moment caller (AmendContract c entry change_kinds.Raise amount rationale) reached passes =
     booked_raise means xs s reached c (not_false _ passes.0) amount _
     (known means.readings s moment caller (AmendContract c entry change_kinds.Raise amount rationale) passes)
@@ -253,6 +228,7 @@ booked means xs s moment caller (Pay c entry amount) reached passes =
     (known means.readings s moment caller (Pay c entry amount) passes)
 booked means xs s moment caller (End c how) reached passes =
     booked_end means xs s reached c (not_false _ passes.0) passes.1.0 _ (known means.readings s moment caller (End c how) passes)
+booked means xs s moment caller _ reached passes = tt
 
 pub left_is_booked : LeftIsBooked
 left_is_booked means xs x reached allowed = booked means xs x.before x.moment x.caller x.command reached (none_holds (command_tests x) (allowed_by x allowed))

@@ -1,5 +1,5 @@
 -- The performance securities are those named at accepted signings, each in the state of its fate.
-use Rattle.std.specs.Prelude.{◌≡◌, ℕ, Bool, true, false, not, cond, List, [], ◌∷◌, ◌++◌, Option, Some, None, is_some, IsSome, option_map, option_and_then}
+use Rattle.std.specs.Prelude.{◌≡◌, ℕ, Bool, true, false, cond, List, [], ◌∷◌, ◌++◌, Option, Some, None, is_some, IsSome, option_map, option_and_then}
 use Rattle.std.proofs.Common.{refl, sym, ap, ◌∙◌, subst}
 use Rattle.std.specs.List.{AllByRecursion}
 use Rattle.std.specs.Cmp.{nat_cmp_total}
@@ -10,7 +10,7 @@ use Rattle.office_acts.specs.declared.command.Caller.{Caller}
 use Rattle.office_acts.specs.declared.contract.How.{How}
 use Rattle.office_acts.specs.declared.contract.How.TheVariants as hows
 use Rattle.office_acts.specs.declared.commands.Command.{Command}
-use Rattle.office_acts.specs.declared.commands.Command.TheVariants.{Import, Register, Publish, AmendNotice, Cancel, Open, Present, Modify, Withdraw, Examine, Award, Fail, Sign, AmendContract, Pay, End}
+use Rattle.office_acts.specs.declared.commands.Command.TheVariants.{Sign, End}
 use Rattle.office_values.specs.declared.refusal.Refusal.{Refusal}
 use Rattle.office_base.specs.declared.records.AwardRow.{AwardRow}
 use Rattle.office_base.specs.declared.records.PerformanceRow.{PerformanceRow}
@@ -324,20 +324,7 @@ module _ (means : Means) (xs : List Given) (s : Tables) (moment : ℕ) (caller :
   one_kept : (command : Command) → first_of (command_tests (given command)) ≡ None → AreKept (given command ∷ xs) (after_puts (effect means.readings (given command)) s)
   one_kept (Sign award named) allowed = sign_kept award named allowed
   one_kept (End contract how) allowed = end_kept contract how allowed
-  one_kept (Import batch rows) allowed = idle (Import batch rows) tt allowed
-  one_kept (Register tenderer name address key) allowed = idle (Register tenderer name address key) tt allowed
-  one_kept (Publish notice content) allowed = idle (Publish notice content) tt allowed
-  one_kept (AmendNotice notice deadline rationale) allowed = idle (AmendNotice notice deadline rationale) tt allowed
-  one_kept (Cancel notice rationale) allowed = idle (Cancel notice rationale) tt allowed
-  one_kept (Open notice) allowed = idle (Open notice) tt allowed
-  one_kept (Present notice lot security bytes) allowed = idle (Present notice lot security bytes) tt allowed
-  one_kept (Modify receipt bytes) allowed = idle (Modify receipt bytes) tt allowed
-  one_kept (Withdraw receipt) allowed = idle (Withdraw receipt) tt allowed
-  one_kept (Examine receipt responsive quality) allowed = idle (Examine receipt responsive quality) tt allowed
-  one_kept (Award notice lot) allowed = idle (Award notice lot) tt allowed
-  one_kept (Fail award) allowed = idle (Fail award) tt allowed
-  one_kept (AmendContract contract entry kind amount rationale) allowed = idle (AmendContract contract entry kind amount rationale) tt allowed
-  one_kept (Pay contract entry amount) allowed = idle (Pay contract entry amount) tt allowed
+  one_kept command allowed = idle command tt allowed
 
 published_kept : (means : Means) (xs : List Given) (t : Tables) (p : Option ReleaseRow) → AreKept xs t → AreKept xs (after_puts (publication_puts p) t)
 published_kept means xs t None kept = kept

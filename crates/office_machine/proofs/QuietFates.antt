@@ -5,7 +5,7 @@ use Rattle.std.specs.List.{AllByRecursion}
 use Rattle.std.specs.Cmp.Lexicographic.{nat_list_cmp_total}
 use Rattle.office_acts.specs.declared.contract.ChangeKind.{ChangeKind}
 use Rattle.office_acts.specs.declared.contract.How.{How}
-use Rattle.office_acts.specs.declared.commands.Command.TheVariants.{Import, Register, AmendNotice, AmendContract, Pay, End}
+use Rattle.office_acts.specs.declared.commands.Command.TheVariants.{Import, AmendContract, Pay, End}
 use Rattle.office_base.specs.declared.records.PerformanceRow.{PerformanceRow}
 use Rattle.office_base.specs.declared.records.LineRow.{LineRow}
 use Rattle.office_base.specs.declared.records.NoticeRow.{NoticeRow}
@@ -22,8 +22,6 @@ use Rattle.office_base.specs.declared.puts.Put.{Put}
 use Rattle.office_base.specs.Tables.{Tables, notice_key, notice_at, contract_at, envelope_at, seal_at, security_at, entries_of_contract, find_seal, after_puts, performance_at}
 use Rattle.office_base.specs.Standings.{standings}
 use Rattle.tender_core.specs.Rules.Import.{after_rows, line_put}
-use Rattle.tender_core.specs.Rules.Register.{register_effect}
-use Rattle.tender_core.specs.Rules.AmendNotice.{amend_notice_effect}
 use Rattle.award_core.specs.Rules.AmendContract.{amend_contract_effect}
 use Rattle.award_core.specs.Rules.Pay.{pay_effect}
 use Rattle.award_core.specs.Rules.End.{end_effect}
@@ -100,11 +98,6 @@ abbrev Stands : View → Option NoticeRow → Type 0
 Stands V o = (n : NoticeRow) → o ≡ Some n → V.notice_at n.notice ≡ Some n.state
 
 module _ (V : View) (clock : ClockRow) (t : ℕ) where
-  amended_notice : (o : Option NoticeRow) (deadline : ℕ) → Stands V o
-      → AllByRecursion (IsQuiet V clock.receipts) (amend_notice_effect clock t o deadline)
-  amended_notice None deadline h = tt
-  amended_notice (Some n) deadline h = (h n refl, (refl, tt))
-
   amended_contract : (c : Option ContractRow) (n : Option NoticeRow) (r : Option LineRow) (entry : List ℕ) (kind : ChangeKind) (amount : ℕ) (rationale : List ℕ) → Stands V n
       → AllByRecursion (IsQuiet V clock.receipts) (amend_contract_effect clock t c n r entry kind amount rationale)
   amended_contract (Some c) (Some n) (Some r) entry kind amount rationale h = (tt, (tt, (h n refl, (refl, tt))))
@@ -131,16 +124,6 @@ import_keeps readings batch rows xs t m caller kept own allowed =
     kept_after readings (given t m caller (Import batch rows) ∷ xs) _ t
     (all_append (IsQuiet (seen t) t.clock.receipts) (map (line_put (after_rows (standings t) rows)) rows) _ (all_of_map (IsQuiet (seen t) t.clock.receipts) (line_put (after_rows (standings t) rows)) rows (λ r. tt)) (tt, (refl, tt)))
     (one_more readings xs (given t m caller (Import batch rows)) t kept refl (λ r. refl) (λ s. refl))
-
-pub register_keeps : (readings : Readings) (tenderer name address key : List ℕ) → Keeps readings (Register tenderer name address key)
-register_keeps readings tenderer name address key xs t m caller kept own allowed =
-    kept_after readings (given t m caller (Register tenderer name address key) ∷ xs) (register_effect t.clock (max m t.clock.moment) tenderer name address key) t (tt, (refl, tt)) (one_more readings xs (given t m caller (Register tenderer name address key)) t kept refl (λ r. refl) (λ s. refl))
-
-pub amend_notice_keeps : (readings : Readings) (notice : List ℕ) (deadline : ℕ) (rationale : List ℕ) → Keeps readings (AmendNotice notice deadline rationale)
-amend_notice_keeps readings notice deadline rationale xs t m caller kept own allowed =
-    kept_after readings (given t m caller (AmendNotice notice deadline rationale) ∷ xs) _ t
-    (amended_notice (seen t) t.clock (max m t.clock.moment) (notice_at notice t) deadline (λ n found. notice_stands t notice n found))
-    (one_more readings xs (given t m caller (AmendNotice notice deadline rationale)) t kept refl (λ r. refl) (λ s. refl))
 
 pub amend_contract_keeps : (readings : Readings) (contract : ℕ) (entry : List ℕ) (kind : ChangeKind) (amount : ℕ) (rationale : List ℕ)
     → Keeps readings (AmendContract contract entry kind amount rationale)

@@ -151,15 +151,9 @@ module _ (th : Theirs) (W : ℕ → Bool) where
 
       -- the same command
       same_reply : (command : Command) → LeavesAlike command → reply_for readings other u' t caller command ≡ reply_for readings s u t caller command
-      same_reply (commands.Import batch rows) after = refl
-      same_reply (commands.Register tenderer name address key) after = refl
-      same_reply (commands.Publish notice content) after = refl
-      same_reply (commands.AmendNotice notice deadline rationale) after = refl
-      same_reply (commands.Cancel notice rationale) after = refl
       same_reply (commands.Open notice) after =
           ap (λ n. OpenedAll notice n (release_of s.notices notice) t) (pairs-length (filter is_sealed_envelope (envelopes_of_notice notice s)) (filter is_sealed_envelope (envelopes_of_notice notice other))
           (pairs-filter th W is_sealed_envelope (λ _ _. refl) (envelopes_of_notice notice s) (envelopes_of_notice notice other) (of_notice notice)))
-      same_reply (commands.Present notice lot security bytes) after = refl
       same_reply (commands.Modify receipt bytes) after = blind-option th W (modify_reply readings s.clock t bytes) (λ _ _. refl) (envelope_at receipt s) (find_envelope es' receipt) (found receipt)
       same_reply (commands.Withdraw receipt) after =
           by (find_envelope es' receipt)
@@ -172,15 +166,13 @@ module _ (th : Theirs) (W : ℕ → Bool) where
           by : (o : Option EnvelopeRow) → Withdrew receipt (state_after (is_late (late_of_envelope o other) t (notice_of_envelope o other)) o) t ≡ Withdrew receipt (state_after (is_late (late_of_envelope o s) t (notice_of_envelope o s)) o) t
           by None = refl
           by (Some e) = refl
-      same_reply (commands.Examine receipt responsive quality) after = refl
       same_reply (commands.Award notice lot) after =
           blind-option th W (λ o. Awarded lot (option_map (winning s.clock) o) (release_of s.notices notice) t) (λ _ _. refl) (winner (notice_at notice s) (envelopes_of_lot notice lot s)) (winner (notice_at notice s) (envelopes_of_lot notice lot other))
           (pairs-winner th W (notice_at notice s) (envelopes_of_lot notice lot s) (envelopes_of_lot notice lot other) (of_lot notice lot))
-      same_reply (commands.Fail award) after = refl
-      same_reply (commands.Sign award named) after = refl
       same_reply (commands.AmendContract contract entry kind amount rationale) after = left_same contract (contract_release (contract_at contract s) s.notices) (after tt)
       same_reply (commands.Pay contract entry amount) after = left_same contract (contract_release (contract_at contract s) s.notices) (after tt)
       same_reply (commands.End contract how) after = left_same contract (contract_release (contract_at contract s) s.notices) (after tt)
+      same_reply _ after = refl
 
       -- two that differ in such bytes
       pub command_told : (command command' : Command) → SameBut th s caller command command' → LeavesAlike command → ToldAlike th caller (reply_for readings s u t caller command) (reply_for readings other u' t caller command')

@@ -14,7 +14,7 @@ use Rattle.office_machine.specs.Publications.{published_for}
 use Rattle.office_machine.specs.Counted.{releases_in}
 use Rattle.office_base.specs.Tables.{Tables, notice_at, find_seal, envelope_at, seal_at, after_puts}
 use Rattle.office_base.specs.declared.records.ReleaseRow.{ReleaseRow}
-use Rattle.office_machine.specs.Machine.{Means, Given, IsCommand, CanBeGiven, Reaches, time_of, refusal_of, effect, done, next, publication_puts, publication, release_of_notice}
+use Rattle.office_machine.specs.Machine.{Means, Given, IsCommand, CanBeGiven, Reaches, time_of, refusal_of, effect, done, next, publication_puts, publication}
 use Rattle.office_machine.specs.Worlds.{Theirs, is_theirs, AlikeRows, Pairs, AlikeOffices, IsNext, SameBut, Same, Presented, Modified, OpensAlike}
 use Rattle.office_machine.specs.Requests.{Demand, Asks, Looks, Request, asked, reply_by, office_by, joined_by, reply_to, office_after, joined, IsDemand, AreRequests}
 use Rattle.office_machine.specs.Replies.{Refused}
@@ -85,24 +85,6 @@ module _ (means : Means) (packages : Packages) (publishes : PublishesBlindly mea
     here : AlikeOffices th s other
     here = record { but_sealed = refl; envelopes = rows; seals = seals }
 
-    published_same : (command : Command) → published_for other command ≡ published_for s command
-    published_same (commands.Import batch rows) = refl
-    published_same (commands.Register tenderer name address key) = refl
-    published_same (commands.Publish notice content) = refl
-    published_same (commands.AmendNotice notice deadline rationale) = refl
-    published_same (commands.Cancel notice rationale) = refl
-    published_same (commands.Open notice) = refl
-    published_same (commands.Present notice lot security bytes) = refl
-    published_same (commands.Modify receipt bytes) = refl
-    published_same (commands.Withdraw receipt) = refl
-    published_same (commands.Examine receipt responsive quality) = refl
-    published_same (commands.Award notice lot) = refl
-    published_same (commands.Fail award) = refl
-    published_same (commands.Sign award named) = refl
-    published_same (commands.AmendContract contract entry kind amount rationale) = refl
-    published_same (commands.Pay contract entry amount) = refl
-    published_same (commands.End contract how) = refl
-
     module _ (moment : ℕ) (caller : Caller) where
       abbrev given : Command → Given
       given command = record { before = s; moment = moment; caller = caller; command = command }
@@ -113,8 +95,7 @@ module _ (means : Means) (packages : Packages) (publishes : PublishesBlindly mea
       same_publication : (command command' : Command) → SameBut th s caller command command' → OpensAlike command s other → publication means (given' command') ≡ publication means (given command)
       same_publication command command' (Same e) opens =
           subst (λ c. publication means (given' c) ≡ publication means (given command)) e
-          (ap (λ o. option_and_then (release_of_notice means (given' command)) o) (published_same command)
-          ∙ (λ i. option_and_then (λ n. option_map (λ text. record { notice = n; seq = releases_in (notice_at n s) + 1; moment = time_of (given command); text = text }) (publishes (given command) es' ss' (but_digests th s.envelopes es' rows) opens i)) (published_for s command)))
+          (λ i. option_and_then (λ n. option_map (λ text. record { notice = n; seq = releases_in (notice_at n s) + 1; moment = time_of (given command); text = text }) (publishes (given command) es' ss' (but_digests th s.envelopes es' rows) opens i)) (published_for s command))
       same_publication command command' (Presented security bytes bytes' len who is is') opens =
           subst (λ c. publication means (given' c) ≡ publication means (given command)) is'
           (subst (λ c. publication means (given' (commands.Present th.notice th.lot security bytes')) ≡ publication means (given c)) is refl)

@@ -21,7 +21,8 @@ use Rattle.office_machine.proofs.Keyed as keyed
 use Rattle.office_machine.proofs.ParentsPut.{grows-puts}
 use Rattle.office_machine.proofs.Passed.{witness}
 use Rattle.office_machine.proofs.WorldsPut.{Alike, AlikeIn, pair_puts}
-use Rattle.office_machine.proofs.WorldsStep.{tests_same, puts_pair, IsQuiet}
+use Rattle.office_machine.proofs.WorldsStep.{tests_same, IsQuiet}
+use Rattle.office_machine.proofs.AllLawful.{lawful}
 
 pub with_own : (th : Theirs) (s : Tables) (es es' : List EnvelopeRow) → AllByRecursion (λ e. envelope_at e.receipt s ≡ Some e) es → Pairs (AlikeRows th) es es'
     → Pairs (Alike th (λ n. holds_of (is_theirs th) (envelope_at n s))) es es'
@@ -87,19 +88,7 @@ quiet_too th W s es' ss' all seals order (commands.Open notice) q opens =
     (all_passing (λ e. is_sealed_envelope e ≡ true → seal_at e.receipt s ≡ Rattle.office_base.specs.Tables.find_seal ss' e.receipt) (λ (e : EnvelopeRow). same_id e.notice notice) s.envelopes
     (all_found keyed.envelopes (λ e. same_id e.notice notice ≡ true → is_sealed_envelope e ≡ true → seal_at e.receipt s ≡ Rattle.office_base.specs.Tables.find_seal ss' e.receipt) s.envelopes order.envelopes
     (λ e found of sealed. opens e.receipt e found of sealed)))
-quiet_too th W s es' ss' all seals order (commands.Import batch rows) q opens = tt
-quiet_too th W s es' ss' all seals order (commands.Register tenderer name address key) q opens = tt
-quiet_too th W s es' ss' all seals order (commands.Publish notice content) q opens = tt
-quiet_too th W s es' ss' all seals order (commands.AmendNotice notice deadline rationale) q opens = tt
-quiet_too th W s es' ss' all seals order (commands.Cancel notice rationale) q opens = tt
-quiet_too th W s es' ss' all seals order (commands.Withdraw receipt) q opens = tt
-quiet_too th W s es' ss' all seals order (commands.Examine receipt responsive quality) q opens = tt
-quiet_too th W s es' ss' all seals order (commands.Award notice lot) q opens = tt
-quiet_too th W s es' ss' all seals order (commands.Fail award) q opens = tt
-quiet_too th W s es' ss' all seals order (commands.Sign award named) q opens = tt
-quiet_too th W s es' ss' all seals order (commands.AmendContract contract entry kind amount rationale) q opens = tt
-quiet_too th W s es' ss' all seals order (commands.Pay contract entry amount) q opens = tt
-quiet_too th W s es' ss' all seals order (commands.End contract how) q opens = tt
+quiet_too th W s es' ss' all seals order _ q opens = tt
 
 module _ (th : Theirs) (readings : Readings) (s : Tables) (es' : List EnvelopeRow) (ss' : List SealRow) (moment : ℕ) (caller : Caller) (command : Command) (order : IsSorted s) where
   abbrev W : ℕ → Bool
@@ -121,6 +110,6 @@ module _ (th : Theirs) (readings : Readings) (s : Tables) (es' : List EnvelopeRo
         refused = ap (λ tests. first_of ((not (may_give caller command), Forbidden) ∷ tests)) (tests_same th W s es' ss' all seals (time_of x) caller command);
         alike = λ _ opens. offices_of th W (after_puts (effect readings x) s) (after_puts (effect readings x') other)
             (λ n e. (grows-puts (effect readings x) s).envelopes n (is_there th (envelope_at n s) e))
-            (pair_puts th W (effect readings x) (effect readings x') s other (puts_pair th W s es' ss' all seals readings (time_of x) caller command (quiet_too th W s es' ss' all seals order command quiet opens))
+            (pair_puts th W (effect readings x) (effect readings x') s other ((lawful command).alike th W s es' ss' all seals readings (time_of x) caller (quiet_too th W s es' ss' all seals order command quiet opens))
             (record { but_sealed = refl; envelopes = all; seals = seals }) order order');
       }

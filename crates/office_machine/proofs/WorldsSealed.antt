@@ -152,20 +152,7 @@ module _ (th : Theirs) (readings : Readings) (s : Tables) (es' : List EnvelopeRo
       presented th readings s es' ss' moment caller order next (same_id (Rattle.office_acts.specs.Callers.tenderer_of caller) th.who && (same_id notice th.notice && same_id lot th.lot)) order' none rows seals notice lot security bytes bytes refl refl (λ _. refl)
   same_command caller (commands.Modify receipt bytes) =
       modified th readings s es' ss' moment caller order next (holds_of (is_theirs th) (envelope_at receipt s)) order' none rows seals receipt bytes bytes refl refl (λ _ _. refl)
-  same_command caller (commands.Open notice) = quietly caller (commands.Open notice) tt
-  same_command caller (commands.Import batch rows) = quietly caller (commands.Import batch rows) tt
-  same_command caller (commands.Register tenderer name address key) = quietly caller (commands.Register tenderer name address key) tt
-  same_command caller (commands.Publish notice content) = quietly caller (commands.Publish notice content) tt
-  same_command caller (commands.AmendNotice notice deadline rationale) = quietly caller (commands.AmendNotice notice deadline rationale) tt
-  same_command caller (commands.Cancel notice rationale) = quietly caller (commands.Cancel notice rationale) tt
-  same_command caller (commands.Withdraw receipt) = quietly caller (commands.Withdraw receipt) tt
-  same_command caller (commands.Examine receipt responsive quality) = quietly caller (commands.Examine receipt responsive quality) tt
-  same_command caller (commands.Award notice lot) = quietly caller (commands.Award notice lot) tt
-  same_command caller (commands.Fail award) = quietly caller (commands.Fail award) tt
-  same_command caller (commands.Sign award named) = quietly caller (commands.Sign award named) tt
-  same_command caller (commands.AmendContract contract entry kind amount rationale) = quietly caller (commands.AmendContract contract entry kind amount rationale) tt
-  same_command caller (commands.Pay contract entry amount) = quietly caller (commands.Pay contract entry amount) tt
-  same_command caller (commands.End contract how) = quietly caller (commands.End contract how) tt
+  same_command caller command = quietly caller command tt
 
   -- other bytes of this tenderer for this lot
   other_bytes : (security : Option NamedSecurity) (bytes bytes' : List ℕ) → length bytes ≡ length bytes' → Alike_after (Tenderer th.who) (commands.Present th.notice th.lot security bytes) (commands.Present th.notice th.lot security bytes')

@@ -20,7 +20,7 @@ use Rattle.office_base.specs.declared.records.ContractRow.{ContractRow}
 use Rattle.office_base.specs.declared.records.ClockRow.{ClockRow}
 use Rattle.office_acts.specs.declared.contract.ChangeKind.{ChangeKind}
 use Rattle.office_acts.specs.declared.commands.Command.{Command}
-use Rattle.office_acts.specs.declared.commands.Command.TheVariants.{Import, Register, Publish, AmendNotice, Cancel, Open, Present, Modify, Withdraw, Examine, Award, Fail, Sign, AmendContract, Pay, End}
+use Rattle.office_acts.specs.declared.commands.Command.TheVariants.{Import, Publish, Cancel, Open, Present, Modify, Withdraw, Examine, Award, Fail, Sign, AmendContract, Pay, End}
 use Rattle.office_base.specs.Tables.{Tables, notice_at, lot_at, envelope_at, seal_at, award_at, contract_at, find_envelope, find_seal, lots_of_notice, awards_of_notice, envelopes_of_notice, envelopes_of_lot, securities_of_notice, securities_of_lot, entries_of_contract, performance_at}
 use Rattle.office_base.specs.declared.puts.Put.TheVariants as puts
 use Rattle.office_base.specs.RuleParts.{security_returned, is_held_security, released, clock_put, securities_returned, performance_settled, put_if}
@@ -31,7 +31,6 @@ use Rattle.tender_core.specs.Rules.Present.{is_sealed_by}
 use Rattle.tender_core.specs.Rules.Modify.{modify_conditions}
 use Rattle.tender_core.specs.Rules.Withdraw.{withdraw_conditions, withdraw_effect}
 use Rattle.award_core.specs.Rules.Examine.{examine_conditions}
-use Rattle.tender_core.specs.Rules.AmendNotice.{amend_notice_effect}
 use Rattle.tender_core.specs.Rules.Open.{is_sealed_envelope, opened_envelope, opened_put, open_effect}
 use Rattle.award_core.specs.Rules.Award.{is_admissible, isnt_examined, is_above, winner, award_conditions}
 use Rattle.award_core.specs.Rules.Fail.{fail_conditions, fail_effect}
@@ -45,7 +44,7 @@ use Rattle.office_machine.specs.Machine.{tests_for, puts_for}
 use Rattle.office_machine.specs.Rule.{sealed_tender, sealed_tenders, bytes_in, items_in}
 use Rattle.office_machine.specs.Worlds.{Theirs, Pairs}
 use Rattle.office_machine.proofs.WorldsPut.{Alike, IsPlain, PutPair, Plain, Envelopes, AlikeOptions, receipt_is, pairs-found, pairs-filter, pairs-any, blind, blind-option, plain_pairs, pairs-append}
-use Rattle.office_machine.proofs.WorldsEffects.{plain-map, plain-append, pairs-winner, withdraw_pairs, examine_pairs, fail_pairs, cancel_pairs, award_pairs, plain-if}
+use Rattle.office_machine.proofs.WorldsEffects.{plain-map, plain-append, pairs-winner, withdraw_pairs, fail_pairs, cancel_pairs, award_pairs, plain-if}
 
 module _ (th : Theirs) (W : ℕ → Bool) (s : Tables) (es' : List EnvelopeRow) (ss' : List SealRow) (all : Pairs (Alike th W) s.envelopes es') (seals : (n : ℕ) → W n ≡ false → seal_at n s ≡ find_seal ss' n) where
   abbrev pub s' : Tables
@@ -127,17 +126,12 @@ module _ (th : Theirs) (W : ℕ → Bool) (s : Tables) (es' : List EnvelopeRow) 
   tests_same t caller (Award notice lot) =
       ap (λ w. award_conditions t (notice_at notice s) (lot_at (notice, lot) s) w (envelopes_of_lot notice lot s')) (lot_line (lot_at (notice, lot) s))
       ∙ awards_alike t (notice_at notice s) (lot_at (notice, lot) s) (line_of_lot (lot_at (notice, lot) s) s) (envelopes_of_lot notice lot s) (envelopes_of_lot notice lot s') (of_lot notice lot)
-  tests_same t caller (Import batch rows) = refl
-  tests_same t caller (Register tenderer name address key) = refl
-  tests_same t caller (Publish notice content) = refl
-  tests_same t caller (AmendNotice notice deadline rationale) = refl
-  tests_same t caller (Cancel notice rationale) = refl
-  tests_same t caller (Open notice) = refl
   tests_same t caller (Fail award) = ap (fail_conditions t (award_at award s)) (award_notice (award_at award s))
   tests_same t caller (Sign award named) = ap (λ n. sign_conditions t (award_at award s) n named) (award_notice (award_at award s))
   tests_same t caller (AmendContract contract entry kind amount rationale) = λ i. amend_contract_conditions (contract_at contract s) (entries_of_contract contract s) (contract_notice (contract_at contract s) i) (contract_line (contract_at contract s) i) entry kind amount
   tests_same t caller (Pay contract entry amount) = ap (λ n. pay_conditions (contract_at contract s) (entries_of_contract contract s) n entry amount) (contract_notice (contract_at contract s))
   tests_same t caller (End contract how) = ap (end_conditions (contract_at contract s)) (contract_notice (contract_at contract s))
+  tests_same t caller _ = refl
 
   -- tenders with equal seals are opened alike
   abbrev pub SealsAlike : List EnvelopeRow → Type 0
@@ -166,10 +160,6 @@ module _ (th : Theirs) (W : ℕ → Bool) (s : Tables) (es' : List EnvelopeRow) 
       (opened_pairs read (filter is_sealed_envelope (envelopes_of_notice notice s)) (filter is_sealed_envelope (envelopes_of_notice notice s'))
       (pairs-filter th W is_sealed_envelope (λ _ _. refl) (envelopes_of_notice notice s) (envelopes_of_notice notice s') (of_notice notice)) same)
       (Plain tt refl, (Plain tt refl, tt))
-
-  plain_options : (clock : ClockRow) (t : ℕ) (notice : Option NoticeRow) (deadline : ℕ) → AllByRecursion IsPlain (amend_notice_effect clock t notice deadline)
-  plain_options clock t None deadline = tt
-  plain_options clock t (Some n) deadline = (tt, (tt, tt))
 
   sign_plain : (clock : ClockRow) (t : ℕ) (w : Option AwardRow) (n : Option NoticeRow) (l : Option LotRow) (o : Option EnvelopeRow) (r : List Rattle.office_base.specs.declared.records.SecurityRow.SecurityRow) (named : Option NamedSecurity) → AllByRecursion IsPlain (sign_effect clock t w n l o r named)
   sign_plain clock t (Some w) (Some n) (Some l) o r named = (tt, (tt, (tt, (tt, (tt, plain-append (map security_returned (filter is_held_security r)) (put_if (performance_put w) named) (plain-map security_returned (filter is_held_security r) (λ _. tt)) (plain-if (performance_put w) named (λ _. tt)))))))
@@ -215,14 +205,13 @@ module _ (th : Theirs) (W : ℕ → Bool) (s : Tables) (es' : List EnvelopeRow) 
   IsQuiet (Open notice) = SealsAlike (filter is_sealed_envelope (envelopes_of_notice notice s))
   IsQuiet command = Unit {0}
 
-  -- what a command puts that gives no receipt
-  pub puts_pair : (readings : Readings) (t : ℕ) (caller : Caller) (command : Command) → IsQuiet command → Pairs (PutPair th W) (puts_for readings s t caller command) (puts_for readings s' t caller command)
-  puts_pair readings t caller (Present notice lot security bytes) quiet = absurd quiet
-  puts_pair readings t caller (Modify receipt bytes) quiet = absurd quiet
-  puts_pair readings t caller (Import batch rows) quiet = plain_pairs th W (puts_for readings s t caller (Import batch rows))
+  -- what a command puts, where it gives no receipt and opens equal seals
+  pub import_alike : (readings : Readings) (t : ℕ) (caller : Caller) (batch : List ℕ) (rows : List Rattle.office_acts.specs.declared.budget.BudgetRow.BudgetRow) → Pairs (PutPair th W) (puts_for readings s t caller (Import batch rows)) (puts_for readings s' t caller (Import batch rows))
+  import_alike readings t caller batch rows = plain_pairs th W (puts_for readings s t caller (Import batch rows))
       (plain-append (map (import_line (after_rows (standings s) rows)) rows) _ (plain-map (import_line (after_rows (standings s) rows)) rows (λ _. tt)) (tt, (tt, tt)))
-  puts_pair readings t caller (Register tenderer name address key) quiet = (Plain tt refl, (Plain tt refl, tt))
-  puts_pair readings t caller (Publish notice content) quiet = plain_pairs th W (puts_for readings s t caller (Publish notice content))
+
+  pub publish_alike : (readings : Readings) (t : ℕ) (caller : Caller) (notice : List ℕ) (content : Rattle.office_acts.specs.declared.notice.NewNotice.NewNotice) → Pairs (PutPair th W) (puts_for readings s t caller (Publish notice content)) (puts_for readings s' t caller (Publish notice content))
+  publish_alike readings t caller notice content = plain_pairs th W (puts_for readings s t caller (Publish notice content))
       (plain-append (publish_parts s.clock t notice s.lines content) (late_puts notice content.late_withdrawal)
       (plain-append (map (line_put s.lines content.lots) content.lots ++ map (lot_put notice) content.lots) _
       (plain-append (map (line_put s.lines content.lots) content.lots) (map (lot_put notice) content.lots) (plain-map (line_put s.lines content.lots) content.lots (λ _. tt)) (plain-map (lot_put notice) content.lots (λ _. tt))) (tt, (tt, tt))) (late_plain content.late_withdrawal))
@@ -230,10 +219,15 @@ module _ (th : Theirs) (W : ℕ → Bool) (s : Tables) (es' : List EnvelopeRow) 
       late_plain : (late : LateWithdrawal) → AllByRecursion IsPlain (late_puts notice late)
       late_plain Refused = tt
       late_plain Forfeits = (tt, tt)
-  puts_pair readings t caller (AmendNotice notice deadline rationale) quiet = plain_pairs th W (amend_notice_effect s.clock t (notice_at notice s) deadline) (plain_options s.clock t (notice_at notice s) deadline)
-  puts_pair readings t caller (Cancel notice rationale) quiet = cancel_pairs th W s.clock t s.lines (notice_at notice s) (lots_of_notice notice s) (awards_of_notice notice s) (envelopes_of_notice notice s) (envelopes_of_notice notice s') (securities_of_notice notice s) (of_notice notice)
-  puts_pair readings t caller (Open notice) quiet = open_pairs readings.read s.clock t notice (notice_at notice s) quiet
-  puts_pair readings t caller (Withdraw receipt) quiet =
+
+  pub cancel_alike : (readings : Readings) (t : ℕ) (caller : Caller) (notice rationale : List ℕ) → Pairs (PutPair th W) (puts_for readings s t caller (Cancel notice rationale)) (puts_for readings s' t caller (Cancel notice rationale))
+  cancel_alike readings t caller notice rationale = cancel_pairs th W s.clock t s.lines (notice_at notice s) (lots_of_notice notice s) (awards_of_notice notice s) (envelopes_of_notice notice s) (envelopes_of_notice notice s') (securities_of_notice notice s) (of_notice notice)
+
+  pub open_alike : (readings : Readings) (t : ℕ) (caller : Caller) (notice : List ℕ) → IsQuiet (Open notice) → Pairs (PutPair th W) (puts_for readings s t caller (Open notice)) (puts_for readings s' t caller (Open notice))
+  open_alike readings t caller notice quiet = open_pairs readings.read s.clock t notice (notice_at notice s) quiet
+
+  pub withdraw_alike : (readings : Readings) (t : ℕ) (caller : Caller) (receipt : ℕ) → Pairs (PutPair th W) (puts_for readings s t caller (Withdraw receipt)) (puts_for readings s' t caller (Withdraw receipt))
+  withdraw_alike readings t caller receipt =
       let o : Option EnvelopeRow = envelope_at receipt s in
       let o' : Option EnvelopeRow = find_envelope es' receipt in
       let notice : notice_of_envelope o s ≡ notice_of_envelope o' s' = sym (envelope_notice o' ∙ blind-option th W (λ o. notice_of_envelope o s) (λ _ _. refl) o o' (found receipt)) in
@@ -241,32 +235,49 @@ module _ (th : Theirs) (W : ℕ → Bool) (s : Tables) (es' : List EnvelopeRow) 
       subst (λ ps. Pairs (PutPair th W) (puts_for readings s t caller (Withdraw receipt)) ps)
       (λ i. withdraw_effect s.clock t o' (notice i) (late i) (security_of_envelope o' s'))
       (withdraw_pairs th W s.clock t o o' (notice_of_envelope o s) (late_of_envelope o s) (security_of_envelope o s) (security_of_envelope o' s') (found receipt) (envelope_security o' ∙ security_of o o' (found receipt)))
-  puts_pair readings t caller (Examine receipt responsive quality) quiet = examine_pairs th W s.clock t responsive quality (envelope_at receipt s) (find_envelope es' receipt) (found receipt)
-  puts_pair readings t caller (Award notice lot) quiet =
+
+  pub award_alike : (readings : Readings) (t : ℕ) (caller : Caller) (notice lot : List ℕ) → Pairs (PutPair th W) (puts_for readings s t caller (Award notice lot)) (puts_for readings s' t caller (Award notice lot))
+  award_alike readings t caller notice lot =
       subst (λ w. Pairs (PutPair th W) (puts_for readings s t caller (Award notice lot)) (Rattle.award_core.specs.Rules.Award.award_effect s.clock t (notice_at notice s) (lot_at (notice, lot) s) w (envelopes_of_lot notice lot s') (securities_of_lot notice lot s)))
       (sym (lot_line (lot_at (notice, lot) s)))
       (award_pairs th W s.clock t (notice_at notice s) (lot_at (notice, lot) s) (line_of_lot (lot_at (notice, lot) s) s) (envelopes_of_lot notice lot s) (envelopes_of_lot notice lot s') (securities_of_lot notice lot s) (of_lot notice lot))
-  puts_pair readings t caller (Fail award) quiet =
+
+  pub fail_alike : (readings : Readings) (t : ℕ) (caller : Caller) (award : ℕ) → Pairs (PutPair th W) (puts_for readings s t caller (Fail award)) (puts_for readings s' t caller (Fail award))
+  fail_alike readings t caller award =
       let o : Option EnvelopeRow = envelope_of_award (award_at award s) s in
       let o' : Option EnvelopeRow = envelope_of_award (award_at award s) s' in
       subst (λ ps. Pairs (PutPair th W) (puts_for readings s t caller (Fail award)) ps)
       (λ i. fail_effect s.clock t (award_at award s) (sym (award_notice (award_at award s)) i) (sym (award_lot (award_at award s)) i) o' (security_of_envelope o' s'))
       (fail_pairs th W s.clock t (award_at award s) (notice_of_award (award_at award s) s) (lot_of_award (award_at award s) s) o o' (security_of_envelope o s) (security_of_envelope o' s') (envelope_of (award_at award s)) (envelope_security o' ∙ security_of o o' (envelope_of (award_at award s))))
-  puts_pair readings t caller (Sign award named) quiet =
+
+  pub sign_alike : (readings : Readings) (t : ℕ) (caller : Caller) (award : ℕ) (named : Option NamedSecurity) → Pairs (PutPair th W) (puts_for readings s t caller (Sign award named)) (puts_for readings s' t caller (Sign award named))
+  sign_alike readings t caller award named =
       let o : Option EnvelopeRow = envelope_of_award (award_at award s) s in
       let o' : Option EnvelopeRow = envelope_of_award (award_at award s) s' in
       subst (λ ps. Pairs (PutPair th W) (puts_for readings s t caller (Sign award named)) ps)
       (sym (sign_blind s.clock t (award_at award s) (notice_of_award (award_at award s) s) (lot_of_award (award_at award s) s) o o' (securities_of_award (award_at award s) s) named (blind-option th W tenderer_in (λ _ _. refl) o o' (envelope_of (award_at award s))))
       ∙ (λ i. sign_effect s.clock t (award_at award s) (sym (award_notice (award_at award s)) i) (sym (award_lot (award_at award s)) i) o' (sym (award_securities (award_at award s)) i) named))
       (plain_pairs th W (puts_for readings s t caller (Sign award named)) (sign_plain s.clock t (award_at award s) (notice_of_award (award_at award s) s) (lot_of_award (award_at award s) s) o (securities_of_award (award_at award s) s) named))
-  puts_pair readings t caller (AmendContract contract entry kind amount rationale) quiet =
+
+  pub amend_contract_alike : (readings : Readings) (t : ℕ) (caller : Caller) (contract : ℕ) (entry : List ℕ) (kind : ChangeKind) (amount : ℕ) (rationale : List ℕ) → Pairs (PutPair th W) (puts_for readings s t caller (AmendContract contract entry kind amount rationale)) (puts_for readings s' t caller (AmendContract contract entry kind amount rationale))
+  amend_contract_alike readings t caller contract entry kind amount rationale =
       subst (λ ps. Pairs (PutPair th W) (puts_for readings s t caller (AmendContract contract entry kind amount rationale)) ps)
       (λ i. amend_contract_effect s.clock t (contract_at contract s) (sym (contract_notice (contract_at contract s)) i) (sym (contract_line (contract_at contract s)) i) entry kind amount rationale)
       (plain_pairs th W (puts_for readings s t caller (AmendContract contract entry kind amount rationale)) (amend_plain s.clock t (contract_at contract s) (notice_of_contract (contract_at contract s) s) (line_of_lot (lot_of_contract (contract_at contract s) s) s) entry kind amount rationale))
-  puts_pair readings t caller (Pay contract entry amount) quiet =
+
+  pub pay_alike : (readings : Readings) (t : ℕ) (caller : Caller) (contract : ℕ) (entry : List ℕ) (amount : ℕ) → Pairs (PutPair th W) (puts_for readings s t caller (Pay contract entry amount)) (puts_for readings s' t caller (Pay contract entry amount))
+  pay_alike readings t caller contract entry amount =
       subst (λ n. Pairs (PutPair th W) (puts_for readings s t caller (Pay contract entry amount)) (pay_effect s.clock t (contract_at contract s) n entry amount)) (sym (contract_notice (contract_at contract s)))
       (plain_pairs th W (puts_for readings s t caller (Pay contract entry amount)) (pay_plain s.clock t (contract_at contract s) (notice_of_contract (contract_at contract s) s) entry amount))
-  puts_pair readings t caller (End contract how) quiet =
+
+  pub end_alike : (readings : Readings) (t : ℕ) (caller : Caller) (contract : ℕ) (how : Rattle.office_acts.specs.declared.contract.How.How) → Pairs (PutPair th W) (puts_for readings s t caller (End contract how)) (puts_for readings s' t caller (End contract how))
+  end_alike readings t caller contract how =
       subst (λ ps. Pairs (PutPair th W) (puts_for readings s t caller (End contract how)) ps)
       (λ i. end_effect s.clock t how (contract_at contract s) (entries_of_contract contract s) (sym (contract_notice (contract_at contract s)) i) (sym (contract_line (contract_at contract s)) i) (performance_at contract s))
       (plain_pairs th W (puts_for readings s t caller (End contract how)) (end_plain s.clock t how (contract_at contract s) (entries_of_contract contract s) (notice_of_contract (contract_at contract s) s) (line_of_lot (lot_of_contract (contract_at contract s) s) s) (performance_at contract s)))
+
+-- in two worlds it puts rows that are alike, where it gives no receipt and opens equal seals
+abbrev pub PutsAlike : Command → Type 0
+PutsAlike command = (th : Theirs) (W : ℕ → Bool) (s : Tables) (es' : List EnvelopeRow) (ss' : List SealRow) (all : Pairs (Alike th W) s.envelopes es') (seals : (n : ℕ) → W n ≡ false → seal_at n s ≡ find_seal ss' n)
+    (readings : Readings) (t : ℕ) (caller : Caller) → IsQuiet th W s es' ss' all seals command
+    → Pairs (PutPair th W) (puts_for readings s t caller command) (puts_for readings (record s { envelopes = es'; seals = ss' }) t caller command)

@@ -1,3 +1,16 @@
 pub mod Pay
 pub mod Withdraw
 pub mod Award
+pub mod Register
+pub mod Examine
+pub mod AmendNotice
+pub mod Import
+pub mod Publish
+pub mod Cancel
+pub mod Open
+pub mod Present
+pub mod Modify
+pub mod Fail
+pub mod Sign
+pub mod AmendContract
+pub mod End

@@ -1,4 +1,5 @@
 -- The award of a lot keeps the laws of the office.
+use Rattle.office_machine.proofs.CommandParents.{award_parents}
 use Rattle.std.proofs.Common.{arith, ◌≡◌, ℕ, false, List, [], ◌∷◌, Option, Some, None, refl, ◌∙◌, ap}
 use Rattle.std.specs.Prelude.{max, Some, option_map}
 use Rattle.office_acts.specs.declared.commands.Command.TheVariants.{Award}
@@ -13,22 +14,25 @@ use Rattle.office_base.specs.Tables.{Tables, notice_at, lot_at, line_at, envelop
 use Rattle.award_core.specs.Rules.Award.{winner, decision_puts, award_rows, award_tests, award_effect, award_puts}
 use Rattle.office_machine.proofs.AwardFates as award_fates
 use Rattle.office_machine.proofs.AwardKeeps.{award_keeps}
-use Rattle.office_machine.proofs.Lawful.{Lawful}
+use Rattle.office_machine.proofs.Footprint.{Awards, Lots, Lines, Securities}
+use Rattle.office_machine.proofs.WorldsStep.{award_alike}
+use Rattle.office_machine.proofs.Lawful.{Lawful, Moving}
 use Rattle.office_machine.proofs.Passed.{none_holds, not_false, witness}
 use Rattle.office_machine.proofs.Tail.{HasTail, moved, front, loud, returned_own}
 use Rattle.office_machine.specs.Replies.{Awarded, release_of, winning}
+use Rattle.office_machine.specs.Rule.{UnderNotice}
 use Rattle.office_machine.proofs.RowsApart.{award_rows_apart}
 
 module _ (s : Tables) (now : ℕ) (notice lot : List ℕ) (n : NoticeRow) (l : LotRow) (w : LineRow) (is : notice_at notice s ≡ Some n)
     (full : has_all_releases (notice_at notice s) ≡ false) where
-  decided : (o : Option EnvelopeRow) → HasTail s now (Some notice) None (decision_puts s.clock now n l w o (securities_of_lot notice lot s))
-  decided None = front (puts.Lot _ ∷ puts.Line _ ∷ []) (refl, (refl, tt)) (loud notice n (released n) _ _ is full refl refl (returned_own (securities_of_lot notice lot s)) refl)
-  decided (Some e) = front (puts.Award _ ∷ puts.Lot _ ∷ puts.Line _ ∷ []) (refl, (refl, (refl, tt))) (loud notice n (released n) _ [] is full refl refl tt refl)
+  decided : (o : Option EnvelopeRow) → HasTail s now (Awards ∷ Lots ∷ Lines ∷ Securities ∷ []) (Some notice) None (decision_puts s.clock now n l w o (securities_of_lot notice lot s))
+  decided None = front (puts.Lot _ ∷ puts.Line _ ∷ []) (refl, (refl, tt)) (loud notice n (released n) _ _ is full refl refl (returned_own (Awards ∷ Lots ∷ Lines ∷ Securities ∷ []) refl (securities_of_lot notice lot s)) refl (omega arith))
+  decided (Some e) = front (puts.Award _ ∷ puts.Lot _ ∷ puts.Line _ ∷ []) (refl, (refl, (refl, tt))) (loud notice n (released n) _ [] is full refl refl tt refl (omega arith))
 
 pub award : (notice lot : List ℕ) → Lawful (Award notice lot)
 award notice lot = record {
-  in_order = λ s t caller. (omega arith, (omega arith, (omega arith, (omega arith, (omega arith, (omega arith, (omega arith, (omega arith, tt))))))));
-  accounts = λ readings xs s moment caller kept order own allowed. award_keeps readings xs s moment caller notice lot kept allowed;
+  touches = Awards ∷ Lots ∷ Lines ∷ Securities ∷ [];
+  accounts = Moving (λ readings xs s moment caller kept order own allowed. award_keeps readings xs s moment caller notice lot kept allowed);
   fates = λ readings. award_fates.award_keeps readings notice lot;
   tail = λ readings s moment caller have allowed.
       let now : ℕ = max moment s.clock.moment in
@@ -39,10 +43,12 @@ award notice lot = record {
       let line : line_of_lot (lot_at (notice, lot) s) s ≡ Some w.0 = ap (λ o. line_of_lot o s) l.1 ∙ w.1 in
       moved refl (λ i. award_effect s.clock now (n.1 i) (l.1 i) (line i) (envelopes_of_lot notice lot s) (securities_of_lot notice lot s))
       (decided s now notice lot n.0 l.0 w.0 n.1 tests.1.1.1.1.1.1.1.0 (winner (Some n.0) (envelopes_of_lot notice lot s)));
+  parents = λ readings s moment caller order have registered may allowed u grown later. award_parents s u order have grown s.clock _ notice lot (notice_at notice s) (lot_at (notice, lot) s) (line_of_lot (lot_at (notice, lot) s) s) refl;
+  alike = λ th W s es' ss' all seals readings t caller quiet. award_alike th W s es' ss' all seals readings t caller notice lot;
   apart = λ before after i. record {
     tests = λ s t caller. award_tests (award_rows_apart before s notice lot i) t;
     puts = λ readings s t caller. award_puts (award_rows_apart before s notice lot i) t;
-    publishes = λ s. Some notice;
+    publishes = UnderNotice notice;
     reply = λ readings s u t caller. Awarded lot (option_map (winning s.clock) (winner (notice_at notice s) (envelopes_of_lot notice lot s))) (release_of s.notices notice) t;
   };
 }
