@@ -4,13 +4,10 @@ use Rattle.office_acts.specs.declared.command.Caller.{Caller}
 use Rattle.office_acts.specs.declared.commands.Command.{Command}
 use Rattle.office_base.specs.Rules.{first_of}
 use Rattle.office_base.specs.Tables.{Tables, IsSorted, after_puts}
-use Rattle.office_base.specs.declared.records.CompiledRow.{CompiledRow}
 use Rattle.office_machine.specs.Readings.{Readings}
-use Rattle.office_machine.specs.Machine.{Given, IsCommand, IsRegistered, may_give, tests_for, puts_for, with_trees}
+use Rattle.office_machine.specs.Machine.{Given, IsCommand, IsRegistered, may_give, tests_for, puts_for}
 use Rattle.office_machine.specs.Parents.{HaveParents}
 use Rattle.office_machine.specs.Publications.{published_for}
-use Rattle.office_machine.specs.Rule.{Rule}
-use Rattle.office_machine.specs.Rules.{rule_of}
 use Rattle.office_machine.proofs.Aside.{IsIdle}
 use Rattle.office_machine.proofs.Footprint.{TableName}
 use Rattle.office_machine.proofs.Idle.{touches_books}
@@ -22,15 +19,6 @@ use Rattle.office_machine.proofs.WorldsStep.{PutsAlike}
 
 abbrev pub given : Tables → ℕ → Caller → Command → Given
 given s moment caller command = record { before = s; moment = moment; caller = caller; command = command }
-
--- a rule that is asked with these merges beside the office before it, and with those beside the office after it
-abbrev pub past_merges : List CompiledRow → List CompiledRow → Rule → Rule
-past_merges before after rule = record {
-  tests = λ s. rule.tests (with_trees before s);
-  puts = λ readings s. rule.puts readings (with_trees before s);
-  publishes = rule.publishes;
-  reply = λ readings s u. rule.reply readings (with_trees before s) (with_trees after u);
-}
 
 -- a command touches no book and moves nothing, or keeps the books as is shown
 pub data KeepsBooks (command : Command) (touches : List TableName) : Type 0 where
@@ -56,5 +44,3 @@ pub record Lawful (command : Command) : Type 0 where
       → Grows (after_puts (puts_for readings s (max moment s.clock.moment) caller command) s) u → AllParents u (puts_for readings s (max moment s.clock.moment) caller command)
   -- two offices that differ in what a tenderer seals stay alike
   pub alike : PutsAlike command
-  -- it reads no merge that stands beside the office
-  pub apart : (before after : List CompiledRow) → past_merges before after (rule_of command) ≡ rule_of command

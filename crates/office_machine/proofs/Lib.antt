@@ -36,7 +36,6 @@ pub mod Footprint
 pub mod Tail
 pub mod Tails
 pub mod Runs
-pub mod RowsApart
 pub mod Lawful
 pub mod Commands
 pub mod AllLawful

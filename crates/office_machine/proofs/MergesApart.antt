@@ -3,7 +3,7 @@ use Rattle.std.proofs.Common.{◌≡◌, ℕ, ◌+◌, cond, not, ◌&&◌, List
 use Rattle.std.specs.Prelude.{option_and_then, option_map}
 use Rattle.office_acts.specs.declared.command.Caller.{Caller}
 use Rattle.office_acts.specs.declared.commands.Command.{Command}
-use Rattle.office_acts.specs.declared.commands.Command.TheVariants.{Cancel, Modify, Open, Present, Withdraw}
+use Rattle.office_acts.specs.declared.commands.Command.TheVariants.{Import, Cancel, Modify, Open, Present, Withdraw}
 use Rattle.office_acts.specs.declared.queries.Query.{Query}
 use Rattle.office_acts.specs.declared.queries.Query.TheVariants as queries
 use Rattle.office_acts.specs.Queries.{kind_of}
@@ -26,7 +26,6 @@ use Rattle.office_machine.specs.Requests.{reply_by}
 use Rattle.office_machine.specs.Rule.{Rule}
 use Rattle.office_machine.specs.Rules.{rule_of}
 use Rattle.office_machine.specs.Sights.{Packages, package_told, shown}
-use Rattle.office_machine.proofs.AllLawful.{lawful}
 
 -- A put leaves the rest of the office as it does without them.
 
@@ -58,13 +57,26 @@ puts_beside (p ∷ ps) trees s =
 
 -- Commands.
 
+-- a rule that is asked with these merges beside the office before it, and with those beside the office after it
+abbrev pub past_merges : List CompiledRow → List CompiledRow → Rule → Rule
+past_merges before after rule = record {
+  tests = λ s. rule.tests (with_trees before s);
+  puts = λ readings s. rule.puts readings (with_trees before s);
+  publishes = rule.publishes;
+  reply = λ readings s u. rule.reply readings (with_trees before s) (with_trees after u);
+}
+
+rules_apart : (before after : List CompiledRow) (command : Command) → past_merges before after (rule_of command) ≡ rule_of command
+rules_apart before after (Import batch rows) = refl
+rules_apart before after _ = refl
+
 pub refusals_apart : RefusalsReadNoMerges
 refusals_apart trees x =
-    ap (λ (rule : Rule). first_of ((not (may_give x.caller x.command), Forbidden) ∷ rule.tests x.before (time_of x) x.caller)) ((lawful x.command).apart trees trees)
+    ap (λ (rule : Rule). first_of ((not (may_give x.caller x.command), Forbidden) ∷ rule.tests x.before (time_of x) x.caller)) (rules_apart trees trees x.command)
 
 module _ (readings : Readings) (trees : List CompiledRow) (x : Given) where
   effect_apart : effect readings (beside trees x) ≡ effect readings x
-  effect_apart = ap (λ (rule : Rule). rule.puts readings x.before (time_of x) x.caller) ((lawful x.command).apart trees trees)
+  effect_apart = ap (λ (rule : Rule). rule.puts readings x.before (time_of x) x.caller) (rules_apart trees trees x.command)
 
   done_apart : done readings (beside trees x) ≡ with_trees (after_puts (effect readings x) (with_trees trees x.before)).compiled (done readings x)
   done_apart = ap (λ ps. after_puts ps (with_trees trees x.before)) effect_apart ∙ puts_beside (effect readings x) trees x.before
@@ -76,7 +88,7 @@ module _ (means : Means) (trees : List CompiledRow) (x : Given) where
   reply_apart : (why : Option Refusal) → reply_by why means (beside trees x) ≡ reply_by why means x
   reply_apart None =
       ap (λ u. (rule_of x.command).reply means.readings (with_trees trees x.before) u (time_of x) x.caller) (done_apart means.readings trees x)
-      ∙ ap (told_apart means.readings trees x) ((lawful x.command).apart trees (after_puts (effect means.readings x) (with_trees trees x.before)).compiled)
+      ∙ ap (told_apart means.readings trees x) (rules_apart trees (after_puts (effect means.readings x) (with_trees trees x.before)).compiled x.command)
   reply_apart (Some why) = refl
 
 pub replies_apart : RepliesReadNoMerges

@@ -156,16 +156,11 @@ module _ (th : Theirs) (W : ℕ → Bool) where
           (pairs-filter th W is_sealed_envelope (λ _ _. refl) (envelopes_of_notice notice s) (envelopes_of_notice notice other) (of_notice notice)))
       same_reply (commands.Modify receipt bytes) after = blind-option th W (modify_reply readings s.clock t bytes) (λ _ _. refl) (envelope_at receipt s) (find_envelope es' receipt) (found receipt)
       same_reply (commands.Withdraw receipt) after =
-          by (find_envelope es' receipt)
-          ∙ blind-option th W (λ o. Withdrew receipt (state_after (is_late (late_of_envelope o s) t (notice_of_envelope o s)) o) t) (λ e d. ap (λ st. Withdrew receipt st t) (same_state (is_late (late_at e.notice s) t (notice_at e.notice s)) e d)) (envelope_at receipt s) (find_envelope es' receipt) (found receipt)
+          blind-option th W (λ o. Withdrew receipt (state_after (is_late (late_of_envelope o s) t (notice_of_envelope o s)) o) t) (λ e d. ap (λ st. Withdrew receipt st t) (same_state (is_late (late_at e.notice s) t (notice_at e.notice s)) e d)) (envelope_at receipt s) (find_envelope es' receipt) (found receipt)
         where
           same_state : (b : Bool) (e : EnvelopeRow) (d : List ℕ) → state_after b (Some (record e { digest = d })) ≡ state_after b (Some e)
           same_state true e d = refl
           same_state false e d = refl
-
-          by : (o : Option EnvelopeRow) → Withdrew receipt (state_after (is_late (late_of_envelope o other) t (notice_of_envelope o other)) o) t ≡ Withdrew receipt (state_after (is_late (late_of_envelope o s) t (notice_of_envelope o s)) o) t
-          by None = refl
-          by (Some e) = refl
       same_reply (commands.Award notice lot) after =
           blind-option th W (λ o. Awarded lot (option_map (winning s.clock) o) (release_of s.notices notice) t) (λ _ _. refl) (winner (notice_at notice s) (envelopes_of_lot notice lot s)) (winner (notice_at notice s) (envelopes_of_lot notice lot other))
           (pairs-winner th W (notice_at notice s) (envelopes_of_lot notice lot s) (envelopes_of_lot notice lot other) (of_lot notice lot))

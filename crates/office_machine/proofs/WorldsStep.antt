@@ -33,11 +33,10 @@ use Rattle.tender_core.specs.Rules.Withdraw.{withdraw_conditions, withdraw_effec
 use Rattle.award_core.specs.Rules.Examine.{examine_conditions}
 use Rattle.tender_core.specs.Rules.Open.{is_sealed_envelope, opened_envelope, opened_put, open_effect}
 use Rattle.award_core.specs.Rules.Award.{is_admissible, isnt_examined, is_above, winner, award_conditions}
-use Rattle.award_core.specs.Rules.Fail.{fail_conditions, fail_effect}
-use Rattle.award_core.specs.Rules.AmendContract.{amend_contract_conditions, amend_contract_effect}
-use Rattle.award_core.specs.Rules.Pay.{pay_conditions, pay_effect}
-use Rattle.award_core.specs.Rules.End.{end_conditions, end_effect, ended_state}
-use Rattle.award_core.specs.Rules.Sign.{sign_effect, tenderer_in, signed_award, contracted_lot, contract_row, performance_put, sign_conditions}
+use Rattle.award_core.specs.Rules.AmendContract.{amend_contract_effect}
+use Rattle.award_core.specs.Rules.Pay.{pay_effect}
+use Rattle.award_core.specs.Rules.End.{end_effect, ended_state}
+use Rattle.award_core.specs.Rules.Sign.{sign_effect, tenderer_in, signed_award, contracted_lot, contract_row, performance_put}
 use Rattle.office_base.specs.Parents.{notice_of_envelope, lot_of_envelope, security_of_envelope, envelope_of_award, lot_of_award, notice_of_award, securities_of_award, notice_of_contract, lot_of_contract, line_of_lot, late_of_envelope}
 use Rattle.office_machine.specs.Readings.{Readings}
 use Rattle.office_machine.specs.Machine.{tests_for, puts_for}
@@ -59,50 +58,6 @@ module _ (th : Theirs) (W : ℕ → Bool) (s : Tables) (es' : List EnvelopeRow) 
   of_notice : (notice : List ℕ) → Pairs (Alike th W) (envelopes_of_notice notice s) (envelopes_of_notice notice s')
   of_notice notice = pairs-filter th W (λ (e : EnvelopeRow). same_id e.notice notice) (λ _ _. refl) s.envelopes es' all
 
-  -- what is looked up beside envelopes is the same
-  envelope_notice : (o : Option EnvelopeRow) → notice_of_envelope o s' ≡ notice_of_envelope o s
-  envelope_notice None = refl
-  envelope_notice (Some e) = refl
-
-  envelope_lot : (o : Option EnvelopeRow) → lot_of_envelope o s' ≡ lot_of_envelope o s
-  envelope_lot None = refl
-  envelope_lot (Some e) = refl
-
-  envelope_late : (o : Option EnvelopeRow) → late_of_envelope o s' ≡ late_of_envelope o s
-  envelope_late None = refl
-  envelope_late (Some e) = refl
-
-  envelope_security : (o : Option EnvelopeRow) → security_of_envelope o s' ≡ security_of_envelope o s
-  envelope_security None = refl
-  envelope_security (Some e) = refl
-
-  lot_line : (o : Option LotRow) → line_of_lot o s' ≡ line_of_lot o s
-  lot_line None = refl
-  lot_line (Some l) = refl
-
-  award_notice : (o : Option AwardRow) → notice_of_award o s' ≡ notice_of_award o s
-  award_notice None = refl
-  award_notice (Some a) = refl
-
-  award_lot : (o : Option AwardRow) → lot_of_award o s' ≡ lot_of_award o s
-  award_lot None = refl
-  award_lot (Some a) = refl
-
-  award_securities : (o : Option AwardRow) → securities_of_award o s' ≡ securities_of_award o s
-  award_securities None = refl
-  award_securities (Some a) = refl
-
-  contract_notice : (o : Option ContractRow) → notice_of_contract o s' ≡ notice_of_contract o s
-  contract_notice None = refl
-  contract_notice (Some c) = refl
-
-  contract_lot : (o : Option ContractRow) → lot_of_contract o s' ≡ lot_of_contract o s
-  contract_lot None = refl
-  contract_lot (Some c) = refl
-
-  contract_line : (o : Option ContractRow) → line_of_lot (lot_of_contract o s') s' ≡ line_of_lot (lot_of_contract o s) s
-  contract_line o = lot_line (lot_of_contract o s') ∙ ap (λ l. line_of_lot l s) (contract_lot o)
-
   awards_alike : (t : ℕ) (n : Option NoticeRow) (l : Option LotRow) (w : Option Rattle.office_base.specs.declared.records.LineRow.LineRow) (es es'' : List EnvelopeRow) → Pairs (Alike th W) es es'' → award_conditions t n l w es'' ≡ award_conditions t n l w es
   awards_alike t n l w es es'' all =
       rw (
@@ -115,22 +70,13 @@ module _ (th : Theirs) (W : ℕ → Bool) (s : Tables) (es' : List EnvelopeRow) 
   pub tests_same : (t : ℕ) (caller : Caller) (command : Command) → tests_for s' t caller command ≡ tests_for s t caller command
   tests_same t caller (Present notice lot security bytes) = rw (pairs-any th W (is_sealed_by caller) (λ _ _. refl) (envelopes_of_lot notice lot s) (envelopes_of_lot notice lot s') (of_lot notice lot)) refl
   tests_same t caller (Modify receipt bytes) =
-      ap (modify_conditions s.clock t caller (find_envelope es' receipt)) (envelope_notice (find_envelope es' receipt))
-      ∙ blind-option th W (λ o. modify_conditions s.clock t caller o (notice_of_envelope o s)) (λ _ _. refl) (envelope_at receipt s) (find_envelope es' receipt) (found receipt)
+      blind-option th W (λ o. modify_conditions s.clock t caller o (notice_of_envelope o s)) (λ _ _. refl) (envelope_at receipt s) (find_envelope es' receipt) (found receipt)
   tests_same t caller (Withdraw receipt) =
-      (λ i. withdraw_conditions t caller (find_envelope es' receipt) (envelope_notice (find_envelope es' receipt) i) (envelope_lot (find_envelope es' receipt) i) (envelope_late (find_envelope es' receipt) i))
-      ∙ blind-option th W (λ o. withdraw_conditions t caller o (notice_of_envelope o s) (lot_of_envelope o s) (late_of_envelope o s)) (λ _ _. refl) (envelope_at receipt s) (find_envelope es' receipt) (found receipt)
+      blind-option th W (λ o. withdraw_conditions t caller o (notice_of_envelope o s) (lot_of_envelope o s) (late_of_envelope o s)) (λ _ _. refl) (envelope_at receipt s) (find_envelope es' receipt) (found receipt)
   tests_same t caller (Examine receipt responsive quality) =
-      (λ i. examine_conditions (find_envelope es' receipt) (envelope_notice (find_envelope es' receipt) i) (envelope_lot (find_envelope es' receipt) i) responsive quality)
-      ∙ blind-option th W (λ o. examine_conditions o (notice_of_envelope o s) (lot_of_envelope o s) responsive quality) (λ _ _. refl) (envelope_at receipt s) (find_envelope es' receipt) (found receipt)
+      blind-option th W (λ o. examine_conditions o (notice_of_envelope o s) (lot_of_envelope o s) responsive quality) (λ _ _. refl) (envelope_at receipt s) (find_envelope es' receipt) (found receipt)
   tests_same t caller (Award notice lot) =
-      ap (λ w. award_conditions t (notice_at notice s) (lot_at (notice, lot) s) w (envelopes_of_lot notice lot s')) (lot_line (lot_at (notice, lot) s))
-      ∙ awards_alike t (notice_at notice s) (lot_at (notice, lot) s) (line_of_lot (lot_at (notice, lot) s) s) (envelopes_of_lot notice lot s) (envelopes_of_lot notice lot s') (of_lot notice lot)
-  tests_same t caller (Fail award) = ap (fail_conditions t (award_at award s)) (award_notice (award_at award s))
-  tests_same t caller (Sign award named) = ap (λ n. sign_conditions t (award_at award s) n named) (award_notice (award_at award s))
-  tests_same t caller (AmendContract contract entry kind amount rationale) = λ i. amend_contract_conditions (contract_at contract s) (entries_of_contract contract s) (contract_notice (contract_at contract s) i) (contract_line (contract_at contract s) i) entry kind amount
-  tests_same t caller (Pay contract entry amount) = ap (λ n. pay_conditions (contract_at contract s) (entries_of_contract contract s) n entry amount) (contract_notice (contract_at contract s))
-  tests_same t caller (End contract how) = ap (end_conditions (contract_at contract s)) (contract_notice (contract_at contract s))
+      awards_alike t (notice_at notice s) (lot_at (notice, lot) s) (line_of_lot (lot_at (notice, lot) s) s) (envelopes_of_lot notice lot s) (envelopes_of_lot notice lot s') (of_lot notice lot)
   tests_same t caller _ = refl
 
   -- tenders with equal seals are opened alike
@@ -230,51 +176,37 @@ module _ (th : Theirs) (W : ℕ → Bool) (s : Tables) (es' : List EnvelopeRow) 
   withdraw_alike readings t caller receipt =
       let o : Option EnvelopeRow = envelope_at receipt s in
       let o' : Option EnvelopeRow = find_envelope es' receipt in
-      let notice : notice_of_envelope o s ≡ notice_of_envelope o' s' = sym (envelope_notice o' ∙ blind-option th W (λ o. notice_of_envelope o s) (λ _ _. refl) o o' (found receipt)) in
-      let late : late_of_envelope o s ≡ late_of_envelope o' s' = sym (envelope_late o' ∙ blind-option th W (λ o. late_of_envelope o s) (λ _ _. refl) o o' (found receipt)) in
+      let notice : notice_of_envelope o s ≡ notice_of_envelope o' s' = sym (blind-option th W (λ o. notice_of_envelope o s) (λ _ _. refl) o o' (found receipt)) in
+      let late : late_of_envelope o s ≡ late_of_envelope o' s' = sym (blind-option th W (λ o. late_of_envelope o s) (λ _ _. refl) o o' (found receipt)) in
       subst (λ ps. Pairs (PutPair th W) (puts_for readings s t caller (Withdraw receipt)) ps)
       (λ i. withdraw_effect s.clock t o' (notice i) (late i) (security_of_envelope o' s'))
-      (withdraw_pairs th W s.clock t o o' (notice_of_envelope o s) (late_of_envelope o s) (security_of_envelope o s) (security_of_envelope o' s') (found receipt) (envelope_security o' ∙ security_of o o' (found receipt)))
+      (withdraw_pairs th W s.clock t o o' (notice_of_envelope o s) (late_of_envelope o s) (security_of_envelope o s) (security_of_envelope o' s') (found receipt) (security_of o o' (found receipt)))
 
   pub award_alike : (readings : Readings) (t : ℕ) (caller : Caller) (notice lot : List ℕ) → Pairs (PutPair th W) (puts_for readings s t caller (Award notice lot)) (puts_for readings s' t caller (Award notice lot))
-  award_alike readings t caller notice lot =
-      subst (λ w. Pairs (PutPair th W) (puts_for readings s t caller (Award notice lot)) (Rattle.award_core.specs.Rules.Award.award_effect s.clock t (notice_at notice s) (lot_at (notice, lot) s) w (envelopes_of_lot notice lot s') (securities_of_lot notice lot s)))
-      (sym (lot_line (lot_at (notice, lot) s)))
-      (award_pairs th W s.clock t (notice_at notice s) (lot_at (notice, lot) s) (line_of_lot (lot_at (notice, lot) s) s) (envelopes_of_lot notice lot s) (envelopes_of_lot notice lot s') (securities_of_lot notice lot s) (of_lot notice lot))
+  award_alike readings t caller notice lot = award_pairs th W s.clock t (notice_at notice s) (lot_at (notice, lot) s) (line_of_lot (lot_at (notice, lot) s) s) (envelopes_of_lot notice lot s) (envelopes_of_lot notice lot s') (securities_of_lot notice lot s) (of_lot notice lot)
 
   pub fail_alike : (readings : Readings) (t : ℕ) (caller : Caller) (award : ℕ) → Pairs (PutPair th W) (puts_for readings s t caller (Fail award)) (puts_for readings s' t caller (Fail award))
   fail_alike readings t caller award =
       let o : Option EnvelopeRow = envelope_of_award (award_at award s) s in
       let o' : Option EnvelopeRow = envelope_of_award (award_at award s) s' in
-      subst (λ ps. Pairs (PutPair th W) (puts_for readings s t caller (Fail award)) ps)
-      (λ i. fail_effect s.clock t (award_at award s) (sym (award_notice (award_at award s)) i) (sym (award_lot (award_at award s)) i) o' (security_of_envelope o' s'))
-      (fail_pairs th W s.clock t (award_at award s) (notice_of_award (award_at award s) s) (lot_of_award (award_at award s) s) o o' (security_of_envelope o s) (security_of_envelope o' s') (envelope_of (award_at award s)) (envelope_security o' ∙ security_of o o' (envelope_of (award_at award s))))
+      fail_pairs th W s.clock t (award_at award s) (notice_of_award (award_at award s) s) (lot_of_award (award_at award s) s) o o' (security_of_envelope o s) (security_of_envelope o' s') (envelope_of (award_at award s)) (security_of o o' (envelope_of (award_at award s)))
 
   pub sign_alike : (readings : Readings) (t : ℕ) (caller : Caller) (award : ℕ) (named : Option NamedSecurity) → Pairs (PutPair th W) (puts_for readings s t caller (Sign award named)) (puts_for readings s' t caller (Sign award named))
   sign_alike readings t caller award named =
       let o : Option EnvelopeRow = envelope_of_award (award_at award s) s in
       let o' : Option EnvelopeRow = envelope_of_award (award_at award s) s' in
       subst (λ ps. Pairs (PutPair th W) (puts_for readings s t caller (Sign award named)) ps)
-      (sym (sign_blind s.clock t (award_at award s) (notice_of_award (award_at award s) s) (lot_of_award (award_at award s) s) o o' (securities_of_award (award_at award s) s) named (blind-option th W tenderer_in (λ _ _. refl) o o' (envelope_of (award_at award s))))
-      ∙ (λ i. sign_effect s.clock t (award_at award s) (sym (award_notice (award_at award s)) i) (sym (award_lot (award_at award s)) i) o' (sym (award_securities (award_at award s)) i) named))
+      (sym (sign_blind s.clock t (award_at award s) (notice_of_award (award_at award s) s) (lot_of_award (award_at award s) s) o o' (securities_of_award (award_at award s) s) named (blind-option th W tenderer_in (λ _ _. refl) o o' (envelope_of (award_at award s)))))
       (plain_pairs th W (puts_for readings s t caller (Sign award named)) (sign_plain s.clock t (award_at award s) (notice_of_award (award_at award s) s) (lot_of_award (award_at award s) s) o (securities_of_award (award_at award s) s) named))
 
   pub amend_contract_alike : (readings : Readings) (t : ℕ) (caller : Caller) (contract : ℕ) (entry : List ℕ) (kind : ChangeKind) (amount : ℕ) (rationale : List ℕ) → Pairs (PutPair th W) (puts_for readings s t caller (AmendContract contract entry kind amount rationale)) (puts_for readings s' t caller (AmendContract contract entry kind amount rationale))
-  amend_contract_alike readings t caller contract entry kind amount rationale =
-      subst (λ ps. Pairs (PutPair th W) (puts_for readings s t caller (AmendContract contract entry kind amount rationale)) ps)
-      (λ i. amend_contract_effect s.clock t (contract_at contract s) (sym (contract_notice (contract_at contract s)) i) (sym (contract_line (contract_at contract s)) i) entry kind amount rationale)
-      (plain_pairs th W (puts_for readings s t caller (AmendContract contract entry kind amount rationale)) (amend_plain s.clock t (contract_at contract s) (notice_of_contract (contract_at contract s) s) (line_of_lot (lot_of_contract (contract_at contract s) s) s) entry kind amount rationale))
+  amend_contract_alike readings t caller contract entry kind amount rationale = plain_pairs th W (puts_for readings s t caller (AmendContract contract entry kind amount rationale)) (amend_plain s.clock t (contract_at contract s) (notice_of_contract (contract_at contract s) s) (line_of_lot (lot_of_contract (contract_at contract s) s) s) entry kind amount rationale)
 
   pub pay_alike : (readings : Readings) (t : ℕ) (caller : Caller) (contract : ℕ) (entry : List ℕ) (amount : ℕ) → Pairs (PutPair th W) (puts_for readings s t caller (Pay contract entry amount)) (puts_for readings s' t caller (Pay contract entry amount))
-  pay_alike readings t caller contract entry amount =
-      subst (λ n. Pairs (PutPair th W) (puts_for readings s t caller (Pay contract entry amount)) (pay_effect s.clock t (contract_at contract s) n entry amount)) (sym (contract_notice (contract_at contract s)))
-      (plain_pairs th W (puts_for readings s t caller (Pay contract entry amount)) (pay_plain s.clock t (contract_at contract s) (notice_of_contract (contract_at contract s) s) entry amount))
+  pay_alike readings t caller contract entry amount = plain_pairs th W (puts_for readings s t caller (Pay contract entry amount)) (pay_plain s.clock t (contract_at contract s) (notice_of_contract (contract_at contract s) s) entry amount)
 
   pub end_alike : (readings : Readings) (t : ℕ) (caller : Caller) (contract : ℕ) (how : Rattle.office_acts.specs.declared.contract.How.How) → Pairs (PutPair th W) (puts_for readings s t caller (End contract how)) (puts_for readings s' t caller (End contract how))
-  end_alike readings t caller contract how =
-      subst (λ ps. Pairs (PutPair th W) (puts_for readings s t caller (End contract how)) ps)
-      (λ i. end_effect s.clock t how (contract_at contract s) (entries_of_contract contract s) (sym (contract_notice (contract_at contract s)) i) (sym (contract_line (contract_at contract s)) i) (performance_at contract s))
-      (plain_pairs th W (puts_for readings s t caller (End contract how)) (end_plain s.clock t how (contract_at contract s) (entries_of_contract contract s) (notice_of_contract (contract_at contract s) s) (line_of_lot (lot_of_contract (contract_at contract s) s) s) (performance_at contract s)))
+  end_alike readings t caller contract how = plain_pairs th W (puts_for readings s t caller (End contract how)) (end_plain s.clock t how (contract_at contract s) (entries_of_contract contract s) (notice_of_contract (contract_at contract s) s) (line_of_lot (lot_of_contract (contract_at contract s) s) s) (performance_at contract s))
 
 -- in two worlds it puts rows that are alike, where it gives no receipt and opens equal seals
 abbrev pub PutsAlike : Command → Type 0

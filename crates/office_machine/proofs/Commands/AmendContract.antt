@@ -9,10 +9,6 @@ use Rattle.office_machine.proofs.WorldsStep.{amend_contract_alike}
 use Rattle.office_machine.proofs.Lawful.{Lawful, Moving}
 use Rattle.office_machine.proofs.Tails.{amending_contract}
 use Rattle.office_base.specs.Tables.{contract_at}
-use Rattle.office_machine.specs.Replies.{OfContract, contract_release, left_of}
-use Rattle.office_machine.proofs.RowsApart.{amend_contract_rows_apart}
-use Rattle.office_machine.specs.Rule.{UnderContract}
-use Rattle.award_core.specs.Rules.AmendContract.{amend_contract_tests, amend_contract_puts}
 use Rattle.office_acts.specs.declared.contract.ChangeKind.{ChangeKind}
 use Rattle.std.specs.Prelude.{ℕ, List}
 use Rattle.office_machine.proofs.QuietFates as quiet_fates
@@ -25,10 +21,4 @@ amend_contract contract entry kind amount rationale = record {
   tail = λ readings s moment caller have. amending_contract readings s moment caller have contract entry kind amount rationale;
   parents = λ readings s moment caller order have registered may allowed u grown later. amend_contract_parents s u order have grown s.clock _ contract (contract_at contract s) (notice_of_contract (contract_at contract s) s) (line_of_lot (lot_of_contract (contract_at contract s) s) s) entry kind amount rationale refl;
   alike = λ th W s es' ss' all seals readings t caller quiet. amend_contract_alike th W s es' ss' all seals readings t caller contract entry kind amount rationale;
-  apart = λ before after i. record {
-    tests = λ s t caller. amend_contract_tests (amend_contract_rows_apart before s contract i) entry kind amount;
-    puts = λ readings s t caller. amend_contract_puts (amend_contract_rows_apart before s contract i) t entry kind amount rationale;
-    publishes = UnderContract contract;
-    reply = λ readings s u t caller. OfContract contract (left_of (contract_at contract u) u.entries) (contract_release (contract_at contract s) s.notices) t;
-  };
 }

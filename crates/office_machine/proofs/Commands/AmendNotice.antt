@@ -46,5 +46,4 @@ amend_notice notice deadline rationale = record {
       (loud notice n.0 (amended deadline n.0) _ [] n.1 (neither _ (has_all_releases (notice_at notice s)) tests.1.1.1.1.0).1 refl refl tt refl (omega arith));
   parents = λ readings s moment caller order have registered may allowed u grown later. parents_of u s.clock _ (notice_at notice s) deadline;
   alike = λ th W s es' ss' all seals readings t caller quiet. plain_pairs th W (amend_notice_effect s.clock t (notice_at notice s) deadline) (plain s.clock t (notice_at notice s) deadline);
-  apart = λ before after. refl;
 }

@@ -1,7 +1,7 @@
 -- The award of a lot keeps the laws of the office.
 use Rattle.office_machine.proofs.CommandParents.{award_parents}
 use Rattle.std.proofs.Common.{arith, ◌≡◌, ℕ, false, List, [], ◌∷◌, Option, Some, None, refl, ◌∙◌, ap}
-use Rattle.std.specs.Prelude.{max, Some, option_map}
+use Rattle.std.specs.Prelude.{max, Some}
 use Rattle.office_acts.specs.declared.commands.Command.TheVariants.{Award}
 use Rattle.office_base.specs.declared.records.LineRow.{LineRow}
 use Rattle.office_base.specs.declared.records.NoticeRow.{NoticeRow}
@@ -11,7 +11,7 @@ use Rattle.office_base.specs.declared.puts.Put.TheVariants as puts
 use Rattle.office_base.specs.RuleParts.{released, has_all_releases}
 use Rattle.office_base.specs.Parents.{line_of_lot}
 use Rattle.office_base.specs.Tables.{Tables, notice_at, lot_at, line_at, envelopes_of_lot, securities_of_lot}
-use Rattle.award_core.specs.Rules.Award.{winner, decision_puts, award_rows, award_tests, award_effect, award_puts}
+use Rattle.award_core.specs.Rules.Award.{winner, decision_puts, award_rows, award_tests, award_effect}
 use Rattle.office_machine.proofs.AwardFates as award_fates
 use Rattle.office_machine.proofs.AwardKeeps.{award_keeps}
 use Rattle.office_machine.proofs.Footprint.{Awards, Lots, Lines, Securities}
@@ -19,9 +19,6 @@ use Rattle.office_machine.proofs.WorldsStep.{award_alike}
 use Rattle.office_machine.proofs.Lawful.{Lawful, Moving}
 use Rattle.office_machine.proofs.Passed.{none_holds, not_false, witness}
 use Rattle.office_machine.proofs.Tail.{HasTail, moved, front, loud, returned_own}
-use Rattle.office_machine.specs.Replies.{Awarded, release_of, winning}
-use Rattle.office_machine.specs.Rule.{UnderNotice}
-use Rattle.office_machine.proofs.RowsApart.{award_rows_apart}
 
 module _ (s : Tables) (now : ℕ) (notice lot : List ℕ) (n : NoticeRow) (l : LotRow) (w : LineRow) (is : notice_at notice s ≡ Some n)
     (full : has_all_releases (notice_at notice s) ≡ false) where
@@ -45,10 +42,4 @@ award notice lot = record {
       (decided s now notice lot n.0 l.0 w.0 n.1 tests.1.1.1.1.1.1.1.0 (winner (Some n.0) (envelopes_of_lot notice lot s)));
   parents = λ readings s moment caller order have registered may allowed u grown later. award_parents s u order have grown s.clock _ notice lot (notice_at notice s) (lot_at (notice, lot) s) (line_of_lot (lot_at (notice, lot) s) s) refl;
   alike = λ th W s es' ss' all seals readings t caller quiet. award_alike th W s es' ss' all seals readings t caller notice lot;
-  apart = λ before after i. record {
-    tests = λ s t caller. award_tests (award_rows_apart before s notice lot i) t;
-    puts = λ readings s t caller. award_puts (award_rows_apart before s notice lot i) t;
-    publishes = UnderNotice notice;
-    reply = λ readings s u t caller. Awarded lot (option_map (winning s.clock) (winner (notice_at notice s) (envelopes_of_lot notice lot s))) (release_of s.notices notice) t;
-  };
 }

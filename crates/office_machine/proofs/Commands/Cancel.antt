@@ -1,6 +1,6 @@
 -- The cancellation of a notice keeps the laws of the office.
 use Rattle.office_machine.proofs.CommandParents.{cancel_parents}
-use Rattle.std.proofs.Common.{[], ◌∷◌, refl}
+use Rattle.std.proofs.Common.{[], ◌∷◌}
 use Rattle.office_acts.specs.declared.commands.Command.TheVariants.{Cancel}
 use Rattle.office_machine.proofs.CancelKeeps.{cancel_keeps}
 use Rattle.office_machine.proofs.Footprint.{Lines, Lots, Envelopes, Seals, Securities, Awards}
@@ -19,5 +19,4 @@ cancel notice rationale = record {
   tail = λ readings s moment caller have. cancelling readings s moment caller have notice rationale;
   parents = λ readings s moment caller order have registered may allowed u grown later. cancel_parents s u order have grown s.clock _ notice (notice_at notice s);
   alike = λ th W s es' ss' all seals readings t caller quiet. cancel_alike th W s es' ss' all seals readings t caller notice rationale;
-  apart = λ before after. refl;
 }

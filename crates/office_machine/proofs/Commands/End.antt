@@ -9,10 +9,6 @@ use Rattle.office_machine.proofs.WorldsStep.{end_alike}
 use Rattle.office_machine.proofs.Lawful.{Lawful, Moving}
 use Rattle.office_machine.proofs.Tails.{ending_contract}
 use Rattle.office_base.specs.Tables.{contract_at, performance_at}
-use Rattle.office_machine.specs.Replies.{OfContract, contract_release, left_of}
-use Rattle.office_machine.proofs.RowsApart.{end_rows_apart}
-use Rattle.office_machine.specs.Rule.{UnderContract}
-use Rattle.award_core.specs.Rules.End.{end_tests, end_puts}
 use Rattle.office_acts.specs.declared.contract.How.{How}
 use Rattle.std.specs.Prelude.{ℕ}
 use Rattle.office_machine.proofs.QuietFates as quiet_fates
@@ -25,10 +21,4 @@ end_contract contract how = record {
   tail = λ readings s moment caller have. ending_contract readings s moment caller have contract how;
   parents = λ readings s moment caller order have registered may allowed u grown later. end_parents s u order have grown s.clock _ how contract (contract_at contract s) (Rattle.office_base.specs.Tables.entries_of_contract contract s) (notice_of_contract (contract_at contract s) s) (line_of_lot (lot_of_contract (contract_at contract s) s) s) (performance_at contract s) refl;
   alike = λ th W s es' ss' all seals readings t caller quiet. end_alike th W s es' ss' all seals readings t caller contract how;
-  apart = λ before after i. record {
-    tests = λ s t caller. end_tests (end_rows_apart before s contract i);
-    puts = λ readings s t caller. end_puts (end_rows_apart before s contract i) t how;
-    publishes = UnderContract contract;
-    reply = λ readings s u t caller. OfContract contract (left_of (contract_at contract u) u.entries) (contract_release (contract_at contract s) s.notices) t;
-  };
 }

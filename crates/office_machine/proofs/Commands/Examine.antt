@@ -1,15 +1,13 @@
 -- The examination of a tender keeps the laws of the office.
 use Rattle.std.proofs.Common.{arith, ◌≡◌, ℕ, Bool, [], ◌∷◌, Option, Some, None, refl}
 use Rattle.std.specs.Prelude.{max}
-use Rattle.award_core.specs.Rules.Examine.{examine_rows, examine_tests, examine_effect, examine_puts}
+use Rattle.award_core.specs.Rules.Examine.{examine_rows, examine_tests, examine_effect}
 use Rattle.office_acts.specs.declared.commands.Command.TheVariants.{Examine}
 use Rattle.office_base.specs.Tables.{Tables, envelope_at, find_envelope}
 use Rattle.office_base.specs.declared.puts.Put.TheVariants as puts
 use Rattle.office_base.specs.declared.records.ClockRow.{ClockRow}
 use Rattle.office_base.specs.declared.records.EnvelopeRow.{EnvelopeRow}
 use Rattle.office_machine.specs.Parents.{HaveParents}
-use Rattle.office_machine.specs.Replies.{Examined}
-use Rattle.office_machine.specs.Rule.{Silent}
 use Rattle.office_machine.proofs.Footprint.{Envelopes}
 use Rattle.office_machine.proofs.WorldsPut.{pairs-found}
 use Rattle.office_machine.proofs.WorldsEffects.{examine_pairs}
@@ -17,7 +15,6 @@ use Rattle.office_machine.proofs.Lawful.{Lawful, Idle}
 use Rattle.office_machine.proofs.OpenFates as open_fates
 use Rattle.office_machine.proofs.ParentsPut.{Grows, AllParents, envelope_still}
 use Rattle.office_machine.proofs.Passed.{none_holds, not_false, witness}
-use Rattle.office_machine.proofs.RowsApart.{examine_rows_apart}
 use Rattle.office_machine.proofs.Tail.{moved, front, quiet}
 
 parents_of : (s u : Tables) → HaveParents s s → Grows s u → (clock : ClockRow) (t receipt : ℕ) (responsive : Bool) (quality : Option ℕ) (o : Option EnvelopeRow)
@@ -38,10 +35,4 @@ examine receipt responsive quality = record {
       moved refl (λ i. examine_effect s.clock (max moment s.clock.moment) (e.1 i) responsive quality) (front (puts.Envelope _ ∷ []) (refl, tt) (quiet _ [] tt refl (omega arith)));
   parents = λ readings s moment caller order have registered may allowed u grown later. parents_of s u have grown s.clock _ receipt responsive quality (envelope_at receipt s) refl;
   alike = λ th W s es' ss' all seals readings t caller quiet. examine_pairs th W s.clock t responsive quality (envelope_at receipt s) (find_envelope es' receipt) (pairs-found th W s.envelopes es' receipt all);
-  apart = λ before after i. record {
-    tests = λ s t caller. examine_tests (examine_rows_apart before s receipt i) responsive quality;
-    puts = λ readings s t caller. examine_puts (examine_rows_apart before s receipt i) t responsive quality;
-    publishes = Silent;
-    reply = λ readings s u t caller. Examined receipt responsive t;
-  };
 }

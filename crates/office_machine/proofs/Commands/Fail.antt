@@ -9,10 +9,6 @@ use Rattle.office_machine.proofs.WorldsStep.{fail_alike}
 use Rattle.office_machine.proofs.Lawful.{Lawful, Moving}
 use Rattle.office_machine.proofs.Tails.{failing}
 use Rattle.office_base.specs.Tables.{award_at}
-use Rattle.office_machine.specs.Replies.{Failed, award_release}
-use Rattle.office_machine.proofs.RowsApart.{fail_rows_apart}
-use Rattle.award_core.specs.Rules.Fail.{fail_tests, fail_puts}
-use Rattle.office_machine.specs.Rule.{UnderAward}
 use Rattle.std.specs.Prelude.{ℕ}
 use Rattle.office_machine.proofs.FailFates as fail_fates
 
@@ -24,10 +20,4 @@ fail award = record {
   tail = λ readings s moment caller have. failing readings s moment caller have award;
   parents = λ readings s moment caller order have registered may allowed u grown later. fail_parents s u order have grown s.clock _ award (award_at award s) (notice_of_award (award_at award s) s) (lot_of_award (award_at award s) s) refl refl;
   alike = λ th W s es' ss' all seals readings t caller quiet. fail_alike th W s es' ss' all seals readings t caller award;
-  apart = λ before after i. record {
-    tests = λ s t caller. fail_tests (fail_rows_apart before s award i) t;
-    puts = λ readings s t caller. fail_puts (fail_rows_apart before s award i) t;
-    publishes = UnderAward award;
-    reply = λ readings s u t caller. Failed award (award_release (award_at award s) s.notices) t;
-  };
 }

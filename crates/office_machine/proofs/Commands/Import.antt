@@ -1,6 +1,6 @@
 -- The import of a budget keeps the laws of the office.
 use Rattle.office_machine.proofs.CommandParents.{import_parents}
-use Rattle.std.proofs.Common.{[], ◌∷◌, refl}
+use Rattle.std.proofs.Common.{[], ◌∷◌}
 use Rattle.office_acts.specs.declared.commands.Command.TheVariants.{Import}
 use Rattle.office_machine.proofs.ImportKeeps.{import_keeps}
 use Rattle.office_machine.proofs.Footprint.{Lines, Batches}
@@ -19,5 +19,4 @@ import_budget batch rows = record {
   tail = λ readings s moment caller have. importing readings s moment caller have batch rows;
   parents = λ readings s moment caller order have registered may allowed u grown later. import_parents s u order have grown s.clock _ batch rows;
   alike = λ th W s es' ss' all seals readings t caller quiet. import_alike th W s es' ss' all seals readings t caller batch rows;
-  apart = λ before after. refl;
 }

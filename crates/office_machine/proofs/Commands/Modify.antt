@@ -6,10 +6,6 @@ use Rattle.office_machine.proofs.Footprint.{Envelopes, Seals}
 use Rattle.office_machine.proofs.Lawful.{Lawful, Idle}
 use Rattle.office_machine.proofs.Tails.{modifying}
 use Rattle.office_base.specs.Tables.{envelope_at}
-use Rattle.tender_core.specs.Rules.Modify.{modify_tests, modify_puts}
-use Rattle.office_machine.specs.Replies.{modify_reply}
-use Rattle.office_machine.proofs.RowsApart.{modify_rows_apart}
-use Rattle.office_machine.specs.Rule.{Silent}
 use Rattle.std.specs.Prelude.{ℕ, List}
 use Rattle.office_machine.proofs.ModifyFates as modify_fates
 
@@ -21,10 +17,4 @@ modify receipt bytes = record {
   tail = λ readings s moment caller have. modifying readings s moment caller have receipt bytes;
   parents = λ readings s moment caller order have registered may allowed u grown later. modify_parents s u order have grown readings.digest s.clock _ receipt bytes (envelope_at receipt s) refl;
   alike = λ th W s es' ss' all seals readings t caller quiet. absurd quiet;
-  apart = λ before after i. record {
-    tests = λ s t caller. modify_tests (modify_rows_apart before s receipt i) t caller;
-    puts = λ readings s t caller. modify_puts readings.digest (modify_rows_apart before s receipt i) t bytes;
-    publishes = Silent;
-    reply = λ readings s u t caller. modify_reply readings s.clock t bytes (envelope_at receipt s);
-  };
 }

@@ -18,5 +18,4 @@ open_tenders notice = record {
   tail = λ readings s moment caller have. opening readings s moment caller have notice;
   parents = λ readings s moment caller order have registered may allowed u grown later. open_parents s u order have grown readings.read s.clock _ notice (notice_at notice s);
   alike = λ th W s es' ss' all seals readings t caller quiet. open_alike th W s es' ss' all seals readings t caller notice quiet;
-  apart = λ before after. refl;
 }

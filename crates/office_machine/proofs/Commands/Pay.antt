@@ -7,7 +7,7 @@ use Rattle.office_base.specs.declared.puts.Put.TheVariants as puts
 use Rattle.office_base.specs.RuleParts.{has_all_releases}
 use Rattle.office_base.specs.Parents.{notice_of_contract}
 use Rattle.office_base.specs.Tables.{contract_at}
-use Rattle.award_core.specs.Rules.Pay.{pay_rows, pay_tests, pay_effect, pay_puts}
+use Rattle.award_core.specs.Rules.Pay.{pay_rows, pay_tests, pay_effect}
 use Rattle.office_machine.proofs.Footprint.{Entries}
 use Rattle.office_machine.proofs.WorldsStep.{pay_alike}
 use Rattle.office_machine.proofs.Lawful.{Lawful, Moving}
@@ -17,9 +17,6 @@ use Rattle.office_machine.proofs.QuietFates as quiet_fates
 use Rattle.office_machine.proofs.SpokenOf.{of_contract}
 use Rattle.office_machine.proofs.Tail.{moved, front}
 use Rattle.office_machine.proofs.Tails.{on_contract}
-use Rattle.office_machine.specs.Replies.{OfContract, contract_release, left_of}
-use Rattle.office_machine.specs.Rule.{UnderContract}
-use Rattle.office_machine.proofs.RowsApart.{pay_rows_apart}
 
 pub pay : (contract : ℕ) (entry : List ℕ) (amount : ℕ) → Lawful (Pay contract entry amount)
 pay contract entry amount = record {
@@ -34,10 +31,4 @@ pay contract entry amount = record {
       (on_contract readings s moment caller have contract of (neither _ (has_all_releases (notice_of_contract (contract_at contract s) s)) tests.1.1.1.1.0).1));
   parents = λ readings s moment caller order have registered may allowed u grown later. pay_parents s u order have grown s.clock _ contract (contract_at contract s) (notice_of_contract (contract_at contract s) s) entry amount refl;
   alike = λ th W s es' ss' all seals readings t caller quiet. pay_alike th W s es' ss' all seals readings t caller contract entry amount;
-  apart = λ before after i. record {
-    tests = λ s t caller. pay_tests (pay_rows_apart before s contract i) entry amount;
-    puts = λ readings s t caller. pay_puts (pay_rows_apart before s contract i) t entry amount;
-    publishes = UnderContract contract;
-    reply = λ readings s u t caller. OfContract contract (left_of (contract_at contract u) u.entries) (contract_release (contract_at contract s) s.notices) t;
-  };
 }

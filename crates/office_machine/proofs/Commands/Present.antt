@@ -25,5 +25,4 @@ present notice lot security bytes = record {
       present_parents s u order have grown readings.digest s.clock _ caller notice lot security bytes _ there lot_there (presenter caller s may registered)
       (λ named. later.securities (s.clock.receipts + 1) (present_new readings.digest s.clock _ caller notice lot security bytes _ s named));
   alike = λ th W s es' ss' all seals readings t caller quiet. absurd quiet;
-  apart = λ before after. refl;
 }

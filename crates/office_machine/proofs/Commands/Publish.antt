@@ -5,7 +5,7 @@ use Rattle.std.specs.Prelude.{IsSome, ℕ, List}
 use Rattle.office_machine.specs.Machine.{command_tests, time_of}
 use Rattle.office_machine.proofs.Passed.{none_holds}
 use Rattle.office_machine.proofs.CommandParents.{publish_parents, publish_new, publish_late}
-use Rattle.std.proofs.Common.{[], ◌∷◌, refl, sym, subst, map, ◌++◌}
+use Rattle.std.proofs.Common.{[], ◌∷◌, sym, subst, map, ◌++◌}
 use Rattle.office_acts.specs.declared.commands.Command.TheVariants.{Publish}
 use Rattle.office_machine.proofs.PublishKeeps.{publish_keeps, on_lines}
 use Rattle.office_machine.proofs.Footprint.{Lines, Lots, LateRules}
@@ -29,5 +29,4 @@ publish notice content = record {
       (subst (λ u. IsSome (notice_at notice u)) (sym (after-append (publish_parts s.clock (time_of (given s moment caller (Publish notice content))) notice s.lines content) (late_puts notice content.late_withdrawal) s))
       (publish_late content.late_withdrawal notice notice _ (publish_new (map (line_put s.lines content.lots) content.lots ++ map (lot_put notice) content.lots) _ _ s))));
   alike = λ th W s es' ss' all seals readings t caller quiet. publish_alike th W s es' ss' all seals readings t caller notice content;
-  apart = λ before after. refl;
 }

@@ -20,5 +20,4 @@ register tenderer name address key = record {
   tail = λ readings s moment caller have allowed. front (puts.Tenderer _ ∷ []) (refl, tt) (quiet _ [] tt refl (omega arith));
   parents = λ readings s moment caller order have registered may allowed u grown later. (tt, (tt, tt));
   alike = λ th W s es' ss' all seals readings t caller quiet. (Plain tt refl, (Plain tt refl, tt));
-  apart = λ before after. refl;
 }

@@ -9,10 +9,6 @@ use Rattle.office_machine.proofs.WorldsStep.{sign_alike}
 use Rattle.office_machine.proofs.Lawful.{Lawful, Moving}
 use Rattle.office_machine.proofs.Tails.{signing}
 use Rattle.office_base.specs.Tables.{award_at}
-use Rattle.office_machine.specs.Replies.{award_release, Signed}
-use Rattle.office_machine.proofs.RowsApart.{sign_rows_apart}
-use Rattle.office_machine.specs.Rule.{UnderAward}
-use Rattle.award_core.specs.Rules.Sign.{sign_tests, sign_puts}
 use Rattle.office_acts.specs.declared.tender.NamedSecurity.{NamedSecurity}
 use Rattle.std.specs.Prelude.{ℕ, Option}
 use Rattle.office_machine.proofs.SignFates as sign_fates
@@ -25,10 +21,4 @@ sign award named = record {
   tail = λ readings s moment caller have. signing readings s moment caller have award named;
   parents = λ readings s moment caller order have registered may allowed u grown later. sign_parents s u order have grown s.clock _ award named (award_at award s) (notice_of_award (award_at award s) s) (lot_of_award (award_at award s) s) refl refl;
   alike = λ th W s es' ss' all seals readings t caller quiet. sign_alike th W s es' ss' all seals readings t caller award named;
-  apart = λ before after i. record {
-    tests = λ s t caller. sign_tests (sign_rows_apart before s award i) t named;
-    puts = λ readings s t caller. sign_puts (sign_rows_apart before s award i) t named;
-    publishes = UnderAward award;
-    reply = λ readings s u t caller. Signed award (award_release (award_at award s) s.notices) t;
-  };
 }

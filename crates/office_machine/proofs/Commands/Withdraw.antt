@@ -10,16 +10,13 @@ use Rattle.office_base.specs.declared.records.SecurityState.TheVariants.{Returne
 use Rattle.office_base.specs.declared.puts.Put.TheVariants as puts
 use Rattle.office_base.specs.RuleParts.{is_late, security_settled}
 use Rattle.office_base.specs.Tables.{Tables, envelope_at}
-use Rattle.tender_core.specs.Rules.Withdraw.{withdraw_rows, withdraw_tests, withdraw_effect, withdraw_puts, taken_back_puts}
+use Rattle.tender_core.specs.Rules.Withdraw.{withdraw_rows, withdraw_tests, withdraw_effect, taken_back_puts}
 use Rattle.office_machine.proofs.Footprint.{Envelopes, Seals, Securities, on-if}
 use Rattle.office_machine.proofs.WorldsStep.{withdraw_alike}
 use Rattle.office_machine.proofs.Lawful.{Lawful, Idle}
 use Rattle.office_machine.proofs.Passed.{none_holds, not_false, witness}
 use Rattle.office_machine.proofs.Tail.{HasTail, is_own, moved, front, quiet}
 use Rattle.office_machine.proofs.WithdrawFates as withdraw_fates
-use Rattle.office_machine.specs.Replies.{Withdrew, state_after}
-use Rattle.office_machine.specs.Rule.{Silent}
-use Rattle.office_machine.proofs.RowsApart.{withdraw_rows_apart}
 
 tail_of : (s : Tables) (t : ℕ) (e : EnvelopeRow) (security : Option SecurityRow) (late : Bool) → HasTail s t (Envelopes ∷ Seals ∷ Securities ∷ []) None None (taken_back_puts s.clock t e security late)
 tail_of s t e security false = front (puts.Envelope _ ∷ puts.DropSeal _ ∷ []) (refl, (refl, tt)) (quiet _ _ (on-if (is_own (Envelopes ∷ Seals ∷ Securities ∷ [])) (security_settled Returned) security (λ _. refl)) refl (omega arith))
@@ -38,11 +35,4 @@ withdraw receipt = record {
       moved refl (λ i. withdraw_effect s.clock t (e.1 i) rows.notice rows.late rows.security) (tail_of s t e.0 rows.security (is_late rows.late t rows.notice));
   parents = λ readings s moment caller order have registered may allowed u grown later. withdraw_parents s u order have grown s.clock _ receipt (envelope_at receipt s) (notice_of_envelope (envelope_at receipt s) s) (late_of_envelope (envelope_at receipt s) s) refl;
   alike = λ th W s es' ss' all seals readings t caller quiet. withdraw_alike th W s es' ss' all seals readings t caller receipt;
-  apart = λ before after i. record {
-    tests = λ s t caller. withdraw_tests (withdraw_rows_apart before s receipt i) t caller;
-    puts = λ readings s t caller. withdraw_puts (withdraw_rows_apart before s receipt i) t;
-    publishes = Silent;
-    reply = λ readings s u t caller.
-        let rows = withdraw_rows_apart before s receipt i in Withdrew receipt (state_after (is_late rows.late t rows.notice) rows.envelope) t;
-  };
 }
