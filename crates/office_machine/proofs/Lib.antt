@@ -13,9 +13,6 @@ pub mod Balance
 pub mod Idle
 pub mod SortedTables
 pub mod Entered
-pub mod PayKeeps
-pub mod AmendContractKeeps
-pub mod EndKeeps
 pub mod SignKeeps
 pub mod FailKeeps
 pub mod AwardKeeps
@@ -29,12 +26,11 @@ mod Worked
 pub mod AllFit
 pub mod LotChanged
 pub mod ParentsPut
-mod CommandParents
+pub mod RowsHave
 pub mod ParentsThere
 pub mod SpokenOf
 pub mod Footprint
 pub mod Tail
-pub mod Tails
 pub mod Runs
 pub mod Lawful
 pub mod Commands
@@ -46,7 +42,7 @@ pub mod ReleasesMade
 pub mod ReleasesInTime
 pub mod ReleasesNumbered
 pub mod WorldsPut
-pub mod WorldsEffects
+pub mod WorldsRows
 pub mod WorldsStep
 pub mod WorldsKept
 pub mod WorldsSealed

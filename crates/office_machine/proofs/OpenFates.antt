@@ -1,4 +1,4 @@
--- An opening and an examination keep the fates.
+-- An opening keeps the fates.
 use Rattle.std.specs.Prelude.{◌≡◌, ℕ, Bool, true, false, cond, ◌&&◌, List, [], ◌∷◌, map, filter, Option, Some, None, option_map, max}
 use Rattle.std.proofs.Common.{refl, sym, ap, ◌∙◌, subst}
 use Rattle.std.specs.List.{AllByRecursion}
@@ -6,33 +6,31 @@ use Rattle.std.specs.Cmp.{nat_cmp_total}
 use Rattle.std.specs.FinMap.{nat_cmp-IsAntisymmetric}
 use Rattle.std.specs.Ordering.{nat_cmp, eq_by_cmp}
 use Rattle.office_values.specs.Ids.{same_id, id_cmp}
-use Rattle.office_acts.specs.declared.command.Caller.{Caller}
-use Rattle.office_acts.specs.declared.commands.Command.TheVariants.{Open, Examine}
 use Rattle.office_values.specs.declared.refusal.Refusal.{Refusal}
+use Rattle.office_acts.specs.declared.command.Caller.{Caller}
+use Rattle.office_acts.specs.declared.commands.Command.TheVariants.{Open}
 use Rattle.office_base.specs.declared.records.NoticeRow.{NoticeRow}
 use Rattle.office_base.specs.declared.records.EnvelopeRow.{EnvelopeRow}
-use Rattle.office_base.specs.declared.records.EnvelopeState.TheVariants as envelope
 use Rattle.office_base.specs.declared.records.EnvelopeState.{EnvelopeState}
-use Rattle.office_base.specs.declared.records.NoticeState.TheVariants as notice
 use Rattle.office_base.specs.declared.records.NoticeState.{NoticeState}
-use Rattle.office_base.specs.declared.puts.Put.TheVariants as puts
 use Rattle.office_base.specs.States.{is_sealed}
 use Rattle.office_base.specs.Rules.{first_of}
 use Rattle.office_base.specs.RuleParts.{clock_put}
-use Rattle.tender_core.specs.Rules.Open.{is_sealed_envelope, opened_envelope, opened_put, opened_notice, open_conditions, open_effect}
-use Rattle.award_core.specs.Rules.Examine.{examined, examine_effect}
 use Rattle.office_base.specs.Tables.{Tables, envelope_key, envelope_at, notice_at, envelopes_of_notice, after_puts}
+use Rattle.office_base.specs.declared.records.EnvelopeState.TheVariants as envelope
+use Rattle.office_base.specs.declared.records.NoticeState.TheVariants as notice
+use Rattle.office_base.specs.declared.puts.Put.TheVariants as puts
+use Rattle.tender_core.specs.Rules.Open.{is_sealed_envelope, opened_envelope, opened_put, opened_notice, open_conditions, open_effect}
 use Rattle.office_machine.specs.Machine.{Given}
 use Rattle.office_machine.specs.Readings.{Readings}
 use Rattle.office_machine.specs.Rule.{sealed_tender, sealed_tenders}
 use Rattle.office_machine.specs.Fates.{is_of_notice, is_kept}
 use Rattle.office_machine.proofs.Passed.{none_holds}
-use Rattle.office_machine.proofs.RowsChanged.{rows_put, changed, filter_filter, found_key, row_at-changed, row_at-changed_put}
+use Rattle.office_machine.proofs.RowsChanged.{rows_put, changed, filter_filter, row_at-changed}
 use Rattle.office_machine.proofs.Views.{Change, after_change}
-use Rattle.office_machine.proofs.Steps.{choose, cond_keeps, both_true, opening, fair_opening, examination, fair_examination}
+use Rattle.office_machine.proofs.Steps.{choose, cond_keeps, both_true, opening, fair_opening}
 use Rattle.office_machine.proofs.Seen.{seen, alike, order-puts, after-append, after_envelopes}
-use Rattle.office_machine.proofs.FatesHold.{IsKept, Keeps, given, still_sealed, still_held, securities_keep}
-use Rattle.office_machine.proofs.QuietFates.{one_more}
+use Rattle.office_machine.proofs.FatesHold.{IsKept, Keeps, given, still_held, securities_keep}
 use Rattle.office_machine.proofs.FatesChanged.{kept_by_change}
 use Rattle.office_machine.proofs.States.{map_same, notices_put, same_id_key, sealed_state, map_map}
 
@@ -153,59 +151,3 @@ module _ (readings : Readings) (name : List ℕ) (xs : List Given) (t : Tables) 
 
 pub open_keeps : (readings : Readings) (notice : List ℕ) → Keeps readings (Open notice)
 open_keeps readings notice xs t m caller kept _ allowed = by_notice readings notice xs t m caller kept (notice_at notice t) refl allowed
-
--- An examination.
-
-module _ (readings : Readings) (receipt : ℕ) (responsive : Bool) (quality : Option ℕ) (xs : List Given) (t : Tables) (m : ℕ) (caller : Caller)
-    (kept : IsKept readings xs t) where
-  abbrev given_examine : Given
-  given_examine = given t m caller (Examine receipt responsive quality)
-
-  module _ (e : EnvelopeRow) (found : envelope_at receipt t ≡ Some e) where
-    abbrev examine_change : Change
-    examine_change = examination (seen t) receipt (examined responsive quality) (λ e. refl) (λ e. refl) (λ e. refl) (λ e. refl)
-
-    abbrev after_examine : Tables
-    after_examine = after_puts (puts.Envelope (examined responsive quality e) ∷ clock_put t.clock (max m t.clock.moment) ∷ []) t
-
-    examine_state : (r : ℕ) (d : EnvelopeRow) → (examine_change.envelope_to r d).state ≡ d.state
-    examine_state r d = cond_keeps (λ (e : EnvelopeRow). e.state) (eq_by_cmp nat_cmp r receipt) (examined responsive quality d) d refl
-
-    examined_kept : IsKept readings (given_examine ∷ xs) after_examine
-    examined_kept =
-        kept_by_change readings xs given_examine t after_examine examine_change kept
-        (fair_examination (seen t) receipt (examined responsive quality) (λ e. refl) (λ e. refl) (λ e. refl) (λ e. refl))
-        (record {
-          none = refl;
-          seen_is =
-              alike (seen after_examine) (after_change examine_change (seen t))
-              (λ r. row_at-changed_put nat_cmp_total nat_cmp-IsAntisymmetric envelope_key (examined responsive quality) t.envelopes receipt r e found (found_key nat_cmp_total nat_cmp-IsAntisymmetric envelope_key t.envelopes receipt e found))
-              (λ s. map_same ((seen t).security_at s)) (λ a. map_same ((seen t).award_at a)) (λ k. map_same ((seen t).lot_at k)) (λ n. map_same ((seen t).notice_at n));
-          receipts_are = refl;
-          e_keeps = record {
-            notice = λ r d. cond_keeps (λ (e : EnvelopeRow). e.notice) (eq_by_cmp nat_cmp r receipt) (examined responsive quality d) d refl;
-            lot = λ r d. cond_keeps (λ (e : EnvelopeRow). e.lot) (eq_by_cmp nat_cmp r receipt) (examined responsive quality d) d refl;
-            tenderer = λ r d. cond_keeps (λ (e : EnvelopeRow). e.tenderer) (eq_by_cmp nat_cmp r receipt) (examined responsive quality d) d refl;
-            security = λ r d. cond_keeps (λ (e : EnvelopeRow). e.security) (eq_by_cmp nat_cmp r receipt) (examined responsive quality d) d refl;
-            len = λ r d. cond_keeps (λ (e : EnvelopeRow). e.length) (eq_by_cmp nat_cmp r receipt) (examined responsive quality d) d refl;
-            digest = λ r d. cond_keeps (λ (e : EnvelopeRow). e.digest) (eq_by_cmp nat_cmp r receipt) (examined responsive quality d) d refl;
-          };
-          s_keeps = securities_keep;
-          tender_goes = λ r d a at came_is is. examine_state r d ∙ still_sealed d.state;
-          seal_goes =
-              λ r d a at is. is.seal_is
-              ∙ ap (λ s. cond (is_kept s) (Some (record { receipt = r; bytes = a.bytes })) None) (sym (examine_state r d));
-          no_seal = λ r at none. none;
-          security_goes = λ s w a named at came_is is. still_held w.state;
-        })
-        kept.lines
-        (order-puts (puts.Envelope (examined responsive quality e) ∷ clock_put t.clock (max m t.clock.moment) ∷ []) t kept.order)
-
-  examine_by : (o : Option EnvelopeRow) → envelope_at receipt t ≡ o
-      → IsKept readings (given_examine ∷ xs) (after_puts (examine_effect t.clock (max m t.clock.moment) o responsive quality) t)
-  examine_by None found = one_more readings xs given_examine t kept refl (λ r. refl) (λ s. refl)
-  examine_by (Some e) found = examined_kept e found
-
-pub examine_keeps : (readings : Readings) (receipt : ℕ) (responsive : Bool) (quality : Option ℕ) → Keeps readings (Examine receipt responsive quality)
-examine_keeps readings receipt responsive quality xs t m caller kept _ allowed =
-    examine_by readings receipt responsive quality xs t m caller kept (envelope_at receipt t) refl

@@ -1,41 +1,30 @@
 -- Commands that touch no tender and no security.
-use Rattle.std.specs.Prelude.{◌≡◌, ℕ, List, [], ◌∷◌, ◌++◌, map, Option, Some, None, option_map, max}
+use Rattle.std.specs.Prelude.{◌≡◌, ℕ, List, [], ◌∷◌, ◌++◌, map, Option, Some, None, option_map}
 use Rattle.std.proofs.Common.{refl, sym, ap, ◌∙◌, subst}
 use Rattle.std.specs.List.{AllByRecursion}
 use Rattle.std.specs.Cmp.Lexicographic.{nat_list_cmp_total}
-use Rattle.office_acts.specs.declared.contract.ChangeKind.{ChangeKind}
-use Rattle.office_acts.specs.declared.contract.How.{How}
-use Rattle.office_acts.specs.declared.commands.Command.TheVariants.{Import, AmendContract, Pay, End}
-use Rattle.office_base.specs.declared.records.PerformanceRow.{PerformanceRow}
 use Rattle.office_base.specs.declared.records.LineRow.{LineRow}
 use Rattle.office_base.specs.declared.records.NoticeRow.{NoticeRow}
 use Rattle.office_base.specs.declared.records.EnvelopeRow.{EnvelopeRow}
 use Rattle.office_base.specs.declared.records.SealRow.{SealRow}
 use Rattle.office_base.specs.declared.records.SecurityRow.{SecurityRow}
 use Rattle.office_base.specs.declared.records.ContractRow.{ContractRow}
-use Rattle.office_base.specs.declared.records.EntryRow.{EntryRow}
-use Rattle.office_base.specs.declared.records.ClockRow.{ClockRow}
+use Rattle.office_base.specs.declared.puts.Put.{Put}
+use Rattle.office_base.specs.Tables.{Tables, notice_key, notice_at, envelope_at, seal_at, security_at, find_seal, after_puts}
+use Rattle.office_base.specs.declared.records.ReleaseRow.{ReleaseRow}
+use Rattle.office_base.specs.Parents.{notice_of_contract}
 use Rattle.office_base.specs.declared.records.EnvelopeState.TheVariants as envelope
 use Rattle.office_base.specs.declared.records.SecurityState.TheVariants as security
 use Rattle.office_base.specs.declared.puts.Put.TheVariants as puts
-use Rattle.office_base.specs.declared.puts.Put.{Put}
-use Rattle.office_base.specs.Tables.{Tables, notice_key, notice_at, contract_at, envelope_at, seal_at, security_at, entries_of_contract, find_seal, after_puts, performance_at}
-use Rattle.office_base.specs.Standings.{standings}
-use Rattle.tender_core.specs.Rules.Import.{after_rows, line_put}
-use Rattle.award_core.specs.Rules.AmendContract.{amend_contract_effect}
-use Rattle.award_core.specs.Rules.Pay.{pay_effect}
-use Rattle.award_core.specs.Rules.End.{end_effect}
-use Rattle.office_base.specs.declared.records.ReleaseRow.{ReleaseRow}
-use Rattle.office_base.specs.Parents.{notice_of_contract, line_of_lot, lot_of_contract}
+use Rattle.office_base.proofs.ExactKeys.{ids_exact}
 use Rattle.office_machine.specs.Machine.{Given, publication_puts}
 use Rattle.office_machine.specs.Readings.{Readings}
 use Rattle.office_machine.specs.Fates.{brought, came, tender_decided, fate_of_tender, security_decided, fate_of_security}
-use Rattle.office_base.proofs.ExactKeys.{ids_exact}
 use Rattle.office_machine.proofs.RowsChanged.{found_key}
 use Rattle.office_machine.proofs.Views.{View, IsSound}
 use Rattle.office_machine.proofs.Matched.{EnvelopesMatch, SecuritiesMatch}
 use Rattle.office_machine.proofs.Seen.{seen, notice_state, IsQuiet, quiet, LotFits, lines-puts, order-puts}
-use Rattle.office_machine.proofs.FatesHold.{IsKept, Keeps, given, tenders_same, named_same}
+use Rattle.office_machine.proofs.FatesHold.{IsKept, tenders_same, named_same}
 
 quiet_fits : (V : View) (n : ℕ) (lines : List LineRow) (p : Put) → IsQuiet V n p → LotFits lines p
 quiet_fits V n lines (puts.Lot r) h = absurd h
@@ -89,62 +78,13 @@ pub notice_stands : (t : Tables) (k : List ℕ) (n : NoticeRow) → notice_at k 
 notice_stands t k n found =
     ap (λ k. option_map notice_state (notice_at k t)) (found_key nat_list_cmp_total ids_exact notice_key t.notices k n found) ∙ ap (option_map notice_state) found
 
-contract_notice : (t : Tables) (o : Option ContractRow) (n : NoticeRow) → notice_of_contract o t ≡ Some n → (seen t).notice_at n.notice ≡ Some n.state
+pub contract_notice : (t : Tables) (o : Option ContractRow) (n : NoticeRow) → notice_of_contract o t ≡ Some n → (seen t).notice_at n.notice ≡ Some n.state
 contract_notice t None n found = let no : None ≡ Some n = found in cc
 contract_notice t (Some c) n found = notice_stands t c.notice n found
 
 -- what a notice's row is taken for
-abbrev Stands : View → Option NoticeRow → Type 0
+abbrev pub Stands : View → Option NoticeRow → Type 0
 Stands V o = (n : NoticeRow) → o ≡ Some n → V.notice_at n.notice ≡ Some n.state
-
-module _ (V : View) (clock : ClockRow) (t : ℕ) where
-  amended_contract : (c : Option ContractRow) (n : Option NoticeRow) (r : Option LineRow) (entry : List ℕ) (kind : ChangeKind) (amount : ℕ) (rationale : List ℕ) → Stands V n
-      → AllByRecursion (IsQuiet V clock.receipts) (amend_contract_effect clock t c n r entry kind amount rationale)
-  amended_contract (Some c) (Some n) (Some r) entry kind amount rationale h = (tt, (tt, (h n refl, (refl, tt))))
-  amended_contract None _ _ entry kind amount rationale h = tt
-  amended_contract (Some c) None _ entry kind amount rationale h = tt
-  amended_contract (Some c) (Some n) None entry kind amount rationale h = tt
-
-  paid : (c : Option ContractRow) (n : Option NoticeRow) (entry : List ℕ) (amount : ℕ) → Stands V n
-      → AllByRecursion (IsQuiet V clock.receipts) (pay_effect clock t c n entry amount)
-  paid (Some c) (Some n) entry amount h = (tt, (h n refl, (refl, tt)))
-  paid None _ entry amount h = tt
-  paid (Some c) None entry amount h = tt
-
-  ended : (how : How) (c : Option ContractRow) (entries : List EntryRow) (n : Option NoticeRow) (r : Option LineRow) (p : Option PerformanceRow) → Stands V n
-      → AllByRecursion (IsQuiet V clock.receipts) (end_effect clock t how c entries n r p)
-  ended how (Some c) entries (Some n) (Some r) None h = (tt, (tt, (h n refl, (refl, tt))))
-  ended how (Some c) entries (Some n) (Some r) (Some p) h = (tt, (tt, (h n refl, (refl, (tt, tt)))))
-  ended how None entries _ _ p h = tt
-  ended how (Some c) entries None _ p h = tt
-  ended how (Some c) entries (Some n) None p h = tt
-
-pub import_keeps : (readings : Readings) (batch : List ℕ) (rows : List Rattle.office_acts.specs.declared.budget.BudgetRow.BudgetRow) → Keeps readings (Import batch rows)
-import_keeps readings batch rows xs t m caller kept own allowed =
-    kept_after readings (given t m caller (Import batch rows) ∷ xs) _ t
-    (all_append (IsQuiet (seen t) t.clock.receipts) (map (line_put (after_rows (standings t) rows)) rows) _ (all_of_map (IsQuiet (seen t) t.clock.receipts) (line_put (after_rows (standings t) rows)) rows (λ r. tt)) (tt, (refl, tt)))
-    (one_more readings xs (given t m caller (Import batch rows)) t kept refl (λ r. refl) (λ s. refl))
-
-pub amend_contract_keeps : (readings : Readings) (contract : ℕ) (entry : List ℕ) (kind : ChangeKind) (amount : ℕ) (rationale : List ℕ)
-    → Keeps readings (AmendContract contract entry kind amount rationale)
-amend_contract_keeps readings contract entry kind amount rationale xs t m caller kept own allowed =
-    kept_after readings (given t m caller (AmendContract contract entry kind amount rationale) ∷ xs) _ t
-    (amended_contract (seen t) t.clock (max m t.clock.moment) (contract_at contract t) (notice_of_contract (contract_at contract t) t) (line_of_lot (lot_of_contract (contract_at contract t) t) t) entry kind amount rationale
-    (λ n found. contract_notice t (contract_at contract t) n found))
-    (one_more readings xs (given t m caller (AmendContract contract entry kind amount rationale)) t kept refl (λ r. refl) (λ s. refl))
-
-pub pay_keeps : (readings : Readings) (contract : ℕ) (entry : List ℕ) (amount : ℕ) → Keeps readings (Pay contract entry amount)
-pay_keeps readings contract entry amount xs t m caller kept own allowed =
-    kept_after readings (given t m caller (Pay contract entry amount) ∷ xs) _ t
-    (paid (seen t) t.clock (max m t.clock.moment) (contract_at contract t) (notice_of_contract (contract_at contract t) t) entry amount (λ n found. contract_notice t (contract_at contract t) n found))
-    (one_more readings xs (given t m caller (Pay contract entry amount)) t kept refl (λ r. refl) (λ s. refl))
-
-pub end_keeps : (readings : Readings) (contract : ℕ) (how : How) → Keeps readings (End contract how)
-end_keeps readings contract how xs t m caller kept own allowed =
-    kept_after readings (given t m caller (End contract how) ∷ xs) _ t
-    (ended (seen t) t.clock (max m t.clock.moment) how (contract_at contract t) (entries_of_contract contract t) (notice_of_contract (contract_at contract t) t) (line_of_lot (lot_of_contract (contract_at contract t) t) t) (performance_at contract t)
-    (λ n found. contract_notice t (contract_at contract t) n found))
-    (one_more readings xs (given t m caller (End contract how)) t kept refl (λ r. refl) (λ s. refl))
 
 -- what a command publishes
 pub publication_keeps : (readings : Readings) (xs : List Given) (t : Tables) (p : Option ReleaseRow) → IsKept readings xs t

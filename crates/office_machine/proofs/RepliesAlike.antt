@@ -32,7 +32,7 @@ use Rattle.office_machine.specs.Sights.{Packages, tender_told, registered, regis
 use Rattle.office_machine.specs.Seals.{ButDigest, SeesBlindly, without_digest, ToldAlike}
 use Rattle.office_base.proofs.ExactKeys.{equal_ids, same_itself}
 use Rattle.office_machine.proofs.WorldsPut.{Alike, AlikeOptions, IsBlind, blind, blind-option, pairs-found, pairs-filter}
-use Rattle.office_machine.proofs.WorldsEffects.{pairs-winner}
+use Rattle.office_machine.proofs.WorldsRows.{envelope_pair, lot_pairs, notice_pairs, pairs-winner}
 
 pub told_same : (th : Theirs) (caller : Caller) (r r' : Reply) → r' ≡ r → ToldAlike th caller r r'
 told_same th caller r r' e = record { others = λ _. e; but_digest = ap without_digest e }
@@ -103,31 +103,22 @@ module _ (th : Theirs) (W : ℕ → Bool) where
     abbrev other : Tables
     other = record s { envelopes = es'; seals = ss' }
 
-    found : (n : ℕ) → AlikeOptions th W (envelope_at n s) (find_envelope es' n)
-    found n = pairs-found th W s.envelopes es' n all
-
-    of_notice : (notice : List ℕ) → Pairs (Alike th W) (envelopes_of_notice notice s) (envelopes_of_notice notice other)
-    of_notice notice = pairs-filter th W (λ (e : EnvelopeRow). same_id e.notice notice) (λ _ _. refl) s.envelopes es' all
-
-    of_lot : (notice lot : List ℕ) → Pairs (Alike th W) (envelopes_of_lot notice lot s) (envelopes_of_lot notice lot other)
-    of_lot notice lot = pairs-filter th W (λ (e : EnvelopeRow). same_id e.notice notice && same_id e.lot lot) (λ _ _. refl) s.envelopes es' all
-
     shown_alike : (packages : Packages) → SeesBlindly packages → Pairs ButDigest s.envelopes es' → (caller : Caller) (query : Query) → ToldAlike th caller (shown packages s caller query) (shown packages other caller query)
     shown_alike packages blindly rows caller (queries.Line line) = told_same th caller (shown packages s caller (queries.Line line)) (shown packages other caller (queries.Line line)) refl
     shown_alike packages blindly rows caller queries.Ledger = told_same th caller (shown packages s caller queries.Ledger) (shown packages other caller queries.Ledger) refl
     shown_alike packages blindly rows caller (queries.Minutes notice) =
         told_same th caller (shown packages s caller (queries.Minutes notice)) (shown packages other caller (queries.Minutes notice))
-        (minutes_same (notice_at notice s) (lots_of_notice notice s) s.tenderers (envelopes_of_notice notice s) (envelopes_of_notice notice other) (of_notice notice))
+        (minutes_same (notice_at notice s) (lots_of_notice notice s) s.tenderers (envelopes_of_notice notice s) (envelopes_of_notice notice other) (notice_pairs th W s es' all notice))
     shown_alike packages blindly rows caller (queries.Register notice) =
         told_same th caller (shown packages s caller (queries.Register notice)) (shown packages other caller (queries.Register notice))
-        (register_same (notice_at notice s) (envelopes_of_notice notice s) (envelopes_of_notice notice other) (of_notice notice))
+        (register_same (notice_at notice s) (envelopes_of_notice notice s) (envelopes_of_notice notice other) (notice_pairs th W s es' all notice))
     shown_alike packages blindly rows caller (queries.Releases notice) =
         told_same th caller (shown packages s caller (queries.Releases notice)) (shown packages other caller (queries.Releases notice))
         (ap (package_told (notice_at notice s)) (blindly (queries.Releases notice) s es' ss' rows))
     shown_alike packages blindly rows caller (queries.Record notice) =
         told_same th caller (shown packages s caller (queries.Record notice)) (shown packages other caller (queries.Record notice))
         (ap (package_told (notice_at notice s)) (blindly (queries.Record notice) s es' ss' rows))
-    shown_alike packages blindly rows caller (queries.Tender receipt) = tender_alike caller (envelope_at receipt s) (find_envelope es' receipt) (found receipt)
+    shown_alike packages blindly rows caller (queries.Tender receipt) = tender_alike caller (envelope_at receipt s) (find_envelope es' receipt) (envelope_pair th W s es' all receipt)
     shown_alike packages blindly rows caller (queries.Security security) =
         told_same th caller (shown packages s caller (queries.Security security)) (shown packages other caller (queries.Security security)) refl
     shown_alike packages blindly rows caller (queries.Performance contract) =
@@ -153,17 +144,17 @@ module _ (th : Theirs) (W : ℕ → Bool) where
       same_reply : (command : Command) → LeavesAlike command → reply_for readings other u' t caller command ≡ reply_for readings s u t caller command
       same_reply (commands.Open notice) after =
           ap (λ n. OpenedAll notice n (release_of s.notices notice) t) (pairs-length (filter is_sealed_envelope (envelopes_of_notice notice s)) (filter is_sealed_envelope (envelopes_of_notice notice other))
-          (pairs-filter th W is_sealed_envelope (λ _ _. refl) (envelopes_of_notice notice s) (envelopes_of_notice notice other) (of_notice notice)))
-      same_reply (commands.Modify receipt bytes) after = blind-option th W (modify_reply readings s.clock t bytes) (λ _ _. refl) (envelope_at receipt s) (find_envelope es' receipt) (found receipt)
+          (pairs-filter th W is_sealed_envelope (λ _ _. refl) (envelopes_of_notice notice s) (envelopes_of_notice notice other) (notice_pairs th W s es' all notice)))
+      same_reply (commands.Modify receipt bytes) after = blind-option th W (modify_reply readings s.clock t bytes) (λ _ _. refl) (envelope_at receipt s) (find_envelope es' receipt) (envelope_pair th W s es' all receipt)
       same_reply (commands.Withdraw receipt) after =
-          blind-option th W (λ o. Withdrew receipt (state_after (is_late (late_of_envelope o s) t (notice_of_envelope o s)) o) t) (λ e d. ap (λ st. Withdrew receipt st t) (same_state (is_late (late_at e.notice s) t (notice_at e.notice s)) e d)) (envelope_at receipt s) (find_envelope es' receipt) (found receipt)
+          blind-option th W (λ o. Withdrew receipt (state_after (is_late (late_of_envelope o s) t (notice_of_envelope o s)) o) t) (λ e d. ap (λ st. Withdrew receipt st t) (same_state (is_late (late_at e.notice s) t (notice_at e.notice s)) e d)) (envelope_at receipt s) (find_envelope es' receipt) (envelope_pair th W s es' all receipt)
         where
           same_state : (b : Bool) (e : EnvelopeRow) (d : List ℕ) → state_after b (Some (record e { digest = d })) ≡ state_after b (Some e)
           same_state true e d = refl
           same_state false e d = refl
       same_reply (commands.Award notice lot) after =
           blind-option th W (λ o. Awarded lot (option_map (winning s.clock) o) (release_of s.notices notice) t) (λ _ _. refl) (winner (notice_at notice s) (envelopes_of_lot notice lot s)) (winner (notice_at notice s) (envelopes_of_lot notice lot other))
-          (pairs-winner th W (notice_at notice s) (envelopes_of_lot notice lot s) (envelopes_of_lot notice lot other) (of_lot notice lot))
+          (pairs-winner th W (notice_at notice s) (envelopes_of_lot notice lot s) (envelopes_of_lot notice lot other) (lot_pairs th W s es' all notice lot))
       same_reply (commands.AmendContract contract entry kind amount rationale) after = left_same contract (contract_release (contract_at contract s) s.notices) (after tt)
       same_reply (commands.Pay contract entry amount) after = left_same contract (contract_release (contract_at contract s) s.notices) (after tt)
       same_reply (commands.End contract how) after = left_same contract (contract_release (contract_at contract s) s.notices) (after tt)
@@ -181,4 +172,4 @@ module _ (th : Theirs) (W : ℕ → Bool) where
       command_told command command' (Modified receipt bytes bytes' len who lot is is') after =
           subst (λ c. ToldAlike th caller (reply_for readings s u t caller c) (reply_for readings other u' t caller command')) is
           (subst (λ c. ToldAlike th caller (reply_for readings s u t caller (commands.Modify receipt bytes)) (reply_for readings other u' t caller c)) is'
-          (record { others = λ out. own_call th caller who out; but_digest = modified_told readings s.clock t bytes bytes' (envelope_at receipt s) (find_envelope es' receipt) (found receipt) }))
+          (record { others = λ out. own_call th caller who out; but_digest = modified_told readings s.clock t bytes bytes' (envelope_at receipt s) (find_envelope es' receipt) (envelope_pair th W s es' all receipt) }))

@@ -1,9 +1,14 @@
 -- Rows of a command's own, its notice with one release more where it publishes, and the clock; no release and no merge.
-use Rattle.std.proofs.Common.{◌≡◌, ℕ, ◌+◌, ◌≤◌, ◌<◌, Bool, true, false, List, ◌∷◌, ◌++◌, map, filter, Option, Some, None, option_map, nat_le, refl, sym, ◌∙◌, ap, subst, arith}
+use Rattle.std.proofs.Common.{[], ◌≡◌, ℕ, ◌+◌, ◌≤◌, ◌<◌, Bool, true, false, List, ◌∷◌, ◌++◌, map, filter, Option, Some, None, option_map, nat_le, refl, sym, ◌∙◌, ap, subst, arith}
 use Rattle.std.specs.Prelude.{option_and_then}
 use Rattle.std.proofs.lemmas.Bool.Decides.{nat_tests}
+use Rattle.office_acts.specs.declared.commands.Command.{Command}
+use Rattle.office_acts.specs.declared.commands.Command.TheVariants.{Sign, End}
+use Rattle.office_base.specs.declared.records.ContractRow.{ContractRow}
+use Rattle.office_base.specs.RuleParts.{released, has_all_releases, security_returned, is_held_security, securities_returned, settled_performance, put_if}
+use Rattle.office_base.specs.Parents.{notice_of_contract}
+use Rattle.office_base.specs.Tables.{contract_at, Tables, put_notice, put_performance, notice_at, award_at, performance_at, after_put, after_puts}
 use Rattle.office_base.specs.Limits.{release_limit}
-use Rattle.office_base.specs.RuleParts.{has_all_releases, security_returned, is_held_security, securities_returned, settled_performance, put_if}
 use Rattle.office_base.specs.declared.records.NoticeRow.{NoticeRow}
 use Rattle.office_base.specs.declared.records.SecurityRow.{SecurityRow}
 use Rattle.office_base.specs.declared.records.AwardRow.{AwardRow}
@@ -11,12 +16,10 @@ use Rattle.office_base.specs.declared.records.PerformanceRow.{PerformanceRow}
 use Rattle.office_base.specs.declared.records.ClockRow.{ClockRow}
 use Rattle.office_base.specs.declared.puts.Put.{Put}
 use Rattle.office_base.specs.declared.puts.Put.TheVariants as puts
-use Rattle.office_base.specs.Tables.{Tables, put_notice, put_performance, notice_at, award_at, performance_at, after_put, after_puts}
-use Rattle.office_acts.specs.declared.commands.Command.{Command}
-use Rattle.office_acts.specs.declared.commands.Command.TheVariants.{Sign, End}
 use Rattle.award_core.specs.Rules.Sign.{performance_row}
 use Rattle.award_core.specs.Rules.End.{ended_state}
 use Rattle.office_machine.specs.Counted.{releases_in}
+use Rattle.office_machine.proofs.SpokenOf.{OfContract}
 use Rattle.office_machine.proofs.Aside.{after-append}
 use Rattle.office_machine.proofs.Footprint.{TableName, Notices, Securities, Releases, Merges, Performances, Clock, IsOn, AreOn, on-append, on-wider, on-map, on-if, is_in, leaves}
 use Rattle.office_machine.proofs.Keyed.{found_key}
@@ -198,3 +201,10 @@ loud {s = s} key n row clock rest is full same more own moment drawn =
 
 pub returned_own : (names : List TableName) → is_own names Securities ≡ true → (rows : List SecurityRow) → AreOn (is_own names) (securities_returned rows)
 returned_own names own rows = on-map (is_own names) security_returned (filter is_held_security rows) (λ _. own)
+
+-- a command on a contract that is there
+pub on_contract : {s : Tables} {t : ℕ} {names : List TableName} (contract : ℕ) (of : OfContract s contract) → has_all_releases (notice_of_contract (contract_at contract s) s) ≡ false
+    → HasTail s t names (option_map (λ (c : ContractRow). c.notice) (contract_at contract s)) None (puts.Notice (released of.n) ∷ puts.Clock (record s.clock { moment = t }) ∷ [])
+on_contract {s = s} contract of full =
+    moved (ap (option_map (λ (c : ContractRow). c.notice)) of.is) refl
+    (loud of.c.notice of.n (released of.n) _ [] of.notice_is (ap has_all_releases (of.notice_is ∙ sym of.notice) ∙ full) refl refl tt refl (omega arith))

@@ -10,6 +10,7 @@ use Rattle.office_base.specs.declared.records.SealRow.{SealRow}
 use Rattle.office_base.specs.Tables.{Tables, IsSorted, seal_key, find_envelope, find_seal, put_envelope, put_seal, drop_seal, seal_at, after_put, after_puts}
 use Rattle.office_base.specs.declared.puts.Put.{Put}
 use Rattle.office_base.specs.declared.puts.Put.TheVariants as puts
+use Rattle.office_base.specs.RuleParts.{put_if}
 use Rattle.office_machine.specs.Worlds.{Theirs, is_theirs, AlikeRows, Pairs}
 use Rattle.office_machine.proofs.Keyed as keyed
 use Rattle.office_machine.proofs.Lists.{row_at-row_drop}
@@ -147,13 +148,13 @@ module _ (th : Theirs) (W : ℕ → Bool) where
   -- pairs of puts
   pub data PutPair (p p' : Put) : Type 0 where
     Plain : IsPlain p → p ≡ p' → PutPair p p'
-    Envelopes : (e e' : EnvelopeRow) → puts.Envelope e ≡ p → puts.Envelope e' ≡ p' → Alike th W e e' → PutPair p p'
-    Seals : (r r' : SealRow) → puts.Seal r ≡ p → puts.Seal r' ≡ p' → r.receipt ≡ r'.receipt → (W r.receipt ≡ false → r ≡ r') → PutPair p p'
+    TwoEnvelopes : (e e' : EnvelopeRow) → puts.Envelope e ≡ p → puts.Envelope e' ≡ p' → Alike th W e e' → PutPair p p'
+    TwoSeals : (r r' : SealRow) → puts.Seal r ≡ p → puts.Seal r' ≡ p' → r.receipt ≡ r'.receipt → (W r.receipt ≡ false → r ≡ r') → PutPair p p'
 
   pair_put : (p p' : Put) (s s' : Tables) → PutPair p p' → AlikeIn th W s s' → IsSorted s → IsSorted s' → AlikeIn th W (after_put p s) (after_put p' s')
   pair_put p p' s s' (Plain plain same) a o o' = subst (λ q. AlikeIn th W (after_put p s) (after_put q s')) same (same_put p s s' a plain o o')
-  pair_put p p' s s' (Envelopes e e' is is' b) a o o' = subst (λ q. AlikeIn th W (after_put q s) (after_put p' s')) is (subst (λ q. AlikeIn th W (after_put (puts.Envelope e) s) (after_put q s')) is' (envelope_put e e' s s' a b))
-  pair_put p p' s s' (Seals r r' is is' same rows) a o o' = subst (λ q. AlikeIn th W (after_put q s) (after_put p' s')) is (subst (λ q. AlikeIn th W (after_put (puts.Seal r) s) (after_put q s')) is' (seal_both r r' s s' a same rows))
+  pair_put p p' s s' (TwoEnvelopes e e' is is' b) a o o' = subst (λ q. AlikeIn th W (after_put q s) (after_put p' s')) is (subst (λ q. AlikeIn th W (after_put (puts.Envelope e) s) (after_put q s')) is' (envelope_put e e' s s' a b))
+  pair_put p p' s s' (TwoSeals r r' is is' same rows) a o o' = subst (λ q. AlikeIn th W (after_put q s) (after_put p' s')) is (subst (λ q. AlikeIn th W (after_put (puts.Seal r) s) (after_put q s')) is' (seal_both r r' s s' a same rows))
 
   pub pair_puts : (ps ps' : List Put) (s s' : Tables) → Pairs PutPair ps ps' → AlikeIn th W s s' → IsSorted s → IsSorted s' → AlikeIn th W (after_puts ps s) (after_puts ps' s')
   pair_puts [] [] s s' all a o o' = a
@@ -187,3 +188,16 @@ module _ (th : Theirs) (W : ℕ → Bool) where
     };
     own = own e ∙ (a.own ∙ ap W (sym (key e)));
   }
+
+-- puts that are the same in both worlds
+pub plain-map : {X : Type 0} (make : X → Put) (xs : List X) → ((x : X) → IsPlain (make x)) → AllByRecursion IsPlain (map make xs)
+plain-map make [] h = tt
+plain-map make (x ∷ xs) h = (h x, plain-map make xs h)
+
+pub plain-append : (ps qs : List Put) → AllByRecursion IsPlain ps → AllByRecursion IsPlain qs → AllByRecursion IsPlain (ps ++ qs)
+plain-append [] qs a b = b
+plain-append (p ∷ ps) qs a b = (a.0, plain-append ps qs a.1 b)
+
+pub plain-if : {X : Type 0} (make : X → Put) (o : Option X) → ((x : X) → IsPlain (make x)) → AllByRecursion IsPlain (put_if make o)
+plain-if make None h = tt
+plain-if make (Some x) h = (h x, tt)

@@ -29,7 +29,8 @@ use Rattle.office_machine.proofs.Keyed as keyed
 use Rattle.office_machine.proofs.ParentsPut.{grows-puts}
 use Rattle.office_machine.proofs.Passed.{none_holds, allowed_by}
 use Rattle.office_machine.proofs.WorldsPut.{Alike, pair_puts, pairs-found}
-use Rattle.office_machine.proofs.WorldsEffects.{present_pairs, modify_pairs}
+use Rattle.office_machine.proofs.Commands.Present.{present_pairs}
+use Rattle.office_machine.proofs.Commands.Modify.{modify_pairs}
 use Rattle.office_machine.proofs.WorldsStep.{tests_same}
 use Rattle.office_machine.proofs.WorldsKept.{GivesNone, offices_of, is_there, quiet_step}
 
