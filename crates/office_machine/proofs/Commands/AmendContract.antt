@@ -28,24 +28,24 @@ use Rattle.office_machine.specs.Parents.{HaveParents}
 use Rattle.office_machine.specs.Machine.{Given, time_of, command_tests, effect}
 use Rattle.office_machine.specs.Readings.{Readings}
 use Rattle.office_machine.specs.Moves.{moves, line_in, raised_by, cut_by, move_of_change}
-use Rattle.office_machine.proofs.ParentsPut.{Grows, AllParents}
-use Rattle.office_machine.proofs.Tail.{on_contract, moved, front}
-use Rattle.office_machine.proofs.QuietFates.{contract_notice, Stands}
-use Rattle.office_machine.proofs.RowsHave.{entry_has}
-use Rattle.office_machine.proofs.Aside.{kept_aside}
-use Rattle.office_machine.proofs.Keyed.{found_key, found, still_there}
-use Rattle.office_machine.proofs.Kept.{IsKept, PotsAre, ContractIs, over_contracts}
-use Rattle.office_machine.proofs.Joins.{outstanding-own, free-replaced}
+use Rattle.office_machine.proofs.Parents.ParentsPut.{Grows, AllParents}
+use Rattle.office_machine.proofs.Commands.Tail.{on_contract, moved, front}
+use Rattle.office_machine.proofs.FateLaws.QuietFates.{contract_notice, Stands}
+use Rattle.office_machine.proofs.Parents.RowsHave.{entry_has}
+use Rattle.office_machine.proofs.Accounts.Aside.{kept_aside}
+use Rattle.office_machine.proofs.Rows.Keyed.{found_key, found, still_there}
+use Rattle.office_machine.proofs.Accounts.Kept.{IsKept, PotsAre, ContractIs, over_contracts}
+use Rattle.office_machine.proofs.Accounts.Joins.{outstanding-own, free-replaced}
 use Rattle.office_machine.proofs.Passed.{none_holds, not_false, not_both, not_all, at_least, witness, test_of, split, neither}
-use Rattle.office_machine.proofs.Entered.{not_taken, contracts_are, no_contract_are, gains, losses, payments}
-use Rattle.office_machine.proofs.Footprint.{Lines, Entries}
-use Rattle.office_machine.proofs.Lawful.{Lawful, Moving}
-use Rattle.office_machine.proofs.Views.{View}
-use Rattle.office_machine.proofs.Seen.{seen, IsQuiet, quiet}
-use Rattle.office_machine.proofs.FatesHold.{Keeps, given}
-use Rattle.office_machine.proofs.WorldsPut.{IsPlain, plain_pairs}
-use Rattle.office_machine.proofs.SpokenOf.{of_contract}
-use Rattle.office_machine.proofs.Keyed as keyed
+use Rattle.office_machine.proofs.Accounts.Entered.{not_taken, contracts_are, no_contract_are, gains, losses, payments}
+use Rattle.office_machine.proofs.Commands.Footprint.{Lines, Entries}
+use Rattle.office_machine.proofs.Commands.Lawful.{Lawful, Moving}
+use Rattle.office_machine.proofs.FateLaws.Views.{View}
+use Rattle.office_machine.proofs.FateLaws.Seen.{seen, IsQuiet, quiet}
+use Rattle.office_machine.proofs.FateLaws.FatesHold.{Keeps, given}
+use Rattle.office_machine.proofs.Worlds.WorldsPut.{IsPlain, plain_pairs}
+use Rattle.office_machine.proofs.Parents.SpokenOf.{of_contract}
+use Rattle.office_machine.proofs.Rows.Keyed as keyed
 
 -- the accounts
 -- what an entry of the kind raises, and cuts
@@ -247,7 +247,7 @@ amend_contract contract entry kind amount rationale = record {
       moved refl (λ i. amend_contract_effect s.clock (max moment s.clock.moment) (of.is i) (of.notice i) (of.line i) entry kind amount rationale)
       (front (puts.Entry _ ∷ puts.Line _ ∷ []) (refl, (refl, tt)) (on_contract contract of (neither _ (has_all_releases (notice_of_contract (contract_at contract s) s)) tests.1.1.1.1.1.0).1));
   parents = λ readings s moment caller order have registered may allowed u grown later. parents_of s u have grown s.clock _ contract (contract_at contract s) (notice_of_contract (contract_at contract s) s) (line_of_lot (lot_of_contract (contract_at contract s) s) s) entry kind amount rationale refl;
-  alike = λ th W s es' ss' all seals readings t caller quiet. 
+  alike = λ th W s es' ss' all seals readings t caller quiet.
       plain_pairs th W (amend_contract_effect s.clock t (contract_at contract s) (notice_of_contract (contract_at contract s) s) (line_of_lot (lot_of_contract (contract_at contract s) s) s) entry kind amount rationale)
       (plain s.clock t (contract_at contract s) (notice_of_contract (contract_at contract s) s) (line_of_lot (lot_of_contract (contract_at contract s) s) s) entry kind amount rationale);
 }

@@ -9,13 +9,13 @@ use Rattle.office_base.specs.declared.records.ClockRow.{ClockRow}
 use Rattle.office_base.specs.declared.records.NoticeRow.{NoticeRow}
 use Rattle.std.specs.List.{AllByRecursion}
 use Rattle.office_machine.specs.Machine.{time_of}
-use Rattle.office_machine.proofs.WorldsPut.{IsPlain, plain_pairs}
-use Rattle.office_machine.proofs.Lawful.{Lawful, Idle, given}
-use Rattle.office_machine.proofs.ParentsPut.{AllParents}
+use Rattle.office_machine.proofs.Worlds.WorldsPut.{IsPlain, plain_pairs}
+use Rattle.office_machine.proofs.Commands.Lawful.{Lawful, Idle, given}
+use Rattle.office_machine.proofs.Parents.ParentsPut.{AllParents}
 use Rattle.office_machine.proofs.Passed.{none_holds, not_false, neither, witness}
-use Rattle.office_machine.proofs.QuietFates.{kept_after, one_more, notice_stands}
-use Rattle.office_machine.proofs.Seen.{seen, IsQuiet}
-use Rattle.office_machine.proofs.Tail.{moved, loud}
+use Rattle.office_machine.proofs.FateLaws.QuietFates.{kept_after, one_more, notice_stands}
+use Rattle.office_machine.proofs.FateLaws.Seen.{seen, IsQuiet}
+use Rattle.office_machine.proofs.Commands.Tail.{moved, loud}
 
 parents_of : (u : Tables) (clock : ClockRow) (t : ℕ) (notice : Option NoticeRow) (deadline : ℕ) → AllParents u (amend_notice_effect clock t notice deadline)
 parents_of u clock t None deadline = tt

@@ -1,4 +1,7 @@
 -- The award of a lot keeps the laws of the office.
+pub mod Accounts
+pub mod Fates
+pub mod Winners
 use Rattle.std.specs.Prelude.{max, IsSome}
 use Rattle.std.proofs.Common.{arith, ◌≡◌, ℕ, false, List, [], ◌∷◌, Option, Some, None, refl, ◌∙◌, ap, Bool, filter, is_some, subst, sym}
 use Rattle.std.specs.List.{AllByRecursion}
@@ -18,18 +21,18 @@ use Rattle.award_core.proofs.BestFound.{of_one, best_is_found}
 use Rattle.award_core.specs.Rules.Award.{winner, decision_puts, award_rows, award_tests, award_effect, best_of}
 use Rattle.office_machine.specs.Worlds.{Theirs, Pairs}
 use Rattle.office_machine.specs.Parents.{HaveParents}
-use Rattle.office_machine.proofs.WorldsPut.{Alike, AlikeOptions, plain-map, IsPlain, PutPair, blind-option, plain_pairs}
-use Rattle.office_machine.proofs.ParentsPut.{Grows, AllParents, lot_still, all-filter}
-use Rattle.office_machine.proofs.WorldsRows.{pairs-winner, lot_pairs}
-use Rattle.office_machine.proofs.RowsHave.{lot_securities}
-use Rattle.office_machine.proofs.AwardKeeps.{award_keeps}
-use Rattle.office_machine.proofs.Footprint.{Awards, Lots, Lines, Securities}
-use Rattle.office_machine.proofs.Lawful.{Lawful, Moving}
+use Rattle.office_machine.proofs.Worlds.WorldsPut.{Alike, AlikeOptions, plain-map, IsPlain, PutPair, blind-option, plain_pairs}
+use Rattle.office_machine.proofs.Parents.ParentsPut.{Grows, AllParents, lot_still, all-filter}
+use Rattle.office_machine.proofs.Worlds.WorldsRows.{pairs-winner, lot_pairs}
+use Rattle.office_machine.proofs.Parents.RowsHave.{lot_securities}
+use Rattle.office_machine.proofs.Commands.Award.Accounts.{award_keeps}
+use Rattle.office_machine.proofs.Commands.Footprint.{Awards, Lots, Lines, Securities}
+use Rattle.office_machine.proofs.Commands.Lawful.{Lawful, Moving}
 use Rattle.office_machine.proofs.Passed.{none_holds, not_false, witness}
-use Rattle.office_machine.proofs.Tail.{HasTail, moved, front, loud, returned_own}
-use Rattle.office_machine.proofs.Keyed.{found_key, all_found}
-use Rattle.office_machine.proofs.AwardFates as award_fates
-use Rattle.office_machine.proofs.Keyed as keyed
+use Rattle.office_machine.proofs.Commands.Tail.{HasTail, moved, front, loud, returned_own}
+use Rattle.office_machine.proofs.Rows.Keyed.{found_key, all_found}
+use Rattle.office_machine.proofs.Commands.Award.Fates as award_fates
+use Rattle.office_machine.proofs.Rows.Keyed as keyed
 
 module _ (s : Tables) (now : ℕ) (notice lot : List ℕ) (n : NoticeRow) (l : LotRow) (w : LineRow) (is : notice_at notice s ≡ Some n)
     (full : has_all_releases (notice_at notice s) ≡ false) where
@@ -97,6 +100,6 @@ award notice lot = record {
       moved refl (λ i. award_effect s.clock now (n.1 i) (l.1 i) (line i) (envelopes_of_lot notice lot s) (securities_of_lot notice lot s))
       (decided s now notice lot n.0 l.0 w.0 n.1 tests.1.1.1.1.1.1.1.0 (winner (Some n.0) (envelopes_of_lot notice lot s)));
   parents = λ readings s moment caller order have registered may allowed u grown later. parents_of s u have grown order s.clock _ notice lot (notice_at notice s) (lot_at (notice, lot) s) (line_of_lot (lot_at (notice, lot) s) s) refl;
-  alike = λ th W s es' ss' all seals readings t caller quiet. 
+  alike = λ th W s es' ss' all seals readings t caller quiet.
       pairs th W s.clock t (notice_at notice s) (lot_at (notice, lot) s) (line_of_lot (lot_at (notice, lot) s) s) (envelopes_of_lot notice lot s) (envelopes_of_lot notice lot (record s { envelopes = es' })) (securities_of_lot notice lot s) (lot_pairs th W s es' all notice lot);
 }

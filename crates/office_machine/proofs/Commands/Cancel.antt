@@ -1,4 +1,6 @@
 -- The cancellation of a notice keeps the laws of the office.
+pub mod Accounts
+pub mod Fates
 use Rattle.std.specs.Prelude.{max, ℕ, List}
 use Rattle.std.proofs.Common.{[], ◌∷◌, ◌≡◌, Bool, false, ◌++◌, map, filter, Option, Some, None, refl, ap, sym, arith}
 use Rattle.std.specs.List.{AllByRecursion}
@@ -17,17 +19,17 @@ use Rattle.office_base.specs.declared.puts.Put.TheVariants as puts
 use Rattle.tender_core.specs.Rules.Cancel.{line_put as cancel_line, lot_put as cancel_lot, cancel_tests, cancel_rows, is_open_lot, is_ended_award, award_put, is_ended_envelope, envelope_put, drop_put, is_ended_security, cancel_effect, cancelled_notice, returned_envelope}
 use Rattle.office_machine.specs.Worlds.{Theirs, Pairs}
 use Rattle.office_machine.specs.Parents.{HaveParents, LotHas, EnvelopeHas, AwardHas}
-use Rattle.office_machine.proofs.Tail.{HasTail, moved, front_map, quiet, loud}
-use Rattle.office_machine.proofs.Footprint.{Envelopes, Seals, Lines, Lots, Securities, Awards}
-use Rattle.office_machine.proofs.WorldsPut.{TwoEnvelopes, Alike, plain-map, plain-append, PutPair, Plain, receipt_is, pairs-filter, plain_pairs, pairs-append, pairs-map, alike-set}
-use Rattle.office_machine.proofs.ParentsPut.{Grows, Parents, AllParents, lot_still, envelope_still, award_still, parents-append, parents-map, parents-all, all-filter, all-table}
-use Rattle.office_machine.proofs.WorldsRows.{notice_pairs}
-use Rattle.office_machine.proofs.RowsHave.{securities_have, returned}
-use Rattle.office_machine.proofs.CancelKeeps.{cancel_keeps}
-use Rattle.office_machine.proofs.Lawful.{Lawful, Moving}
+use Rattle.office_machine.proofs.Commands.Tail.{HasTail, moved, front_map, quiet, loud}
+use Rattle.office_machine.proofs.Commands.Footprint.{Envelopes, Seals, Lines, Lots, Securities, Awards}
+use Rattle.office_machine.proofs.Worlds.WorldsPut.{TwoEnvelopes, Alike, plain-map, plain-append, PutPair, Plain, receipt_is, pairs-filter, plain_pairs, pairs-append, pairs-map, alike-set}
+use Rattle.office_machine.proofs.Parents.ParentsPut.{Grows, Parents, AllParents, lot_still, envelope_still, award_still, parents-append, parents-map, parents-all, all-filter, all-table}
+use Rattle.office_machine.proofs.Worlds.WorldsRows.{notice_pairs}
+use Rattle.office_machine.proofs.Parents.RowsHave.{securities_have, returned}
+use Rattle.office_machine.proofs.Commands.Cancel.Accounts.{cancel_keeps}
+use Rattle.office_machine.proofs.Commands.Lawful.{Lawful, Moving}
 use Rattle.office_machine.proofs.Passed.{none_holds, not_false, witness}
-use Rattle.office_machine.proofs.CancelFates as cancel_fates
-use Rattle.office_machine.proofs.Keyed as keyed
+use Rattle.office_machine.proofs.Commands.Cancel.Fates as cancel_fates
+use Rattle.office_machine.proofs.Rows.Keyed as keyed
 
 -- six kinds of rows before its notice and the clock
 tail_of : (s : Tables) (t : ℕ) (notice : List ℕ) (n : NoticeRow) → notice_at notice s ≡ Some n → has_all_releases (notice_at notice s) ≡ false
@@ -106,6 +108,6 @@ cancel notice rationale = record {
       moved refl (λ i. cancel_effect s.clock now s.lines (n.1 i) (lots_of_notice notice s) (awards_of_notice notice s) (envelopes_of_notice notice s) (securities_of_notice notice s))
       (tail_of s now notice n.0 n.1 tests.1.1.0);
   parents = λ readings s moment caller order have registered may allowed u grown later. parents_of s u have grown order s.clock _ notice (notice_at notice s);
-  alike = λ th W s es' ss' all seals readings t caller quiet. 
+  alike = λ th W s es' ss' all seals readings t caller quiet.
       pairs th W s.clock t s.lines (notice_at notice s) (lots_of_notice notice s) (awards_of_notice notice s) (envelopes_of_notice notice s) (envelopes_of_notice notice (record s { envelopes = es' })) (securities_of_notice notice s) (notice_pairs th W s es' all notice);
 }

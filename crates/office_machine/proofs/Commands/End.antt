@@ -31,22 +31,22 @@ use Rattle.office_machine.specs.Parents.{HaveParents}
 use Rattle.office_machine.specs.Machine.{Given, time_of, command_tests, effect}
 use Rattle.office_machine.specs.Readings.{Readings}
 use Rattle.office_machine.specs.Moves.{moves, brought, taken, owed, line_in}
-use Rattle.office_machine.proofs.SpokenOf.{of_contract, of_award}
-use Rattle.office_machine.proofs.ParentsPut.{Grows, AllParents, contract_still, parents-if}
-use Rattle.office_machine.proofs.WorldsPut.{plain-if, IsPlain, plain_pairs}
-use Rattle.office_machine.proofs.Tail.{on_contract, moved, bonded, front}
-use Rattle.office_machine.proofs.QuietFates.{contract_notice, Stands}
-use Rattle.office_machine.proofs.Aside.{kept_aside, aside-if}
-use Rattle.office_machine.proofs.Keyed.{found_key, found, still_there, none_before, own_key}
-use Rattle.office_machine.proofs.Kept.{IsKept, PotsAre, ContractIs, NoContractIs, over_contracts}
-use Rattle.office_machine.proofs.Joins.{outstanding-own, over_contracts-replaced, free-replaced}
+use Rattle.office_machine.proofs.Parents.SpokenOf.{of_contract, of_award}
+use Rattle.office_machine.proofs.Parents.ParentsPut.{Grows, AllParents, contract_still, parents-if}
+use Rattle.office_machine.proofs.Worlds.WorldsPut.{plain-if, IsPlain, plain_pairs}
+use Rattle.office_machine.proofs.Commands.Tail.{on_contract, moved, bonded, front}
+use Rattle.office_machine.proofs.FateLaws.QuietFates.{contract_notice, Stands}
+use Rattle.office_machine.proofs.Accounts.Aside.{kept_aside, aside-if}
+use Rattle.office_machine.proofs.Rows.Keyed.{found_key, found, still_there, none_before, own_key}
+use Rattle.office_machine.proofs.Accounts.Kept.{IsKept, PotsAre, ContractIs, NoContractIs, over_contracts}
+use Rattle.office_machine.proofs.Accounts.Joins.{outstanding-own, over_contracts-replaced, free-replaced}
 use Rattle.office_machine.proofs.Passed.{none_holds, not_false, witness, test_of, split}
-use Rattle.office_machine.proofs.Footprint.{Lines, Contracts}
-use Rattle.office_machine.proofs.Lawful.{Lawful, Moving}
-use Rattle.office_machine.proofs.Views.{View}
-use Rattle.office_machine.proofs.Seen.{seen, IsQuiet, quiet}
-use Rattle.office_machine.proofs.FatesHold.{Keeps, given}
-use Rattle.office_machine.proofs.Keyed as keyed
+use Rattle.office_machine.proofs.Commands.Footprint.{Lines, Contracts}
+use Rattle.office_machine.proofs.Commands.Lawful.{Lawful, Moving}
+use Rattle.office_machine.proofs.FateLaws.Views.{View}
+use Rattle.office_machine.proofs.FateLaws.Seen.{seen, IsQuiet, quiet}
+use Rattle.office_machine.proofs.FateLaws.FatesHold.{Keeps, given}
+use Rattle.office_machine.proofs.Rows.Keyed as keyed
 
 -- the accounts
 module _ (readings : Readings) (xs : List Given) (s : Tables) (moment : ℕ) (caller : Caller) (c : ℕ) (how : How) (kept : IsKept xs s) (order : IsSorted s) where
@@ -220,7 +220,7 @@ end_contract contract how = record {
       (bonded (settled_performance (ended_state how)) (performance_at contract s)
       (front (puts.Contract _ ∷ puts.Line _ ∷ []) (refl, (refl, tt)) (on_contract contract of tests.1.1.0)));
   parents = λ readings s moment caller order have registered may allowed u grown later. parents_of s u have grown s.clock _ how contract (contract_at contract s) (entries_of_contract contract s) (notice_of_contract (contract_at contract s) s) (line_of_lot (lot_of_contract (contract_at contract s) s) s) (performance_at contract s) refl;
-  alike = λ th W s es' ss' all seals readings t caller quiet. 
+  alike = λ th W s es' ss' all seals readings t caller quiet.
       plain_pairs th W (end_effect s.clock t how (contract_at contract s) (entries_of_contract contract s) (notice_of_contract (contract_at contract s) s) (line_of_lot (lot_of_contract (contract_at contract s) s) s) (performance_at contract s))
       (plain s.clock t how (contract_at contract s) (entries_of_contract contract s) (notice_of_contract (contract_at contract s) s) (line_of_lot (lot_of_contract (contract_at contract s) s) s) (performance_at contract s));
 }

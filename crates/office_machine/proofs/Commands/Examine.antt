@@ -17,21 +17,21 @@ use Rattle.office_machine.specs.Parents.{HaveParents}
 use Rattle.office_machine.specs.Machine.{Given}
 use Rattle.office_machine.specs.Readings.{Readings}
 use Rattle.office_machine.specs.Fates.{is_kept}
-use Rattle.office_machine.proofs.Footprint.{Envelopes}
-use Rattle.office_machine.proofs.Lawful.{given, Lawful, Idle}
-use Rattle.office_machine.proofs.WorldsPut.{TwoEnvelopes, AlikeOptions, PutPair, Plain, alike-set}
-use Rattle.office_machine.proofs.ParentsPut.{Grows, AllParents, envelope_still}
-use Rattle.office_machine.proofs.WorldsRows.{envelope_pair}
+use Rattle.office_machine.proofs.Commands.Footprint.{Envelopes}
+use Rattle.office_machine.proofs.Commands.Lawful.{given, Lawful, Idle}
+use Rattle.office_machine.proofs.Worlds.WorldsPut.{TwoEnvelopes, AlikeOptions, PutPair, Plain, alike-set}
+use Rattle.office_machine.proofs.Parents.ParentsPut.{Grows, AllParents, envelope_still}
+use Rattle.office_machine.proofs.Worlds.WorldsRows.{envelope_pair}
 use Rattle.office_machine.proofs.Passed.{none_holds, not_false, witness}
-use Rattle.office_machine.proofs.Tail.{moved, front, quiet}
-use Rattle.office_machine.proofs.RowsChanged.{found_key, row_at-changed_put}
-use Rattle.office_machine.proofs.Views.{Change, after_change}
-use Rattle.office_machine.proofs.Steps.{cond_keeps, examination, fair_examination}
-use Rattle.office_machine.proofs.Seen.{seen, alike, order-puts}
-use Rattle.office_machine.proofs.FatesHold.{IsKept, Keeps, still_sealed, still_held, securities_keep}
-use Rattle.office_machine.proofs.QuietFates.{one_more}
-use Rattle.office_machine.proofs.FatesChanged.{kept_by_change}
-use Rattle.office_machine.proofs.States.{map_same}
+use Rattle.office_machine.proofs.Commands.Tail.{moved, front, quiet}
+use Rattle.office_machine.proofs.Rows.RowsChanged.{found_key, row_at-changed_put}
+use Rattle.office_machine.proofs.FateLaws.Views.{Change, after_change}
+use Rattle.office_machine.proofs.FateLaws.Steps.{cond_keeps, examination, fair_examination}
+use Rattle.office_machine.proofs.FateLaws.Seen.{seen, alike, order-puts}
+use Rattle.office_machine.proofs.FateLaws.FatesHold.{IsKept, Keeps, still_sealed, still_held, securities_keep}
+use Rattle.office_machine.proofs.FateLaws.QuietFates.{one_more}
+use Rattle.office_machine.proofs.FateLaws.FatesChanged.{kept_by_change}
+use Rattle.office_machine.proofs.FateLaws.States.{map_same}
 
 module _ (readings : Readings) (receipt : ℕ) (responsive : Bool) (quality : Option ℕ) (xs : List Given) (t : Tables) (m : ℕ) (caller : Caller)
     (kept : IsKept readings xs t) where

@@ -1,4 +1,6 @@
 -- The failure of an award keeps the laws of the office.
+pub mod Accounts
+pub mod Fates
 use Rattle.std.specs.Prelude.{max, ℕ}
 use Rattle.std.proofs.Common.{[], ◌∷◌, refl, ◌≡◌, Bool, Option, Some, None, option_map, sym, ◌∙◌, ap, arith, subst}
 use Rattle.office_acts.specs.declared.commands.Command.TheVariants.{Fail, Award}
@@ -16,17 +18,17 @@ use Rattle.office_base.specs.declared.puts.Put.TheVariants as puts
 use Rattle.award_core.specs.Rules.Fail.{fail_tests, fail_rows, fail_effect}
 use Rattle.office_machine.specs.Worlds.{Theirs, Pairs}
 use Rattle.office_machine.specs.Parents.{HaveParents, EnvelopeHas}
-use Rattle.office_machine.proofs.Footprint.{Envelopes, Awards, Lots, Securities, TableName, on-append, on-if}
-use Rattle.office_machine.proofs.WorldsPut.{TwoEnvelopes, AlikeOptions, plain-if, PutPair, Plain, blind-option, plain_pairs, pairs-append, alike-set}
-use Rattle.office_machine.proofs.ParentsPut.{Grows, AllParents, envelope_still, award_still, parents-append, parents-if}
-use Rattle.office_machine.proofs.WorldsRows.{awarded_pair}
-use Rattle.office_machine.proofs.RowsHave.{security_found, lot_of}
-use Rattle.office_machine.proofs.FailKeeps.{fail_keeps}
-use Rattle.office_machine.proofs.Lawful.{Lawful, Moving}
+use Rattle.office_machine.proofs.Commands.Footprint.{Envelopes, Awards, Lots, Securities, TableName, on-append, on-if}
+use Rattle.office_machine.proofs.Worlds.WorldsPut.{TwoEnvelopes, AlikeOptions, plain-if, PutPair, Plain, blind-option, plain_pairs, pairs-append, alike-set}
+use Rattle.office_machine.proofs.Parents.ParentsPut.{Grows, AllParents, envelope_still, award_still, parents-append, parents-if}
+use Rattle.office_machine.proofs.Worlds.WorldsRows.{awarded_pair}
+use Rattle.office_machine.proofs.Parents.RowsHave.{security_found, lot_of}
+use Rattle.office_machine.proofs.Commands.Fail.Accounts.{fail_keeps}
+use Rattle.office_machine.proofs.Commands.Lawful.{Lawful, Moving}
 use Rattle.office_machine.proofs.Passed.{none_holds, not_false}
-use Rattle.office_machine.proofs.SpokenOf.{of_award}
-use Rattle.office_machine.proofs.Tail.{moved, front, quiet, loud, is_own}
-use Rattle.office_machine.proofs.FailFates as fail_fates
+use Rattle.office_machine.proofs.Parents.SpokenOf.{of_award}
+use Rattle.office_machine.proofs.Commands.Tail.{moved, front, quiet, loud, is_own}
+use Rattle.office_machine.proofs.Commands.Fail.Fates as fail_fates
 
 module _ (s u : Tables) (have : HaveParents s s) (g : Grows s u) where
   envelope_of : (o : Option AwardRow) (e : EnvelopeRow) → envelope_of_award o s ≡ Some e → EnvelopeHas u e
@@ -100,7 +102,7 @@ fail award = record {
       (loud of.w.notice of.n (released of.n) _ _ of.notice_is (ap has_all_releases (of.notice_is ∙ sym of.notice) ∙ tests.1.1.1.1.0) refl refl
       (on-append own _ _ (on-if own (λ e. puts.Envelope (passed_over e)) envelope (λ _. refl)) (on-if own (security_settled Forfeited) security (λ _. refl))) refl (omega arith)));
   parents = λ readings s moment caller order have registered may allowed u grown later. parents_of s u have grown s.clock _ award (award_at award s) (notice_of_award (award_at award s) s) (lot_of_award (award_at award s) s) refl refl;
-  alike = λ th W s es' ss' all seals readings t caller quiet. 
+  alike = λ th W s es' ss' all seals readings t caller quiet.
       let o = envelope_of_award (award_at award s) s in
       let o' = envelope_of_award (award_at award s) (record s { envelopes = es' }) in
       let pair = awarded_pair th W s es' all (award_at award s) in

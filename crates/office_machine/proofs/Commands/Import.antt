@@ -1,4 +1,6 @@
 -- The import of a budget keeps the laws of the office.
+pub mod Accounts
+pub mod Columns
 use Rattle.std.proofs.Common.{[], ◌∷◌, refl, arith}
 use Rattle.std.specs.Prelude.{ℕ, List, map}
 use Rattle.office_acts.specs.declared.commands.Command.TheVariants.{Import}
@@ -7,14 +9,14 @@ use Rattle.office_base.specs.Standings.{standings}
 use Rattle.office_base.specs.declared.puts.Put.TheVariants as puts
 use Rattle.tender_core.specs.Rules.Import.{line_put, import_effect, after_rows}
 use Rattle.office_machine.specs.Readings.{Readings}
-use Rattle.office_machine.proofs.Lawful.{given, Lawful, Moving}
-use Rattle.office_machine.proofs.WorldsPut.{plain-map, plain-append, plain_pairs}
-use Rattle.office_machine.proofs.ImportKeeps.{import_keeps}
-use Rattle.office_machine.proofs.Footprint.{Lines, Batches}
-use Rattle.office_machine.proofs.Seen.{seen, IsQuiet, quiet}
-use Rattle.office_machine.proofs.FatesHold.{Keeps}
-use Rattle.office_machine.proofs.ParentsPut.{parents-append, parents-map}
-use Rattle.office_machine.proofs.Tail.{front, front_map}
+use Rattle.office_machine.proofs.Commands.Lawful.{given, Lawful, Moving}
+use Rattle.office_machine.proofs.Worlds.WorldsPut.{plain-map, plain-append, plain_pairs}
+use Rattle.office_machine.proofs.Commands.Import.Accounts.{import_keeps}
+use Rattle.office_machine.proofs.Commands.Footprint.{Lines, Batches}
+use Rattle.office_machine.proofs.FateLaws.Seen.{seen, IsQuiet, quiet}
+use Rattle.office_machine.proofs.FateLaws.FatesHold.{Keeps}
+use Rattle.office_machine.proofs.Parents.ParentsPut.{parents-append, parents-map}
+use Rattle.office_machine.proofs.Commands.Tail.{front, front_map}
 
 -- the lines of its rows, the batch and the clock touch no tender and no security
 fates_kept : (readings : Readings) (batch : List ℕ) (rows : List BudgetRow) → Keeps readings (Import batch rows)
@@ -30,9 +32,9 @@ import_budget batch rows = record {
   fates = λ readings. fates_kept readings batch rows;
   tail = λ readings s moment caller have allowed.
       front_map (line_put (after_rows (standings s) rows)) rows (λ _. refl) (front (puts.Batch _ ∷ []) (refl, tt) (quiet _ [] tt refl (omega arith)));
-  parents = λ readings s moment caller order have registered may allowed u grown later. 
+  parents = λ readings s moment caller order have registered may allowed u grown later.
       parents-append u (map (line_put (after_rows (standings s) rows)) rows) _ (parents-map u (line_put (after_rows (standings s) rows)) rows (λ _. tt)) (tt, (tt, tt));
-  alike = λ th W s es' ss' all seals readings t caller quiet. 
+  alike = λ th W s es' ss' all seals readings t caller quiet.
       plain_pairs th W (import_effect s.clock t batch (standings s) rows)
       (plain-append (map (line_put (after_rows (standings s) rows)) rows) _ (plain-map (line_put (after_rows (standings s) rows)) rows (λ _. tt)) (tt, (tt, tt)));
 }

@@ -1,4 +1,5 @@
 -- The replacement of a tender keeps the laws of the office.
+pub mod Fates
 use Rattle.std.specs.Prelude.{max, ℕ, List}
 use Rattle.std.proofs.Common.{[], ◌∷◌, refl, ◌≡◌, Bool, false, Option, Some, None, sym, ◌∙◌, ap, arith, ◌+◌, length}
 use Rattle.office_acts.specs.declared.commands.Command.TheVariants.{Modify}
@@ -11,13 +12,13 @@ use Rattle.office_base.specs.declared.records.EnvelopeState.TheVariants as envel
 use Rattle.tender_core.specs.Rules.Modify.{modify_tests, modify_rows, modify_effect, withdrawn, replacing}
 use Rattle.office_machine.specs.Worlds.{Theirs, Pairs, is_theirs}
 use Rattle.office_machine.specs.Parents.{HaveParents}
-use Rattle.office_machine.proofs.Footprint.{Envelopes, Seals}
-use Rattle.office_machine.proofs.WorldsPut.{TwoEnvelopes, TwoSeals, AlikeOptions, PutPair, Plain, receipt_is, alike-set}
-use Rattle.office_machine.proofs.ParentsPut.{Grows, AllParents, envelope_still}
-use Rattle.office_machine.proofs.Lawful.{Lawful, Idle}
+use Rattle.office_machine.proofs.Commands.Footprint.{Envelopes, Seals}
+use Rattle.office_machine.proofs.Worlds.WorldsPut.{TwoEnvelopes, TwoSeals, AlikeOptions, PutPair, Plain, receipt_is, alike-set}
+use Rattle.office_machine.proofs.Parents.ParentsPut.{Grows, AllParents, envelope_still}
+use Rattle.office_machine.proofs.Commands.Lawful.{Lawful, Idle}
 use Rattle.office_machine.proofs.Passed.{none_holds, not_false, witness}
-use Rattle.office_machine.proofs.Tail.{moved, front, quiet}
-use Rattle.office_machine.proofs.ModifyFates as modify_fates
+use Rattle.office_machine.proofs.Commands.Tail.{moved, front, quiet}
+use Rattle.office_machine.proofs.Commands.Modify.Fates as modify_fates
 
 module _ (s u : Tables) (have : HaveParents s s) (g : Grows s u) where
   parents_of : (digest : List ℕ → List ℕ) (clock : ClockRow) (t receipt : ℕ) (bytes : List ℕ) (o : Option EnvelopeRow) → envelope_at receipt s ≡ o → AllParents u (modify_effect digest clock t o bytes)

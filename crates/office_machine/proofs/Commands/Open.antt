@@ -1,4 +1,5 @@
 -- The opening of the tenders of a notice keeps the laws of the office.
+pub mod Fates
 use Rattle.std.specs.Prelude.{max, ℕ, List}
 use Rattle.std.proofs.Common.{[], ◌∷◌, refl, ◌≡◌, Bool, map, filter, Option, Some, None, sym, ◌∙◌, ap, arith}
 use Rattle.std.specs.List.{AllByRecursion}
@@ -15,16 +16,16 @@ use Rattle.tender_core.specs.Rules.Open.{open_tests, open_rows, opened_put, open
 use Rattle.office_machine.specs.Rule.{sealed_tenders, sealed_tender, bytes_in, items_in}
 use Rattle.office_machine.specs.Worlds.{Theirs, Pairs}
 use Rattle.office_machine.specs.Parents.{HaveParents, EnvelopeHas}
-use Rattle.office_machine.proofs.WorldsPut.{TwoEnvelopes, Alike, PutPair, Plain, receipt_is, pairs-filter, blind, pairs-append}
-use Rattle.office_machine.proofs.ParentsPut.{Grows, AllParents, envelope_still, parents-append, all-filter, all-table}
-use Rattle.office_machine.proofs.WorldsRows.{notice_pairs}
-use Rattle.office_machine.proofs.WorldsStep.{SealsAlike}
-use Rattle.office_machine.proofs.Footprint.{Envelopes}
-use Rattle.office_machine.proofs.Lawful.{Lawful, Idle}
+use Rattle.office_machine.proofs.Worlds.WorldsPut.{TwoEnvelopes, Alike, PutPair, Plain, receipt_is, pairs-filter, blind, pairs-append}
+use Rattle.office_machine.proofs.Parents.ParentsPut.{Grows, AllParents, envelope_still, parents-append, all-filter, all-table}
+use Rattle.office_machine.proofs.Worlds.WorldsRows.{notice_pairs}
+use Rattle.office_machine.proofs.Worlds.WorldsStep.{SealsAlike}
+use Rattle.office_machine.proofs.Commands.Footprint.{Envelopes}
+use Rattle.office_machine.proofs.Commands.Lawful.{Lawful, Idle}
 use Rattle.office_machine.proofs.Passed.{none_holds, not_false, witness}
-use Rattle.office_machine.proofs.Tail.{moved, front_map, quiet, loud}
-use Rattle.office_machine.proofs.OpenFates as open_fates
-use Rattle.office_machine.proofs.Keyed as keyed
+use Rattle.office_machine.proofs.Commands.Tail.{moved, front_map, quiet, loud}
+use Rattle.office_machine.proofs.Commands.Open.Fates as open_fates
+use Rattle.office_machine.proofs.Rows.Keyed as keyed
 
 module _ (s u : Tables) (have : HaveParents s s) (g : Grows s u) (order : IsSorted s) where
   opened_all : (read : List ℕ → List Item → Reading) (rows : List EnvelopeRow) → AllByRecursion (λ e. EnvelopeHas u e) rows → AllParents u (map (opened_put read) (map (sealed_tender s) rows))

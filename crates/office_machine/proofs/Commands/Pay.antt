@@ -24,24 +24,24 @@ use Rattle.office_machine.specs.Parents.{HaveParents}
 use Rattle.office_machine.specs.Machine.{Given, time_of, command_tests, effect}
 use Rattle.office_machine.specs.Readings.{Readings}
 use Rattle.office_machine.specs.Moves.{moves, line_in}
-use Rattle.office_machine.proofs.ParentsPut.{Grows, AllParents}
-use Rattle.office_machine.proofs.Tail.{on_contract, moved, front}
-use Rattle.office_machine.proofs.QuietFates.{contract_notice, Stands}
-use Rattle.office_machine.proofs.RowsHave.{entry_has}
-use Rattle.office_machine.proofs.Aside.{kept_aside}
-use Rattle.office_machine.proofs.Keyed.{found_key}
-use Rattle.office_machine.proofs.Kept.{IsKept, PotsAre, ContractIs}
-use Rattle.office_machine.proofs.Joins.{outstanding-own}
+use Rattle.office_machine.proofs.Parents.ParentsPut.{Grows, AllParents}
+use Rattle.office_machine.proofs.Commands.Tail.{on_contract, moved, front}
+use Rattle.office_machine.proofs.FateLaws.QuietFates.{contract_notice, Stands}
+use Rattle.office_machine.proofs.Parents.RowsHave.{entry_has}
+use Rattle.office_machine.proofs.Accounts.Aside.{kept_aside}
+use Rattle.office_machine.proofs.Rows.Keyed.{found_key}
+use Rattle.office_machine.proofs.Accounts.Kept.{IsKept, PotsAre, ContractIs}
+use Rattle.office_machine.proofs.Accounts.Joins.{outstanding-own}
 use Rattle.office_machine.proofs.Passed.{none_holds, not_false, not_both, at_least, witness, test_of, neither}
-use Rattle.office_machine.proofs.Entered.{not_taken, contracts_are, no_contract_are, gains, losses, payments}
-use Rattle.office_machine.proofs.Footprint.{Entries}
-use Rattle.office_machine.proofs.Lawful.{Lawful, Moving}
-use Rattle.office_machine.proofs.SpokenOf.{of_contract}
-use Rattle.office_machine.proofs.Views.{View}
-use Rattle.office_machine.proofs.Seen.{seen, IsQuiet, quiet}
-use Rattle.office_machine.proofs.FatesHold.{Keeps, given}
-use Rattle.office_machine.proofs.WorldsPut.{IsPlain, plain_pairs}
-use Rattle.office_machine.proofs.Keyed as keyed
+use Rattle.office_machine.proofs.Accounts.Entered.{not_taken, contracts_are, no_contract_are, gains, losses, payments}
+use Rattle.office_machine.proofs.Commands.Footprint.{Entries}
+use Rattle.office_machine.proofs.Commands.Lawful.{Lawful, Moving}
+use Rattle.office_machine.proofs.Parents.SpokenOf.{of_contract}
+use Rattle.office_machine.proofs.FateLaws.Views.{View}
+use Rattle.office_machine.proofs.FateLaws.Seen.{seen, IsQuiet, quiet}
+use Rattle.office_machine.proofs.FateLaws.FatesHold.{Keeps, given}
+use Rattle.office_machine.proofs.Worlds.WorldsPut.{IsPlain, plain_pairs}
+use Rattle.office_machine.proofs.Rows.Keyed as keyed
 
 -- the accounts
 module _ (readings : Readings) (xs : List Given) (s : Tables) (moment : ℕ) (caller : Caller) (c : ℕ) (entry : List ℕ) (amount : ℕ) (kept : IsKept xs s) (order : IsSorted s) where
@@ -165,6 +165,6 @@ pay contract entry amount = record {
       (front (puts.Entry _ ∷ []) (refl, tt)
       (on_contract contract of (neither _ (has_all_releases (notice_of_contract (contract_at contract s) s)) tests.1.1.1.1.0).1));
   parents = λ readings s moment caller order have registered may allowed u grown later. parents_of s u have grown s.clock _ contract (contract_at contract s) (notice_of_contract (contract_at contract s) s) entry amount refl;
-  alike = λ th W s es' ss' all seals readings t caller quiet. 
+  alike = λ th W s es' ss' all seals readings t caller quiet.
       plain_pairs th W (pay_effect s.clock t (contract_at contract s) (notice_of_contract (contract_at contract s) s) entry amount) (plain s.clock t (contract_at contract s) (notice_of_contract (contract_at contract s) s) entry amount);
 }

@@ -1,4 +1,5 @@
 -- The presentation of a tender keeps the laws of the office.
+pub mod Fates
 use Rattle.std.specs.Prelude.{max, ℕ, List, Option, IsSome}
 use Rattle.std.proofs.Common.{◌+◌, [], ◌∷◌, refl, is_some, ◌≡◌, Bool, true, false, Some, None, option_map, sym, ◌∙◌, ap, arith, subst, length}
 use Rattle.office_acts.specs.declared.commands.Command.TheVariants.{Present}
@@ -15,15 +16,15 @@ use Rattle.office_base.specs.declared.puts.Put.TheVariants as puts
 use Rattle.tender_core.specs.Rules.Present.{security_row, received_puts, seal_puts, security_put, received}
 use Rattle.office_machine.specs.Worlds.{Theirs, Pairs, is_theirs}
 use Rattle.office_machine.specs.Machine.{command_tests, IsRegistered}
-use Rattle.office_machine.proofs.Tail.{HasTail, front, quiet}
-use Rattle.office_machine.proofs.Footprint.{Envelopes, Seals, Securities}
-use Rattle.office_machine.proofs.WorldsPut.{TwoEnvelopes, TwoSeals, plain-if, PutPair, Plain, plain_pairs, pairs-append}
-use Rattle.office_machine.proofs.ParentsPut.{Grows, AllParents, parents-append, parents-if}
+use Rattle.office_machine.proofs.Commands.Tail.{HasTail, front, quiet}
+use Rattle.office_machine.proofs.Commands.Footprint.{Envelopes, Seals, Securities}
+use Rattle.office_machine.proofs.Worlds.WorldsPut.{TwoEnvelopes, TwoSeals, plain-if, PutPair, Plain, plain_pairs, pairs-append}
+use Rattle.office_machine.proofs.Parents.ParentsPut.{Grows, AllParents, parents-append, parents-if}
 use Rattle.office_machine.proofs.Passed.{none_holds, not_false}
-use Rattle.office_machine.proofs.Lawful.{Lawful, Idle, given}
-use Rattle.office_machine.proofs.Keyed.{found_put}
-use Rattle.office_machine.proofs.PresentFates as present_fates
-use Rattle.office_machine.proofs.Keyed as keyed
+use Rattle.office_machine.proofs.Commands.Lawful.{Lawful, Idle, given}
+use Rattle.office_machine.proofs.Rows.Keyed.{found_put}
+use Rattle.office_machine.proofs.Commands.Present.Fates as present_fates
+use Rattle.office_machine.proofs.Rows.Keyed as keyed
 
 tail_of : (digest : List ℕ → List ℕ) (s : Tables) (t : ℕ) (caller : Caller) (notice lot : List ℕ) (security : Option NamedSecurity) (bytes : List ℕ) (in_time : Bool)
     → HasTail s t (Envelopes ∷ Seals ∷ Securities ∷ []) None None (received_puts digest s.clock t caller notice lot security bytes in_time)

@@ -1,4 +1,7 @@
 -- The publication of a notice keeps the laws of the office.
+pub mod Accounts
+pub mod Fates
+pub mod Rows
 use Rattle.std.specs.Prelude.{max, IsSome, ℕ, List}
 use Rattle.std.proofs.Common.{[], ◌∷◌, sym, subst, map, ◌++◌, ◌≡◌, Bool, false, Option, Some, None, is_some, refl, ◌∙◌, ap, arith}
 use Rattle.std.specs.List.{AllByRecursion}
@@ -15,17 +18,17 @@ use Rattle.office_base.specs.declared.puts.Put.TheVariants as puts
 use Rattle.tender_core.specs.Rules.Publish.{publish_tests, publish_rows, publish_effect, publish_parts, late_puts, line_put, lot_put, notice_row}
 use Rattle.office_machine.specs.Machine.{command_tests, time_of}
 use Rattle.office_machine.specs.Counted.{releases_in}
-use Rattle.office_machine.proofs.Tail.{HasTail, is_own, front, back, quiet, counted}
-use Rattle.office_machine.proofs.ParentsPut.{Grows, Parents, AllParents, parents-append, parents-map, parents-all}
-use Rattle.office_machine.proofs.WorldsPut.{plain-map, plain-append, IsPlain, plain_pairs}
-use Rattle.office_machine.proofs.Aside.{after-append}
+use Rattle.office_machine.proofs.Commands.Tail.{HasTail, is_own, front, back, quiet, counted}
+use Rattle.office_machine.proofs.Parents.ParentsPut.{Grows, Parents, AllParents, parents-append, parents-map, parents-all}
+use Rattle.office_machine.proofs.Worlds.WorldsPut.{plain-map, plain-append, IsPlain, plain_pairs}
+use Rattle.office_machine.proofs.Accounts.Aside.{after-append}
 use Rattle.office_machine.proofs.Passed.{none_holds}
-use Rattle.office_machine.proofs.PublishKeeps.{publish_keeps, on_lines, OnLines}
-use Rattle.office_machine.proofs.Footprint.{Lines, Lots, LateRules, TableName, AreOn, on-append, on-map}
-use Rattle.office_machine.proofs.Lawful.{Lawful, Moving, given}
-use Rattle.office_machine.proofs.Keyed.{found_put}
-use Rattle.office_machine.proofs.PublishFates as publish_fates
-use Rattle.office_machine.proofs.Keyed as keyed
+use Rattle.office_machine.proofs.Commands.Publish.Accounts.{publish_keeps, on_lines, OnLines}
+use Rattle.office_machine.proofs.Commands.Footprint.{Lines, Lots, LateRules, TableName, AreOn, on-append, on-map}
+use Rattle.office_machine.proofs.Commands.Lawful.{Lawful, Moving, given}
+use Rattle.office_machine.proofs.Rows.Keyed.{found_put}
+use Rattle.office_machine.proofs.Commands.Publish.Fates as publish_fates
+use Rattle.office_machine.proofs.Rows.Keyed as keyed
 
 -- there is no such notice yet
 absent : (o : Option NoticeRow) → is_some o ≡ false → o ≡ None

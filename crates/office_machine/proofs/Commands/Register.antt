@@ -4,11 +4,11 @@ use Rattle.office_acts.specs.declared.commands.Command.TheVariants.{Register}
 use Rattle.office_base.specs.declared.puts.Put.TheVariants as puts
 use Rattle.tender_core.specs.Rules.Register.{register_effect}
 use Rattle.office_machine.specs.Machine.{time_of}
-use Rattle.office_machine.proofs.Footprint.{Tenderers}
-use Rattle.office_machine.proofs.WorldsPut.{Plain}
-use Rattle.office_machine.proofs.Lawful.{Lawful, Idle, given}
-use Rattle.office_machine.proofs.QuietFates.{kept_after, one_more}
-use Rattle.office_machine.proofs.Tail.{front, quiet}
+use Rattle.office_machine.proofs.Commands.Footprint.{Tenderers}
+use Rattle.office_machine.proofs.Worlds.WorldsPut.{Plain}
+use Rattle.office_machine.proofs.Commands.Lawful.{Lawful, Idle, given}
+use Rattle.office_machine.proofs.FateLaws.QuietFates.{kept_after, one_more}
+use Rattle.office_machine.proofs.Commands.Tail.{front, quiet}
 
 pub register : (tenderer name address key : List ℕ) → Lawful (Register tenderer name address key)
 register tenderer name address key = record {

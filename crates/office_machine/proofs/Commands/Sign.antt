@@ -1,4 +1,6 @@
 -- The signing of a contract keeps the laws of the office.
+pub mod Accounts
+pub mod Fates
 use Rattle.std.specs.Prelude.{max, ℕ, Option, option_and_then, IsSome}
 use Rattle.std.proofs.Common.{[], ◌∷◌, refl, ◌≡◌, Bool, true, false, List, ◌++◌, map, filter, Some, None, option_map, sym, ◌∙◌, ap, arith, subst}
 use Rattle.std.specs.List.{AllByRecursion}
@@ -17,17 +19,17 @@ use Rattle.office_base.specs.declared.puts.Put.TheVariants as puts
 use Rattle.award_core.specs.Rules.Sign.{sign_tests, sign_rows, sign_puts, performance_row, sign_effect, tenderer_in, performance_put, signed_award, contracted_lot, contract_row}
 use Rattle.office_machine.specs.Worlds.{Theirs, Pairs}
 use Rattle.office_machine.specs.Parents.{HaveParents}
-use Rattle.office_machine.proofs.WorldsPut.{Alike, plain-map, plain-append, plain-if, IsPlain, PutPair, blind-option, plain_pairs}
-use Rattle.office_machine.proofs.ParentsPut.{Grows, AllParents, envelope_still, award_still, parents-append, parents-if}
-use Rattle.office_machine.proofs.WorldsRows.{awarded_pair}
-use Rattle.office_machine.proofs.RowsHave.{lot_securities, lot_of}
-use Rattle.office_machine.proofs.SignKeeps.{sign_keeps}
-use Rattle.office_machine.proofs.Footprint.{Lots, Securities, Awards, Contracts}
-use Rattle.office_machine.proofs.Lawful.{Lawful, Moving}
+use Rattle.office_machine.proofs.Worlds.WorldsPut.{Alike, plain-map, plain-append, plain-if, IsPlain, PutPair, blind-option, plain_pairs}
+use Rattle.office_machine.proofs.Parents.ParentsPut.{Grows, AllParents, envelope_still, award_still, parents-append, parents-if}
+use Rattle.office_machine.proofs.Worlds.WorldsRows.{awarded_pair}
+use Rattle.office_machine.proofs.Parents.RowsHave.{lot_securities, lot_of}
+use Rattle.office_machine.proofs.Commands.Sign.Accounts.{sign_keeps}
+use Rattle.office_machine.proofs.Commands.Footprint.{Lots, Securities, Awards, Contracts}
+use Rattle.office_machine.proofs.Commands.Lawful.{Lawful, Moving}
 use Rattle.office_machine.proofs.Passed.{none_holds, not_false}
-use Rattle.office_machine.proofs.SpokenOf.{of_award}
-use Rattle.office_machine.proofs.Tail.{moved, bound, bonded, front, quiet, loud, returned_own}
-use Rattle.office_machine.proofs.SignFates as sign_fates
+use Rattle.office_machine.proofs.Parents.SpokenOf.{of_award}
+use Rattle.office_machine.proofs.Commands.Tail.{moved, bound, bonded, front, quiet, loud, returned_own}
+use Rattle.office_machine.proofs.Commands.Sign.Fates as sign_fates
 
 module _ (s u : Tables) (have : HaveParents s s) (g : Grows s u) (order : IsSorted s) where
   signer : (a : AwardRow) (e : Option EnvelopeRow) → envelope_at a.receipt s ≡ e → IsSome e → IsSome (tenderer_at (tenderer_in e) u)

@@ -1,4 +1,5 @@
 -- The withdrawal of a tender keeps the laws of the office.
+pub mod Fates
 use Rattle.std.specs.Prelude.{max}
 use Rattle.std.proofs.Common.{arith, ℕ, Bool, true, false, [], ◌∷◌, Option, None, refl, ◌≡◌, List, Some, ap, subst, sym}
 use Rattle.office_acts.specs.declared.commands.Command.TheVariants.{Withdraw}
@@ -17,15 +18,15 @@ use Rattle.tender_core.specs.Rules.Withdraw.{withdraw_puts, withdraw_rows, withd
 use Rattle.tender_core.specs.Rules.Modify.{withdrawn}
 use Rattle.office_machine.specs.Worlds.{Theirs, Pairs}
 use Rattle.office_machine.specs.Parents.{HaveParents, SecurityHas}
-use Rattle.office_machine.proofs.Footprint.{Envelopes, Seals, Securities, on-if}
-use Rattle.office_machine.proofs.WorldsPut.{TwoEnvelopes, Alike, AlikeOptions, plain-if, PutPair, Plain, receipt_is, blind-option, plain_pairs, alike-set}
-use Rattle.office_machine.proofs.ParentsPut.{Grows, AllParents, envelope_still, parents-if}
-use Rattle.office_machine.proofs.WorldsRows.{envelope_pair}
-use Rattle.office_machine.proofs.RowsHave.{security_found}
-use Rattle.office_machine.proofs.Lawful.{Lawful, Idle}
+use Rattle.office_machine.proofs.Commands.Footprint.{Envelopes, Seals, Securities, on-if}
+use Rattle.office_machine.proofs.Worlds.WorldsPut.{TwoEnvelopes, Alike, AlikeOptions, plain-if, PutPair, Plain, receipt_is, blind-option, plain_pairs, alike-set}
+use Rattle.office_machine.proofs.Parents.ParentsPut.{Grows, AllParents, envelope_still, parents-if}
+use Rattle.office_machine.proofs.Worlds.WorldsRows.{envelope_pair}
+use Rattle.office_machine.proofs.Parents.RowsHave.{security_found}
+use Rattle.office_machine.proofs.Commands.Lawful.{Lawful, Idle}
 use Rattle.office_machine.proofs.Passed.{none_holds, not_false, witness}
-use Rattle.office_machine.proofs.Tail.{HasTail, is_own, moved, front, quiet}
-use Rattle.office_machine.proofs.WithdrawFates as withdraw_fates
+use Rattle.office_machine.proofs.Commands.Tail.{HasTail, is_own, moved, front, quiet}
+use Rattle.office_machine.proofs.Commands.Withdraw.Fates as withdraw_fates
 
 tail_of : (s : Tables) (t : ℕ) (e : EnvelopeRow) (security : Option SecurityRow) (late : Bool) → HasTail s t (Envelopes ∷ Seals ∷ Securities ∷ []) None None (taken_back_puts s.clock t e security late)
 tail_of s t e security false = front (puts.Envelope _ ∷ puts.DropSeal _ ∷ []) (refl, (refl, tt)) (quiet _ _ (on-if (is_own (Envelopes ∷ Seals ∷ Securities ∷ [])) (security_settled Returned) security (λ _. refl)) refl (omega arith))
