@@ -14,6 +14,7 @@ use Rattle.office_base.specs.declared.records.ContractRow.{ContractRow}
 use Rattle.office_machine.specs.Readings.{Readings}
 use Rattle.office_machine.specs.Replies.{Reply}
 
+-- the notice of an award, and of a contract
 abbrev pub notice_in_award : AwardRow → List ℕ
 notice_in_award a = a.notice
 

@@ -2,22 +2,22 @@
 use Rattle.office_acts.specs.declared.commands.Command.TheVariants.{Import, Register, Publish, AmendNotice, Cancel, Open, Present, Modify, Withdraw, Examine, Award, Fail, Sign, AmendContract, Pay, End}
 use Rattle.office_acts.specs.declared.commands.Command.{Command}
 use Rattle.office_machine.specs.Rule.{Rule}
-use Rattle.office_machine.specs.Commands.Pay.{pay}
-use Rattle.office_machine.specs.Commands.Withdraw.{withdraw}
-use Rattle.office_machine.specs.Commands.Award.{award}
 use Rattle.office_machine.specs.Commands.Import.{import_budget}
+use Rattle.office_machine.specs.Commands.Register.{register}
 use Rattle.office_machine.specs.Commands.Publish.{publish}
+use Rattle.office_machine.specs.Commands.AmendNotice.{amend_notice}
 use Rattle.office_machine.specs.Commands.Cancel.{cancel}
 use Rattle.office_machine.specs.Commands.Open.{open_tenders}
 use Rattle.office_machine.specs.Commands.Present.{present}
 use Rattle.office_machine.specs.Commands.Modify.{modify}
+use Rattle.office_machine.specs.Commands.Withdraw.{withdraw}
+use Rattle.office_machine.specs.Commands.Examine.{examine}
+use Rattle.office_machine.specs.Commands.Award.{award}
 use Rattle.office_machine.specs.Commands.Fail.{fail}
 use Rattle.office_machine.specs.Commands.Sign.{sign}
 use Rattle.office_machine.specs.Commands.AmendContract.{amend_contract}
+use Rattle.office_machine.specs.Commands.Pay.{pay}
 use Rattle.office_machine.specs.Commands.End.{end_contract}
-use Rattle.office_machine.specs.Commands.Register.{register}
-use Rattle.office_machine.specs.Commands.Examine.{examine}
-use Rattle.office_machine.specs.Commands.AmendNotice.{amend_notice}
 
 abbrev pub rule_of : Command → Rule
 rule_of (Import batch rows) = import_budget batch rows

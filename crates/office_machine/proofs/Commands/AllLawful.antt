@@ -2,22 +2,22 @@
 use Rattle.office_acts.specs.declared.commands.Command.{Command}
 use Rattle.office_acts.specs.declared.commands.Command.TheVariants.{Import, Register, Publish, AmendNotice, Cancel, Open, Present, Modify, Withdraw, Examine, Award, Fail, Sign, AmendContract, Pay, End}
 use Rattle.office_machine.proofs.Commands.Lawful.{Lawful}
-use Rattle.office_machine.proofs.Commands.Pay.{pay}
-use Rattle.office_machine.proofs.Commands.Withdraw.{withdraw}
-use Rattle.office_machine.proofs.Commands.Award.{award}
 use Rattle.office_machine.proofs.Commands.Import.{import_budget}
+use Rattle.office_machine.proofs.Commands.Register.{register}
 use Rattle.office_machine.proofs.Commands.Publish.{publish}
+use Rattle.office_machine.proofs.Commands.AmendNotice.{amend_notice}
 use Rattle.office_machine.proofs.Commands.Cancel.{cancel}
 use Rattle.office_machine.proofs.Commands.Open.{open_tenders}
 use Rattle.office_machine.proofs.Commands.Present.{present}
 use Rattle.office_machine.proofs.Commands.Modify.{modify}
+use Rattle.office_machine.proofs.Commands.Withdraw.{withdraw}
+use Rattle.office_machine.proofs.Commands.Examine.{examine}
+use Rattle.office_machine.proofs.Commands.Award.{award}
 use Rattle.office_machine.proofs.Commands.Fail.{fail}
 use Rattle.office_machine.proofs.Commands.Sign.{sign}
 use Rattle.office_machine.proofs.Commands.AmendContract.{amend_contract}
+use Rattle.office_machine.proofs.Commands.Pay.{pay}
 use Rattle.office_machine.proofs.Commands.End.{end_contract}
-use Rattle.office_machine.proofs.Commands.Register.{register}
-use Rattle.office_machine.proofs.Commands.Examine.{examine}
-use Rattle.office_machine.proofs.Commands.AmendNotice.{amend_notice}
 
 pub lawful : (command : Command) → Lawful command
 lawful (Import batch rows) = import_budget batch rows

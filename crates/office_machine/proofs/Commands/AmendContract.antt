@@ -30,7 +30,7 @@ use Rattle.office_machine.specs.Readings.{Readings}
 use Rattle.office_machine.specs.Moves.{moves, line_in, raised_by, cut_by, move_of_change}
 use Rattle.office_machine.proofs.Parents.ParentsPut.{Grows, AllParents}
 use Rattle.office_machine.proofs.Commands.Tail.{on_contract, moved, front}
-use Rattle.office_machine.proofs.FateLaws.QuietFates.{contract_notice, Stands}
+use Rattle.office_machine.proofs.FateLaws.QuietFates.{Stands, contract_notice, kept_after, one_more}
 use Rattle.office_machine.proofs.Parents.RowsHave.{entry_has}
 use Rattle.office_machine.proofs.Accounts.Aside.{kept_aside}
 use Rattle.office_machine.proofs.Rows.Keyed.{found_key, found, still_there}
@@ -41,7 +41,7 @@ use Rattle.office_machine.proofs.Accounts.Entered.{not_taken, contracts_are, no_
 use Rattle.office_machine.proofs.Commands.Footprint.{Lines, Entries}
 use Rattle.office_machine.proofs.Commands.Lawful.{Lawful, Moving}
 use Rattle.office_machine.proofs.FateLaws.Views.{View}
-use Rattle.office_machine.proofs.FateLaws.Seen.{seen, IsQuiet, quiet}
+use Rattle.office_machine.proofs.FateLaws.Seen.{seen, IsQuiet}
 use Rattle.office_machine.proofs.FateLaws.FatesHold.{Keeps, given}
 use Rattle.office_machine.proofs.Worlds.WorldsPut.{IsPlain, plain_pairs}
 use Rattle.office_machine.proofs.Parents.SpokenOf.{of_contract}
@@ -85,8 +85,8 @@ module _ (readings : Readings) (xs : List Given) (s : Tables) (moment : ℕ) (ca
     number : r.contract ≡ c
     number = found_key keyed.contracts s.contracts c r is
 
-    contract : ContractIs xs s c r
-    contract = kept.contracts c r is
+    contract_is : ContractIs xs s c r
+    contract_is = kept.contracts c r is
 
     line_is : w.line ≡ l.line
     line_is = found_key keyed.lines s.lines l.line w line
@@ -102,8 +102,8 @@ module _ (readings : Readings) (xs : List Given) (s : Tables) (moment : ℕ) (ca
     new_here = ap (λ c. find_entry s.entries (c, entry)) number ∙ new
 
     within_by : (k : ChangeKind) → IsEnough k amount w.free (outstanding s.entries r) → minus s.entries r + cond (is_less (entry_kind k)) amount 0 ≤ plus s.entries r + cond (is_raise (entry_kind k)) amount 0
-    within_by change_kinds.Raise h = omega (arith, contract.within)
-    within_by change_kinds.Cut h = omega (arith, h, contract.within)
+    within_by change_kinds.Raise h = omega (arith, contract_is.within)
+    within_by change_kinds.Cut h = omega (arith, h, contract_is.within)
 
     comes : (n : ℕ) → cond (same_number c n) (raised_by kind amount) 0 ≡ cond (same_number c n) (cond (is_raise (entry_kind kind)) amount 0) 0
     comes n = ap (λ m. cond (same_number c n) m 0) (is_raised kind amount)
@@ -214,6 +214,7 @@ quiet_puts V clock t None _ _ entry kind amount rationale h = tt
 quiet_puts V clock t (Some c) None _ entry kind amount rationale h = tt
 quiet_puts V clock t (Some c) (Some n) None entry kind amount rationale h = tt
 
+-- no tender and no security is decided, and none comes in
 fates_kept : (readings : Readings) (contract : ℕ) (entry : List ℕ) (kind : ChangeKind) (amount : ℕ) (rationale : List ℕ)
     → Keeps readings (AmendContract contract entry kind amount rationale)
 fates_kept readings contract entry kind amount rationale xs t m caller kept own allowed =
@@ -223,13 +224,15 @@ fates_kept readings contract entry kind amount rationale xs t m caller kept own 
     (one_more readings xs (given t m caller (AmendContract contract entry kind amount rationale)) t kept refl (λ r. refl) (λ s. refl))
 
 module _ (s u : Tables) (have : HaveParents s s) (g : Grows s u) where
+  -- what its rows speak of is there
   parents_of : (clock : ClockRow) (t contract : ℕ) (c : Option ContractRow) (n : Option NoticeRow) (w : Option LineRow) (entry : List ℕ) (kind : ChangeKind) (amount : ℕ) (rationale : List ℕ) → contract_at contract s ≡ c
       → AllParents u (amend_contract_effect clock t c n w entry kind amount rationale)
-  parents_of clock t contract (Some c) (Some n) (Some w) entry kind amount rationale is = (record { contract = entry_has contract c is }, (tt, (tt, (tt, tt))))
+  parents_of clock t contract (Some c) (Some n) (Some w) entry kind amount rationale is = (record { contract = entry_has s u have g contract c is }, (tt, (tt, (tt, tt))))
   parents_of clock t contract None n w entry kind amount rationale is = tt
   parents_of clock t contract (Some c) None w entry kind amount rationale is = tt
   parents_of clock t contract (Some c) (Some n) None entry kind amount rationale is = tt
 
+-- it puts the same in both worlds
 plain : (clock : ClockRow) (t : ℕ) (c : Option ContractRow) (n : Option NoticeRow) (w : Option LineRow) (entry : List ℕ) (kind : ChangeKind) (amount : ℕ) (rationale : List ℕ) → AllByRecursion IsPlain (amend_contract_effect clock t c n w entry kind amount rationale)
 plain clock t (Some c) (Some n) (Some w) entry kind amount rationale = (tt, (tt, (tt, (tt, tt))))
 plain clock t None n w entry kind amount rationale = tt

@@ -17,6 +17,7 @@ use Rattle.office_machine.proofs.FateLaws.QuietFates.{kept_after, one_more, noti
 use Rattle.office_machine.proofs.FateLaws.Seen.{seen, IsQuiet}
 use Rattle.office_machine.proofs.Commands.Tail.{moved, loud}
 
+-- what its rows speak of is there
 parents_of : (u : Tables) (clock : ClockRow) (t : ℕ) (notice : Option NoticeRow) (deadline : ℕ) → AllParents u (amend_notice_effect clock t notice deadline)
 parents_of u clock t None deadline = tt
 parents_of u clock t (Some n) deadline = (tt, (tt, tt))
@@ -27,6 +28,7 @@ quiet_puts : (s : Tables) (t : ℕ) (key : List ℕ) (deadline : ℕ) (notice : 
 quiet_puts s t key deadline None is = tt
 quiet_puts s t key deadline (Some n) is = (notice_stands s key n is, (refl, tt))
 
+-- it puts the same in both worlds
 plain : (clock : ClockRow) (t : ℕ) (notice : Option NoticeRow) (deadline : ℕ) → AllByRecursion IsPlain (amend_notice_effect clock t notice deadline)
 plain clock t None deadline = tt
 plain clock t (Some n) deadline = (tt, (tt, tt))

@@ -60,6 +60,7 @@ module _ (s u : Tables) (have : HaveParents s s) (g : Grows s u) (order : IsSort
       let here : IsSome (lot_at (l.notice, l.lot) s) = ap is_some (ap (λ k. lot_at k s) at ∙ is) in
       (record { notice = h.notice; lot = g.lots (l.notice, l.lot) here; envelope = g.envelopes e.receipt (winner_there n.weight notice lot e won) }, (record { notice = h.notice; line = h.line }, (tt, (tt, (tt, tt)))))
 
+  -- what its rows speak of is there
   parents_of : (clock : ClockRow) (t : ℕ) (notice lot : List ℕ) (n : Option NoticeRow) (o : Option LotRow) (w : Option LineRow) → lot_at (notice, lot) s ≡ o
       → AllParents u (award_effect clock t n o w (envelopes_of_lot notice lot s) (securities_of_lot notice lot s))
   parents_of clock t notice lot (Some n) (Some l) (Some w) is = decision_parents clock t notice lot n l w is (winner (Some n) (envelopes_of_lot notice lot s)) refl
@@ -74,10 +75,12 @@ module _ (th : Theirs) (W : ℕ → Bool) where
       subst (λ ps. Pairs (PutPair th W) (decision_puts clock t n l w o securities) ps) (sym (blind-option th W (λ o. decision_puts clock t n l w o securities) (λ _ _. refl) o o' a))
       (plain_pairs th W (decision_puts clock t n l w o securities) (plain o))
     where
+      -- it puts the same in both worlds
       plain : (o : Option EnvelopeRow) → AllByRecursion IsPlain (decision_puts clock t n l w o securities)
       plain None = (tt, (tt, (tt, (tt, plain-map security_returned (filter is_held_security securities) (λ _. tt)))))
       plain (Some e) = (tt, (tt, (tt, (tt, (tt, tt)))))
 
+  -- what it puts is alike
   pairs : (clock : ClockRow) (t : ℕ) (n : Option NoticeRow) (l : Option LotRow) (w : Option LineRow) (es es' : List EnvelopeRow) (securities : List SecurityRow) → Pairs (Alike th W) es es'
       → Pairs (PutPair th W) (award_effect clock t n l w es securities) (award_effect clock t n l w es' securities)
   pairs clock t (Some n) (Some l) (Some w) es es' securities all = decision_pairs clock t n l w (winner (Some n) es) (winner (Some n) es') securities (pairs-winner th W (Some n) es es' all)

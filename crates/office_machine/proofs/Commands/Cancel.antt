@@ -60,6 +60,7 @@ module _ (s u : Tables) (have : HaveParents s s) (g : Grows s u) (order : IsSort
   envelopes_have : (make : EnvelopeRow → Put) → ((e : EnvelopeRow) → EnvelopeHas u e → Parents u (make e)) → AllByRecursion (λ e. Parents u (make e)) s.envelopes
   envelopes_have make h = all-table keyed.envelopes (λ e. Parents u (make e)) s.envelopes order.envelopes (λ k e is. h e (envelope_still s u g e (have.envelopes k e is)))
 
+  -- what its rows speak of is there
   parents_of : (clock : ClockRow) (t : ℕ) (notice : List ℕ) (row : Option NoticeRow) → AllParents u (cancel_effect clock t s.lines row (lots_of_notice notice s) (awards_of_notice notice s) (envelopes_of_notice notice s) (securities_of_notice notice s))
   parents_of clock t notice None = tt
   parents_of clock t notice (Some n) =

@@ -35,7 +35,7 @@ use Rattle.office_machine.proofs.Parents.SpokenOf.{of_contract, of_award}
 use Rattle.office_machine.proofs.Parents.ParentsPut.{Grows, AllParents, contract_still, parents-if}
 use Rattle.office_machine.proofs.Worlds.WorldsPut.{plain-if, IsPlain, plain_pairs}
 use Rattle.office_machine.proofs.Commands.Tail.{on_contract, moved, bonded, front}
-use Rattle.office_machine.proofs.FateLaws.QuietFates.{contract_notice, Stands}
+use Rattle.office_machine.proofs.FateLaws.QuietFates.{Stands, contract_notice, kept_after, one_more}
 use Rattle.office_machine.proofs.Accounts.Aside.{kept_aside, aside-if}
 use Rattle.office_machine.proofs.Rows.Keyed.{found_key, found, still_there, none_before, own_key}
 use Rattle.office_machine.proofs.Accounts.Kept.{IsKept, PotsAre, ContractIs, NoContractIs, over_contracts}
@@ -44,7 +44,7 @@ use Rattle.office_machine.proofs.Passed.{none_holds, not_false, witness, test_of
 use Rattle.office_machine.proofs.Commands.Footprint.{Lines, Contracts}
 use Rattle.office_machine.proofs.Commands.Lawful.{Lawful, Moving}
 use Rattle.office_machine.proofs.FateLaws.Views.{View}
-use Rattle.office_machine.proofs.FateLaws.Seen.{seen, IsQuiet, quiet}
+use Rattle.office_machine.proofs.FateLaws.Seen.{seen, IsQuiet}
 use Rattle.office_machine.proofs.FateLaws.FatesHold.{Keeps, given}
 use Rattle.office_machine.proofs.Rows.Keyed as keyed
 
@@ -67,8 +67,8 @@ module _ (readings : Readings) (xs : List Given) (s : Tables) (moment : ℕ) (ca
     number : r.contract ≡ c
     number = found_key keyed.contracts s.contracts c r is
 
-    contract : ContractIs xs s c r
-    contract = kept.contracts c r is
+    contract_is : ContractIs xs s c r
+    contract_is = kept.contracts c r is
 
     here : find_contract s.contracts r.contract ≡ Some r
     here = ap (find_contract s.contracts) number ∙ is
@@ -90,7 +90,7 @@ module _ (readings : Readings) (xs : List Given) (s : Tables) (moment : ℕ) (ca
     joined f q = over_contracts-replaced f s.lots s.contracts r r' l q here lot lot
 
     outgoing : owed xs c ≡ left
-    outgoing = omega (arith, contract.came_in, contract.went_out, left_is)
+    outgoing = omega (arith, contract_is.came_in, contract_is.went_out, left_is)
 
     pots : (q : List ℕ) → PotsAre (moves (x ∷ xs)) s' q
     pots q =
@@ -100,10 +100,10 @@ module _ (readings : Readings) (xs : List Given) (s : Tables) (moment : ℕ) (ca
         let there : cond (same_id l.line q) left 0 ≡ cond (same_id w.line q) left 0 = ap (λ n. cond (same_id n q) left 0) (sym line_is) in
         record {
           appropriation_is = omega (arith, old.appropriation_is, freed.appropriation_is);
-          free_is = omega (arith, old.free_is, freed.free_is, split (same_id w.line q) w.free left (w.free + left) refl, moved, there);
+          free_is = omega (arith, old.free_is, freed.free_is, split (same_id w.line q) w.free left (w.free + left) refl, moved_of, there);
           reserved_is = omega (arith, old.reserved_is);
           gains_are = omega (arith, old.gains_are, joined (plus s.entries) q);
-          losses_are = omega (arith, old.losses_are, joined (minus s.entries) q, moved, split (same_id l.line q) (minus s.entries r) left (minus s.entries r') (omega (arith, contract.running runs)));
+          losses_are = omega (arith, old.losses_are, joined (minus s.entries) q, moved_of, split (same_id l.line q) (minus s.entries r) left (minus s.entries r') (omega (arith, contract_is.running runs)));
           paid_is = omega (arith, old.paid_is, joined (paid_under s.entries) q);
           none_spent = omega (arith, old.none_spent);
         }
@@ -115,12 +115,12 @@ module _ (readings : Readings) (xs : List Given) (s : Tables) (moment : ℕ) (ca
         by (inl p) =
             let at : ContractIs (x ∷ xs) s' r.contract r' =
             record {
-              of_lot = contract.of_lot;
-              of_award = (contract.of_award.0, ap (Rattle.office_base.specs.Tables.find_award s.awards) number ∙ contract.of_award.1, contract.of_award.2);
+              of_lot = contract_is.of_lot;
+              of_award = (contract_is.of_award.0, ap (Rattle.office_base.specs.Tables.find_award s.awards) number ∙ contract_is.of_award.1, contract_is.of_award.2);
               running = λ e. cc;
-              within = omega (arith, contract.within, contract.running runs, left_is);
-              came_in = subst (λ n. plus s.entries r' ≡ brought (x ∷ xs) n) (sym number) (omega (arith, contract.came_in));
-              went_out = subst (λ n. minus s.entries r' ≡ taken (x ∷ xs) n) (sym number) (omega (arith, contract.went_out, contract.within, contract.running runs, outgoing, left_is, ap (λ b. cond b (owed xs c) 0) (own_key nat_cmp_total c)));
+              within = omega (arith, contract_is.within, contract_is.running runs, left_is);
+              came_in = subst (λ n. plus s.entries r' ≡ brought (x ∷ xs) n) (sym number) (omega (arith, contract_is.came_in));
+              went_out = subst (λ n. minus s.entries r' ≡ taken (x ∷ xs) n) (sym number) (omega (arith, contract_is.went_out, contract_is.within, contract_is.running runs, outgoing, left_is, ap (λ b. cond b (owed xs c) 0) (own_key nat_cmp_total c)));
             }
             in
             subst (λ n. ContractIs (x ∷ xs) s' n y) (sym p.0) (subst (ContractIs (x ∷ xs) s' r.contract) (sym p.1) at)
@@ -188,6 +188,7 @@ quiet_puts V clock t how None entries _ _ p h = tt
 quiet_puts V clock t how (Some c) entries None _ p h = tt
 quiet_puts V clock t how (Some c) entries (Some n) None p h = tt
 
+-- no tender and no security is decided, and none comes in
 fates_kept : (readings : Readings) (contract : ℕ) (how : How) → Keeps readings (End contract how)
 fates_kept readings contract how xs t m caller kept own allowed =
     kept_after readings (given t m caller (End contract how) ∷ xs) _ t
@@ -196,12 +197,14 @@ fates_kept readings contract how xs t m caller kept own allowed =
     (one_more readings xs (given t m caller (End contract how)) t kept refl (λ r. refl) (λ s. refl))
 
 module _ (s u : Tables) (have : HaveParents s s) (g : Grows s u) where
+  -- what its rows speak of is there
   parents_of : (clock : ClockRow) (t : ℕ) (how : How) (contract : ℕ) (c : Option ContractRow) (entries : List EntryRow) (n : Option NoticeRow) (w : Option LineRow) (p : Option PerformanceRow) → contract_at contract s ≡ c → AllParents u (end_effect clock t how c entries n w p)
   parents_of clock t how contract (Some c) entries (Some n) (Some w) p is = let h = contract_still s u g c (have.contracts contract c is) in (record { notice = h.notice; lot = h.lot; tenderer = h.tenderer }, (tt, (tt, (tt, parents-if u (performance_settled (ended_state how)) p (λ _ _. tt)))))
   parents_of clock t how contract None entries n w p is = tt
   parents_of clock t how contract (Some c) entries None w p is = tt
   parents_of clock t how contract (Some c) entries (Some n) None p is = tt
 
+-- it puts the same in both worlds
 plain : (clock : ClockRow) (t : ℕ) (how : How) (c : Option ContractRow) (es : List EntryRow) (n : Option NoticeRow) (w : Option LineRow) (p : Option PerformanceRow) → AllByRecursion IsPlain (end_effect clock t how c es n w p)
 plain clock t how (Some c) es (Some n) (Some w) p = (tt, (tt, (tt, (tt, plain-if (performance_settled (ended_state how)) p (λ _. tt)))))
 plain clock t how None es n w p = tt

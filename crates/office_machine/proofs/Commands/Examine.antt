@@ -83,10 +83,12 @@ module _ (readings : Readings) (receipt : ℕ) (responsive : Bool) (quality : Op
   examine_by None found = one_more readings xs x t kept refl (λ r. refl) (λ s. refl)
   examine_by (Some e) found = examined_kept e found
 
+-- no tender and no security is decided, and none comes in
 fates_kept : (readings : Readings) (receipt : ℕ) (responsive : Bool) (quality : Option ℕ) → Keeps readings (Examine receipt responsive quality)
 fates_kept readings receipt responsive quality xs t m caller kept _ allowed =
     examine_by readings receipt responsive quality xs t m caller kept (envelope_at receipt t) refl
 
+-- what its rows speak of is there
 parents_of : (s u : Tables) → HaveParents s s → Grows s u → (clock : ClockRow) (t receipt : ℕ) (responsive : Bool) (quality : Option ℕ) (o : Option EnvelopeRow)
     → envelope_at receipt s ≡ o → AllParents u (examine_effect clock t o responsive quality)
 parents_of s u have g clock t receipt responsive quality None is = tt

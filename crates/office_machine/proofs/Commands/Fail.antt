@@ -35,6 +35,7 @@ module _ (s u : Tables) (have : HaveParents s s) (g : Grows s u) where
   envelope_of None e is = cc
   envelope_of (Some a) e is = envelope_still s u g e (have.envelopes a.receipt e is)
 
+  -- what its rows speak of is there
   parents_of : (clock : ClockRow) (t award : ℕ) (o : Option AwardRow) (n : Option NoticeRow) (l : Option LotRow) → award_at award s ≡ o → lot_of_award o s ≡ l
       → AllParents u (fail_effect clock t o n l (envelope_of_award o s) (security_of_envelope (envelope_of_award o s) s))
   parents_of clock t award (Some a) (Some n) (Some l) is lot =

@@ -13,10 +13,11 @@ use Rattle.office_machine.proofs.Commands.Lawful.{given, Lawful, Moving}
 use Rattle.office_machine.proofs.Worlds.WorldsPut.{plain-map, plain-append, plain_pairs}
 use Rattle.office_machine.proofs.Commands.Import.Accounts.{import_keeps}
 use Rattle.office_machine.proofs.Commands.Footprint.{Lines, Batches}
-use Rattle.office_machine.proofs.FateLaws.Seen.{seen, IsQuiet, quiet}
+use Rattle.office_machine.proofs.FateLaws.QuietFates.{kept_after, one_more, all_append, all_of_map}
+use Rattle.office_machine.proofs.FateLaws.Seen.{seen, IsQuiet}
 use Rattle.office_machine.proofs.FateLaws.FatesHold.{Keeps}
 use Rattle.office_machine.proofs.Parents.ParentsPut.{parents-append, parents-map}
-use Rattle.office_machine.proofs.Commands.Tail.{front, front_map}
+use Rattle.office_machine.proofs.Commands.Tail.{front, front_map, quiet}
 
 -- the lines of its rows, the batch and the clock touch no tender and no security
 fates_kept : (readings : Readings) (batch : List ℕ) (rows : List BudgetRow) → Keeps readings (Import batch rows)

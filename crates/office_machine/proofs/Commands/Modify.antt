@@ -21,6 +21,7 @@ use Rattle.office_machine.proofs.Commands.Tail.{moved, front, quiet}
 use Rattle.office_machine.proofs.Commands.Modify.Fates as modify_fates
 
 module _ (s u : Tables) (have : HaveParents s s) (g : Grows s u) where
+  -- what its rows speak of is there
   parents_of : (digest : List ℕ → List ℕ) (clock : ClockRow) (t receipt : ℕ) (bytes : List ℕ) (o : Option EnvelopeRow) → envelope_at receipt s ≡ o → AllParents u (modify_effect digest clock t o bytes)
   parents_of digest clock t receipt bytes None is = tt
   parents_of digest clock t receipt bytes (Some e) is =

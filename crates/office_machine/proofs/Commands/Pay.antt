@@ -26,7 +26,7 @@ use Rattle.office_machine.specs.Readings.{Readings}
 use Rattle.office_machine.specs.Moves.{moves, line_in}
 use Rattle.office_machine.proofs.Parents.ParentsPut.{Grows, AllParents}
 use Rattle.office_machine.proofs.Commands.Tail.{on_contract, moved, front}
-use Rattle.office_machine.proofs.FateLaws.QuietFates.{contract_notice, Stands}
+use Rattle.office_machine.proofs.FateLaws.QuietFates.{Stands, contract_notice, kept_after, one_more}
 use Rattle.office_machine.proofs.Parents.RowsHave.{entry_has}
 use Rattle.office_machine.proofs.Accounts.Aside.{kept_aside}
 use Rattle.office_machine.proofs.Rows.Keyed.{found_key}
@@ -38,7 +38,7 @@ use Rattle.office_machine.proofs.Commands.Footprint.{Entries}
 use Rattle.office_machine.proofs.Commands.Lawful.{Lawful, Moving}
 use Rattle.office_machine.proofs.Parents.SpokenOf.{of_contract}
 use Rattle.office_machine.proofs.FateLaws.Views.{View}
-use Rattle.office_machine.proofs.FateLaws.Seen.{seen, IsQuiet, quiet}
+use Rattle.office_machine.proofs.FateLaws.Seen.{seen, IsQuiet}
 use Rattle.office_machine.proofs.FateLaws.FatesHold.{Keeps, given}
 use Rattle.office_machine.proofs.Worlds.WorldsPut.{IsPlain, plain_pairs}
 use Rattle.office_machine.proofs.Rows.Keyed as keyed
@@ -59,8 +59,8 @@ module _ (readings : Readings) (xs : List Given) (s : Tables) (moment : ℕ) (ca
     number : r.contract ≡ c
     number = found_key keyed.contracts s.contracts c r is
 
-    contract : ContractIs xs s c r
-    contract = kept.contracts c r is
+    contract_is : ContractIs xs s c r
+    contract_is = kept.contracts c r is
 
     -- the line of the move
     line : line_in (lot_of_contract (contract_at c s) s) ≡ l.line
@@ -74,7 +74,7 @@ module _ (readings : Readings) (xs : List Given) (s : Tables) (moment : ℕ) (ca
     zero_at false = refl
 
     within : minus s.entries r + amount ≤ plus s.entries r + 0
-    within = omega (arith, enough, contract.within)
+    within = omega (arith, enough, contract_is.within)
 
     moved_of : (q : List ℕ) → cond (same_id (line_in (lot_of_contract (contract_at c s) s)) q) amount 0 ≡ cond (same_id l.line q) amount 0
     moved_of q = ap (λ n. cond (same_id n q) amount 0) line
@@ -136,6 +136,7 @@ quiet_puts V clock t (Some c) (Some n) entry amount h = (tt, (h n refl, (refl, t
 quiet_puts V clock t None _ entry amount h = tt
 quiet_puts V clock t (Some c) None entry amount h = tt
 
+-- no tender and no security is decided, and none comes in
 fates_kept : (readings : Readings) (contract : ℕ) (entry : List ℕ) (amount : ℕ) → Keeps readings (Pay contract entry amount)
 fates_kept readings contract entry amount xs t m caller kept own allowed =
     kept_after readings (given t m caller (Pay contract entry amount) ∷ xs) _ t
@@ -143,11 +144,13 @@ fates_kept readings contract entry amount xs t m caller kept own allowed =
     (one_more readings xs (given t m caller (Pay contract entry amount)) t kept refl (λ r. refl) (λ s. refl))
 
 module _ (s u : Tables) (have : HaveParents s s) (g : Grows s u) where
+  -- what its rows speak of is there
   parents_of : (clock : ClockRow) (t contract : ℕ) (c : Option ContractRow) (n : Option NoticeRow) (entry : List ℕ) (amount : ℕ) → contract_at contract s ≡ c → AllParents u (pay_effect clock t c n entry amount)
-  parents_of clock t contract (Some c) (Some n) entry amount is = (record { contract = entry_has contract c is }, (tt, (tt, tt)))
+  parents_of clock t contract (Some c) (Some n) entry amount is = (record { contract = entry_has s u have g contract c is }, (tt, (tt, tt)))
   parents_of clock t contract None n entry amount is = tt
   parents_of clock t contract (Some c) None entry amount is = tt
 
+-- it puts the same in both worlds
 plain : (clock : ClockRow) (t : ℕ) (c : Option ContractRow) (n : Option NoticeRow) (entry : List ℕ) (amount : ℕ) → AllByRecursion IsPlain (pay_effect clock t c n entry amount)
 plain clock t (Some c) (Some n) entry amount = (tt, (tt, (tt, tt)))
 plain clock t None n entry amount = tt

@@ -26,6 +26,7 @@ use Rattle.office_machine.proofs.Rows.Keyed.{found_put}
 use Rattle.office_machine.proofs.Commands.Present.Fates as present_fates
 use Rattle.office_machine.proofs.Rows.Keyed as keyed
 
+-- what it puts
 tail_of : (digest : List ℕ → List ℕ) (s : Tables) (t : ℕ) (caller : Caller) (notice lot : List ℕ) (security : Option NamedSecurity) (bytes : List ℕ) (in_time : Bool)
     → HasTail s t (Envelopes ∷ Seals ∷ Securities ∷ []) None None (received_puts digest s.clock t caller notice lot security bytes in_time)
 tail_of digest s t caller notice lot None bytes true = front (puts.Envelope _ ∷ []) (refl, tt) (quiet _ (puts.Seal _ ∷ []) (refl, tt) refl (omega arith))
@@ -42,6 +43,7 @@ module _ (s u : Tables) (g : Grows s u) where
   named_is None m n e = cc
   named_is (Some named) m n e = (refl, let f : Some m ≡ Some n = e in cc)
 
+  -- what its rows speak of is there
   parents_of : (digest : List ℕ → List ℕ) (clock : ClockRow) (t : ℕ) (caller : Caller) (notice lot : List ℕ) (security : Option NamedSecurity) (bytes : List ℕ) (in_time : Bool)
       → IsSome (notice_at notice s) → IsSome (lot_at (notice, lot) s) → IsSome (tenderer_at (tenderer_of caller) s) → (is_some security ≡ true → IsSome (security_at (clock.receipts + 1) u))
       → AllParents u (received_puts digest clock t caller notice lot security bytes in_time)

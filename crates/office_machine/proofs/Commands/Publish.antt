@@ -39,6 +39,7 @@ late_own : (notice : List ℕ) (late : LateWithdrawal) → AreOn (is_own (Lines 
 late_own notice Refused = tt
 late_own notice Forfeits = (refl, tt)
 
+-- what it puts
 tail_of : (s : Tables) (t : ℕ) (notice : List ℕ) (content : NewNotice) → is_some (notice_at notice s) ≡ false → HasTail s t (Lines ∷ Lots ∷ LateRules ∷ []) (Some notice) None (publish_effect s.clock t notice s.lines content)
 tail_of s t notice content new =
     let own : TableName → Bool = is_own (Lines ∷ Lots ∷ LateRules ∷ []) in
@@ -53,6 +54,7 @@ module _ (s u : Tables) (g : Grows s u) where
   published_lots notice there [] on = tt
   published_lots notice there (l ∷ lots) on = (record { notice = there; line = g.lines l.line on.0 }, published_lots notice there lots on.1)
 
+  -- what its rows speak of is there
   parents_of : (clock : ClockRow) (t : ℕ) (notice : List ℕ) (content : NewNotice) → OnLines s.lines content.lots → IsSome (notice_at notice u) → AllParents u (publish_effect clock t notice s.lines content)
   parents_of clock t notice content on there =
       parents-append u (publish_parts clock t notice s.lines content) (late_puts notice content.late_withdrawal)
@@ -78,6 +80,7 @@ late_leaves : (late : LateWithdrawal) (notice k : List ℕ) (u : Tables) → IsS
 late_leaves Refused notice k u there = there
 late_leaves Forfeits notice k u there = there
 
+-- it puts the same in both worlds
 plain : (s : Tables) (t : ℕ) (notice : List ℕ) (content : NewNotice) → AllByRecursion IsPlain (publish_effect s.clock t notice s.lines content)
 plain s t notice content =
     plain-append (publish_parts s.clock t notice s.lines content) (late_puts notice content.late_withdrawal)

@@ -36,6 +36,7 @@ module _ (s u : Tables) (have : HaveParents s s) (g : Grows s u) (order : IsSort
   signer a None is there = absurd (let no : false ≡ true = there in cc)
   signer a (Some e) is there = (envelope_still s u g e (have.envelopes a.receipt e is)).tenderer
 
+  -- what its rows speak of is there
   parents_of : (clock : ClockRow) (t award : ℕ) (named : Option NamedSecurity) (o : Option AwardRow) (n : Option NoticeRow) (l : Option LotRow) → award_at award s ≡ o → lot_of_award o s ≡ l
       → AllParents u (sign_effect clock t o n l (envelope_of_award o s) (securities_of_award o s) named)
   parents_of clock t award named (Some a) (Some n) (Some l) is lot =
@@ -52,6 +53,7 @@ module _ (s u : Tables) (have : HaveParents s s) (g : Grows s u) (order : IsSort
   parents_of clock t award named (Some a) None l is lot = tt
   parents_of clock t award named (Some a) (Some n) None is lot = tt
 
+-- it puts the same in both worlds
 plain : (clock : ClockRow) (t : ℕ) (w : Option AwardRow) (n : Option NoticeRow) (l : Option LotRow) (o : Option EnvelopeRow) (r : List SecurityRow) (named : Option NamedSecurity) → AllByRecursion IsPlain (sign_effect clock t w n l o r named)
 plain clock t (Some w) (Some n) (Some l) o r named = (tt, (tt, (tt, (tt, (tt, plain-append (map security_returned (filter is_held_security r)) (put_if (performance_put w) named) (plain-map security_returned (filter is_held_security r) (λ _. tt)) (plain-if (performance_put w) named (λ _. tt)))))))
 plain clock t None n l o r named = tt

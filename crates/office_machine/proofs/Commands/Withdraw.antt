@@ -28,6 +28,7 @@ use Rattle.office_machine.proofs.Passed.{none_holds, not_false, witness}
 use Rattle.office_machine.proofs.Commands.Tail.{HasTail, is_own, moved, front, quiet}
 use Rattle.office_machine.proofs.Commands.Withdraw.Fates as withdraw_fates
 
+-- what it puts
 tail_of : (s : Tables) (t : ℕ) (e : EnvelopeRow) (security : Option SecurityRow) (late : Bool) → HasTail s t (Envelopes ∷ Seals ∷ Securities ∷ []) None None (taken_back_puts s.clock t e security late)
 tail_of s t e security false = front (puts.Envelope _ ∷ puts.DropSeal _ ∷ []) (refl, (refl, tt)) (quiet _ _ (on-if (is_own (Envelopes ∷ Seals ∷ Securities ∷ [])) (security_settled Returned) security (λ _. refl)) refl (omega arith))
 tail_of s t e security true = front (puts.Envelope _ ∷ []) (refl, tt) (quiet _ _ (on-if (is_own (Envelopes ∷ Seals ∷ Securities ∷ [])) (security_settled Forfeited) security (λ _. refl)) refl (omega arith))
@@ -44,6 +45,7 @@ module _ (s u : Tables) (have : HaveParents s s) (g : Grows s u) where
       let h = envelope_still s u g e (have.envelopes receipt e is) in
       (record { notice = h.notice; lot = h.lot; tenderer = h.tenderer; security = h.security }, (tt, parents-if u (security_settled Forfeited) (security_of_envelope (Some e) s) (λ r found. settled_has Forfeited r (security_found s u have g (Some e) r found))))
 
+  -- what its rows speak of is there
   parents_of : (clock : ClockRow) (t receipt : ℕ) (o : Option EnvelopeRow) (n : Option NoticeRow) (late : Option LateRow) → envelope_at receipt s ≡ o → AllParents u (withdraw_effect clock t o n late (security_of_envelope o s))
   parents_of clock t receipt None n late is = tt
   parents_of clock t receipt (Some e) n late is = taken_back_parents clock t receipt e is (is_late late t n)
