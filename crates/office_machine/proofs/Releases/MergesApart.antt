@@ -3,7 +3,7 @@ use Rattle.std.proofs.Common.{◌≡◌, ℕ, ◌+◌, cond, not, ◌&&◌, List
 use Rattle.std.specs.Prelude.{option_and_then, option_map}
 use Rattle.office_acts.specs.declared.command.Caller.{Caller}
 use Rattle.office_acts.specs.declared.commands.Command.{Command}
-use Rattle.office_acts.specs.declared.commands.Command.TheVariants.{Import, Cancel, Modify, Open, Present, Withdraw}
+use Rattle.office_acts.specs.declared.commands.Command.TheVariants.{Import, Modify, Withdraw}
 use Rattle.office_acts.specs.declared.queries.Query.{Query}
 use Rattle.office_acts.specs.declared.queries.Query.TheVariants as queries
 use Rattle.office_acts.specs.Queries.{kind_of}
@@ -118,15 +118,9 @@ next_apart means publishes trees x = after_apart means publishes trees x
 
 shown_apart : (packages : Packages) → ShowsNoMerges packages → (trees : List CompiledRow) (s : Tables) (caller : Caller) (query : Query)
     → shown packages (with_trees trees s) caller query ≡ shown packages s caller query
-shown_apart packages shows trees s caller (queries.Line line) = refl
-shown_apart packages shows trees s caller queries.Ledger = refl
-shown_apart packages shows trees s caller (queries.Minutes notice) = refl
-shown_apart packages shows trees s caller (queries.Register notice) = refl
 shown_apart packages shows trees s caller (queries.Releases notice) = ap (package_told (notice_at notice s)) (shows trees (queries.Releases notice) s)
 shown_apart packages shows trees s caller (queries.Record notice) = ap (package_told (notice_at notice s)) (shows trees (queries.Record notice) s)
-shown_apart packages shows trees s caller (queries.Tender receipt) = refl
-shown_apart packages shows trees s caller (queries.Security security) = refl
-shown_apart packages shows trees s caller (queries.Performance contract) = refl
+shown_apart packages shows trees s caller _ = refl
 
 pub looks_apart : LooksReadNoMerges
 looks_apart packages shows trees s caller query =
@@ -140,16 +134,12 @@ effective_apart trees x (Some c) = refl
 
 module _ (trees : List CompiledRow) (x : Given) (earlier : ℕ → Option Reception) where
   brought_apart : (command : Command) → brought command (beside trees x) earlier ≡ brought command x earlier
-  brought_apart (Present notice lot security bytes) = refl
   brought_apart (Modify receipt bytes) = refl
   brought_apart _ = refl
 
   decided_apart : (command : Command) (r : ℕ) → tender_decided command (beside trees x) earlier r ≡ tender_decided command x earlier r
-  decided_apart (Modify receipt bytes) r = refl
   decided_apart (Withdraw receipt) r =
       ap (λ b. cond (same_number r receipt && b) envelope_states.Withdrawn envelope_states.Sealed) (effective_apart trees x (earlier r))
-  decided_apart (Open notice) r = refl
-  decided_apart (Cancel notice rationale) r = refl
   decided_apart _ r = refl
 
 came_bare : (xs : List Given) (r : ℕ) → came (bare xs) r ≡ came xs r
