@@ -19,7 +19,7 @@ use Rattle.office_base.specs.declared.puts.Put.TheVariants as puts
 use Rattle.tender_core.specs.Rules.Cancel.{line_put as cancel_line, lot_put as cancel_lot, cancel_tests, cancel_rows, is_open_lot, is_ended_award, award_put, is_ended_envelope, envelope_put, drop_put, is_ended_security, cancel_effect, cancelled_notice, returned_envelope}
 use Rattle.office_machine.specs.Worlds.{Theirs, Pairs}
 use Rattle.office_machine.specs.Parents.{HaveParents, LotHas, EnvelopeHas, AwardHas}
-use Rattle.office_machine.proofs.Commands.Tail.{HasTail, moved, front_map, quiet, loud}
+use Rattle.office_machine.proofs.Commands.Tail.{HasTail, moved, front_map, loud}
 use Rattle.office_machine.proofs.Commands.Footprint.{Envelopes, Seals, Lines, Lots, Securities, Awards}
 use Rattle.office_machine.proofs.Worlds.WorldsPut.{TwoEnvelopes, Alike, plain-map, plain-append, PutPair, Plain, receipt_is, pairs-filter, plain_pairs, pairs-append, pairs-map, alike-set}
 use Rattle.office_machine.proofs.Parents.ParentsPut.{Grows, Parents, AllParents, lot_still, envelope_still, award_still, parents-append, parents-map, parents-all, all-filter, all-table}

@@ -1,12 +1,12 @@
 -- The examination of a tender keeps the laws of the office.
 use Rattle.std.specs.Prelude.{max, cond, List}
-use Rattle.std.proofs.Common.{arith, ◌≡◌, ℕ, Bool, [], ◌∷◌, Option, Some, None, refl, sym, ap, ◌∙◌, length}
+use Rattle.std.proofs.Common.{arith, ◌≡◌, ℕ, Bool, [], ◌∷◌, Option, Some, None, refl, sym, ap, ◌∙◌}
 use Rattle.std.specs.Cmp.{nat_cmp_total}
 use Rattle.std.specs.FinMap.{nat_cmp-IsAntisymmetric}
 use Rattle.std.specs.Ordering.{nat_cmp, eq_by_cmp}
 use Rattle.office_acts.specs.declared.commands.Command.TheVariants.{Examine}
 use Rattle.office_acts.specs.declared.command.Caller.{Caller}
-use Rattle.office_base.specs.Tables.{find_envelope, Tables, envelope_at, envelope_key, notice_at, after_puts}
+use Rattle.office_base.specs.Tables.{find_envelope, Tables, envelope_at, envelope_key, after_puts}
 use Rattle.office_base.specs.declared.records.EnvelopeRow.{EnvelopeRow}
 use Rattle.office_base.specs.declared.records.ClockRow.{ClockRow}
 use Rattle.office_base.specs.RuleParts.{clock_put}

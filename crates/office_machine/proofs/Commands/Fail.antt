@@ -3,7 +3,7 @@ pub mod Accounts
 pub mod Fates
 use Rattle.std.specs.Prelude.{max, ℕ}
 use Rattle.std.proofs.Common.{[], ◌∷◌, refl, ◌≡◌, Bool, Option, Some, None, option_map, sym, ◌∙◌, ap, arith, subst}
-use Rattle.office_acts.specs.declared.commands.Command.TheVariants.{Fail, Award}
+use Rattle.office_acts.specs.declared.commands.Command.TheVariants.{Fail}
 use Rattle.office_base.specs.declared.records.EnvelopeRow.{EnvelopeRow}
 use Rattle.office_base.specs.Parents.{notice_of_award, lot_of_award, envelope_of_award, security_of_envelope}
 use Rattle.office_base.specs.Tables.{award_at, Tables}
@@ -27,7 +27,7 @@ use Rattle.office_machine.proofs.Commands.Fail.Accounts.{fail_keeps}
 use Rattle.office_machine.proofs.Commands.Lawful.{Lawful, Moving}
 use Rattle.office_machine.proofs.Passed.{none_holds, not_false}
 use Rattle.office_machine.proofs.Parents.SpokenOf.{of_award}
-use Rattle.office_machine.proofs.Commands.Tail.{moved, front, quiet, loud, is_own}
+use Rattle.office_machine.proofs.Commands.Tail.{moved, front, loud, is_own}
 use Rattle.office_machine.proofs.Commands.Fail.Fates as fail_fates
 
 module _ (s u : Tables) (have : HaveParents s s) (g : Grows s u) where

@@ -23,7 +23,7 @@ use Rattle.office_machine.proofs.Worlds.WorldsStep.{SealsAlike}
 use Rattle.office_machine.proofs.Commands.Footprint.{Envelopes}
 use Rattle.office_machine.proofs.Commands.Lawful.{Lawful, Idle}
 use Rattle.office_machine.proofs.Passed.{none_holds, not_false, witness}
-use Rattle.office_machine.proofs.Commands.Tail.{moved, front_map, quiet, loud}
+use Rattle.office_machine.proofs.Commands.Tail.{moved, front_map, loud}
 use Rattle.office_machine.proofs.Commands.Open.Fates as open_fates
 use Rattle.office_machine.proofs.Rows.Keyed as keyed
 

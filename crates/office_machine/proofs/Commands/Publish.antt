@@ -18,7 +18,7 @@ use Rattle.office_base.specs.declared.puts.Put.TheVariants as puts
 use Rattle.tender_core.specs.Rules.Publish.{publish_tests, publish_rows, publish_effect, publish_parts, late_puts, line_put, lot_put, notice_row}
 use Rattle.office_machine.specs.Machine.{command_tests, time_of}
 use Rattle.office_machine.specs.Counted.{releases_in}
-use Rattle.office_machine.proofs.Commands.Tail.{HasTail, is_own, front, back, quiet, counted}
+use Rattle.office_machine.proofs.Commands.Tail.{HasTail, is_own, front, back, counted}
 use Rattle.office_machine.proofs.Parents.ParentsPut.{Grows, Parents, AllParents, parents-append, parents-map, parents-all}
 use Rattle.office_machine.proofs.Worlds.WorldsPut.{plain-map, plain-append, IsPlain, plain_pairs}
 use Rattle.office_machine.proofs.Accounts.Aside.{after-append}

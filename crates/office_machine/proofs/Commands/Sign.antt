@@ -4,7 +4,7 @@ pub mod Fates
 use Rattle.std.specs.Prelude.{max, ℕ, Option, option_and_then, IsSome}
 use Rattle.std.proofs.Common.{[], ◌∷◌, refl, ◌≡◌, Bool, true, false, List, ◌++◌, map, filter, Some, None, option_map, sym, ◌∙◌, ap, arith, subst}
 use Rattle.std.specs.List.{AllByRecursion}
-use Rattle.office_acts.specs.declared.commands.Command.TheVariants.{Sign, Award}
+use Rattle.office_acts.specs.declared.commands.Command.TheVariants.{Sign}
 use Rattle.office_acts.specs.declared.tender.NamedSecurity.{NamedSecurity}
 use Rattle.office_base.specs.Tables.{securities_of_lot, IsSorted, award_at, Tables, envelope_at, tenderer_at}
 use Rattle.office_base.specs.Parents.{securities_of_award, notice_of_award, lot_of_award, envelope_of_award}
@@ -28,7 +28,7 @@ use Rattle.office_machine.proofs.Commands.Footprint.{Lots, Securities, Awards, C
 use Rattle.office_machine.proofs.Commands.Lawful.{Lawful, Moving}
 use Rattle.office_machine.proofs.Passed.{none_holds, not_false}
 use Rattle.office_machine.proofs.Parents.SpokenOf.{of_award}
-use Rattle.office_machine.proofs.Commands.Tail.{moved, bound, bonded, front, quiet, loud, returned_own}
+use Rattle.office_machine.proofs.Commands.Tail.{moved, bound, bonded, front, loud, returned_own}
 use Rattle.office_machine.proofs.Commands.Sign.Fates as sign_fates
 
 module _ (s u : Tables) (have : HaveParents s s) (g : Grows s u) (order : IsSorted s) where

@@ -31,7 +31,7 @@ use Rattle.office_machine.specs.Machine.{reply_for}
 use Rattle.office_machine.specs.Sights.{Packages, tender_told, registered, register_told, minuted, is_read_envelope, minutes_told, package_told, shown, told}
 use Rattle.office_machine.specs.Seals.{ButDigest, SeesBlindly, without_digest, ToldAlike}
 use Rattle.office_base.proofs.ExactKeys.{equal_ids, same_itself}
-use Rattle.office_machine.proofs.Worlds.WorldsPut.{Alike, AlikeOptions, IsBlind, blind, blind-option, pairs-found, pairs-filter}
+use Rattle.office_machine.proofs.Worlds.WorldsPut.{Alike, AlikeOptions, IsBlind, blind, blind-option, pairs-filter}
 use Rattle.office_machine.proofs.Worlds.WorldsRows.{envelope_pair, lot_pairs, notice_pairs, pairs-winner}
 
 pub told_same : (th : Theirs) (caller : Caller) (r r' : Reply) → r' ≡ r → ToldAlike th caller r r'
