@@ -6,8 +6,7 @@ use Rattle.office_acts.specs.Callers.{is_by}
 use Rattle.office_acts.specs.Rights.{is_clerk, may_look}
 use Rattle.office_acts.specs.declared.command.Caller.{Caller}
 use Rattle.office_acts.specs.declared.commands.Command.{Command}
-use Rattle.office_acts.specs.declared.commands.Command.TheVariants.{Import, Register, Publish, AmendNotice, Cancel, Open, Present, Modify}
-use Rattle.office_acts.specs.declared.commands.Command.TheVariants.{Withdraw, Examine, Award, Fail, Sign, AmendContract, Pay, End}
+use Rattle.office_acts.specs.declared.commands.Command.TheVariants.{Modify}
 use Rattle.office_acts.specs.declared.queries.Query.{Query}
 use Rattle.office_acts.specs.declared.queries.Query.TheVariants as queries
 use Rattle.office_values.specs.declared.refusal.Refusal.{Refusal}
@@ -75,23 +74,9 @@ modified readings clock t caller bytes given (Some e) notice allowed = refl
 as_json : (readings : Readings) (s u : Tables) (t : ℕ) (caller : Caller) (command : Command)
     → first_of ((not (may_give caller command), Forbidden) ∷ tests_for s t caller command) ≡ None
     → told_as (reply_for readings s u t caller command) ≡ Json (reply_text (reply_for readings s u t caller command))
-as_json readings s u t caller (Import batch rows) allowed = refl
-as_json readings s u t caller (Register tenderer name address key) allowed = refl
-as_json readings s u t caller (Publish notice content) allowed = refl
-as_json readings s u t caller (AmendNotice notice deadline rationale) allowed = refl
-as_json readings s u t caller (Cancel notice rationale) allowed = refl
-as_json readings s u t caller (Open notice) allowed = refl
-as_json readings s u t caller (Present notice lot security bytes) allowed = refl
 as_json readings s u t caller (Modify receipt bytes) allowed =
     modified readings s.clock t caller bytes (may_give caller (Modify receipt bytes)) (envelope_at receipt s) (notice_of_envelope (envelope_at receipt s) s) allowed
-as_json readings s u t caller (Withdraw receipt) allowed = refl
-as_json readings s u t caller (Examine receipt responsive quality) allowed = refl
-as_json readings s u t caller (Award notice lot) allowed = refl
-as_json readings s u t caller (Fail award) allowed = refl
-as_json readings s u t caller (Sign award named) allowed = refl
-as_json readings s u t caller (AmendContract contract entry kind amount rationale) allowed = refl
-as_json readings s u t caller (Pay contract entry amount) allowed = refl
-as_json readings s u t caller (End contract how) allowed = refl
+as_json readings s u t caller _ allowed = refl
 
 -- it is told in JSON
 pub accepted_as : (x : Given) → refusal_of x ≡ None → told_as (accepted_reply x) ≡ Json (reply_text (accepted_reply x))

@@ -16,11 +16,11 @@ use Rattle.office_base.proofs.Orders.{same_key}
 use Rattle.office_machine.specs.Counted.{releases_in}
 use Rattle.office_machine.specs.Fates.{numbers}
 use Rattle.office_machine.specs.Releases.{AreNumbered}
-use Rattle.office_machine.proofs.Filtered.{if_passes}
-use Rattle.office_machine.proofs.Keyed as keyed
-use Rattle.office_machine.proofs.Keyed.{found_key}
-use Rattle.office_machine.proofs.Lists.{in_order-filter, row_at-filter}
-use Rattle.office_machine.proofs.Numbered.{FindsAll, keys_are}
+use Rattle.office_machine.proofs.Rows.Filtered.{if_passes}
+use Rattle.office_machine.proofs.Rows.Keyed as keyed
+use Rattle.office_machine.proofs.Rows.Keyed.{found_key}
+use Rattle.office_machine.proofs.Rows.Lists.{in_order-filter, row_at-filter}
+use Rattle.office_machine.proofs.Rows.Numbered.{FindsAll, keys_are}
 use Rattle.office_publications.specs.Told.{AreInSequence}
 
 abbrev seq_of : ReleaseRow → ℕ

@@ -10,7 +10,7 @@ use Rattle.office_base.specs.Tables.{Tables, after_puts}
 use Rattle.office_machine.specs.Machine.{Given, Means, effect, publication, publication_puts, puts_of, release_row, next, with_trees}
 use Rattle.office_machine.specs.OfficeMeans.{office_readings}
 use Rattle.office_machine.specs.Publications.{published_for}
-use Rattle.office_machine.proofs.Aside.{after-append}
+use Rattle.office_machine.proofs.Accounts.Aside.{after-append}
 use Rattle.ocds_release.specs.declared.event.Event.{Event}
 use Rattle.office_publications.specs.Events.{event_of}
 use Rattle.office_publications.specs.Keeping.{kept_puts, kept_next, merge_puts, merged_row, NoEventPublishesNothing, EventsAreReleased, NoEventPutsItsEffect, EventsPutReleases, MergesStandBeside}

@@ -13,9 +13,9 @@ use Rattle.office_base.specs.declared.records.ReleaseRow.{ReleaseRow}
 use Rattle.office_machine.specs.Accounts.{TablesAreInOrder}
 use Rattle.office_machine.specs.Machine.{Given, Means, next, publication, puts_of}
 use Rattle.office_machine.specs.Releases.{ReleasesArePublished, published_of}
-use Rattle.office_machine.proofs.Aside.{after-append}
-use Rattle.office_machine.proofs.NextIs.{next_is}
-use Rattle.office_machine.proofs.ParentsThere.{parents_there}
+use Rattle.office_machine.proofs.Accounts.Aside.{after-append}
+use Rattle.office_machine.proofs.Releases.NextIs.{next_is}
+use Rattle.office_machine.proofs.Parents.ParentsThere.{parents_there}
 use Rattle.office_publications.specs.Keeping.{KeepsReleases, PublicationReadsBack, kept_puts, kept_next, merge_puts, merged_row, KeptStepsReach, ReleasesStayKept, NothingIsKeptAtFirst}
 use Rattle.office_publications.specs.Merges.{AreMerged, CanBeMerged, body_in}
 use Rattle.office_publications.specs.Publishing.{publishing}

@@ -20,15 +20,6 @@ module _ (settings : Settings) (trees : List CompiledRow) (s : Tables) (moment :
 
   text_apart : (command : Command) → release_text settings (beside trees (given command)) ≡ release_text settings (given command)
   text_apart (Publish notice content) = refl
-  text_apart (AmendNotice notice deadline rationale) = refl
-  text_apart (Cancel notice rationale) = refl
-  text_apart (Open notice) = refl
-  text_apart (Award notice lot) = refl
-  text_apart (Fail award) = refl
-  text_apart (Sign award named) = refl
-  text_apart (AmendContract contract entry kind amount rationale) = refl
-  text_apart (Pay contract entry amount) = refl
-  text_apart (End contract how) = refl
   text_apart _ = refl
 
 pub releases_tell_no_merges : ReleasesTellNoMerges

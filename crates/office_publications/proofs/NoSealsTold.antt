@@ -128,51 +128,20 @@ module _ (s : Tables) (es' : List EnvelopeRow) (ss' : List SealRow) (all : Pairs
   awarded_other notice lot (Some e) = refl
 
   same_event : (command : Command) → event_of other command ≡ event_of s command
-  same_event (Import batch rows) = refl
-  same_event (Register tenderer name address key) = refl
-  same_event (Publish notice content) = refl
-  same_event (AmendNotice notice deadline rationale) = refl
-  same_event (Cancel notice rationale) = refl
   same_event (Open notice) = ap Some (by_bare (opened_by notice s.tenderers) (opened_blind notice s.tenderers) s.envelopes es' all)
-  same_event (Present notice lot security bytes) = refl
-  same_event (Modify receipt bytes) = refl
-  same_event (Withdraw receipt) = refl
-  same_event (Examine receipt responsive quality) = refl
   same_event (Award notice lot) =
       ap Some
       (awarded_other notice lot (winner (notice_at notice s) (envelopes_of_lot notice lot other))
       ∙ by_bare (awarded_by s notice lot (notice_at notice s)) (awarded_blind s notice lot (notice_at notice s)) s.envelopes es' all)
-  same_event (Fail award) = refl
-  same_event (Sign award named) = refl
-  same_event (AmendContract contract entry kind amount rationale) = refl
-  same_event (Pay contract entry amount) = refl
-  same_event (End contract how) = refl
-
-  same_notice : (command : Command) → published_for other command ≡ published_for s command
-  same_notice (Import batch rows) = refl
-  same_notice (Register tenderer name address key) = refl
-  same_notice (Publish notice content) = refl
-  same_notice (AmendNotice notice deadline rationale) = refl
-  same_notice (Cancel notice rationale) = refl
-  same_notice (Open notice) = refl
-  same_notice (Present notice lot security bytes) = refl
-  same_notice (Modify receipt bytes) = refl
-  same_notice (Withdraw receipt) = refl
-  same_notice (Examine receipt responsive quality) = refl
-  same_notice (Award notice lot) = refl
-  same_notice (Fail award) = refl
-  same_notice (Sign award named) = refl
-  same_notice (AmendContract contract entry kind amount rationale) = refl
-  same_notice (Pay contract entry amount) = refl
-  same_notice (End contract how) = refl
+  same_event _ = refl
 
 -- the text of an event, under the next number of the notice that it is published for
 abbrev text_in : Settings → Given → Option (List ℕ) → Event → List ℕ
 text_in settings x notice e = compact_text (release_of_event settings (releases_in (option_and_then (λ n. notice_at n x.before) notice) + 1) (time_of x) e)
 
 pub releases_tell_no_seals : ReleasesTellNoSeals
-releases_tell_no_seals settings x es' ss' all opens = λ i.
-    option_map (text_in settings x (same_notice x.before es' ss' all x.command i)) (same_event x.before es' ss' all x.command i)
+releases_tell_no_seals settings x es' ss' all opens =
+    ap (option_map (text_in settings x (published_for x.before x.command))) (same_event x.before es' ss' all x.command)
 
 pub packages_tell_no_seals : PackagesTellNoSeals
 packages_tell_no_seals settings (queries.Line line) s es' ss' all = refl

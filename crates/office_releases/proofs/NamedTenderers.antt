@@ -11,7 +11,7 @@ use Rattle.office_base.specs.Rows.{by_order, row_at, row_put, StartsAbove, IsInO
 use Rattle.office_base.specs.Tables.{Tables, tenderer_key, find_tenderer, put_tenderer}
 use Rattle.office_base.specs.declared.records.EnvelopeRow.{EnvelopeRow}
 use Rattle.office_base.specs.declared.records.TendererRow.{TendererRow}
-use Rattle.office_machine.proofs.Keyed.{tenderers, found_key, all_above, none_below}
+use Rattle.office_machine.proofs.Rows.Keyed.{tenderers, found_key, all_above, none_below}
 use Rattle.office_publications.specs.NoticeEvents.{has_sealed}
 use Rattle.tender_core.specs.Rules.Open.{is_sealed_envelope}
 use Rattle.office_releases.specs.Inside.Tenderers.{tenderer_in, with_found, with_tenderers, tenderers_named}

@@ -1,0 +1,99 @@
+-- The signing of a contract keeps the laws of the office.
+pub mod Accounts
+pub mod Fates
+use Rattle.std.specs.Prelude.{max, ℕ, Option, option_and_then, IsSome}
+use Rattle.std.proofs.Common.{[], ◌∷◌, refl, ◌≡◌, Bool, true, false, List, ◌++◌, map, filter, Some, None, option_map, sym, ◌∙◌, ap, arith, subst}
+use Rattle.std.specs.List.{AllByRecursion}
+use Rattle.office_acts.specs.declared.commands.Command.TheVariants.{Sign}
+use Rattle.office_acts.specs.declared.tender.NamedSecurity.{NamedSecurity}
+use Rattle.office_base.specs.Tables.{securities_of_lot, IsSorted, award_at, Tables, envelope_at, tenderer_at}
+use Rattle.office_base.specs.Parents.{securities_of_award, notice_of_award, lot_of_award, envelope_of_award}
+use Rattle.office_base.specs.declared.records.EnvelopeRow.{EnvelopeRow}
+use Rattle.office_base.specs.RuleParts.{released, has_all_releases, security_returned, put_if, securities_returned, is_held_security, clock_put}
+use Rattle.office_base.specs.declared.records.NoticeRow.{NoticeRow}
+use Rattle.office_base.specs.declared.records.LotRow.{LotRow}
+use Rattle.office_base.specs.declared.records.SecurityRow.{SecurityRow}
+use Rattle.office_base.specs.declared.records.AwardRow.{AwardRow}
+use Rattle.office_base.specs.declared.records.ClockRow.{ClockRow}
+use Rattle.office_base.specs.declared.puts.Put.TheVariants as puts
+use Rattle.award_core.specs.Rules.Sign.{sign_tests, sign_rows, sign_puts, performance_row, sign_effect, tenderer_in, performance_put, signed_award, contracted_lot, contract_row}
+use Rattle.office_machine.specs.Worlds.{Theirs, Pairs}
+use Rattle.office_machine.specs.Parents.{HaveParents}
+use Rattle.office_machine.proofs.Worlds.WorldsPut.{Alike, plain-map, plain-append, plain-if, IsPlain, PutPair, blind-option, plain_pairs}
+use Rattle.office_machine.proofs.Parents.ParentsPut.{Grows, AllParents, envelope_still, award_still, parents-append, parents-if}
+use Rattle.office_machine.proofs.Worlds.WorldsRows.{awarded_pair}
+use Rattle.office_machine.proofs.Parents.RowsHave.{lot_securities, lot_of}
+use Rattle.office_machine.proofs.Commands.Sign.Accounts.{sign_keeps}
+use Rattle.office_machine.proofs.Commands.Footprint.{Lots, Securities, Awards, Contracts}
+use Rattle.office_machine.proofs.Commands.Lawful.{Lawful, Moving}
+use Rattle.office_machine.proofs.Passed.{none_holds, not_false}
+use Rattle.office_machine.proofs.Parents.SpokenOf.{of_award}
+use Rattle.office_machine.proofs.Commands.Tail.{moved, bound, bonded, front, loud, returned_own}
+use Rattle.office_machine.proofs.Commands.Sign.Fates as sign_fates
+
+module _ (s u : Tables) (have : HaveParents s s) (g : Grows s u) (order : IsSorted s) where
+  signer : (a : AwardRow) (e : Option EnvelopeRow) → envelope_at a.receipt s ≡ e → IsSome e → IsSome (tenderer_at (tenderer_in e) u)
+  signer a None is there = absurd (let no : false ≡ true = there in cc)
+  signer a (Some e) is there = (envelope_still s u g e (have.envelopes a.receipt e is)).tenderer
+
+  -- what its rows speak of is there
+  parents_of : (clock : ClockRow) (t award : ℕ) (named : Option NamedSecurity) (o : Option AwardRow) (n : Option NoticeRow) (l : Option LotRow) → award_at award s ≡ o → lot_of_award o s ≡ l
+      → AllParents u (sign_effect clock t o n l (envelope_of_award o s) (securities_of_award o s) named)
+  parents_of clock t award named (Some a) (Some n) (Some l) is lot =
+      let had = have.awards award a is in
+      let h = award_still s u g a had in
+      let k = lot_of s u have g (Some a) l lot in (
+        record { notice = h.notice; lot = h.lot; envelope = h.envelope },
+        (
+          record { notice = k.notice; line = k.line },
+          (record { notice = h.notice; lot = h.lot; tenderer = signer a (envelope_at a.receipt s) refl had.envelope }, (tt, (tt, parents-append u (securities_returned (securities_of_lot a.notice a.lot s)) (put_if (performance_put a) named) (lot_securities s u have g order a.notice a.lot) (parents-if u (performance_put a) named (λ _ _. tt))))),
+        ),
+      )
+  parents_of clock t award named None n l is lot = tt
+  parents_of clock t award named (Some a) None l is lot = tt
+  parents_of clock t award named (Some a) (Some n) None is lot = tt
+
+-- it puts the same in both worlds
+plain : (clock : ClockRow) (t : ℕ) (w : Option AwardRow) (n : Option NoticeRow) (l : Option LotRow) (o : Option EnvelopeRow) (r : List SecurityRow) (named : Option NamedSecurity) → AllByRecursion IsPlain (sign_effect clock t w n l o r named)
+plain clock t (Some w) (Some n) (Some l) o r named = (tt, (tt, (tt, (tt, (tt, plain-append (map security_returned (filter is_held_security r)) (put_if (performance_put w) named) (plain-map security_returned (filter is_held_security r) (λ _. tt)) (plain-if (performance_put w) named (λ _. tt)))))))
+plain clock t None n l o r named = tt
+plain clock t (Some w) None l o r named = tt
+plain clock t (Some w) (Some n) None o r named = tt
+
+-- a tender is looked at for its tenderer alone
+same_signer : (clock : ClockRow) (t : ℕ) (w : Option AwardRow) (n : Option NoticeRow) (l : Option LotRow) (o o' : Option EnvelopeRow) (r : List SecurityRow) (named : Option NamedSecurity) → tenderer_in o' ≡ tenderer_in o → sign_effect clock t w n l o' r named ≡ sign_effect clock t w n l o r named
+same_signer clock t (Some w) (Some n) (Some l) o o' r named e =
+    ap (λ x. puts.Award (signed_award w) ∷ puts.Lot (contracted_lot l) ∷ puts.Contract (contract_row t w x) ∷ puts.Notice (released n) ∷ clock_put clock t ∷ securities_returned r ++ put_if (performance_put w) named) e
+same_signer clock t None n l o o' r named e = refl
+same_signer clock t (Some w) None l o o' r named e = refl
+same_signer clock t (Some w) (Some n) None o o' r named e = refl
+
+module _ (th : Theirs) (W : ℕ → Bool) (s : Tables) (es' : List EnvelopeRow) (all : Pairs (Alike th W) s.envelopes es') where
+  alike : (t award : ℕ) (named : Option NamedSecurity) → Pairs (PutPair th W) (sign_puts (sign_rows s award) t named) (sign_puts (sign_rows (record s { envelopes = es' }) award) t named)
+  alike t award named =
+      let a = award_at award s in
+      let o : Option EnvelopeRow = envelope_of_award a s in
+      let o' : Option EnvelopeRow = envelope_of_award a (record s { envelopes = es' }) in
+      subst (λ ps. Pairs (PutPair th W) (sign_puts (sign_rows s award) t named) ps)
+      (sym (same_signer s.clock t a (notice_of_award a s) (lot_of_award a s) o o' (securities_of_award a s) named (blind-option th W tenderer_in (λ _ _. refl) o o' (awarded_pair th W s es' all a))))
+      (plain_pairs th W (sign_puts (sign_rows s award) t named) (plain s.clock t a (notice_of_award a s) (lot_of_award a s) o (securities_of_award a s) named))
+
+pub sign : (award : ℕ) (named : Option NamedSecurity) → Lawful (Sign award named)
+sign award named = record {
+  touches = Awards ∷ Lots ∷ Contracts ∷ Securities ∷ [];
+  accounts = Moving (λ readings xs s moment caller kept order own allowed. sign_keeps readings xs s moment caller award named kept order allowed);
+  fates = λ readings. sign_fates.sign_keeps readings award named;
+  tail = λ readings s moment caller have allowed.
+      let now : ℕ = max moment s.clock.moment in
+      let tests = none_holds (sign_tests (sign_rows s award) now named) allowed in
+      let of = of_award s have award (not_false _ tests.0) in
+      let securities = securities_of_award (award_at award s) s in
+      moved (ap (option_map (λ (a : AwardRow). a.notice)) of.is)
+      (λ i. sign_effect s.clock now (of.is i) (of.notice i) (of.lot i) (envelope_of_award (award_at award s) s) securities named)
+      (bound (ap (option_and_then (λ (w : AwardRow). option_map (performance_row w) named)) of.is)
+      (bonded (performance_row of.w) named
+      (front (puts.Award _ ∷ puts.Lot _ ∷ puts.Contract _ ∷ []) (refl, (refl, (refl, tt)))
+      (loud of.w.notice of.n (released of.n) _ _ of.notice_is (ap has_all_releases (of.notice_is ∙ sym of.notice) ∙ tests.1.1.1.1.1.1.1.0) refl refl (returned_own (Awards ∷ Lots ∷ Contracts ∷ Securities ∷ []) refl securities) refl (omega arith)))));
+  parents = λ readings s moment caller order have registered may allowed u grown later. parents_of s u have grown order s.clock _ award named (award_at award s) (notice_of_award (award_at award s) s) (lot_of_award (award_at award s) s) refl refl;
+  alike = λ th W s es' ss' all seals readings t caller quiet. alike th W s es' all t award named;
+}

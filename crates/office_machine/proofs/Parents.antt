@@ -1,0 +1,5 @@
+-- The rows that a row speaks of.
+pub mod ParentsPut
+pub mod ParentsThere
+pub mod RowsHave
+pub mod SpokenOf

@@ -1,0 +1,65 @@
+-- The rows that a row speaks of are there, wherever accepted commands lead.
+use Rattle.std.proofs.Common.{◌≡◌, ℕ, true, List, Option, Some, None, sym, subst}
+use Rattle.office_base.specs.Rows.{row_at}
+use Rattle.office_acts.specs.declared.command.Caller.{Caller}
+use Rattle.office_acts.specs.declared.commands.Command.{Command}
+use Rattle.office_base.specs.Tables.{Tables, IsSorted, no_tables, after_puts}
+use Rattle.office_base.specs.Rules.{first_of}
+use Rattle.office_base.specs.declared.records.ReleaseRow.{ReleaseRow}
+use Rattle.office_machine.specs.Machine.{Means, Given, IsRegistered, may_give, publication_puts, command_tests, effect, next, puts_of, publication, with_trees}
+use Rattle.office_base.specs.declared.records.CompiledRow.{CompiledRow}
+use Rattle.office_machine.specs.Parents.{HaveParents, ParentsAreThere}
+use Rattle.office_machine.proofs.Accounts.Aside.{after-append}
+use Rattle.office_machine.proofs.Parents.ParentsPut.{Grows, grows-puts, AllParents, parents_after, parents-append}
+use Rattle.office_machine.proofs.Commands.AllLawful.{lawful}
+use Rattle.office_machine.proofs.Runs.{along}
+use Rattle.office_machine.proofs.Passed.{allowed_by, may_by}
+use Rattle.office_machine.proofs.Rows.SortedTables.{sorted}
+
+module _ (means : Means) (s : Tables) (moment : ℕ) (caller : Caller) (order : IsSorted s) (have : HaveParents s s) (registered : IsRegistered caller s.tenderers) where
+  abbrev given : Command → Given
+  given command = record { before = s; moment = moment; caller = caller; command = command }
+
+  abbrev after : Command → Tables
+  after command = next means (given command)
+
+  -- what is there after the effect is there after the publication too
+  later : (command : Command) → Grows (after_puts (effect means.readings (given command)) s) (after command)
+  later command =
+      subst (Grows (after_puts (effect means.readings (given command)) s)) (sym (after-append (effect means.readings (given command)) (publication_puts (publication means (given command))) s))
+      (grows-puts (publication_puts (publication means (given command))) (after_puts (effect means.readings (given command)) s))
+
+  publication_has : (u : Tables) (p : Option ReleaseRow) → AllParents u (publication_puts p)
+  publication_has u None = tt
+  publication_has u (Some p) = (tt, tt)
+
+  pub parents_kept : (command : Command) → may_give caller command ≡ true → first_of (command_tests (given command)) ≡ None → HaveParents (after command) (after command)
+  parents_kept command may allowed =
+      parents_after (puts_of means (given command)) s have
+      (parents-append (after command) (effect means.readings (given command)) (publication_puts (publication means (given command))) ((lawful command).parents means.readings s moment caller order have registered may allowed (after command) (grows-puts (puts_of means (given command)) s) (later command)) (publication_has (after command) (publication means (given command))))
+
+none_have : HaveParents no_tables no_tables
+unfolding row_at
+none_have = record {
+  lots = λ k r found. absurd (let none : None ≡ Some r = found in cc);
+  envelopes = λ k r found. absurd (let none : None ≡ Some r = found in cc);
+  securities = λ k r found. absurd (let none : None ≡ Some r = found in cc);
+  awards = λ k r found. absurd (let none : None ≡ Some r = found in cc);
+  contracts = λ k r found. absurd (let none : None ≡ Some r = found in cc);
+  entries = λ k r found. absurd (let none : None ≡ Some r = found in cc);
+}
+
+-- the same with other merges of releases beside it
+have_beside : (trees : List CompiledRow) (t : Tables) → HaveParents t t → HaveParents (with_trees trees t) (with_trees trees t)
+have_beside trees t have = record {
+  lots = λ k l found. let h = have.lots k l found in record { notice = h.notice; line = h.line };
+  envelopes = λ k e found. let h = have.envelopes k e found in record { notice = h.notice; lot = h.lot; tenderer = h.tenderer; security = h.security };
+  securities = λ k s found. let h = have.securities k s found in record { notice = h.notice; lot = h.lot; tenderer = h.tenderer };
+  awards = λ k a found. let h = have.awards k a found in record { notice = h.notice; lot = h.lot; envelope = h.envelope };
+  contracts = λ k c found. let h = have.contracts k c found in record { notice = h.notice; lot = h.lot; tenderer = h.tenderer };
+  entries = λ k e found. record { contract = (have.entries k e found).contract };
+}
+
+pub parents_there : ParentsAreThere
+parents_there means = along means (λ xs t. HaveParents t t) none_have (λ trees in_order xs. have_beside trees)
+    (λ xs x accepted have. parents_kept means x.before x.moment x.caller (sorted means xs x.before accepted.reached) have accepted.given.1 x.command (may_by x accepted.allowed) (allowed_by x accepted.allowed))
