@@ -1,5 +1,6 @@
 //! The decision on the amendment of a contract.
-ghost use Rattle.std.specs.Prelude.{◌≡◌, ◌&&◌, IfSome, nat_lt, IfOk, IfErr};
+ghost use Rattle.std.specs.Prelude.{◌≡◌, ◌&&◌, ◌<◌, IfSome, IfNone, nat_lt, IfOk, IfErr};
+ghost use Rattle.office_values.specs.Money.{total_limit};
 ghost use Rattle.office_values.specs.declared.refusal.Refusal.TheVariants.{Unavailable};
 ghost use Rattle.office_base.specs.Deciding.{Decides};
 ghost use Rattle.office_base.specs.Joined.{free_in};
@@ -52,9 +53,10 @@ fn entry_kind(kind: ChangeKind) -> EntryKind
     }
 }
 
-// The line after it: a raise takes what is free, a cut gives it back. None above 10^15.
+// The line after it: a raise takes what is free, a cut gives it back. None exactly where that is above 10^15.
 fn line_after(kind: ChangeKind, amount: EntryAmount, line: LineRow) -> Option<LineRow>
-    ensures { IfSome result (λ row. row ≡ line_after kind amount line) }
+    ensures found { IfSome result (λ row. row ≡ line_after kind amount line) }
+    ensures none { IfNone result (total_limit < (line_after kind amount line).free) }
 {
     let free = line.free.units() as u128;
     let amount = amount.get() as u128;
