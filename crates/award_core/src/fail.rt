@@ -6,7 +6,7 @@ ghost use Rattle.office_base.specs.RuleParts.{passed_over, put_if, security_sett
 ghost use Rattle.office_base.specs.Rules.{first_of};
 ghost use Rattle.office_base.specs.declared.puts.Put.TheVariants as puts;
 ghost use Rattle.office_base.specs.declared.records.SecurityState.TheVariants.{Forfeited};
-ghost use Rattle.award_core.specs.Rules.Fail.{stands_still, fail_tests, fail_puts, fail_conditions, standing_conditions};
+ghost use Rattle.award_core.specs.Rules.Fail.{stands_still, fail_tests, fail_puts, standing_tests};
 
 use office_base::parts::{at_moment, has_all_releases, is_expired, passed_over, released, settled};
 use office_base::puts::Put;
@@ -46,7 +46,7 @@ pub(crate) fn standing_refusal(
     award: &AwardRow,
     notice: &Option<NoticeRow>,
 ) -> Option<Refusal>
-    ensures { result ≡ first_of (standing_conditions t (Some award.now) notice.now) }
+    ensures { result ≡ first_of (standing_tests t (Some award.now) notice.now) }
 {
     if award.state != AwardState::Active {
         return Some(Refusal::AlreadyDecided);

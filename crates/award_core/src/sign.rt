@@ -4,7 +4,7 @@ ghost use Rattle.office_values.specs.declared.refusal.Refusal.TheVariants.{Unava
 ghost use Rattle.office_base.specs.Deciding.{Decides};
 ghost use Rattle.office_base.specs.RuleParts.{put_if};
 ghost use Rattle.office_base.specs.Rules.{first_of};
-ghost use Rattle.award_core.specs.Rules.Sign.{contract_row, is_missing, is_too_small, isnt_asked, performance_put, performance_row, sign_conditions, sign_tests, sign_puts};
+ghost use Rattle.award_core.specs.Rules.Sign.{contract_row, is_missing, is_too_small, isnt_asked, performance_put, performance_row, sign_tests, sign_puts};
 
 use crate::fail::standing_refusal;
 use crate::securities::push_returned;

@@ -91,3 +91,8 @@ securities_returned securities = map security_returned (filter is_held_security 
 abbrev pub put_if : {X : Type 0} → (X → Put) → Option X → List Put
 put_if make None = []
 put_if make (Some x) = make x ∷ []
+
+-- puts that are made of a row, where it is there
+abbrev pub puts_if : {X : Type 0} → (X → List Put) → Option X → List Put
+puts_if make None = []
+puts_if make (Some x) = make x
