@@ -1,5 +1,5 @@
 -- Publications and cancellations over lines that agree on the lines of their lots.
-use Rattle.std.specs.Prelude.{◌≡◌, ℕ, ◌+◌, ◌-◌, Bool, not, ◌||◌, nat_lt, List, [], ◌∷◌, map, filter, is_some, Option}
+use Rattle.std.specs.Prelude.{◌≡◌, ℕ, ◌+◌, ◌-◌, Bool, not, ◌&&◌, ◌||◌, nat_lt, List, [], ◌∷◌, map, filter, is_some, Option}
 use Rattle.std.specs.List.{list_any}
 use Rattle.std.proofs.Common.{refl, ap, ◌∙◌}
 use Rattle.office_acts.specs.declared.lot.NewLot.{NewLot}
@@ -12,8 +12,9 @@ use Rattle.office_base.specs.declared.puts.Put.TheVariants as puts
 use Rattle.tender_core.specs.Rules.Publish.{wanted, is_on_no_line, is_short, publish_tests, publish_puts, no_line}
 use Rattle.tender_core.specs.Rules.Publish as published
 use Rattle.tender_core.specs.Rules.Cancel as cancelled
-use Rattle.tender_core.specs.Rules.Cancel.{is_open_lot}
-use Rattle.tender_core.specs.Agreeing.{AgreeOnNewLots, AgreeOnLots, PublishesAgree, CancelsAgree, publish_on}
+use Rattle.tender_core.specs.Rules.Cancel.{is_open_lot, cancel_lacks, cancel_puts}
+use Rattle.tender_core.specs.Agreeing.{AgreeOnNewLots, AgreeOnLots, PublishesAgree, CancelsAgree, publish_on, cancel_on}
+use Rattle.tender_core.specs.declared.cancel.CancelRows.{CancelRows}
 use Rattle.tender_core.specs.declared.publish.PublishRows.{PublishRows}
 
 no_line-agree : (m n : List LineRow) (lots : List NewLot) → AgreeOnNewLots m n lots → list_any (is_on_no_line m) lots ≡ list_any (is_on_no_line n) lots
@@ -58,5 +59,18 @@ cancelled-agree m n all (l ∷ lots) h =
     ap (λ o. cancelled_line all l o ∷ map (cancelled.line_put m all) lots) h.0
     ∙ ap (λ ps. cancelled.line_put n all l ∷ ps) (cancelled-agree m n all lots h.1)
 
+cancel_puts-agree : (m n : List LineRow) (rows : CancelRows) (t : ℕ) → AgreeOnLots m n (filter is_open_lot rows.lots)
+    → cancel_puts (cancel_on m rows) t ≡ cancel_puts (cancel_on n rows) t
+cancel_puts-agree m n rows t h = rw (cancelled-agree m n (filter is_open_lot rows.lots) (filter is_open_lot rows.lots) h) refl
+
+lacking-agree : (m n : List LineRow) (lots : List LotRow) → AgreeOnLots m n lots → list_any (cancelled.lacks_line m) lots ≡ list_any (cancelled.lacks_line n) lots
+lacking-agree m n [] h = refl
+lacking-agree m n (l ∷ lots) h =
+    ap (λ o. not (is_some o) || list_any (cancelled.lacks_line m) lots) h.0 ∙ ap (λ b. cancelled.lacks_line n l || b) (lacking-agree m n lots h.1)
+
+cancel_lacks-agree : (m n : List LineRow) (rows : CancelRows) → AgreeOnLots m n (filter is_open_lot rows.lots)
+    → cancel_lacks (cancel_on m rows) ≡ cancel_lacks (cancel_on n rows)
+cancel_lacks-agree m n rows h = ap (λ b. is_some rows.notice && b) (lacking-agree m n (filter is_open_lot rows.lots) h)
+
 pub cancels_agree : CancelsAgree
-cancels_agree m n rows t h = rw (cancelled-agree m n (filter is_open_lot rows.lots) (filter is_open_lot rows.lots) h) refl
+cancels_agree = record { lacks = cancel_lacks-agree; puts = cancel_puts-agree }

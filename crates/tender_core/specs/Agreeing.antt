@@ -10,9 +10,9 @@ use Rattle.office_base.specs.Standings.{columns_at, columns_of_row, standings}
 use Rattle.office_base.specs.declared.standing.Standing.{Standing}
 use Rattle.office_base.specs.declared.records.LineRow.{LineRow}
 use Rattle.office_base.specs.declared.records.LotRow.{LotRow}
-use Rattle.tender_core.specs.Rules.Import.{import_tests, import_puts}
+use Rattle.tender_core.specs.Rules.Import.{import_lacks, import_tests, import_puts}
 use Rattle.tender_core.specs.Rules.Publish.{publish_tests, publish_puts}
-use Rattle.tender_core.specs.Rules.Cancel.{is_open_lot, cancel_puts}
+use Rattle.tender_core.specs.Rules.Cancel.{is_open_lot, cancel_lacks, cancel_puts}
 use Rattle.tender_core.specs.declared.cancel.CancelRows.{CancelRows}
 use Rattle.tender_core.specs.declared.import.ImportRows.{ImportRows}
 use Rattle.tender_core.specs.declared.publish.PublishRows.{PublishRows}
@@ -43,6 +43,7 @@ pub record ImportsAgree : Type 0 where
   pub tests : (m n : List Standing) (rows : ImportRows) → AgreeOnRows m n rows.file.rows → import_tests (import_on m rows) ≡ import_tests (import_on n rows)
   pub puts : (m n : List Standing) (rows : ImportRows) (t : ℕ) (batch : List ℕ) → AgreeOnRows m n rows.file.rows
       → import_puts (import_on m rows) t batch ≡ import_puts (import_on n rows) t batch
+  pub lacks : (m n : List Standing) (rows : ImportRows) → AgreeOnRows m n rows.file.rows → import_lacks (import_on m rows) ≡ import_lacks (import_on n rows)
   -- the columns of a line in the office are those of its row
   pub columns : (s : Tables) (line : List ℕ) → columns_at (standings s) line ≡ option_map columns_of_row (line_at line s)
 
@@ -53,7 +54,8 @@ pub record PublishesAgree : Type 0 where
       → publish_puts (publish_on m rows) t notice content ≡ publish_puts (publish_on n rows) t notice content
 
 -- of a cancellation, the lines of the lots that are still open
-abbrev pub CancelsAgree : Type 0
-CancelsAgree =
-    (m n : List LineRow) (rows : CancelRows) (t : ℕ) → AgreeOnLots m n (filter is_open_lot rows.lots)
-    → cancel_puts (cancel_on m rows) t ≡ cancel_puts (cancel_on n rows) t
+pub record CancelsAgree : Type 0 where
+  pub lacks : (m n : List LineRow) (rows : CancelRows) → AgreeOnLots m n (filter is_open_lot rows.lots)
+      → cancel_lacks (cancel_on m rows) ≡ cancel_lacks (cancel_on n rows)
+  pub puts : (m n : List LineRow) (rows : CancelRows) (t : ℕ) → AgreeOnLots m n (filter is_open_lot rows.lots)
+      → cancel_puts (cancel_on m rows) t ≡ cancel_puts (cancel_on n rows) t

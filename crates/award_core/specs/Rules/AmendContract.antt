@@ -12,7 +12,7 @@ use Rattle.office_values.specs.declared.refusal.Refusal.{Refusal}
 use Rattle.office_values.specs.declared.refusal.Refusal.TheVariants.{NoSuch, Exists, InsufficientFunds, MoreThanOutstanding, ContractEnded, LimitReached}
 use Rattle.office_base.specs.Rows.{holds_of}
 use Rattle.office_base.specs.RuleParts.{clock_put, released, has_all_releases, puts_if}
-use Rattle.office_base.specs.Joined.{free_in, outstanding}
+use Rattle.office_base.specs.Joined.{free_in, is_overdrawn, outstanding}
 use Rattle.office_base.specs.declared.records.LineRow.{LineRow}
 use Rattle.office_base.specs.declared.records.NoticeRow.{NoticeRow}
 use Rattle.office_base.specs.declared.records.ContractRow.{ContractRow}
@@ -66,6 +66,11 @@ amend_contract_rows s contract = record {
   line = line_of_lot (lot_of_contract (contract_at contract s) s) s;
   clock = s.clock;
 }
+
+-- what is lacking where the contract is there: its notice, its lot's line, or what came to it
+abbrev pub amend_contract_lacks : AmendContractRows → Bool
+amend_contract_lacks rows =
+    holds_of (λ (c : ContractRow). not (is_some rows.notice) || not (is_some rows.line) || is_overdrawn rows.entries c) rows.contract
 
 -- when it is refused, by these rows
 abbrev pub amend_contract_tests : AmendContractRows → List ℕ → ChangeKind → ℕ → List (Bool × Refusal)

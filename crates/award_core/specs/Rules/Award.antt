@@ -142,6 +142,10 @@ award_rows s notice lot = record {
   clock = s.clock;
 }
 
+-- what is lacking where the lot is there: its line
+abbrev pub award_lacks : AwardRows → Bool
+award_lacks rows = is_some rows.lot && not (is_some rows.line)
+
 -- when it is refused, by these rows
 abbrev pub award_tests : AwardRows → ℕ → List (Bool × Refusal)
 award_tests rows t =

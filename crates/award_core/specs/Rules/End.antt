@@ -1,5 +1,5 @@
 -- The end of a contract: what is outstanding is free again.
-use Rattle.std.specs.Prelude.{ℕ, ◌+◌, Bool, not, List, [], ◌∷◌, ◌++◌, Some, is_some}
+use Rattle.std.specs.Prelude.{ℕ, ◌+◌, Bool, not, ◌&&◌, ◌||◌, List, [], ◌∷◌, ◌++◌, Option, Some, is_some, nat_lt}
 use Rattle.office_acts.specs.declared.contract.How.{How}
 use Rattle.office_acts.specs.declared.contract.How.TheVariants as hows
 use Rattle.office_values.specs.declared.refusal.Thing.TheVariants as things
@@ -7,13 +7,14 @@ use Rattle.office_values.specs.declared.refusal.Refusal.{Refusal}
 use Rattle.office_values.specs.declared.refusal.Refusal.TheVariants.{NoSuch, ContractEnded, LimitReached}
 use Rattle.office_base.specs.Rows.{holds_of}
 use Rattle.office_base.specs.RuleParts.{clock_put, released, has_all_releases, performance_settled, put_if, puts_if}
-use Rattle.office_base.specs.Joined.{outstanding}
+use Rattle.office_base.specs.Joined.{is_overdrawn, outstanding}
 use Rattle.award_core.specs.Rules.AmendContract.{has_ended}
 use Rattle.office_base.specs.declared.records.LineRow.{LineRow}
 use Rattle.office_base.specs.declared.records.NoticeRow.{NoticeRow}
 use Rattle.office_base.specs.declared.records.ContractRow.{ContractRow}
 use Rattle.office_base.specs.declared.records.EntryRow.{EntryRow}
 use Rattle.office_base.specs.declared.records.ClockRow.{ClockRow}
+use Rattle.office_base.specs.declared.records.PerformanceRow.{PerformanceRow}
 use Rattle.office_base.specs.declared.records.SecurityState.{SecurityState}
 use Rattle.office_base.specs.declared.records.SecurityState.TheVariants.{Returned, Forfeited}
 use Rattle.office_base.specs.declared.puts.Put.TheVariants as puts
@@ -49,6 +50,19 @@ end_rows s contract = record {
   performance = performance_at contract s;
   clock = s.clock;
 }
+
+-- the notice asks for a performance security, and it isn't there
+abbrev pub lacks_performance : NoticeRow → Option PerformanceRow → Bool
+lacks_performance n performance = nat_lt 0 n.performance && not (is_some performance)
+
+-- what is lacking where the contract is there: its notice, its lot's line, the performance security that its notice asks for, or what came
+-- to it
+abbrev pub end_lacks : EndRows → Bool
+end_lacks rows =
+    holds_of (λ (c : ContractRow).
+    not (is_some rows.notice) || not (is_some rows.line) || holds_of (λ (n : NoticeRow). lacks_performance n rows.performance) rows.notice
+    || is_overdrawn rows.entries c
+    ) rows.contract
 
 -- when it is refused, by these rows
 abbrev pub end_tests : EndRows → List (Bool × Refusal)

@@ -55,6 +55,10 @@ examine_rows s receipt = record {
   clock = s.clock;
 }
 
+-- what is lacking where the tender is there: its notice or its lot
+abbrev pub examine_lacks : ExamineRows → Bool
+examine_lacks rows = is_some rows.envelope && (not (is_some rows.notice) || not (is_some rows.lot))
+
 -- when it is refused, by these rows
 abbrev pub examine_tests : ExamineRows → Bool → Option ℕ → List (Bool × Refusal)
 examine_tests rows responsive quality =

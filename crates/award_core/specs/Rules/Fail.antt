@@ -1,17 +1,18 @@
 -- A winner who doesn't sign is passed over (Model Law, article 22): the award fails, and the security is forfeited.
-use Rattle.std.specs.Prelude.{ℕ, ◌+◌, Bool, not, List, [], ◌∷◌, ◌++◌, Option, is_some, nat_lt}
+use Rattle.std.specs.Prelude.{ℕ, ◌+◌, Bool, not, ◌&&◌, ◌||◌, List, [], ◌∷◌, ◌++◌, Option, is_some, nat_lt}
 use Rattle.office_base.specs.Limits.{days}
 use Rattle.office_values.specs.declared.refusal.Thing.TheVariants as things
 use Rattle.office_values.specs.declared.refusal.Refusal.{Refusal}
 use Rattle.office_values.specs.declared.refusal.Refusal.TheVariants.{NoSuch, AlreadyDecided, Expired, Standstill, LimitReached}
 use Rattle.office_base.specs.Rows.{holds_of}
-use Rattle.office_base.specs.RuleParts.{clock_put, released, has_all_releases, is_expired, passed_over, security_settled, put_if, puts_if}
+use Rattle.office_base.specs.RuleParts.{clock_put, released, has_all_releases, is_expired, lacks_security, passed_over, security_settled, put_if, puts_if}
 use Rattle.office_base.specs.States.{is_active}
 use Rattle.office_base.specs.declared.records.LotState.TheVariants as lot_states
 use Rattle.office_base.specs.declared.records.AwardState.TheVariants as award_states
 use Rattle.office_base.specs.declared.records.SecurityState.TheVariants.{Forfeited}
 use Rattle.office_base.specs.declared.records.NoticeRow.{NoticeRow}
 use Rattle.office_base.specs.declared.records.LotRow.{LotRow}
+use Rattle.office_base.specs.declared.records.EnvelopeRow.{EnvelopeRow}
 use Rattle.office_base.specs.declared.records.AwardRow.{AwardRow}
 use Rattle.office_base.specs.declared.puts.Put.TheVariants as puts
 use Rattle.office_base.specs.declared.puts.Put.{Put}
@@ -55,6 +56,13 @@ fail_rows s award = record {
   security = security_of_envelope (envelope_of_award (award_at award s) s) s;
   clock = s.clock;
 }
+
+-- what is lacking where the award is there: its notice, its lot, its tender, or the security that this names
+abbrev pub fail_lacks : FailRows → Bool
+fail_lacks rows =
+    is_some rows.award
+    && (not (is_some rows.notice) || not (is_some rows.lot) || not (is_some rows.envelope)
+    || holds_of (λ (e : EnvelopeRow). lacks_security e rows.security) rows.envelope)
 
 -- when it is refused, by these rows
 abbrev pub fail_tests : FailRows → ℕ → List (Bool × Refusal)

@@ -1,5 +1,5 @@
 -- A payment under a contract.
-use Rattle.std.specs.Prelude.{ℕ, Bool, not, ◌||◌, List, [], ◌∷◌, None, is_some}
+use Rattle.std.specs.Prelude.{ℕ, Bool, not, ◌&&◌, ◌||◌, List, [], ◌∷◌, None, is_some}
 use Rattle.std.specs.List.{list_any}
 use Rattle.office_base.specs.declared.records.EntryKind.TheVariants as entry_kinds
 use Rattle.office_values.specs.declared.refusal.Thing.TheVariants as things
@@ -29,6 +29,10 @@ pay_rows s contract = record {
   notice = notice_of_contract (contract_at contract s) s;
   clock = s.clock;
 }
+
+-- what is lacking where the contract is there: its notice
+abbrev pub pay_lacks : PayRows → Bool
+pay_lacks rows = is_some rows.contract && not (is_some rows.notice)
 
 -- when it is refused, by these rows
 abbrev pub pay_tests : PayRows → List ℕ → ℕ → List (Bool × Refusal)

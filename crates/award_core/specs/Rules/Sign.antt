@@ -1,5 +1,5 @@
 -- The signing of a contract (Model Law, article 22).
-use Rattle.std.specs.Prelude.{ℕ, Bool, not, ◌&&◌, List, [], ◌∷◌, ◌++◌, Option, Some, None, is_some, nat_lt, nat_eq}
+use Rattle.std.specs.Prelude.{ℕ, Bool, not, ◌&&◌, ◌||◌, List, [], ◌∷◌, ◌++◌, Option, Some, None, is_some, nat_lt, nat_eq}
 use Rattle.office_acts.specs.declared.tender.NamedSecurity.{NamedSecurity}
 use Rattle.office_values.specs.declared.refusal.Thing.TheVariants as things
 use Rattle.office_values.specs.declared.refusal.Refusal.{Refusal}
@@ -86,6 +86,10 @@ sign_rows s award = record {
   securities = securities_of_award (award_at award s) s;
   clock = s.clock;
 }
+
+-- what is lacking where the award is there: its notice, its lot or its tender
+abbrev pub sign_lacks : SignRows → Bool
+sign_lacks rows = is_some rows.award && (not (is_some rows.notice) || not (is_some rows.lot) || not (is_some rows.envelope))
 
 -- when it is refused, by these rows and the performance security that is named: else as a failing is
 abbrev pub sign_tests : SignRows → ℕ → Option NamedSecurity → List (Bool × Refusal)

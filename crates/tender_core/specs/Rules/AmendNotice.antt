@@ -1,5 +1,5 @@
 -- A notice's deadline is moved to a later one (Model Law, article 14).
-use Rattle.std.specs.Prelude.{ℕ, ◌+◌, Bool, not, ◌||◌, List, [], ◌∷◌, is_some, nat_lt, nat_le}
+use Rattle.std.specs.Prelude.{ℕ, ◌+◌, Bool, false, not, ◌||◌, List, [], ◌∷◌, is_some, nat_lt, nat_le}
 use Rattle.office_base.specs.Limits.{amendment_limit}
 use Rattle.office_values.specs.declared.refusal.Thing.TheVariants as things
 use Rattle.office_values.specs.declared.refusal.Refusal.{Refusal}
@@ -22,6 +22,10 @@ amended deadline n = record n { deadline = deadline; amendments = n.amendments +
 -- the rows of an office that the amendment of a notice looks at
 abbrev pub amend_notice_rows : Tables → List ℕ → AmendNoticeRows
 amend_notice_rows s notice = record { notice = notice_at notice s; clock = s.clock }
+
+-- nothing is lacking: it looks at the notice alone
+abbrev pub amend_notice_lacks : AmendNoticeRows → Bool
+amend_notice_lacks rows = false
 
 -- when it is refused, by these rows
 abbrev pub amend_notice_tests : AmendNoticeRows → ℕ → ℕ → List (Bool × Refusal)

@@ -93,6 +93,14 @@ cancel_rows s notice = record {
   clock = s.clock;
 }
 
+-- the line of a lot isn't there
+abbrev pub lacks_line : List LineRow → LotRow → Bool
+lacks_line lines l = not (is_some (find_line lines l.line))
+
+-- what is lacking where the notice is there: the line of a lot that ends
+abbrev pub cancel_lacks : CancelRows → Bool
+cancel_lacks rows = is_some rows.notice && list_any (lacks_line rows.lines) (filter is_open_lot rows.lots)
+
 -- when it is refused, by these rows
 abbrev pub cancel_tests : CancelRows → List (Bool × Refusal)
 cancel_tests rows =

@@ -86,6 +86,14 @@ puts_after clock t batch after rows =
 abbrev pub import_rows : Tables → List ℕ → List BudgetRow → ImportRows
 import_rows s batch budget = record { batch = batch_at batch s; file = record { lines = standings s; rows = budget }; clock = s.clock }
 
+-- what is appropriated would go below 0, where as much may be free
+abbrev pub cuts_below_zero : Option Columns → BudgetRow → Bool
+cuts_below_zero held row = is_cut row.kind && nat_lt (appropriation_of held) row.amount
+
+-- what is lacking: what a cut takes from the appropriation of its line
+abbrev pub import_lacks : ImportRows → Bool
+import_lacks rows = some_row cuts_below_zero rows.file.lines rows.file.rows
+
 -- when it is refused, by these rows
 abbrev pub import_tests : ImportRows → List (Bool × Refusal)
 import_tests rows =

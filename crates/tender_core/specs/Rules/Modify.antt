@@ -1,5 +1,5 @@
 -- A sealed tender is replaced by another, with the same security (Model Law, article 41).
-use Rattle.std.specs.Prelude.{ℕ, ◌+◌, Bool, false, not, List, [], ◌∷◌, None, is_some, length}
+use Rattle.std.specs.Prelude.{ℕ, ◌+◌, Bool, false, not, ◌&&◌, List, [], ◌∷◌, None, is_some, length}
 use Rattle.office_acts.specs.declared.command.Caller.{Caller}
 use Rattle.office_acts.specs.Callers.{is_by}
 use Rattle.office_values.specs.declared.refusal.Thing.TheVariants as things
@@ -47,6 +47,10 @@ replacing digest clock t e bytes = record {
 -- the rows of an office that a modification looks at
 abbrev pub modify_rows : Tables → ℕ → ModifyRows
 modify_rows s receipt = record { envelope = envelope_at receipt s; notice = notice_of_envelope (envelope_at receipt s) s; clock = s.clock }
+
+-- what is lacking where the tender is there: its notice
+abbrev pub modify_lacks : ModifyRows → Bool
+modify_lacks rows = is_some rows.envelope && not (is_some rows.notice)
 
 -- when it is refused, by these rows
 abbrev pub modify_tests : ModifyRows → ℕ → Caller → List (Bool × Refusal)

@@ -1,5 +1,5 @@
 -- The opening of the tenders (Model Law, article 42): every sealed tender of the notice is opened and read.
-use Rattle.std.specs.Prelude.{◌≡◌, ℕ, ◌+◌, Bool, not, List, [], ◌∷◌, ◌++◌, map, Option, Some, None, is_some, nat_lt}
+use Rattle.std.specs.Prelude.{◌≡◌, ℕ, ◌+◌, Bool, false, not, List, [], ◌∷◌, ◌++◌, map, Option, Some, None, is_some, nat_lt}
 use Rattle.office_acts.specs.declared.item.Item.{Item}
 use Rattle.office_base.specs.declared.reading.Reading.{Reading}
 use Rattle.office_values.specs.declared.refusal.Thing.TheVariants as things
@@ -55,6 +55,10 @@ opened_with clock t (Some n) tenders = map read_put tenders ++ (puts.Notice (ope
 -- the rows of an office that an opening looks at, beside the sealed tenders
 abbrev pub open_rows : Tables → List ℕ → OpenRows
 open_rows s notice = record { notice = notice_at notice s; clock = s.clock }
+
+-- nothing is lacking: of these rows it looks at the notice alone
+abbrev pub open_lacks : OpenRows → Bool
+open_lacks rows = false
 
 -- when it is refused, by these rows
 abbrev pub open_tests : OpenRows → ℕ → List (Bool × Refusal)

@@ -84,6 +84,10 @@ present_rows s notice lot = record {
   clock = s.clock;
 }
 
+-- nothing is lacking: the notice and the lot are named
+abbrev pub present_lacks : PresentRows → Bool
+present_lacks rows = false
+
 -- when it is refused, by these rows
 abbrev pub present_tests : PresentRows → ℕ → Caller → Option NamedSecurity → List (Bool × Refusal)
 present_tests rows t caller security =

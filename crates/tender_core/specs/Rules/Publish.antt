@@ -1,6 +1,6 @@
 -- The publication of a tender notice: its lots reserve their estimates (UNCITRAL Model Law 2011, articles 33 and 39, as far as
 -- the books are concerned).
-use Rattle.std.specs.Prelude.{ℕ, ◌-◌, Bool, cond, not, ◌||◌, List, [], ◌∷◌, ◌++◌, None, is_some, unwrap_or, nat_lt, nat_le, map, length}
+use Rattle.std.specs.Prelude.{ℕ, ◌-◌, Bool, false, cond, not, ◌||◌, List, [], ◌∷◌, ◌++◌, None, is_some, unwrap_or, nat_lt, nat_le, map, length}
 use Rattle.std.specs.List.{list_any}
 use Rattle.office_values.specs.Ids.{same_id}
 use Rattle.office_acts.specs.Notices.{weight_of}
@@ -109,6 +109,10 @@ publish_parts clock t notice lines new =
 -- the rows of an office that a publication looks at
 abbrev pub publish_rows : Tables → List ℕ → PublishRows
 publish_rows s notice = record { notice = notice_at notice s; lines = s.lines; clock = s.clock }
+
+-- nothing is lacking: the lines are named
+abbrev pub publish_lacks : PublishRows → Bool
+publish_lacks rows = false
 
 -- when it is refused, by these rows; a new notice has no releases, so their limit isn't reached
 abbrev pub publish_tests : PublishRows → ℕ → NewNotice → List (Bool × Refusal)

@@ -1,5 +1,5 @@
 -- The registration of a tenderer.
-use Rattle.std.specs.Prelude.{ℕ, Bool, ◌||◌, List, [], ◌∷◌, is_some, codes}
+use Rattle.std.specs.Prelude.{ℕ, Bool, false, ◌||◌, List, [], ◌∷◌, is_some, codes}
 use Rattle.office_values.specs.Ids.{same_id}
 use Rattle.office_values.specs.declared.refusal.Refusal.{Refusal}
 use Rattle.office_values.specs.declared.refusal.Refusal.TheVariants.{Exists}
@@ -16,6 +16,10 @@ clerk_id = codes "clerk"
 -- the rows of an office that a registration looks at
 abbrev pub register_rows : Tables → List ℕ → RegisterRows
 register_rows s tenderer = record { tenderer = tenderer_at tenderer s; clock = s.clock }
+
+-- nothing is lacking: the tenderer is new
+abbrev pub register_lacks : RegisterRows → Bool
+register_lacks rows = false
 
 -- when it is refused, by these rows
 abbrev pub register_tests : RegisterRows → List ℕ → List (Bool × Refusal)

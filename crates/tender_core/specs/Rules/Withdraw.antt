@@ -7,7 +7,7 @@ use Rattle.office_values.specs.declared.refusal.Refusal.{Refusal}
 use Rattle.office_values.specs.declared.refusal.Refusal.TheVariants.{NoSuch, NotYourTender, DeadlinePassed, NotSealed, AlreadyDecided, Expired}
 use Rattle.office_base.specs.Rows.{holds_of}
 use Rattle.office_base.specs.States.{is_sealed, is_read, is_undecided}
-use Rattle.office_base.specs.RuleParts.{clock_put, is_past_deadline, is_expired, is_late, passed_over, security_settled, put_if, puts_if}
+use Rattle.office_base.specs.RuleParts.{clock_put, is_past_deadline, is_expired, is_late, lacks_security, passed_over, security_settled, put_if, puts_if}
 use Rattle.tender_core.specs.Rules.Modify.{is_anothers, isnt_sealed, withdrawn}
 use Rattle.office_base.specs.declared.records.SecurityState.TheVariants.{Returned, Forfeited}
 use Rattle.office_base.specs.declared.records.LotRow.{LotRow}
@@ -48,6 +48,11 @@ withdraw_rows s receipt = record {
   security = security_of_envelope (envelope_at receipt s) s;
   clock = s.clock;
 }
+
+-- what is lacking where the tender is there: its notice, its lot, or the security that it names
+abbrev pub withdraw_lacks : WithdrawRows → Bool
+withdraw_lacks rows =
+    holds_of (λ (e : EnvelopeRow). not (is_some rows.notice) || not (is_some rows.lot) || lacks_security e rows.security) rows.envelope
 
 -- when it is refused, by these rows
 abbrev pub withdraw_tests : WithdrawRows → ℕ → Caller → List (Bool × Refusal)
