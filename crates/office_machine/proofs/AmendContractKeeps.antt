@@ -30,7 +30,7 @@ use Rattle.office_machine.proofs.Passed.{none_holds, not_false, not_both, not_al
 use Rattle.office_acts.specs.declared.contract.ChangeKind.{ChangeKind}
 use Rattle.office_acts.specs.declared.contract.ChangeKind.TheVariants as change_kinds
 use Rattle.office_base.specs.EntryKinds.{is_raise, is_less, is_payment}
-use Rattle.award_core.specs.Rules.AmendContract.{is_running, is_beyond, has_ended, is_raising, entry_kind, line_after, change_row, amend_contract_effect}
+use Rattle.award_core.specs.Rules.AmendContract.{is_running, is_beyond, has_ended, is_raising, entry_kind, line_after, change_row, amend_contract_puts}
 use Rattle.office_machine.proofs.Entered.{not_taken, contracts_are, no_contract_are, gains, losses, payments}
 
 -- what an entry of the kind raises, and cuts
@@ -155,9 +155,8 @@ module _ (readings : Readings) (xs : List Given) (s : Tables) (moment : ℕ) (ca
       no_contract = no_contract_are x xs s kept order c r l row is lot number new_here comes goes (within_by kind enough) s';
     }
 
-    effect_is : amend_contract_effect s.clock (time_of x) (Some r) (Some n) (Some w) entry kind amount rationale ≡ effect readings x
-    effect_is = λ i. amend_contract_effect s.clock (time_of x) (sym is i) (sym (ap (λ o. notice_of_contract o s) is ∙ notice) i)
-        (sym (ap (λ o. line_of_lot o s) (ap (λ o. lot_of_contract o s) is ∙ lot) ∙ line) i) entry kind amount rationale
+    effect_is : amend_contract_puts (record { contract = Some r; entries = []; notice = Some n; line = Some w; clock = s.clock }) (time_of x) entry kind amount rationale ≡ effect readings x
+    effect_is = λ i. amend_contract_puts (record { contract = sym is i; entries = []; notice = sym (ap (λ o. notice_of_contract o s) is ∙ notice) i; line = sym (ap (λ o. line_of_lot o s) (ap (λ o. lot_of_contract o s) is ∙ lot) ∙ line) i; clock = s.clock }) (time_of x) entry kind amount rationale
 
     keeps : IsKept (x ∷ xs) (after_puts (effect readings x) s)
     keeps = subst (λ ps. IsKept (x ∷ xs) (after_puts ps s)) effect_is

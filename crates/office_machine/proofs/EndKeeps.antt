@@ -30,7 +30,7 @@ use Rattle.office_machine.proofs.Joins.{outstanding-own, over_contracts-replaced
 use Rattle.office_machine.proofs.Passed.{none_holds, not_false, witness, test_of, split}
 use Rattle.office_acts.specs.declared.contract.How.{How}
 use Rattle.award_core.specs.Rules.AmendContract.{has_ended}
-use Rattle.award_core.specs.Rules.End.{ended_contract, end_effect, ended_state}
+use Rattle.award_core.specs.Rules.End.{ended_contract, end_puts, ended_state}
 
 module _ (readings : Readings) (xs : List Given) (s : Tables) (moment : ℕ) (caller : Caller) (c : ℕ) (how : How) (kept : IsKept xs s) (order : IsSorted s) where
   abbrev x : Given
@@ -139,9 +139,8 @@ module _ (readings : Readings) (xs : List Given) (s : Tables) (moment : ℕ) (ca
       no_contract = no_contract_is;
     }
 
-    effect_is : end_effect s.clock (time_of x) how (Some r) (entries_of_contract c s) (Some n) (Some w) (performance_at c s) ≡ effect readings x
-    effect_is = λ i. end_effect s.clock (time_of x) how (sym is i) (entries_of_contract c s) (sym (ap (λ o. notice_of_contract o s) is ∙ notice) i)
-        (sym (ap (λ o. line_of_lot o s) (ap (λ o. lot_of_contract o s) is ∙ lot) ∙ line) i) (performance_at c s)
+    effect_is : end_puts (record { contract = Some r; entries = entries_of_contract c s; notice = Some n; line = Some w; performance = performance_at c s; clock = s.clock }) (time_of x) how ≡ effect readings x
+    effect_is = λ i. end_puts (record { contract = sym is i; entries = entries_of_contract c s; notice = sym (ap (λ o. notice_of_contract o s) is ∙ notice) i; line = sym (ap (λ o. line_of_lot o s) (ap (λ o. lot_of_contract o s) is ∙ lot) ∙ line) i; performance = performance_at c s; clock = s.clock }) (time_of x) how
 
     keeps : IsKept (x ∷ xs) (after_puts (effect readings x) s)
     keeps = subst (λ ps. IsKept (x ∷ xs) (after_puts ps s)) effect_is

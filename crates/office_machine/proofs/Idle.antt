@@ -12,12 +12,12 @@ use Rattle.office_base.specs.declared.records.SecurityRow.{SecurityRow}
 use Rattle.office_base.specs.declared.records.ClockRow.{ClockRow}
 use Rattle.office_base.specs.Tables.{Tables, notice_at, envelope_at, after_puts}
 use Rattle.office_base.specs.RuleParts.{security_settled, is_late}
-use Rattle.tender_core.specs.Rules.AmendNotice.{amend_notice_effect}
-use Rattle.tender_core.specs.Rules.Open.{SealedTender, open_effect, opened_put}
+use Rattle.tender_core.specs.Rules.AmendNotice.{amend_notice_puts}
+use Rattle.tender_core.specs.Rules.Open.{SealedTender, open_puts, opened_put}
 use Rattle.tender_core.specs.Rules.Present.{received_puts, seal_puts, security_put}
-use Rattle.tender_core.specs.Rules.Modify.{modify_effect}
-use Rattle.tender_core.specs.Rules.Withdraw.{withdraw_effect, taken_back_puts}
-use Rattle.award_core.specs.Rules.Examine.{examine_effect}
+use Rattle.tender_core.specs.Rules.Modify.{modify_puts}
+use Rattle.tender_core.specs.Rules.Withdraw.{withdraw_puts, taken_back_puts}
+use Rattle.award_core.specs.Rules.Examine.{examine_puts}
 use Rattle.office_base.specs.Parents.{security_of_envelope, notice_of_envelope, late_of_envelope}
 use Rattle.office_machine.specs.Machine.{Given, time_of, effect}
 use Rattle.office_machine.specs.Readings.{Readings}
@@ -33,11 +33,11 @@ idle_keeps readings x xs idle aside kept = kept_aside (x ∷ xs) (effect reading
 same : (n : ℕ) → n ≤ n
 same n = omega arith
 
-amend_aside : (clock : ClockRow) (t : ℕ) (notice : Option NoticeRow) (deadline : ℕ) → AreAside clock.awards (amend_notice_effect clock t notice deadline)
+amend_aside : (clock : ClockRow) (t : ℕ) (notice : Option NoticeRow) (deadline : ℕ) → AreAside clock.awards (amend_notice_puts (record { notice = notice; clock = clock }) t deadline)
 amend_aside clock t None deadline = tt
 amend_aside clock t (Some n) deadline = (tt, (same clock.awards, tt))
 
-open_aside : (read : List ℕ → List Item → Reading) (clock : ClockRow) (t : ℕ) (notice : Option NoticeRow) (tenders : List SealedTender) → AreAside clock.awards (open_effect read clock t notice tenders)
+open_aside : (read : List ℕ → List Item → Reading) (clock : ClockRow) (t : ℕ) (notice : Option NoticeRow) (tenders : List SealedTender) → AreAside clock.awards (open_puts read (record { notice = notice; clock = clock }) t tenders)
 open_aside read clock t None tenders = tt
 open_aside read clock t (Some n) tenders = aside-append clock.awards (map (opened_put read) tenders) _ (aside-map clock.awards (opened_put read) tenders (λ _. tt)) (tt, (same clock.awards, tt))
 
@@ -49,7 +49,7 @@ present_aside : (digest : List ℕ → List ℕ) (clock : ClockRow) (t : ℕ) (c
 present_aside digest clock t caller notice lot security bytes in_time =
     (tt, (same clock.awards, aside-append clock.awards (seal_puts clock bytes in_time) _ (seal_aside clock bytes in_time) (aside-if clock.awards (security_put clock caller notice lot in_time) security (λ _. tt))))
 
-modify_aside : (digest : List ℕ → List ℕ) (clock : ClockRow) (t : ℕ) (envelope : Option EnvelopeRow) (bytes : List ℕ) → AreAside clock.awards (modify_effect digest clock t envelope bytes)
+modify_aside : (digest : List ℕ → List ℕ) (clock : ClockRow) (t : ℕ) (envelope : Option EnvelopeRow) (bytes : List ℕ) → AreAside clock.awards (modify_puts digest (record { envelope = envelope; notice = None; clock = clock }) t bytes)
 modify_aside digest clock t None bytes = tt
 modify_aside digest clock t (Some e) bytes = (tt, (tt, (tt, (tt, (same clock.awards, tt)))))
 
@@ -57,11 +57,11 @@ taken_back_aside : (clock : ClockRow) (t : ℕ) (e : EnvelopeRow) (security : Op
 taken_back_aside clock t e security false = (tt, (tt, (same clock.awards, aside-if clock.awards (security_settled Returned) security (λ _. tt))))
 taken_back_aside clock t e security true = (tt, (same clock.awards, aside-if clock.awards (security_settled Forfeited) security (λ _. tt)))
 
-withdraw_aside : (clock : ClockRow) (t : ℕ) (envelope : Option EnvelopeRow) (notice : Option NoticeRow) (late : Option LateRow) (security : Option SecurityRow) → AreAside clock.awards (withdraw_effect clock t envelope notice late security)
+withdraw_aside : (clock : ClockRow) (t : ℕ) (envelope : Option EnvelopeRow) (notice : Option NoticeRow) (late : Option LateRow) (security : Option SecurityRow) → AreAside clock.awards (withdraw_puts (record { envelope = envelope; notice = notice; lot = None; late = late; security = security; clock = clock }) t)
 withdraw_aside clock t None notice late security = tt
 withdraw_aside clock t (Some e) notice late security = taken_back_aside clock t e security (is_late late t notice)
 
-examine_aside : (clock : ClockRow) (t : ℕ) (envelope : Option EnvelopeRow) (responsive : Bool) (quality : Option ℕ) → AreAside clock.awards (examine_effect clock t envelope responsive quality)
+examine_aside : (clock : ClockRow) (t : ℕ) (envelope : Option EnvelopeRow) (responsive : Bool) (quality : Option ℕ) → AreAside clock.awards (examine_puts (record { envelope = envelope; notice = None; lot = None; clock = clock }) t responsive quality)
 examine_aside clock t None responsive quality = tt
 examine_aside clock t (Some e) responsive quality = (tt, (same clock.awards, tt))
 

@@ -19,8 +19,8 @@ use Rattle.office_base.specs.declared.puts.Put.TheVariants as puts
 use Rattle.office_base.specs.States.{is_sealed}
 use Rattle.office_base.specs.Rules.{first_of}
 use Rattle.office_base.specs.RuleParts.{clock_put}
-use Rattle.tender_core.specs.Rules.Open.{is_sealed_envelope, opened_envelope, opened_put, opened_notice, open_conditions, open_effect}
-use Rattle.award_core.specs.Rules.Examine.{examined, examine_effect}
+use Rattle.tender_core.specs.Rules.Open.{is_sealed_envelope, opened_envelope, opened_put, opened_notice, open_tests, open_puts}
+use Rattle.award_core.specs.Rules.Examine.{examined, examine_puts}
 use Rattle.office_base.specs.Tables.{Tables, envelope_key, envelope_at, notice_at, envelopes_of_notice, after_puts}
 use Rattle.office_machine.specs.Machine.{Given}
 use Rattle.office_machine.specs.Readings.{Readings}
@@ -60,7 +60,7 @@ module _ (readings : Readings) (name : List ℕ) (xs : List Given) (t : Tables) 
     after =
         after_puts (puts.Notice (opened_notice T n) ∷ clock_put t.clock T ∷ []) (record t { envelopes = rows_put nat_cmp envelope_key t.envelopes opened_rows })
 
-    after_is : after_puts (open_effect readings.read t.clock T (Some n) (sealed_tenders name t)) t ≡ after
+    after_is : after_puts (open_puts readings.read (record { notice = Some n; clock = t.clock }) T (sealed_tenders name t)) t ≡ after
     after_is =
         after-append (map (opened_put readings.read) (sealed_tenders name t)) (puts.Notice (opened_notice T n) ∷ clock_put t.clock T ∷ []) t
         ∙ ap (after_puts (puts.Notice (opened_notice T n) ∷ clock_put t.clock T ∷ []))
@@ -144,10 +144,10 @@ module _ (readings : Readings) (name : List ℕ) (xs : List Given) (t : Tables) 
         (order-puts (puts.Notice (opened_notice T n) ∷ clock_put t.clock T ∷ []) (record t { envelopes = rows_put nat_cmp envelope_key t.envelopes opened_rows })
         (subst (λ (u : Tables). Rattle.office_machine.proofs.Seen.AreInOrder u) (after_envelopes open_row (filter test t.envelopes) t) (order-puts (map (λ e. puts.Envelope (open_row e)) (filter test t.envelopes)) t kept.order)))
 
-  by_notice : (o : Option NoticeRow) → notice_at name t ≡ o → first_of (open_conditions T o) ≡ None
-      → IsKept readings (x ∷ xs) (after_puts (open_effect readings.read t.clock T o (sealed_tenders name t)) t)
+  by_notice : (o : Option NoticeRow) → notice_at name t ≡ o → first_of (open_tests (record { notice = o; clock = t.clock }) T) ≡ None
+      → IsKept readings (x ∷ xs) (after_puts (open_puts readings.read (record { notice = o; clock = t.clock }) T (sealed_tenders name t)) t)
   by_notice None found allowed =
-      let passes : AllByRecursion (λ (test : Bool × Refusal). test.0 ≡ false) (open_conditions T None) = none_holds (open_conditions T None) allowed in
+      let passes : AllByRecursion (λ (test : Bool × Refusal). test.0 ≡ false) (open_tests (record { notice = None; clock = t.clock }) T) = none_holds (open_tests (record { notice = None; clock = t.clock }) T) allowed in
       let no : true ≡ false = passes.0 in cc
   by_notice (Some n) found allowed = subst (IsKept readings (x ∷ xs)) (sym (after_is n found)) (opened_kept n found)
 
@@ -202,7 +202,7 @@ module _ (readings : Readings) (receipt : ℕ) (responsive : Bool) (quality : Op
         (order-puts (puts.Envelope (examined responsive quality e) ∷ clock_put t.clock (max m t.clock.moment) ∷ []) t kept.order)
 
   examine_by : (o : Option EnvelopeRow) → envelope_at receipt t ≡ o
-      → IsKept readings (given_examine ∷ xs) (after_puts (examine_effect t.clock (max m t.clock.moment) o responsive quality) t)
+      → IsKept readings (given_examine ∷ xs) (after_puts (examine_puts (record { envelope = o; notice = None; lot = None; clock = t.clock }) (max m t.clock.moment) responsive quality) t)
   examine_by None found = one_more readings xs given_examine t kept refl (λ r. refl) (λ s. refl)
   examine_by (Some e) found = examined_kept e found
 

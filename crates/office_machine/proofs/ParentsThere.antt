@@ -37,19 +37,19 @@ use Rattle.office_base.specs.RuleParts.{put_if, security_returned, settled, secu
 use Rattle.office_base.specs.Standings.{standings}
 use Rattle.tender_core.specs.Rules.Import.{after_rows, line_put as import_line}
 use Rattle.tender_core.specs.Rules.Publish.{line_put, lot_put, publish_parts, late_puts}
-use Rattle.tender_core.specs.Rules.AmendNotice.{amend_notice_effect}
-use Rattle.tender_core.specs.Rules.Cancel.{is_open_lot, lot_put as cancel_lot, line_put as cancel_line, is_ended_award, award_put, is_ended_envelope, envelope_put, drop_put, is_ended_security, cancel_effect}
-use Rattle.tender_core.specs.Rules.Open.{is_sealed_envelope, opened_put, open_effect}
+use Rattle.tender_core.specs.Rules.AmendNotice.{amend_notice_puts}
+use Rattle.tender_core.specs.Rules.Cancel.{is_open_lot, lot_put as cancel_lot, line_put as cancel_line, is_ended_award, award_put, is_ended_envelope, envelope_put, drop_put, is_ended_security, cancel_puts}
+use Rattle.tender_core.specs.Rules.Open.{is_sealed_envelope, opened_put, open_puts}
 use Rattle.tender_core.specs.Rules.Present.{received_puts, seal_puts, security_put}
-use Rattle.tender_core.specs.Rules.Modify.{modify_effect}
-use Rattle.tender_core.specs.Rules.Withdraw.{withdraw_effect, taken_back_puts}
-use Rattle.award_core.specs.Rules.Examine.{examine_effect}
-use Rattle.award_core.specs.Rules.Award.{winner, best_of, decision_puts, award_effect}
-use Rattle.award_core.specs.Rules.Fail.{fail_effect}
-use Rattle.award_core.specs.Rules.Sign.{sign_effect, tenderer_in, performance_put}
-use Rattle.award_core.specs.Rules.AmendContract.{amend_contract_effect}
-use Rattle.award_core.specs.Rules.Pay.{pay_effect}
-use Rattle.award_core.specs.Rules.End.{end_effect, ended_state}
+use Rattle.tender_core.specs.Rules.Modify.{modify_puts}
+use Rattle.tender_core.specs.Rules.Withdraw.{withdraw_puts, taken_back_puts}
+use Rattle.award_core.specs.Rules.Examine.{examine_puts}
+use Rattle.award_core.specs.Rules.Award.{winner, best_of, decision_puts, award_puts}
+use Rattle.award_core.specs.Rules.Fail.{fail_puts}
+use Rattle.award_core.specs.Rules.Sign.{sign_puts, tenderer_in, performance_put}
+use Rattle.award_core.specs.Rules.AmendContract.{amend_contract_puts}
+use Rattle.award_core.specs.Rules.Pay.{pay_puts}
+use Rattle.award_core.specs.Rules.End.{end_puts, ended_state}
 use Rattle.office_base.specs.declared.records.ReleaseRow.{ReleaseRow}
 use Rattle.office_base.specs.Parents.{envelope_of_award, security_of_envelope, lot_of_award, notice_of_award, notice_of_envelope, notice_of_contract, line_of_lot, lot_of_contract, late_of_envelope}
 use Rattle.office_machine.specs.Machine.{Means, Given, IsRegistered, may_give, publication_puts, command_tests, effect, next, puts_of, publication, with_trees, time_of}
@@ -91,14 +91,14 @@ module _ (s u : Tables) (order : IsSorted s) (have : HaveParents s s) (g : Grows
       parents-all u security_returned (filter is_held_security (securities_of_lot notice lot s))
       (all-filter _ is_held_security (securities_of_lot notice lot s) (all-filter _ _ s.securities (securities_have security_returned returned)))
 
-  import_parents : (clock : ClockRow) (t : ℕ) (batch : List ℕ) (rows : List BudgetRow) → AllParents u (Rattle.tender_core.specs.Rules.Import.import_effect clock t batch (standings s) rows)
+  import_parents : (clock : ClockRow) (t : ℕ) (batch : List ℕ) (rows : List BudgetRow) → AllParents u (Rattle.tender_core.specs.Rules.Import.import_puts (record { batch = None; file = record { lines = (standings s); rows = rows }; clock = clock }) t batch)
   import_parents clock t batch rows = parents-append u (map (import_line (after_rows (standings s) rows)) rows) _ (parents-map u (import_line (after_rows (standings s) rows)) rows (λ _. tt)) (tt, (tt, tt))
 
   published_lots : (notice : List ℕ) → IsSome (notice_at notice u) → (lots : List NewLot) → OnLines s.lines lots → AllByRecursion (λ (l : NewLot). Parents u (lot_put notice l)) lots
   published_lots notice there [] on = tt
   published_lots notice there (l ∷ lots) on = (record { notice = there; line = g.lines l.line on.0 }, published_lots notice there lots on.1)
 
-  publish_parents : (clock : ClockRow) (t : ℕ) (notice : List ℕ) (content : NewNotice) → OnLines s.lines content.lots → IsSome (notice_at notice u) → AllParents u (Rattle.tender_core.specs.Rules.Publish.publish_effect clock t notice s.lines content)
+  publish_parents : (clock : ClockRow) (t : ℕ) (notice : List ℕ) (content : NewNotice) → OnLines s.lines content.lots → IsSome (notice_at notice u) → AllParents u (Rattle.tender_core.specs.Rules.Publish.publish_puts (record { notice = None; lines = s.lines; clock = clock }) t notice content)
   publish_parents clock t notice content on there =
       parents-append u (publish_parts clock t notice s.lines content) (late_puts notice content.late_withdrawal)
       (parents-append u (map (line_put s.lines content.lots) content.lots ++ map (lot_put notice) content.lots) _
@@ -112,11 +112,11 @@ module _ (s u : Tables) (order : IsSorted s) (have : HaveParents s s) (g : Grows
       late_parents Refused = tt
       late_parents Forfeits = (tt, tt)
 
-  amend_parents : (clock : ClockRow) (t : ℕ) (notice : Option NoticeRow) (deadline : ℕ) → AllParents u (amend_notice_effect clock t notice deadline)
+  amend_parents : (clock : ClockRow) (t : ℕ) (notice : Option NoticeRow) (deadline : ℕ) → AllParents u (amend_notice_puts (record { notice = notice; clock = clock }) t deadline)
   amend_parents clock t None deadline = tt
   amend_parents clock t (Some n) deadline = (tt, (tt, tt))
 
-  cancel_parents : (clock : ClockRow) (t : ℕ) (notice : List ℕ) (row : Option NoticeRow) → AllParents u (cancel_effect clock t s.lines row (lots_of_notice notice s) (awards_of_notice notice s) (envelopes_of_notice notice s) (securities_of_notice notice s))
+  cancel_parents : (clock : ClockRow) (t : ℕ) (notice : List ℕ) (row : Option NoticeRow) → AllParents u (cancel_puts (record { notice = row; lines = s.lines; lots = lots_of_notice notice s; awards = awards_of_notice notice s; envelopes = envelopes_of_notice notice s; securities = securities_of_notice notice s; clock = clock }) t)
   cancel_parents clock t notice None = tt
   cancel_parents clock t notice (Some n) =
       let lots : List LotRow = lots_of_notice notice s in
@@ -137,7 +137,7 @@ module _ (s u : Tables) (order : IsSorted s) (have : HaveParents s s) (g : Grows
   opened_all read [] h = tt
   opened_all read (e ∷ rows) h = (record { notice = h.0.notice; lot = h.0.lot; tenderer = h.0.tenderer; security = h.0.security }, opened_all read rows h.1)
 
-  open_parents : (read : List ℕ → List Rattle.office_acts.specs.declared.item.Item.Item → Rattle.office_base.specs.declared.reading.Reading.Reading) (clock : ClockRow) (t : ℕ) (notice : List ℕ) (row : Option NoticeRow) → AllParents u (open_effect read clock t row (Rattle.office_machine.specs.Rule.sealed_tenders notice s))
+  open_parents : (read : List ℕ → List Rattle.office_acts.specs.declared.item.Item.Item → Rattle.office_base.specs.declared.reading.Reading.Reading) (clock : ClockRow) (t : ℕ) (notice : List ℕ) (row : Option NoticeRow) → AllParents u (open_puts read (record { notice = row; clock = clock }) t (Rattle.office_machine.specs.Rule.sealed_tenders notice s))
   open_parents read clock t notice None = tt
   open_parents read clock t notice (Some n) =
       parents-append u (map (opened_put read) (Rattle.office_machine.specs.Rule.sealed_tenders notice s)) _
@@ -170,7 +170,7 @@ module _ (s u : Tables) (order : IsSorted s) (have : HaveParents s s) (g : Grows
     ),
   )
 
-  modify_parents : (digest : List ℕ → List ℕ) (clock : ClockRow) (t receipt : ℕ) (bytes : List ℕ) (o : Option EnvelopeRow) → envelope_at receipt s ≡ o → AllParents u (modify_effect digest clock t o bytes)
+  modify_parents : (digest : List ℕ → List ℕ) (clock : ClockRow) (t receipt : ℕ) (bytes : List ℕ) (o : Option EnvelopeRow) → envelope_at receipt s ≡ o → AllParents u (modify_puts digest (record { envelope = o; notice = None; clock = clock }) t bytes)
   modify_parents digest clock t receipt bytes None is = tt
   modify_parents digest clock t receipt bytes (Some e) is =
       let h = envelope_still s u g e (have.envelopes receipt e is) in
@@ -192,11 +192,11 @@ module _ (s u : Tables) (order : IsSorted s) (have : HaveParents s s) (g : Grows
       let h = envelope_still s u g e (have.envelopes receipt e is) in
       (record { notice = h.notice; lot = h.lot; tenderer = h.tenderer; security = h.security }, (tt, parents-if u (security_settled Forfeited) (security_of_envelope (Some e) s) (λ r found. settled_has Forfeited r (security_found (Some e) r found))))
 
-  withdraw_parents : (clock : ClockRow) (t receipt : ℕ) (o : Option EnvelopeRow) (n : Option NoticeRow) (late : Option LateRow) → envelope_at receipt s ≡ o → AllParents u (withdraw_effect clock t o n late (security_of_envelope o s))
+  withdraw_parents : (clock : ClockRow) (t receipt : ℕ) (o : Option EnvelopeRow) (n : Option NoticeRow) (late : Option LateRow) → envelope_at receipt s ≡ o → AllParents u (withdraw_puts (record { envelope = o; notice = n; lot = None; late = late; security = security_of_envelope o s; clock = clock }) t)
   withdraw_parents clock t receipt None n late is = tt
   withdraw_parents clock t receipt (Some e) n late is = taken_back_parents clock t receipt e is (is_late late t n)
 
-  examine_parents : (clock : ClockRow) (t receipt : ℕ) (responsive : Bool) (quality : Option ℕ) (o : Option EnvelopeRow) → envelope_at receipt s ≡ o → AllParents u (examine_effect clock t o responsive quality)
+  examine_parents : (clock : ClockRow) (t receipt : ℕ) (responsive : Bool) (quality : Option ℕ) (o : Option EnvelopeRow) → envelope_at receipt s ≡ o → AllParents u (examine_puts (record { envelope = o; notice = None; lot = None; clock = clock }) t responsive quality)
   examine_parents clock t receipt responsive quality None is = tt
   examine_parents clock t receipt responsive quality (Some e) is =
       let h = envelope_still s u g e (have.envelopes receipt e is) in
@@ -222,7 +222,7 @@ module _ (s u : Tables) (order : IsSorted s) (have : HaveParents s s) (g : Grows
       (record { notice = h.notice; lot = g.lots (l.notice, l.lot) here; envelope = g.envelopes e.receipt (winner_there n.weight notice lot e won) }, (record { notice = h.notice; line = h.line }, (tt, (tt, (tt, tt)))))
 
   award_parents : (clock : ClockRow) (t : ℕ) (notice lot : List ℕ) (n : Option NoticeRow) (o : Option LotRow) (w : Option LineRow) → lot_at (notice, lot) s ≡ o
-      → AllParents u (award_effect clock t n o w (envelopes_of_lot notice lot s) (securities_of_lot notice lot s))
+      → AllParents u (award_puts (record { notice = n; lot = o; line = w; envelopes = envelopes_of_lot notice lot s; securities = securities_of_lot notice lot s; clock = clock }) t)
   award_parents clock t notice lot (Some n) (Some l) (Some w) is = decision_parents clock t notice lot n l w is (winner (Some n) (envelopes_of_lot notice lot s)) refl
   award_parents clock t notice lot None o w is = tt
   award_parents clock t notice lot (Some n) None w is = tt
@@ -237,7 +237,7 @@ module _ (s u : Tables) (order : IsSorted s) (have : HaveParents s s) (g : Grows
   lot_of (Some a) l is = lot_still s u g l (have.lots (a.notice, a.lot) l is)
 
   fail_parents : (clock : ClockRow) (t award : ℕ) (o : Option AwardRow) (n : Option NoticeRow) (l : Option LotRow) → award_at award s ≡ o → lot_of_award o s ≡ l
-      → AllParents u (fail_effect clock t o n l (envelope_of_award o s) (security_of_envelope (envelope_of_award o s) s))
+      → AllParents u (fail_puts (record { award = o; notice = n; lot = l; envelope = envelope_of_award o s; security = security_of_envelope (envelope_of_award o s) s; clock = clock }) t)
   fail_parents clock t award (Some a) (Some n) (Some l) is lot =
       let h = award_still s u g a (have.awards award a is) in
       let k = lot_of (Some a) l lot in (
@@ -264,7 +264,7 @@ module _ (s u : Tables) (order : IsSorted s) (have : HaveParents s s) (g : Grows
   signer a (Some e) is there = (envelope_still s u g e (have.envelopes a.receipt e is)).tenderer
 
   sign_parents : (clock : ClockRow) (t award : ℕ) (named : Option NamedSecurity) (o : Option AwardRow) (n : Option NoticeRow) (l : Option LotRow) → award_at award s ≡ o → lot_of_award o s ≡ l
-      → AllParents u (sign_effect clock t o n l (envelope_of_award o s) (Rattle.office_base.specs.Parents.securities_of_award o s) named)
+      → AllParents u (sign_puts (record { award = o; notice = n; lot = l; envelope = envelope_of_award o s; securities = Rattle.office_base.specs.Parents.securities_of_award o s; clock = clock }) t named)
   sign_parents clock t award named (Some a) (Some n) (Some l) is lot =
       let had = have.awards award a is in
       let h = award_still s u g a had in
@@ -283,18 +283,18 @@ module _ (s u : Tables) (order : IsSorted s) (have : HaveParents s s) (g : Grows
   entry_has contract c is = g.contracts c.contract (ap is_some (ap (λ k. contract_at k s) (found_key keyed.contracts s.contracts contract c is) ∙ is))
 
   amend_contract_parents : (clock : ClockRow) (t contract : ℕ) (c : Option ContractRow) (n : Option NoticeRow) (w : Option LineRow) (entry : List ℕ) (kind : ChangeKind) (amount : ℕ) (rationale : List ℕ) → contract_at contract s ≡ c
-      → AllParents u (amend_contract_effect clock t c n w entry kind amount rationale)
+      → AllParents u (amend_contract_puts (record { contract = c; entries = []; notice = n; line = w; clock = clock }) t entry kind amount rationale)
   amend_contract_parents clock t contract (Some c) (Some n) (Some w) entry kind amount rationale is = (record { contract = entry_has contract c is }, (tt, (tt, (tt, tt))))
   amend_contract_parents clock t contract None n w entry kind amount rationale is = tt
   amend_contract_parents clock t contract (Some c) None w entry kind amount rationale is = tt
   amend_contract_parents clock t contract (Some c) (Some n) None entry kind amount rationale is = tt
 
-  pay_parents : (clock : ClockRow) (t contract : ℕ) (c : Option ContractRow) (n : Option NoticeRow) (entry : List ℕ) (amount : ℕ) → contract_at contract s ≡ c → AllParents u (pay_effect clock t c n entry amount)
+  pay_parents : (clock : ClockRow) (t contract : ℕ) (c : Option ContractRow) (n : Option NoticeRow) (entry : List ℕ) (amount : ℕ) → contract_at contract s ≡ c → AllParents u (pay_puts (record { contract = c; entries = []; notice = n; clock = clock }) t entry amount)
   pay_parents clock t contract (Some c) (Some n) entry amount is = (record { contract = entry_has contract c is }, (tt, (tt, tt)))
   pay_parents clock t contract None n entry amount is = tt
   pay_parents clock t contract (Some c) None entry amount is = tt
 
-  end_parents : (clock : ClockRow) (t : ℕ) (how : Rattle.office_acts.specs.declared.contract.How.How) (contract : ℕ) (c : Option ContractRow) (entries : List EntryRow) (n : Option NoticeRow) (w : Option LineRow) (p : Option PerformanceRow) → contract_at contract s ≡ c → AllParents u (end_effect clock t how c entries n w p)
+  end_parents : (clock : ClockRow) (t : ℕ) (how : Rattle.office_acts.specs.declared.contract.How.How) (contract : ℕ) (c : Option ContractRow) (entries : List EntryRow) (n : Option NoticeRow) (w : Option LineRow) (p : Option PerformanceRow) → contract_at contract s ≡ c → AllParents u (end_puts (record { contract = c; entries = entries; notice = n; line = w; performance = p; clock = clock }) t how)
   end_parents clock t how contract (Some c) entries (Some n) (Some w) p is = let h = contract_still s u g c (have.contracts contract c is) in (record { notice = h.notice; lot = h.lot; tenderer = h.tenderer }, (tt, (tt, (tt, parents-if u (performance_settled (ended_state how)) p (λ _ _. tt)))))
   end_parents clock t how contract None entries n w p is = tt
   end_parents clock t how contract (Some c) entries None w p is = tt

@@ -25,7 +25,7 @@ use Rattle.office_machine.proofs.Kept.{IsKept, PotsAre, ContractIs}
 use Rattle.office_machine.proofs.Joins.{outstanding-own}
 use Rattle.office_machine.proofs.Passed.{none_holds, not_false, not_both, at_least, witness, test_of}
 use Rattle.award_core.specs.Rules.AmendContract.{is_beyond, has_ended}
-use Rattle.award_core.specs.Rules.Pay.{pay_effect, payment_row}
+use Rattle.award_core.specs.Rules.Pay.{pay_puts, payment_row}
 use Rattle.office_machine.proofs.Entered.{not_taken, contracts_are, no_contract_are, gains, losses, payments}
 
 module _ (readings : Readings) (xs : List Given) (s : Tables) (moment : ℕ) (caller : Caller) (c : ℕ) (entry : List ℕ) (amount : ℕ) (kept : IsKept xs s) (order : IsSorted s) where
@@ -87,8 +87,8 @@ module _ (readings : Readings) (xs : List Given) (s : Tables) (moment : ℕ) (ca
       no_contract = no_contract_are x xs s kept order c r l row is lot number new_here (λ n. zero_at (same_number c n)) (λ n. refl) within s';
     }
 
-    effect_is : pay_effect s.clock (time_of x) (Some r) (Some n) entry amount ≡ effect readings x
-    effect_is = λ i. pay_effect s.clock (time_of x) (sym is i) (sym (ap (λ o. notice_of_contract o s) is ∙ notice) i) entry amount
+    effect_is : pay_puts (record { contract = Some r; entries = []; notice = Some n; clock = s.clock }) (time_of x) entry amount ≡ effect readings x
+    effect_is = λ i. pay_puts (record { contract = sym is i; entries = []; notice = sym (ap (λ o. notice_of_contract o s) is ∙ notice) i; clock = s.clock }) (time_of x) entry amount
 
     keeps : IsKept (x ∷ xs) (after_puts (effect readings x) s)
     keeps = subst (λ ps. IsKept (x ∷ xs) (after_puts ps s)) effect_is

@@ -22,11 +22,11 @@ use Rattle.office_base.specs.declared.puts.Put.{Put}
 use Rattle.office_base.specs.Tables.{Tables, notice_key, notice_at, contract_at, envelope_at, seal_at, security_at, entries_of_contract, find_seal, after_puts, performance_at}
 use Rattle.office_base.specs.Standings.{standings}
 use Rattle.tender_core.specs.Rules.Import.{after_rows, line_put}
-use Rattle.tender_core.specs.Rules.Register.{register_effect}
-use Rattle.tender_core.specs.Rules.AmendNotice.{amend_notice_effect}
-use Rattle.award_core.specs.Rules.AmendContract.{amend_contract_effect}
-use Rattle.award_core.specs.Rules.Pay.{pay_effect}
-use Rattle.award_core.specs.Rules.End.{end_effect}
+use Rattle.tender_core.specs.Rules.Register.{register_puts}
+use Rattle.tender_core.specs.Rules.AmendNotice.{amend_notice_puts}
+use Rattle.award_core.specs.Rules.AmendContract.{amend_contract_puts}
+use Rattle.award_core.specs.Rules.Pay.{pay_puts}
+use Rattle.award_core.specs.Rules.End.{end_puts}
 use Rattle.office_base.specs.declared.records.ReleaseRow.{ReleaseRow}
 use Rattle.office_base.specs.Parents.{notice_of_contract, line_of_lot, lot_of_contract}
 use Rattle.office_machine.specs.Machine.{Given, publication_puts}
@@ -101,25 +101,25 @@ Stands V o = (n : NoticeRow) → o ≡ Some n → V.notice_at n.notice ≡ Some 
 
 module _ (V : View) (clock : ClockRow) (t : ℕ) where
   amended_notice : (o : Option NoticeRow) (deadline : ℕ) → Stands V o
-      → AllByRecursion (IsQuiet V clock.receipts) (amend_notice_effect clock t o deadline)
+      → AllByRecursion (IsQuiet V clock.receipts) (amend_notice_puts (record { notice = o; clock = clock }) t deadline)
   amended_notice None deadline h = tt
   amended_notice (Some n) deadline h = (h n refl, (refl, tt))
 
   amended_contract : (c : Option ContractRow) (n : Option NoticeRow) (r : Option LineRow) (entry : List ℕ) (kind : ChangeKind) (amount : ℕ) (rationale : List ℕ) → Stands V n
-      → AllByRecursion (IsQuiet V clock.receipts) (amend_contract_effect clock t c n r entry kind amount rationale)
+      → AllByRecursion (IsQuiet V clock.receipts) (amend_contract_puts (record { contract = c; entries = []; notice = n; line = r; clock = clock }) t entry kind amount rationale)
   amended_contract (Some c) (Some n) (Some r) entry kind amount rationale h = (tt, (tt, (h n refl, (refl, tt))))
   amended_contract None _ _ entry kind amount rationale h = tt
   amended_contract (Some c) None _ entry kind amount rationale h = tt
   amended_contract (Some c) (Some n) None entry kind amount rationale h = tt
 
   paid : (c : Option ContractRow) (n : Option NoticeRow) (entry : List ℕ) (amount : ℕ) → Stands V n
-      → AllByRecursion (IsQuiet V clock.receipts) (pay_effect clock t c n entry amount)
+      → AllByRecursion (IsQuiet V clock.receipts) (pay_puts (record { contract = c; entries = []; notice = n; clock = clock }) t entry amount)
   paid (Some c) (Some n) entry amount h = (tt, (h n refl, (refl, tt)))
   paid None _ entry amount h = tt
   paid (Some c) None entry amount h = tt
 
   ended : (how : How) (c : Option ContractRow) (entries : List EntryRow) (n : Option NoticeRow) (r : Option LineRow) (p : Option PerformanceRow) → Stands V n
-      → AllByRecursion (IsQuiet V clock.receipts) (end_effect clock t how c entries n r p)
+      → AllByRecursion (IsQuiet V clock.receipts) (end_puts (record { contract = c; entries = entries; notice = n; line = r; performance = p; clock = clock }) t how)
   ended how (Some c) entries (Some n) (Some r) None h = (tt, (tt, (h n refl, (refl, tt))))
   ended how (Some c) entries (Some n) (Some r) (Some p) h = (tt, (tt, (h n refl, (refl, (tt, tt)))))
   ended how None entries _ _ p h = tt
@@ -134,7 +134,7 @@ import_keeps readings batch rows xs t m caller kept own allowed =
 
 pub register_keeps : (readings : Readings) (tenderer name address key : List ℕ) → Keeps readings (Register tenderer name address key)
 register_keeps readings tenderer name address key xs t m caller kept own allowed =
-    kept_after readings (given t m caller (Register tenderer name address key) ∷ xs) (register_effect t.clock (max m t.clock.moment) tenderer name address key) t (tt, (refl, tt)) (one_more readings xs (given t m caller (Register tenderer name address key)) t kept refl (λ r. refl) (λ s. refl))
+    kept_after readings (given t m caller (Register tenderer name address key) ∷ xs) (register_puts (record { tenderer = None; clock = t.clock }) (max m t.clock.moment) tenderer name address key) t (tt, (refl, tt)) (one_more readings xs (given t m caller (Register tenderer name address key)) t kept refl (λ r. refl) (λ s. refl))
 
 pub amend_notice_keeps : (readings : Readings) (notice : List ℕ) (deadline : ℕ) (rationale : List ℕ) → Keeps readings (AmendNotice notice deadline rationale)
 amend_notice_keeps readings notice deadline rationale xs t m caller kept own allowed =

@@ -29,17 +29,17 @@ use Rattle.office_base.specs.Tables.{Tables, notice_at, award_at, contract_at, e
 use Rattle.office_base.specs.Parents.{envelope_of_award, security_of_envelope, securities_of_award, notice_of_contract}
 use Rattle.tender_core.specs.Rules.Import.{after_rows, line_put as import_line}
 use Rattle.tender_core.specs.Rules.Publish.{line_put, lot_put, notice_row, late_puts}
-use Rattle.tender_core.specs.Rules.AmendNotice.{amended, amend_notice_effect}
-use Rattle.tender_core.specs.Rules.Cancel.{is_open_lot, lot_put as cancel_lot, line_put as cancel_line, is_ended_award, award_put, is_ended_envelope, envelope_put, drop_put, is_ended_security, cancelled_notice, cancel_effect}
-use Rattle.tender_core.specs.Rules.Open.{opened_put, opened_notice, open_effect}
+use Rattle.tender_core.specs.Rules.AmendNotice.{amended, amend_notice_puts}
+use Rattle.tender_core.specs.Rules.Cancel.{is_open_lot, lot_put as cancel_lot, line_put as cancel_line, is_ended_award, award_put, is_ended_envelope, envelope_put, drop_put, is_ended_security, cancelled_notice, cancel_puts}
+use Rattle.tender_core.specs.Rules.Open.{opened_put, opened_notice, open_puts}
 use Rattle.tender_core.specs.Rules.Present.{received_puts}
-use Rattle.tender_core.specs.Rules.Modify.{modify_effect}
-use Rattle.award_core.specs.Rules.Examine.{examine_effect}
+use Rattle.tender_core.specs.Rules.Modify.{modify_puts}
+use Rattle.award_core.specs.Rules.Examine.{examine_puts}
 use Rattle.office_base.specs.declared.records.SecurityState.TheVariants.{Forfeited}
-use Rattle.award_core.specs.Rules.Fail.{fail_effect}
-use Rattle.award_core.specs.Rules.Sign.{performance_row, sign_effect}
-use Rattle.award_core.specs.Rules.AmendContract.{amend_contract_effect}
-use Rattle.award_core.specs.Rules.End.{ended_state, end_effect}
+use Rattle.award_core.specs.Rules.Fail.{fail_puts}
+use Rattle.award_core.specs.Rules.Sign.{performance_row, sign_puts}
+use Rattle.award_core.specs.Rules.AmendContract.{amend_contract_puts}
+use Rattle.award_core.specs.Rules.End.{ended_state, end_puts}
 use Rattle.office_machine.specs.Readings.{Readings}
 use Rattle.office_machine.specs.Machine.{Given, command_tests, effect}
 use Rattle.office_machine.specs.Rule.{sealed_tenders}
@@ -91,7 +91,7 @@ module _ (readings : Readings) (s : Tables) (moment : ℕ) (caller : Caller) (ha
   amending_notice notice deadline rationale allowed =
       let tests = passes (AmendNotice notice deadline rationale) allowed in
       let n = witness (notice_at notice s) (not_false _ tests.0) in
-      moved refl (λ i. amend_notice_effect s.clock now (n.1 i) deadline)
+      moved refl (λ i. amend_notice_puts (record { notice = n.1 i; clock = s.clock }) now deadline)
       (loud notice n.0 (amended deadline n.0) _ [] n.1 (neither _ (has_all_releases (notice_at notice s)) tests.1.1.1.1.0).1 refl refl tt refl)
 
   -- a cancellation puts six kinds of rows before its notice and the clock
@@ -104,7 +104,7 @@ module _ (readings : Readings) (s : Tables) (moment : ℕ) (caller : Caller) (ha
       let gone : List EnvelopeRow = filter (is_ended_envelope lots) (envelopes_of_notice notice s) in
       let awards : List AwardRow = filter (is_ended_award lots) (awards_of_notice notice s) in
       let securities : List SecurityRow = filter (is_ended_security lots) (securities_of_notice notice s) in
-      moved refl (λ i. cancel_effect s.clock now s.lines (n.1 i) lots (awards_of_notice notice s) (envelopes_of_notice notice s) (securities_of_notice notice s))
+      moved refl (λ i. cancel_puts (record { notice = n.1 i; lines = s.lines; lots = lots; awards = awards_of_notice notice s; envelopes = envelopes_of_notice notice s; securities = securities_of_notice notice s; clock = s.clock }) now)
       (front (map (cancel_line s.lines ended) ended) (on-map is_own (cancel_line s.lines ended) ended (λ _. refl))
       (front (map cancel_lot ended) (on-map is_own cancel_lot ended (λ _. refl))
       (front (map award_put awards) (on-map is_own award_put awards (λ _. refl))
@@ -117,7 +117,7 @@ module _ (readings : Readings) (s : Tables) (moment : ℕ) (caller : Caller) (ha
   opening notice allowed =
       let tests = passes (Open notice) allowed in
       let n = witness (notice_at notice s) (not_false _ tests.0) in
-      moved refl (λ i. open_effect readings.read s.clock now (n.1 i) (sealed_tenders notice s))
+      moved refl (λ i. open_puts readings.read (record { notice = n.1 i; clock = s.clock }) now (sealed_tenders notice s))
       (front (map (opened_put readings.read) (sealed_tenders notice s)) (on-map is_own (opened_put readings.read) (sealed_tenders notice s) (λ _. refl))
       (loud notice n.0 (opened_notice now n.0) _ [] n.1 tests.1.1.1.1.0 refl refl tt refl))
 
@@ -133,13 +133,13 @@ module _ (readings : Readings) (s : Tables) (moment : ℕ) (caller : Caller) (ha
   pub modifying : (receipt : ℕ) (bytes : List ℕ) → Tail (Modify receipt bytes)
   modifying receipt bytes allowed =
       let e = witness (envelope_at receipt s) (not_false _ (passes (Modify receipt bytes) allowed).0) in
-      moved refl (λ i. modify_effect readings.digest s.clock now (e.1 i) bytes)
+      moved refl (λ i. modify_puts readings.digest (record { envelope = e.1 i; notice = None; clock = s.clock }) now bytes)
       (front (puts.Envelope _ ∷ puts.DropSeal _ ∷ puts.Envelope _ ∷ puts.Seal _ ∷ []) (refl, (refl, (refl, (refl, tt)))) (quiet _ [] tt refl))
 
   pub examining : (receipt : ℕ) (responsive : Bool) (quality : Option ℕ) → Tail (Examine receipt responsive quality)
   examining receipt responsive quality allowed =
       let e = witness (envelope_at receipt s) (not_false _ (passes (Examine receipt responsive quality) allowed).1.0) in
-      moved refl (λ i. examine_effect s.clock now (e.1 i) responsive quality) (front (puts.Envelope _ ∷ []) (refl, tt) (quiet _ [] tt refl))
+      moved refl (λ i. examine_puts (record { envelope = e.1 i; notice = None; lot = None; clock = s.clock }) now responsive quality) (front (puts.Envelope _ ∷ []) (refl, tt) (quiet _ [] tt refl))
 
   pub failing : (award : ℕ) → Tail (Fail award)
   failing award allowed =
@@ -147,7 +147,7 @@ module _ (readings : Readings) (s : Tables) (moment : ℕ) (caller : Caller) (ha
       let of = of_award s have award (not_false _ tests.0) in
       let envelope = envelope_of_award (award_at award s) s in
       let security = security_of_envelope envelope s in
-      moved (ap (option_map (λ (a : AwardRow). a.notice)) of.is) (λ i. fail_effect s.clock now (of.is i) (of.notice i) (of.lot i) envelope security)
+      moved (ap (option_map (λ (a : AwardRow). a.notice)) of.is) (λ i. fail_puts (record { award = of.is i; notice = of.notice i; lot = of.lot i; envelope = envelope; security = security; clock = s.clock }) now)
       (front (puts.Award _ ∷ puts.Lot _ ∷ []) (refl, (refl, tt))
       (loud of.w.notice of.n (released of.n) _ _ of.notice_is (ap has_all_releases (of.notice_is ∙ sym of.notice) ∙ tests.1.1.1.1.0) refl refl
       (on-append is_own _ _ (on-if is_own (λ e. puts.Envelope (passed_over e)) envelope (λ _. refl)) (on-if is_own (security_settled Forfeited) security (λ _. refl))) refl))
@@ -158,7 +158,7 @@ module _ (readings : Readings) (s : Tables) (moment : ℕ) (caller : Caller) (ha
       let of = of_award s have award (not_false _ tests.0) in
       let securities = securities_of_award (award_at award s) s in
       moved (ap (option_map (λ (a : AwardRow). a.notice)) of.is)
-      (λ i. sign_effect s.clock now (of.is i) (of.notice i) (of.lot i) (envelope_of_award (award_at award s) s) securities named)
+      (λ i. sign_puts (record { award = of.is i; notice = of.notice i; lot = of.lot i; envelope = envelope_of_award (award_at award s) s; securities = securities; clock = s.clock }) now named)
       (bound (ap (option_and_then (λ (w : AwardRow). option_map (performance_row w) named)) of.is)
       (bonded (performance_row of.w) named
       (front (puts.Award _ ∷ puts.Lot _ ∷ puts.Contract _ ∷ []) (refl, (refl, (refl, tt)))
@@ -175,13 +175,13 @@ module _ (readings : Readings) (s : Tables) (moment : ℕ) (caller : Caller) (ha
   amending_contract contract entry kind amount rationale allowed =
       let tests = passes (AmendContract contract entry kind amount rationale) allowed in
       let of = of_contract s have contract (not_false _ tests.0) in
-      moved refl (λ i. amend_contract_effect s.clock now (of.is i) (of.notice i) (of.line i) entry kind amount rationale)
+      moved refl (λ i. amend_contract_puts (record { contract = of.is i; entries = []; notice = of.notice i; line = of.line i; clock = s.clock }) now entry kind amount rationale)
       (front (puts.Entry _ ∷ puts.Line _ ∷ []) (refl, (refl, tt)) (on_contract contract of (neither _ (has_all_releases (notice_of_contract (contract_at contract s) s)) tests.1.1.1.1.1.0).1))
 
   pub ending_contract : (contract : ℕ) (how : How) → Tail (End contract how)
   ending_contract contract how allowed =
       let tests = passes (End contract how) allowed in
       let of = of_contract s have contract (not_false _ tests.0) in
-      moved refl (λ i. end_effect s.clock now how (of.is i) (entries_of_contract contract s) (of.notice i) (of.line i) (performance_at contract s))
+      moved refl (λ i. end_puts (record { contract = of.is i; entries = entries_of_contract contract s; notice = of.notice i; line = of.line i; performance = performance_at contract s; clock = s.clock }) now how)
       (bonded (settled_performance (ended_state how)) (performance_at contract s)
       (front (puts.Contract _ ∷ puts.Line _ ∷ []) (refl, (refl, tt)) (on_contract contract of tests.1.1.0)))

@@ -18,12 +18,12 @@ use Rattle.office_base.specs.declared.puts.Put.{Put}
 use Rattle.office_base.specs.declared.puts.Put.TheVariants as puts
 use Rattle.office_base.specs.RuleParts.{clock_put, put_if, security_returned, security_settled, passed_over, is_held_security, is_late}
 use Rattle.tender_core.specs.Rules.Present.{received, received_puts, seal_puts, security_put}
-use Rattle.tender_core.specs.Rules.Modify.{modify_effect, withdrawn, replacing}
-use Rattle.tender_core.specs.Rules.Withdraw.{withdraw_effect, taken_back_puts}
-use Rattle.award_core.specs.Rules.Examine.{examine_effect, examined}
-use Rattle.tender_core.specs.Rules.Cancel.{is_open_lot, lot_put as cancel_lot, line_put as cancel_line, is_ended_award, award_put, is_ended_envelope, envelope_put, drop_put, returned_envelope, is_ended_security, cancelled_notice, cancel_effect}
-use Rattle.award_core.specs.Rules.Award.{is_admissible, price_of, lesser, lowest_price, is_better, better, best_with, winner, decision_puts, award_effect}
-use Rattle.award_core.specs.Rules.Fail.{fail_effect}
+use Rattle.tender_core.specs.Rules.Modify.{modify_puts, withdrawn, replacing}
+use Rattle.tender_core.specs.Rules.Withdraw.{withdraw_puts, taken_back_puts}
+use Rattle.award_core.specs.Rules.Examine.{examine_puts, examined}
+use Rattle.tender_core.specs.Rules.Cancel.{is_open_lot, lot_put as cancel_lot, line_put as cancel_line, is_ended_award, award_put, is_ended_envelope, envelope_put, drop_put, returned_envelope, is_ended_security, cancelled_notice, cancel_puts}
+use Rattle.award_core.specs.Rules.Award.{is_admissible, price_of, lesser, lowest_price, is_better, better, best_with, winner, decision_puts, award_puts}
+use Rattle.award_core.specs.Rules.Fail.{fail_puts}
 use Rattle.office_machine.specs.Worlds.{Theirs, is_theirs, Pairs}
 use Rattle.office_machine.proofs.WorldsPut.{Alike, IsPlain, PutPair, Plain, Envelopes, Seals, AlikeOptions, receipt_is, pairs-filter, blind, blind-option, plain_pairs, pairs-append, pairs-map, alike-set}
 
@@ -106,7 +106,7 @@ module _ (th : Theirs) (W : ℕ → Bool) where
 
     -- a modification
     pub modify_pairs : (o o' : Option EnvelopeRow) → AlikeOptions th W o o' → (holds_of (is_theirs th) o ≡ W (clock.receipts + 1)) → (holds_of (is_theirs th) o ≡ false → bytes ≡ bytes')
-        → Pairs (PutPair th W) (modify_effect digest clock t o bytes) (modify_effect digest clock t o' bytes')
+        → Pairs (PutPair th W) (modify_puts digest (record { envelope = o; notice = None; clock = clock }) t bytes) (modify_puts digest (record { envelope = o'; notice = None; clock = clock }) t bytes')
     modify_pairs None None a own same = tt
     modify_pairs None (Some e') a own same = absurd a
     modify_pairs (Some e) None a own same = absurd a
@@ -145,13 +145,13 @@ module _ (th : Theirs) (W : ℕ → Bool) where
     (Plain tt refl, subst (λ q. Pairs (PutPair th W) (put_if (security_settled Forfeited) r) (put_if (security_settled Forfeited) q)) (sym same) (plain_pairs th W (put_if (security_settled Forfeited) r) (plain-if (security_settled Forfeited) r (λ _. tt)))),
   )
 
-  pub withdraw_pairs : (clock : ClockRow) (t : ℕ) (o o' : Option EnvelopeRow) (n : Option NoticeRow) (late : Option LateRow) (r r' : Option SecurityRow) → AlikeOptions th W o o' → r' ≡ r → Pairs (PutPair th W) (withdraw_effect clock t o n late r) (withdraw_effect clock t o' n late r')
+  pub withdraw_pairs : (clock : ClockRow) (t : ℕ) (o o' : Option EnvelopeRow) (n : Option NoticeRow) (late : Option LateRow) (r r' : Option SecurityRow) → AlikeOptions th W o o' → r' ≡ r → Pairs (PutPair th W) (withdraw_puts (record { envelope = o; notice = n; lot = None; late = late; security = r; clock = clock }) t) (withdraw_puts (record { envelope = o'; notice = n; lot = None; late = late; security = r'; clock = clock }) t)
   withdraw_pairs clock t None None n late r r' a same = tt
   withdraw_pairs clock t None (Some e') n late r r' a same = absurd a
   withdraw_pairs clock t (Some e) None n late r r' a same = absurd a
   withdraw_pairs clock t (Some e) (Some e') n late r r' a same = taken_back_pairs clock t e e' r r' (is_late late t n) a same
 
-  pub examine_pairs : (clock : ClockRow) (t : ℕ) (responsive : Bool) (quality : Option ℕ) (o o' : Option EnvelopeRow) → AlikeOptions th W o o' → Pairs (PutPair th W) (examine_effect clock t o responsive quality) (examine_effect clock t o' responsive quality)
+  pub examine_pairs : (clock : ClockRow) (t : ℕ) (responsive : Bool) (quality : Option ℕ) (o o' : Option EnvelopeRow) → AlikeOptions th W o o' → Pairs (PutPair th W) (examine_puts (record { envelope = o; notice = None; lot = None; clock = clock }) t responsive quality) (examine_puts (record { envelope = o'; notice = None; lot = None; clock = clock }) t responsive quality)
   examine_pairs clock t responsive quality None None a = tt
   examine_pairs clock t responsive quality None (Some e') a = absurd a
   examine_pairs clock t responsive quality (Some e) None a = absurd a
@@ -161,7 +161,7 @@ module _ (th : Theirs) (W : ℕ → Bool) where
   )
 
   -- a failing
-  pub fail_pairs : (clock : ClockRow) (t : ℕ) (w : Option AwardRow) (n : Option NoticeRow) (l : Option LotRow) (o o' : Option EnvelopeRow) (r r' : Option SecurityRow) → AlikeOptions th W o o' → r' ≡ r → Pairs (PutPair th W) (fail_effect clock t w n l o r) (fail_effect clock t w n l o' r')
+  pub fail_pairs : (clock : ClockRow) (t : ℕ) (w : Option AwardRow) (n : Option NoticeRow) (l : Option LotRow) (o o' : Option EnvelopeRow) (r r' : Option SecurityRow) → AlikeOptions th W o o' → r' ≡ r → Pairs (PutPair th W) (fail_puts (record { award = w; notice = n; lot = l; envelope = o; security = r; clock = clock }) t) (fail_puts (record { award = w; notice = n; lot = l; envelope = o'; security = r'; clock = clock }) t)
   fail_pairs clock t None n l o o' r r' a same = tt
   fail_pairs clock t (Some w) None l o o' r r' a same = tt
   fail_pairs clock t (Some w) (Some n) None o o' r r' a same = tt
@@ -188,7 +188,7 @@ module _ (th : Theirs) (W : ℕ → Bool) where
 
   -- a cancellation
   pub cancel_pairs : (clock : ClockRow) (t : ℕ) (lines : List LineRow) (n : Option NoticeRow) (lots : List LotRow) (awards : List AwardRow) (es es' : List EnvelopeRow) (securities : List SecurityRow) → Pairs (Alike th W) es es'
-      → Pairs (PutPair th W) (cancel_effect clock t lines n lots awards es securities) (cancel_effect clock t lines n lots awards es' securities)
+      → Pairs (PutPair th W) (cancel_puts (record { notice = n; lines = lines; lots = lots; awards = awards; envelopes = es; securities = securities; clock = clock }) t) (cancel_puts (record { notice = n; lines = lines; lots = lots; awards = awards; envelopes = es'; securities = securities; clock = clock }) t)
   cancel_pairs clock t lines None lots awards es es' securities all = tt
   cancel_pairs clock t lines (Some n) lots awards es es' securities all =
       let ended : List LotRow = filter is_open_lot lots in
@@ -215,7 +215,7 @@ module _ (th : Theirs) (W : ℕ → Bool) where
       plain (Some e) = (tt, (tt, (tt, (tt, (tt, tt)))))
 
   pub award_pairs : (clock : ClockRow) (t : ℕ) (n : Option NoticeRow) (l : Option LotRow) (w : Option LineRow) (es es' : List EnvelopeRow) (securities : List SecurityRow) → Pairs (Alike th W) es es'
-      → Pairs (PutPair th W) (award_effect clock t n l w es securities) (award_effect clock t n l w es' securities)
+      → Pairs (PutPair th W) (award_puts (record { notice = n; lot = l; line = w; envelopes = es; securities = securities; clock = clock }) t) (award_puts (record { notice = n; lot = l; line = w; envelopes = es'; securities = securities; clock = clock }) t)
   award_pairs clock t (Some n) (Some l) (Some w) es es' securities all = decision_pairs clock t n l w (winner (Some n) es) (winner (Some n) es') securities (pairs-winner (Some n) es es' all)
   award_pairs clock t None l w es es' securities all = tt
   award_pairs clock t (Some n) None w es es' securities all = tt

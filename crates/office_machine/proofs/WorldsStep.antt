@@ -28,17 +28,17 @@ use Rattle.office_base.specs.Standings.{standings}
 use Rattle.tender_core.specs.Rules.Import.{after_rows, line_put as import_line}
 use Rattle.tender_core.specs.Rules.Publish.{line_put, lot_put, publish_parts, late_puts}
 use Rattle.tender_core.specs.Rules.Present.{is_sealed_by}
-use Rattle.tender_core.specs.Rules.Modify.{modify_conditions}
-use Rattle.tender_core.specs.Rules.Withdraw.{withdraw_conditions, withdraw_effect}
-use Rattle.award_core.specs.Rules.Examine.{examine_conditions}
-use Rattle.tender_core.specs.Rules.AmendNotice.{amend_notice_effect}
-use Rattle.tender_core.specs.Rules.Open.{is_sealed_envelope, opened_envelope, opened_put, open_effect}
-use Rattle.award_core.specs.Rules.Award.{is_admissible, isnt_examined, is_above, winner, award_conditions}
-use Rattle.award_core.specs.Rules.Fail.{fail_conditions, fail_effect}
-use Rattle.award_core.specs.Rules.AmendContract.{amend_contract_conditions, amend_contract_effect}
-use Rattle.award_core.specs.Rules.Pay.{pay_conditions, pay_effect}
-use Rattle.award_core.specs.Rules.End.{end_conditions, end_effect, ended_state}
-use Rattle.award_core.specs.Rules.Sign.{sign_effect, tenderer_in, signed_award, contracted_lot, contract_row, performance_put, sign_conditions}
+use Rattle.tender_core.specs.Rules.Modify.{modify_tests}
+use Rattle.tender_core.specs.Rules.Withdraw.{withdraw_tests, withdraw_puts}
+use Rattle.award_core.specs.Rules.Examine.{examine_tests}
+use Rattle.tender_core.specs.Rules.AmendNotice.{amend_notice_puts}
+use Rattle.tender_core.specs.Rules.Open.{is_sealed_envelope, opened_envelope, opened_put, open_puts}
+use Rattle.award_core.specs.Rules.Award.{is_admissible, isnt_examined, is_above, winner, award_tests}
+use Rattle.award_core.specs.Rules.Fail.{fail_tests, fail_puts}
+use Rattle.award_core.specs.Rules.AmendContract.{amend_contract_tests, amend_contract_puts}
+use Rattle.award_core.specs.Rules.Pay.{pay_tests, pay_puts}
+use Rattle.award_core.specs.Rules.End.{end_tests, end_puts, ended_state}
+use Rattle.award_core.specs.Rules.Sign.{sign_puts, tenderer_in, signed_award, contracted_lot, contract_row, performance_put, sign_tests}
 use Rattle.office_base.specs.Parents.{notice_of_envelope, lot_of_envelope, security_of_envelope, envelope_of_award, lot_of_award, notice_of_award, securities_of_award, notice_of_contract, lot_of_contract, line_of_lot, late_of_envelope}
 use Rattle.office_machine.specs.Readings.{Readings}
 use Rattle.office_machine.specs.Machine.{tests_for, puts_for}
@@ -104,7 +104,7 @@ module _ (th : Theirs) (W : ℕ → Bool) (s : Tables) (es' : List EnvelopeRow) 
   contract_line : (o : Option ContractRow) → line_of_lot (lot_of_contract o s') s' ≡ line_of_lot (lot_of_contract o s) s
   contract_line o = lot_line (lot_of_contract o s') ∙ ap (λ l. line_of_lot l s) (contract_lot o)
 
-  awards_alike : (t : ℕ) (n : Option NoticeRow) (l : Option LotRow) (w : Option Rattle.office_base.specs.declared.records.LineRow.LineRow) (es es'' : List EnvelopeRow) → Pairs (Alike th W) es es'' → award_conditions t n l w es'' ≡ award_conditions t n l w es
+  awards_alike : (t : ℕ) (n : Option NoticeRow) (l : Option LotRow) (w : Option Rattle.office_base.specs.declared.records.LineRow.LineRow) (es es'' : List EnvelopeRow) → Pairs (Alike th W) es es'' → award_tests (record { notice = n; lot = l; line = w; envelopes = es''; securities = []; clock = s.clock }) t ≡ award_tests (record { notice = n; lot = l; line = w; envelopes = es; securities = []; clock = s.clock }) t
   awards_alike t n l w es es'' all =
       rw (
         pairs-any th W isnt_examined (λ _ _. refl) es es'' all,
@@ -116,16 +116,16 @@ module _ (th : Theirs) (W : ℕ → Bool) (s : Tables) (es' : List EnvelopeRow) 
   pub tests_same : (t : ℕ) (caller : Caller) (command : Command) → tests_for s' t caller command ≡ tests_for s t caller command
   tests_same t caller (Present notice lot security bytes) = rw (pairs-any th W (is_sealed_by caller) (λ _ _. refl) (envelopes_of_lot notice lot s) (envelopes_of_lot notice lot s') (of_lot notice lot)) refl
   tests_same t caller (Modify receipt bytes) =
-      ap (modify_conditions s.clock t caller (find_envelope es' receipt)) (envelope_notice (find_envelope es' receipt))
-      ∙ blind-option th W (λ o. modify_conditions s.clock t caller o (notice_of_envelope o s)) (λ _ _. refl) (envelope_at receipt s) (find_envelope es' receipt) (found receipt)
+      ap ((λ z. modify_tests (record { envelope = find_envelope es' receipt; notice = z; clock = s.clock }) t caller)) (envelope_notice (find_envelope es' receipt))
+      ∙ blind-option th W (λ o. modify_tests (record { envelope = o; notice = notice_of_envelope o s; clock = s.clock }) t caller) (λ _ _. refl) (envelope_at receipt s) (find_envelope es' receipt) (found receipt)
   tests_same t caller (Withdraw receipt) =
-      (λ i. withdraw_conditions t caller (find_envelope es' receipt) (envelope_notice (find_envelope es' receipt) i) (envelope_lot (find_envelope es' receipt) i) (envelope_late (find_envelope es' receipt) i))
-      ∙ blind-option th W (λ o. withdraw_conditions t caller o (notice_of_envelope o s) (lot_of_envelope o s) (late_of_envelope o s)) (λ _ _. refl) (envelope_at receipt s) (find_envelope es' receipt) (found receipt)
+      (λ i. withdraw_tests (record { envelope = find_envelope es' receipt; notice = envelope_notice (find_envelope es' receipt) i; lot = envelope_lot (find_envelope es' receipt) i; late = envelope_late (find_envelope es' receipt) i; security = None; clock = s.clock }) t caller)
+      ∙ blind-option th W (λ o. withdraw_tests (record { envelope = o; notice = notice_of_envelope o s; lot = lot_of_envelope o s; late = late_of_envelope o s; security = None; clock = s.clock }) t caller) (λ _ _. refl) (envelope_at receipt s) (find_envelope es' receipt) (found receipt)
   tests_same t caller (Examine receipt responsive quality) =
-      (λ i. examine_conditions (find_envelope es' receipt) (envelope_notice (find_envelope es' receipt) i) (envelope_lot (find_envelope es' receipt) i) responsive quality)
-      ∙ blind-option th W (λ o. examine_conditions o (notice_of_envelope o s) (lot_of_envelope o s) responsive quality) (λ _ _. refl) (envelope_at receipt s) (find_envelope es' receipt) (found receipt)
+      (λ i. examine_tests (record { envelope = find_envelope es' receipt; notice = envelope_notice (find_envelope es' receipt) i; lot = envelope_lot (find_envelope es' receipt) i; clock = s.clock }) responsive quality)
+      ∙ blind-option th W (λ o. examine_tests (record { envelope = o; notice = notice_of_envelope o s; lot = lot_of_envelope o s; clock = s.clock }) responsive quality) (λ _ _. refl) (envelope_at receipt s) (find_envelope es' receipt) (found receipt)
   tests_same t caller (Award notice lot) =
-      ap (λ w. award_conditions t (notice_at notice s) (lot_at (notice, lot) s) w (envelopes_of_lot notice lot s')) (lot_line (lot_at (notice, lot) s))
+      ap (λ w. award_tests (record { notice = notice_at notice s; lot = lot_at (notice, lot) s; line = w; envelopes = envelopes_of_lot notice lot s'; securities = []; clock = s.clock }) t) (lot_line (lot_at (notice, lot) s))
       ∙ awards_alike t (notice_at notice s) (lot_at (notice, lot) s) (line_of_lot (lot_at (notice, lot) s) s) (envelopes_of_lot notice lot s) (envelopes_of_lot notice lot s') (of_lot notice lot)
   tests_same t caller (Import batch rows) = refl
   tests_same t caller (Register tenderer name address key) = refl
@@ -133,11 +133,11 @@ module _ (th : Theirs) (W : ℕ → Bool) (s : Tables) (es' : List EnvelopeRow) 
   tests_same t caller (AmendNotice notice deadline rationale) = refl
   tests_same t caller (Cancel notice rationale) = refl
   tests_same t caller (Open notice) = refl
-  tests_same t caller (Fail award) = ap (fail_conditions t (award_at award s)) (award_notice (award_at award s))
-  tests_same t caller (Sign award named) = ap (λ n. sign_conditions t (award_at award s) n named) (award_notice (award_at award s))
-  tests_same t caller (AmendContract contract entry kind amount rationale) = λ i. amend_contract_conditions (contract_at contract s) (entries_of_contract contract s) (contract_notice (contract_at contract s) i) (contract_line (contract_at contract s) i) entry kind amount
-  tests_same t caller (Pay contract entry amount) = ap (λ n. pay_conditions (contract_at contract s) (entries_of_contract contract s) n entry amount) (contract_notice (contract_at contract s))
-  tests_same t caller (End contract how) = ap (end_conditions (contract_at contract s)) (contract_notice (contract_at contract s))
+  tests_same t caller (Fail award) = ap ((λ z. fail_tests (record { award = award_at award s; notice = z; lot = None; envelope = None; security = None; clock = s.clock }) t)) (award_notice (award_at award s))
+  tests_same t caller (Sign award named) = ap (λ n. sign_tests (record { award = award_at award s; notice = n; lot = None; envelope = None; securities = []; clock = s.clock }) t named) (award_notice (award_at award s))
+  tests_same t caller (AmendContract contract entry kind amount rationale) = λ i. amend_contract_tests (record { contract = contract_at contract s; entries = entries_of_contract contract s; notice = contract_notice (contract_at contract s) i; line = contract_line (contract_at contract s) i; clock = s.clock }) entry kind amount
+  tests_same t caller (Pay contract entry amount) = ap (λ n. pay_tests (record { contract = contract_at contract s; entries = entries_of_contract contract s; notice = n; clock = s.clock }) entry amount) (contract_notice (contract_at contract s))
+  tests_same t caller (End contract how) = ap ((λ z. end_tests (record { contract = contract_at contract s; entries = []; notice = z; line = None; performance = None; clock = s.clock }))) (contract_notice (contract_at contract s))
 
   -- tenders with equal seals are opened alike
   abbrev pub SealsAlike : List EnvelopeRow → Type 0
@@ -159,7 +159,7 @@ module _ (th : Theirs) (W : ℕ → Bool) (s : Tables) (es' : List EnvelopeRow) 
   opened_pairs read (e ∷ es) [] all same = absurd all
   opened_pairs read (e ∷ es) (e' ∷ es'') all same = (opened_pair read e e' all.0 same.0, opened_pairs read es es'' all.1 same.1)
 
-  open_pairs : (read : List ℕ → List Item → Reading) (clock : ClockRow) (t : ℕ) (notice : List ℕ) (n : Option NoticeRow) → SealsAlike (filter is_sealed_envelope (envelopes_of_notice notice s)) → Pairs (PutPair th W) (open_effect read clock t n (sealed_tenders notice s)) (open_effect read clock t n (sealed_tenders notice s'))
+  open_pairs : (read : List ℕ → List Item → Reading) (clock : ClockRow) (t : ℕ) (notice : List ℕ) (n : Option NoticeRow) → SealsAlike (filter is_sealed_envelope (envelopes_of_notice notice s)) → Pairs (PutPair th W) (open_puts read (record { notice = n; clock = clock }) t (sealed_tenders notice s)) (open_puts read (record { notice = n; clock = clock }) t (sealed_tenders notice s'))
   open_pairs read clock t notice None same = tt
   open_pairs read clock t notice (Some n) same =
       pairs-append th W (map (opened_put read) (sealed_tenders notice s)) (map (opened_put read) (sealed_tenders notice s')) _ _
@@ -167,35 +167,35 @@ module _ (th : Theirs) (W : ℕ → Bool) (s : Tables) (es' : List EnvelopeRow) 
       (pairs-filter th W is_sealed_envelope (λ _ _. refl) (envelopes_of_notice notice s) (envelopes_of_notice notice s') (of_notice notice)) same)
       (Plain tt refl, (Plain tt refl, tt))
 
-  plain_options : (clock : ClockRow) (t : ℕ) (notice : Option NoticeRow) (deadline : ℕ) → AllByRecursion IsPlain (amend_notice_effect clock t notice deadline)
+  plain_options : (clock : ClockRow) (t : ℕ) (notice : Option NoticeRow) (deadline : ℕ) → AllByRecursion IsPlain (amend_notice_puts (record { notice = notice; clock = clock }) t deadline)
   plain_options clock t None deadline = tt
   plain_options clock t (Some n) deadline = (tt, (tt, tt))
 
-  sign_plain : (clock : ClockRow) (t : ℕ) (w : Option AwardRow) (n : Option NoticeRow) (l : Option LotRow) (o : Option EnvelopeRow) (r : List Rattle.office_base.specs.declared.records.SecurityRow.SecurityRow) (named : Option NamedSecurity) → AllByRecursion IsPlain (sign_effect clock t w n l o r named)
+  sign_plain : (clock : ClockRow) (t : ℕ) (w : Option AwardRow) (n : Option NoticeRow) (l : Option LotRow) (o : Option EnvelopeRow) (r : List Rattle.office_base.specs.declared.records.SecurityRow.SecurityRow) (named : Option NamedSecurity) → AllByRecursion IsPlain (sign_puts (record { award = w; notice = n; lot = l; envelope = o; securities = r; clock = clock }) t named)
   sign_plain clock t (Some w) (Some n) (Some l) o r named = (tt, (tt, (tt, (tt, (tt, plain-append (map security_returned (filter is_held_security r)) (put_if (performance_put w) named) (plain-map security_returned (filter is_held_security r) (λ _. tt)) (plain-if (performance_put w) named (λ _. tt)))))))
   sign_plain clock t None n l o r named = tt
   sign_plain clock t (Some w) None l o r named = tt
   sign_plain clock t (Some w) (Some n) None o r named = tt
 
-  sign_blind : (clock : ClockRow) (t : ℕ) (w : Option AwardRow) (n : Option NoticeRow) (l : Option LotRow) (o o' : Option EnvelopeRow) (r : List Rattle.office_base.specs.declared.records.SecurityRow.SecurityRow) (named : Option NamedSecurity) → tenderer_in o' ≡ tenderer_in o → sign_effect clock t w n l o' r named ≡ sign_effect clock t w n l o r named
+  sign_blind : (clock : ClockRow) (t : ℕ) (w : Option AwardRow) (n : Option NoticeRow) (l : Option LotRow) (o o' : Option EnvelopeRow) (r : List Rattle.office_base.specs.declared.records.SecurityRow.SecurityRow) (named : Option NamedSecurity) → tenderer_in o' ≡ tenderer_in o → sign_puts (record { award = w; notice = n; lot = l; envelope = o'; securities = r; clock = clock }) t named ≡ sign_puts (record { award = w; notice = n; lot = l; envelope = o; securities = r; clock = clock }) t named
   sign_blind clock t (Some w) (Some n) (Some l) o o' r named e =
       ap (λ x. puts.Award (signed_award w) ∷ puts.Lot (contracted_lot l) ∷ puts.Contract (contract_row t w x) ∷ puts.Notice (released n) ∷ clock_put clock t ∷ securities_returned r ++ put_if (performance_put w) named) e
   sign_blind clock t None n l o o' r named e = refl
   sign_blind clock t (Some w) None l o o' r named e = refl
   sign_blind clock t (Some w) (Some n) None o o' r named e = refl
 
-  amend_plain : (clock : ClockRow) (t : ℕ) (c : Option ContractRow) (n : Option NoticeRow) (w : Option Rattle.office_base.specs.declared.records.LineRow.LineRow) (entry : List ℕ) (kind : ChangeKind) (amount : ℕ) (rationale : List ℕ) → AllByRecursion IsPlain (amend_contract_effect clock t c n w entry kind amount rationale)
+  amend_plain : (clock : ClockRow) (t : ℕ) (c : Option ContractRow) (n : Option NoticeRow) (w : Option Rattle.office_base.specs.declared.records.LineRow.LineRow) (entry : List ℕ) (kind : ChangeKind) (amount : ℕ) (rationale : List ℕ) → AllByRecursion IsPlain (amend_contract_puts (record { contract = c; entries = []; notice = n; line = w; clock = clock }) t entry kind amount rationale)
   amend_plain clock t (Some c) (Some n) (Some w) entry kind amount rationale = (tt, (tt, (tt, (tt, tt))))
   amend_plain clock t None n w entry kind amount rationale = tt
   amend_plain clock t (Some c) None w entry kind amount rationale = tt
   amend_plain clock t (Some c) (Some n) None entry kind amount rationale = tt
 
-  pay_plain : (clock : ClockRow) (t : ℕ) (c : Option ContractRow) (n : Option NoticeRow) (entry : List ℕ) (amount : ℕ) → AllByRecursion IsPlain (pay_effect clock t c n entry amount)
+  pay_plain : (clock : ClockRow) (t : ℕ) (c : Option ContractRow) (n : Option NoticeRow) (entry : List ℕ) (amount : ℕ) → AllByRecursion IsPlain (pay_puts (record { contract = c; entries = []; notice = n; clock = clock }) t entry amount)
   pay_plain clock t (Some c) (Some n) entry amount = (tt, (tt, (tt, tt)))
   pay_plain clock t None n entry amount = tt
   pay_plain clock t (Some c) None entry amount = tt
 
-  end_plain : (clock : ClockRow) (t : ℕ) (how : Rattle.office_acts.specs.declared.contract.How.How) (c : Option ContractRow) (es : List Rattle.office_base.specs.declared.records.EntryRow.EntryRow) (n : Option NoticeRow) (w : Option Rattle.office_base.specs.declared.records.LineRow.LineRow) (p : Option PerformanceRow) → AllByRecursion IsPlain (end_effect clock t how c es n w p)
+  end_plain : (clock : ClockRow) (t : ℕ) (how : Rattle.office_acts.specs.declared.contract.How.How) (c : Option ContractRow) (es : List Rattle.office_base.specs.declared.records.EntryRow.EntryRow) (n : Option NoticeRow) (w : Option Rattle.office_base.specs.declared.records.LineRow.LineRow) (p : Option PerformanceRow) → AllByRecursion IsPlain (end_puts (record { contract = c; entries = es; notice = n; line = w; performance = p; clock = clock }) t how)
   end_plain clock t how (Some c) es (Some n) (Some w) p = (tt, (tt, (tt, (tt, plain-if (performance_settled (ended_state how)) p (λ _. tt)))))
   end_plain clock t how None es n w p = tt
   end_plain clock t how (Some c) es None w p = tt
@@ -230,7 +230,7 @@ module _ (th : Theirs) (W : ℕ → Bool) (s : Tables) (es' : List EnvelopeRow) 
       late_plain : (late : LateWithdrawal) → AllByRecursion IsPlain (late_puts notice late)
       late_plain Refused = tt
       late_plain Forfeits = (tt, tt)
-  puts_pair readings t caller (AmendNotice notice deadline rationale) quiet = plain_pairs th W (amend_notice_effect s.clock t (notice_at notice s) deadline) (plain_options s.clock t (notice_at notice s) deadline)
+  puts_pair readings t caller (AmendNotice notice deadline rationale) quiet = plain_pairs th W (amend_notice_puts (record { notice = notice_at notice s; clock = s.clock }) t deadline) (plain_options s.clock t (notice_at notice s) deadline)
   puts_pair readings t caller (Cancel notice rationale) quiet = cancel_pairs th W s.clock t s.lines (notice_at notice s) (lots_of_notice notice s) (awards_of_notice notice s) (envelopes_of_notice notice s) (envelopes_of_notice notice s') (securities_of_notice notice s) (of_notice notice)
   puts_pair readings t caller (Open notice) quiet = open_pairs readings.read s.clock t notice (notice_at notice s) quiet
   puts_pair readings t caller (Withdraw receipt) quiet =
@@ -239,34 +239,34 @@ module _ (th : Theirs) (W : ℕ → Bool) (s : Tables) (es' : List EnvelopeRow) 
       let notice : notice_of_envelope o s ≡ notice_of_envelope o' s' = sym (envelope_notice o' ∙ blind-option th W (λ o. notice_of_envelope o s) (λ _ _. refl) o o' (found receipt)) in
       let late : late_of_envelope o s ≡ late_of_envelope o' s' = sym (envelope_late o' ∙ blind-option th W (λ o. late_of_envelope o s) (λ _ _. refl) o o' (found receipt)) in
       subst (λ ps. Pairs (PutPair th W) (puts_for readings s t caller (Withdraw receipt)) ps)
-      (λ i. withdraw_effect s.clock t o' (notice i) (late i) (security_of_envelope o' s'))
+      (λ i. withdraw_puts (record { envelope = o'; notice = notice i; lot = None; late = late i; security = security_of_envelope o' s'; clock = s.clock }) t)
       (withdraw_pairs th W s.clock t o o' (notice_of_envelope o s) (late_of_envelope o s) (security_of_envelope o s) (security_of_envelope o' s') (found receipt) (envelope_security o' ∙ security_of o o' (found receipt)))
   puts_pair readings t caller (Examine receipt responsive quality) quiet = examine_pairs th W s.clock t responsive quality (envelope_at receipt s) (find_envelope es' receipt) (found receipt)
   puts_pair readings t caller (Award notice lot) quiet =
-      subst (λ w. Pairs (PutPair th W) (puts_for readings s t caller (Award notice lot)) (Rattle.award_core.specs.Rules.Award.award_effect s.clock t (notice_at notice s) (lot_at (notice, lot) s) w (envelopes_of_lot notice lot s') (securities_of_lot notice lot s)))
+      subst (λ w. Pairs (PutPair th W) (puts_for readings s t caller (Award notice lot)) (Rattle.award_core.specs.Rules.Award.award_puts (record { notice = notice_at notice s; lot = lot_at (notice, lot) s; line = w; envelopes = envelopes_of_lot notice lot s'; securities = securities_of_lot notice lot s; clock = s.clock }) t))
       (sym (lot_line (lot_at (notice, lot) s)))
       (award_pairs th W s.clock t (notice_at notice s) (lot_at (notice, lot) s) (line_of_lot (lot_at (notice, lot) s) s) (envelopes_of_lot notice lot s) (envelopes_of_lot notice lot s') (securities_of_lot notice lot s) (of_lot notice lot))
   puts_pair readings t caller (Fail award) quiet =
       let o : Option EnvelopeRow = envelope_of_award (award_at award s) s in
       let o' : Option EnvelopeRow = envelope_of_award (award_at award s) s' in
       subst (λ ps. Pairs (PutPair th W) (puts_for readings s t caller (Fail award)) ps)
-      (λ i. fail_effect s.clock t (award_at award s) (sym (award_notice (award_at award s)) i) (sym (award_lot (award_at award s)) i) o' (security_of_envelope o' s'))
+      (λ i. fail_puts (record { award = award_at award s; notice = sym (award_notice (award_at award s)) i; lot = sym (award_lot (award_at award s)) i; envelope = o'; security = security_of_envelope o' s'; clock = s.clock }) t)
       (fail_pairs th W s.clock t (award_at award s) (notice_of_award (award_at award s) s) (lot_of_award (award_at award s) s) o o' (security_of_envelope o s) (security_of_envelope o' s') (envelope_of (award_at award s)) (envelope_security o' ∙ security_of o o' (envelope_of (award_at award s))))
   puts_pair readings t caller (Sign award named) quiet =
       let o : Option EnvelopeRow = envelope_of_award (award_at award s) s in
       let o' : Option EnvelopeRow = envelope_of_award (award_at award s) s' in
       subst (λ ps. Pairs (PutPair th W) (puts_for readings s t caller (Sign award named)) ps)
       (sym (sign_blind s.clock t (award_at award s) (notice_of_award (award_at award s) s) (lot_of_award (award_at award s) s) o o' (securities_of_award (award_at award s) s) named (blind-option th W tenderer_in (λ _ _. refl) o o' (envelope_of (award_at award s))))
-      ∙ (λ i. sign_effect s.clock t (award_at award s) (sym (award_notice (award_at award s)) i) (sym (award_lot (award_at award s)) i) o' (sym (award_securities (award_at award s)) i) named))
+      ∙ (λ i. sign_puts (record { award = award_at award s; notice = sym (award_notice (award_at award s)) i; lot = sym (award_lot (award_at award s)) i; envelope = o'; securities = sym (award_securities (award_at award s)) i; clock = s.clock }) t named))
       (plain_pairs th W (puts_for readings s t caller (Sign award named)) (sign_plain s.clock t (award_at award s) (notice_of_award (award_at award s) s) (lot_of_award (award_at award s) s) o (securities_of_award (award_at award s) s) named))
   puts_pair readings t caller (AmendContract contract entry kind amount rationale) quiet =
       subst (λ ps. Pairs (PutPair th W) (puts_for readings s t caller (AmendContract contract entry kind amount rationale)) ps)
-      (λ i. amend_contract_effect s.clock t (contract_at contract s) (sym (contract_notice (contract_at contract s)) i) (sym (contract_line (contract_at contract s)) i) entry kind amount rationale)
+      (λ i. amend_contract_puts (record { contract = contract_at contract s; entries = []; notice = sym (contract_notice (contract_at contract s)) i; line = sym (contract_line (contract_at contract s)) i; clock = s.clock }) t entry kind amount rationale)
       (plain_pairs th W (puts_for readings s t caller (AmendContract contract entry kind amount rationale)) (amend_plain s.clock t (contract_at contract s) (notice_of_contract (contract_at contract s) s) (line_of_lot (lot_of_contract (contract_at contract s) s) s) entry kind amount rationale))
   puts_pair readings t caller (Pay contract entry amount) quiet =
-      subst (λ n. Pairs (PutPair th W) (puts_for readings s t caller (Pay contract entry amount)) (pay_effect s.clock t (contract_at contract s) n entry amount)) (sym (contract_notice (contract_at contract s)))
+      subst (λ n. Pairs (PutPair th W) (puts_for readings s t caller (Pay contract entry amount)) (pay_puts (record { contract = contract_at contract s; entries = []; notice = n; clock = s.clock }) t entry amount)) (sym (contract_notice (contract_at contract s)))
       (plain_pairs th W (puts_for readings s t caller (Pay contract entry amount)) (pay_plain s.clock t (contract_at contract s) (notice_of_contract (contract_at contract s) s) entry amount))
   puts_pair readings t caller (End contract how) quiet =
       subst (λ ps. Pairs (PutPair th W) (puts_for readings s t caller (End contract how)) ps)
-      (λ i. end_effect s.clock t how (contract_at contract s) (entries_of_contract contract s) (sym (contract_notice (contract_at contract s)) i) (sym (contract_line (contract_at contract s)) i) (performance_at contract s))
+      (λ i. end_puts (record { contract = contract_at contract s; entries = entries_of_contract contract s; notice = sym (contract_notice (contract_at contract s)) i; line = sym (contract_line (contract_at contract s)) i; performance = performance_at contract s; clock = s.clock }) t how)
       (plain_pairs th W (puts_for readings s t caller (End contract how)) (end_plain s.clock t how (contract_at contract s) (entries_of_contract contract s) (notice_of_contract (contract_at contract s) s) (line_of_lot (lot_of_contract (contract_at contract s) s) s) (performance_at contract s)))

@@ -10,7 +10,7 @@ use Rattle.office_base.specs.declared.puts.Put.TheVariants as puts
 use Rattle.office_base.specs.RuleParts.{released, has_all_releases}
 use Rattle.office_base.specs.Parents.{line_of_lot}
 use Rattle.office_base.specs.Tables.{Tables, notice_at, lot_at, line_at, envelopes_of_lot, securities_of_lot}
-use Rattle.award_core.specs.Rules.Award.{winner, decision_puts, award_rows, award_tests, award_effect, award_puts}
+use Rattle.award_core.specs.Rules.Award.{winner, decision_puts, award_rows, award_tests, award_puts}
 use Rattle.office_machine.proofs.AwardFates as award_fates
 use Rattle.office_machine.proofs.AwardKeeps.{award_keeps}
 use Rattle.office_machine.proofs.Lawful.{Lawful}
@@ -37,7 +37,7 @@ award notice lot = record {
       let l = witness (lot_at (notice, lot) s) (not_false _ tests.1.0) in
       let w = witness (line_at l.0.line s) (have.lots (notice, lot) l.0 l.1).line in
       let line : line_of_lot (lot_at (notice, lot) s) s ≡ Some w.0 = ap (λ o. line_of_lot o s) l.1 ∙ w.1 in
-      moved refl (λ i. award_effect s.clock now (n.1 i) (l.1 i) (line i) (envelopes_of_lot notice lot s) (securities_of_lot notice lot s))
+      moved refl (λ i. award_puts (record { notice = n.1 i; lot = l.1 i; line = line i; envelopes = envelopes_of_lot notice lot s; securities = securities_of_lot notice lot s; clock = s.clock }) now)
       (decided s now notice lot n.0 l.0 w.0 n.1 tests.1.1.1.1.1.1.1.0 (winner (Some n.0) (envelopes_of_lot notice lot s)));
   apart = λ before after i. record {
     tests = λ s t caller. award_tests (award_rows_apart before s notice lot i) t;

@@ -6,7 +6,7 @@ use Rattle.office_base.specs.declared.puts.Put.TheVariants as puts
 use Rattle.office_base.specs.RuleParts.{has_all_releases}
 use Rattle.office_base.specs.Parents.{notice_of_contract}
 use Rattle.office_base.specs.Tables.{contract_at}
-use Rattle.award_core.specs.Rules.Pay.{pay_rows, pay_tests, pay_effect, pay_puts}
+use Rattle.award_core.specs.Rules.Pay.{pay_rows, pay_tests, pay_puts}
 use Rattle.office_machine.proofs.Lawful.{Lawful}
 use Rattle.office_machine.proofs.Passed.{none_holds, not_false, neither}
 use Rattle.office_machine.proofs.PayKeeps.{pay_keeps}
@@ -26,7 +26,7 @@ pay contract entry amount = record {
   tail = λ readings s moment caller have allowed.
       let tests = none_holds (pay_tests (pay_rows s contract) entry amount) allowed in
       let of = of_contract s have contract (not_false _ tests.0) in
-      moved refl (λ i. pay_effect s.clock (max moment s.clock.moment) (of.is i) (of.notice i) entry amount)
+      moved refl (λ i. pay_puts (record { contract = of.is i; entries = []; notice = of.notice i; clock = s.clock }) (max moment s.clock.moment) entry amount)
       (front (puts.Entry _ ∷ []) (refl, tt)
       (on_contract readings s moment caller have contract of (neither _ (has_all_releases (notice_of_contract (contract_at contract s) s)) tests.1.1.1.1.0).1));
   apart = λ before after i. record {

@@ -8,7 +8,7 @@ use Rattle.office_base.specs.declared.records.SecurityState.TheVariants.{Returne
 use Rattle.office_base.specs.declared.puts.Put.TheVariants as puts
 use Rattle.office_base.specs.RuleParts.{is_late, security_settled}
 use Rattle.office_base.specs.Tables.{Tables, envelope_at}
-use Rattle.tender_core.specs.Rules.Withdraw.{withdraw_rows, withdraw_tests, withdraw_effect, withdraw_puts, taken_back_puts}
+use Rattle.tender_core.specs.Rules.Withdraw.{withdraw_rows, withdraw_tests, withdraw_puts, taken_back_puts}
 use Rattle.office_machine.proofs.Footprint.{on-if}
 use Rattle.office_machine.proofs.Idle.{withdraw_keeps}
 use Rattle.office_machine.proofs.Lawful.{Lawful}
@@ -32,7 +32,7 @@ withdraw receipt = record {
       let rows = withdraw_rows s receipt in
       let tests = none_holds (withdraw_tests rows t caller) allowed in
       let e = witness (envelope_at receipt s) (not_false _ tests.0) in
-      moved refl (λ i. withdraw_effect s.clock t (e.1 i) rows.notice rows.late rows.security) (tail_of s t e.0 rows.security (is_late rows.late t rows.notice));
+      moved refl (λ i. withdraw_puts (record { envelope = e.1 i; notice = rows.notice; lot = None; late = rows.late; security = rows.security; clock = s.clock }) t) (tail_of s t e.0 rows.security (is_late rows.late t rows.notice));
   apart = λ before after i. record {
     tests = λ s t caller. withdraw_tests (withdraw_rows_apart before s receipt i) t caller;
     puts = λ readings s t caller. withdraw_puts (withdraw_rows_apart before s receipt i) t;
