@@ -24,7 +24,7 @@ use Rattle.office_base.specs.Parents.{notice_of_envelope}
 use Rattle.office_base.specs.Rules.{first_of}
 use Rattle.office_base.specs.States.{is_opened}
 use Rattle.office_base.specs.Tables.{Tables, envelope_at, envelopes_of_notice, line_at, lots_of_notice, notice_at, security_at, contract_at, performance_at}
-use Rattle.tender_core.specs.Rules.Modify.{modify_conditions}
+use Rattle.tender_core.specs.Rules.Modify.{modify_tests}
 use Rattle.office_machine.specs.Machine.{Given, done, may_give, refusal_of, reply_for, tests_for, time_of}
 use Rattle.office_machine.specs.Replies.{Reply, Refused, Imported, Enrolled, OfNotice, OpenedAll, Received, Withdrew, Examined}
 use Rattle.office_machine.specs.Replies.{Awarded, Failed, Signed, OfContract, LineSeen, LedgerSeen, Tender}
@@ -65,7 +65,7 @@ refused_as (Package a) why is = absurd (cc)
 -- The reply to an accepted command.
 
 modified : (readings : Readings) (clock : ClockRow) (t : ℕ) (caller : Caller) (bytes : List ℕ) (given : Bool) (envelope : Option EnvelopeRow) (notice : Option NoticeRow)
-    → first_of ((not given, Forbidden) ∷ modify_conditions clock t caller envelope notice) ≡ None
+    → first_of ((not given, Forbidden) ∷ modify_tests (record { envelope = envelope; notice = notice; clock = clock }) t caller) ≡ None
     → told_as (modify_reply readings clock t bytes envelope) ≡ Json (reply_text (modify_reply readings clock t bytes envelope))
 modified readings clock t caller bytes true None notice allowed = absurd (cc)
 modified readings clock t caller bytes false None notice allowed = absurd (cc)

@@ -9,10 +9,10 @@ use Rattle.office_base.specs.declared.puts.Put.{Put}
 use Rattle.office_machine.specs.Replies.{OfContract}
 
 -- the decision on what was loaded is that on the office's rows
-pub decides_at : {R : Type 0} (tests : R → List (Bool × Refusal)) (puts : R → ℕ → List Put) (decided : Result (Vec Put Global) Refusal)
-    (rows r : R) (t u : ℕ) → rows ≡ r → t ≡ u → Decides decided (first_of (tests rows)) (puts rows t) → Decides decided (first_of (tests r)) (puts r u)
-decides_at tests puts decided rows r t u are time h =
-    subst (λ n. Decides decided (first_of (tests r)) (puts r n)) time (subst (λ m. Decides decided (first_of (tests m)) (puts m t)) are h)
+pub decides_at : {R : Type 0} (tests : R → List (Bool × Refusal)) (lacks : R → Bool) (puts : R → ℕ → List Put) (decided : Result (Vec Put Global) Refusal)
+    (rows r : R) (t u : ℕ) → rows ≡ r → t ≡ u → Decides decided (first_of (tests rows)) (lacks rows) (puts rows t) → Decides decided (first_of (tests r)) (lacks r) (puts r u)
+decides_at tests lacks puts decided rows r t u are time h =
+    subst (λ n. Decides decided (first_of (tests r)) (lacks r) (puts r n)) time (subst (λ m. Decides decided (first_of (tests m)) (lacks m) (puts m t)) are h)
 
 -- so is the reply
 pub told_alike : (contract left left' release release' t t' : ℕ) → left ≡ left' → release ≡ release' → t ≡ t'

@@ -1,5 +1,5 @@
 //! What is planned for a command that was decided.
-ghost use Rattle.std.specs.Prelude.{◌≡◌, true, None};
+ghost use Rattle.std.specs.Prelude.{◌≡◌, Bool, true, None};
 ghost use Rattle.office_base.specs.Deciding.{Decides};
 ghost use Rattle.office_base.specs.Rules.{first_of};
 ghost use Rattle.office_machine.specs.Machine.{Given, IsCommand, command_tests, effect, may_give, refusal_of};
@@ -20,7 +20,7 @@ pub fn planned(
     decided: Result<Vec<Put>, Refusal>,
     reply: &Reply,
 ) -> Result<Planned, Refusal>
-    ensures { (x : Given) → IsCommand x.command → may_give x.caller x.command ≡ true → Decides decided (first_of (command_tests x)) (effect office_readings x)
+    ensures { (x : Given) (lacks : Bool) → IsCommand x.command → may_give x.caller x.command ≡ true → Decides decided (first_of (command_tests x)) lacks (effect office_readings x)
         → (refusal_of x ≡ None → said reply.now ≡ accepted_reply x) → HasEffect x result }
 {
     let puts = decided?;

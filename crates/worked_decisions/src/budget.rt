@@ -13,19 +13,20 @@ use office_base::laws::rows_are_kept;
 use office_base::standing::{Columns, Standing};
 use office_values::id::Id;
 use office_values::money::Total;
+use office_values::refusal::Refusal;
 use std::alloc::Global;
 use tender_core::budget_file::BudgetFile;
 use tender_core::import::{ImportRows, decide_import};
 
-// A line, with this sum appropriated and free where it is held.
-fn standing(line: Id, held: Option<Total>) -> Standing
+// A line, with this sum appropriated and this one free where it is held.
+fn standing(line: Id, held: Option<(Total, Total)>) -> Standing
     ensures line { result.line ≡ line }
     ensures fits { IsAtMost total_limit result.columns }
 {
     let columns = match held {
-        Some(sum) => Some(Columns {
-            appropriation: sum.units() as u128,
-            free: sum.units() as u128,
+        Some((appropriation, free)) => Some(Columns {
+            appropriation: appropriation.units() as u128,
+            free: free.units() as u128,
         }),
         None => None,
     };
@@ -68,22 +69,24 @@ fn both(alloc: Global, first: BudgetRow, second: BudgetRow) -> Option<BudgetRows
     Some(BudgetRows::from_vec(rows))
 }
 
+fn sums(held: Option<[u64; 2]>) -> Option<(Total, Total)> {
+    let [appropriation, free] = held?;
+    Some((Total::read(appropriation)?, Total::read(free)?))
+}
+
 // A file of two rows of the line 1000.
 fn file(alloc: Global, import: &Import) -> Option<BudgetFile> {
     let line = rows::id("1000")?;
-    let lines = lines(
-        alloc,
-        standing(line, import.held.and_then(|units| Total::read(units))),
-    )?;
+    let lines = lines(alloc, standing(line, sums(import.held)))?;
     let first = row(alloc, line, import.first.0, import.first.1)?;
     let second = row(alloc, line, import.second.0, import.second.1)?;
     Some(BudgetFile::of(lines, both(alloc, first, second)?))
 }
 
-// The import of two rows of a line with this sum, appropriated and free, where it is held.
+// The import of two rows of a line with these sums, appropriated and free, where it is held.
 #[derive(Clone, Copy)]
 pub struct Import {
-    pub held: Option<u64>,
+    pub held: Option<[u64; 2]>,
     pub first: (BudgetKind, u64),
     pub second: (BudgetKind, u64),
 }
@@ -103,7 +106,7 @@ impl Import {
 static IN_ORDER: [(Case, Wanted); 2] = [
     (
         Case::Import(Import {
-            held: Some(900),
+            held: Some([900, 900]),
             first: (BudgetKind::Add, 100),
             second: (BudgetKind::Cut, 1000),
         }),
@@ -116,7 +119,7 @@ static IN_ORDER: [(Case, Wanted); 2] = [
     ),
     (
         Case::Import(Import {
-            held: Some(900),
+            held: Some([900, 900]),
             first: (BudgetKind::Cut, 901),
             second: (BudgetKind::Add, 100),
         }),
@@ -156,4 +159,29 @@ static COME_TO_BE_HELD: [(Case, Wanted); 2] = [
 #[test]
 fn lines_come_to_be_held_by_a_file(rt: HostRuntime) {
     assert!(rt; are_decided(rt.alloc(), &COME_TO_BE_HELD));
+}
+
+// A cut of so much of a line of which 100 is appropriated and 900 free, as of none that commands lead to.
+fn cut(units: u64) -> Import {
+    Import {
+        held: Some([100, 900]),
+        first: (BudgetKind::Cut, units),
+        second: (BudgetKind::Add, 1),
+    }
+}
+
+#[test]
+fn cuts_want_what_is_appropriated(rt: HostRuntime) {
+    let made = Wanted::Puts(&[
+        Made::Line([1, 801]),
+        Made::Line([1, 801]),
+        Made::Batch,
+        Made::Clock([8, 1, 0]),
+    ]);
+    assert!(rt; are_decided(rt.alloc(), &[(Case::Import(cut(100)), made)]));
+    let lacking = match cut(101).decide(rt.alloc()) {
+        Some((_, Err(Refusal::Unavailable))) => true,
+        _ => false,
+    };
+    assert!(rt; lacking);
 }

@@ -14,6 +14,8 @@ mod cancellations;
 #[cfg(test)]
 mod contracts;
 #[cfg(test)]
+mod lacking;
+#[cfg(test)]
 mod lots;
 #[cfg(test)]
 mod made;

@@ -10,7 +10,7 @@ ghost use Rattle.office_base.specs.Tables.{Tables};
 ghost use Rattle.office_plans.specs.Asking.{given_by};
 ghost use Rattle.office_plans.specs.Named.{line_of_lot, lines_named, cancel_named};
 ghost use Rattle.office_plans.specs.Effects.{HasEffect};
-ghost use Rattle.tender_core.specs.Rules.Cancel.{is_open_lot, cancel_rows, cancel_tests, cancel_puts};
+ghost use Rattle.tender_core.specs.Rules.Cancel.{is_open_lot, cancel_rows, cancel_lacks, cancel_tests, cancel_puts};
 
 use crate::decided::planned;
 use crate::lines::load_line;
@@ -81,7 +81,7 @@ fn load<H: Lookups>(alloc: Global, shelf: &mut H, notice: &Id) -> Result<CancelR
 // The decision, which is the same on the lines of the lots that are open as on all lines of the office.
 fn decide(alloc: Global, t: Moment, rows: CancelRows) -> Result<Vec<Put>, Refusal>
     ensures { (s : Tables) (notice : List ℕ) → rows ≡ cancel_named s notice
-        → Decides result (first_of (cancel_tests (cancel_rows s notice))) (cancel_puts (cancel_rows s notice) t) }
+        → Decides result (first_of (cancel_tests (cancel_rows s notice))) (cancel_lacks (cancel_rows s notice)) (cancel_puts (cancel_rows s notice) t) }
 {
     rows_are_kept::<LineRow>();
     cancels_agree();

@@ -11,7 +11,7 @@ ghost use Rattle.office_base.specs.Tables.{Tables};
 ghost use Rattle.office_plans.specs.Asking.{given_by};
 ghost use Rattle.office_plans.specs.Named.{import_named};
 ghost use Rattle.office_plans.specs.Effects.{HasEffect};
-ghost use Rattle.tender_core.specs.Rules.Import.{import_rows, import_tests, import_puts};
+ghost use Rattle.tender_core.specs.Rules.Import.{import_rows, import_lacks, import_tests, import_puts};
 
 use crate::decided::planned;
 use crate::planned::Planned;
@@ -53,7 +53,7 @@ fn load<H: Lookups>(
 // The decision, which is the same on the lines that the file names as on all lines of the office.
 fn decide(alloc: Global, t: Moment, rows: ImportRows, batch: Id) -> Result<Vec<Put>, Refusal>
     ensures { (s : Tables) (budget : List BudgetRow) → rows ≡ import_named s batch budget
-        → Decides result (first_of (import_tests (import_rows s batch budget))) (import_puts (import_rows s batch budget) t batch) }
+        → Decides result (first_of (import_tests (import_rows s batch budget))) (import_lacks (import_rows s batch budget)) (import_puts (import_rows s batch budget) t batch) }
 {
     rows_are_kept::<Standing>();
     imports_agree();

@@ -12,25 +12,23 @@ ghost use Rattle.office_plans.specs.Opening.{tenders_read};
 ghost use Rattle.office_plans.specs.Effects.{HasEffect};
 ghost use Rattle.office_machine.specs.Rule.{sealed_tenders};
 ghost use Rattle.office_machine.specs.OfficeMeans.{office_readings};
-ghost use Rattle.tender_core.specs.Rules.Open.{open_rows, open_tests, open_puts};
+ghost use Rattle.tender_core.specs.Rules.Open.{open_rows, open_lacks, open_tests, open_puts};
 
 use crate::decided::planned;
 use crate::opened::load_tenders;
 use crate::planned::Planned;
 use crate::releases::next_release;
 use crate::reply::Reply;
-use office_base::parts::has_all_releases;
 use office_base::puts::Put;
-use office_base::records::NoticeState;
 use office_base::rows::Rows;
 use office_base::shelf::{Lookups, ShelfFault};
 use office_values::id::Id;
 use office_values::moment::Moment;
-use office_values::refusal::{Refusal, Thing};
+use office_values::refusal::Refusal;
 use std::alloc::Global;
 use tender_core::asking::Asking;
 use tender_core::laws::readings_are_put;
-use tender_core::opening::{OpenRows, OpenedTender, decide_open};
+use tender_core::opening::{OpenRows, OpenedTender, decide_open, refusal};
 
 // The rows that it is decided on, beside the sealed tenders.
 fn load<H: Lookups>(shelf: &mut H, notice: &Id) -> Result<OpenRows, ShelfFault>
@@ -42,28 +40,6 @@ fn load<H: Lookups>(shelf: &mut H, notice: &Id) -> Result<OpenRows, ShelfFault>
     })
 }
 
-// Its refusal, which doesn't depend on the tenders: so a refused opening reads none.
-fn refusal_of(t: Moment, rows: &OpenRows) -> Option<Refusal>
-    ensures { result ≡ first_of (open_tests rows.now t) }
-{
-    let Some(row) = &rows.notice else {
-        return Some(Refusal::NoSuch(Thing::Notice));
-    };
-    if row.state == NoticeState::Cancelled {
-        return Some(Refusal::NotOpenForTenders);
-    }
-    if t.second() < row.deadline.second() {
-        return Some(Refusal::TooEarlyToOpen);
-    }
-    if row.state == NoticeState::Opened {
-        return Some(Refusal::AlreadyOpened);
-    }
-    if has_all_releases(&rows.notice) {
-        return Some(Refusal::LimitReached);
-    }
-    None
-}
-
 // The decision on tenders that were read.
 fn decide(
     alloc: Global,
@@ -72,7 +48,7 @@ fn decide(
     tenders: Rows<OpenedTender>,
 ) -> Result<Vec<Put>, Refusal>
     ensures { (s : Tables) (notice : List ℕ) → rows ≡ open_rows s notice → tenders ≡ tenders_read notice s
-        → Decides result (first_of (open_tests (open_rows s notice) t)) (open_puts office_readings.read (open_rows s notice) t (sealed_tenders notice s)) }
+        → Decides result (first_of (open_tests (open_rows s notice) t)) (open_lacks (open_rows s notice)) (open_puts office_readings.read (open_rows s notice) t (sealed_tenders notice s)) }
 {
     readings_are_put();
     decide_open(alloc, t, rows, tenders)
@@ -90,7 +66,8 @@ pub fn plan<H: Lookups>(
 {
     let rows = load(shelf, &notice)?;
     let t = asking.time(&rows.clock);
-    if let Some(why) = refusal_of(t, &rows) {
+    // The refusal doesn't depend on the tenders, so a refused opening reads none.
+    if let Some(why) = refusal(t, &rows) {
         return Err(why);
     }
     let tenders = load_tenders(alloc, shelf, &notice)?;

@@ -10,7 +10,7 @@ ghost use Rattle.office_base.specs.Tables.{Tables};
 ghost use Rattle.office_plans.specs.Asking.{given_by};
 ghost use Rattle.office_plans.specs.Named.{line_of_new, lines_named, publish_named};
 ghost use Rattle.office_plans.specs.Effects.{HasEffect};
-ghost use Rattle.tender_core.specs.Rules.Publish.{publish_rows, publish_tests, publish_puts};
+ghost use Rattle.tender_core.specs.Rules.Publish.{publish_rows, publish_lacks, publish_tests, publish_puts};
 
 use crate::decided::planned;
 use crate::lines::load_line;
@@ -73,7 +73,7 @@ fn decide(
     content: NewNotice,
 ) -> Result<Vec<Put>, Refusal>
     ensures { (s : Tables) → rows ≡ publish_named s notice content.lots
-        → Decides result (first_of (publish_tests (publish_rows s notice) t content)) (publish_puts (publish_rows s notice) t notice content) }
+        → Decides result (first_of (publish_tests (publish_rows s notice) t content)) (publish_lacks (publish_rows s notice)) (publish_puts (publish_rows s notice) t notice content) }
 {
     rows_are_kept::<LineRow>();
     publishes_agree();

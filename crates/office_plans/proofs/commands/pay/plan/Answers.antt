@@ -1,7 +1,7 @@
 use Rattle.std.specs.Prelude.{◌≡◌, ℕ, max}
 use Rattle.std.proofs.Common.{◌∙◌, ap}
 use Rattle.office_acts.specs.declared.commands.Command.TheVariants.{Pay}
-use Rattle.award_core.specs.Rules.Pay.{pay_rows, pay_tests, pay_puts}
+use Rattle.award_core.specs.Rules.Pay.{pay_lacks, pay_rows, pay_tests, pay_puts}
 use Rattle.award_core.specs.declared.pay.PayRows.{PayRows}
 use Rattle.office_machine.specs.Machine.{time_of}
 use Rattle.office_plans.specs.Asking.{given_by}
@@ -17,5 +17,5 @@ returns g c = (
       let time : c.time-t.result ≡ time_of x = c.time-t.ensures ∙ ap (λ (rows : PayRows). max c.args.asking.now.moment rows.clock.moment) are in
       let tests = λ (rows : PayRows). pay_tests rows c.args.entry c.args.amount in
       let puts = λ (rows : PayRows) (t : ℕ). pay_puts rows t c.args.entry c.args.amount in
-      c.planned.ensures x tt c.requires (decides_at tests puts _ _ _ _ _ are time c.decide_pay-decided.ensures) (c.in_ok-reply.ensures.said s c.args.entry are),
+      c.planned.ensures x _ tt c.requires (decides_at tests pay_lacks puts _ _ _ _ _ are time c.decide_pay-decided.ensures) (c.in_ok-reply.ensures.said s c.args.entry are),
 )

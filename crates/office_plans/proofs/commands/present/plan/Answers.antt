@@ -5,7 +5,7 @@ use Rattle.office_base.specs.Deciding.{Decides}
 use Rattle.office_base.specs.Rows.{holds_of}
 use Rattle.office_base.specs.Rules.{first_of}
 use Rattle.office_base.specs.RuleParts.{is_in_time}
-use Rattle.tender_core.specs.Rules.Present.{present_rows, present_tests, present_puts, received}
+use Rattle.tender_core.specs.Rules.Present.{present_lacks, present_rows, present_tests, present_puts, received}
 use Rattle.tender_core.specs.declared.present.PresentRows.{PresentRows}
 use Rattle.office_machine.specs.Machine.{Given, time_of}
 use Rattle.office_machine.specs.Replies.{received_reply}
@@ -28,7 +28,7 @@ returns g c = (
       let are : c.in_ok-rows.rows ≡ own = c.in_ok-rows.ensures.0.1 honest s held in
       let time : c.time-t.result ≡ time_of x = c.time-t.ensures ∙ ap (λ (rows : PresentRows). max a.asking.now.moment rows.clock.moment) are in
       let decides : PresentRows → ℕ → Type 0 = λ rows t. Decides c.decide_present-decided.result
-      (first_of (present_tests rows t caller a.security))
+      (first_of (present_tests rows t caller a.security)) (present_lacks rows)
       (present_puts sha256 rows t caller a.notice a.lot a.security a.sealed) in
       let replies : PresentRows → ℕ → Type 0 = λ rows t. said c.reply_of-reply.result
       ≡ received_reply (received sha256 rows.clock t caller a.notice a.lot a.security a.sealed (holds_of (is_in_time t) rows.notice)) in
@@ -36,8 +36,9 @@ returns g c = (
       (c.decide_present-decided.ensures, c.reply_of-reply.ensures caller a.notice a.lot) in
       let decided : decides (present_rows s a.notice a.lot) (time_of x) =
       decides_alike c.decide_present-decided.result (present_tests own (time_of x) caller a.security) (present_tests (present_rows s a.notice a.lot) (time_of x) caller a.security)
+      _ _
       (present_puts sha256 own (time_of x) caller a.notice a.lot a.security a.sealed)
       (present_puts sha256 (present_rows s a.notice a.lot) (time_of x) caller a.notice a.lot a.security a.sealed)
-      (own_tests caller a.notice a.lot s (time_of x) a.security) refl (subst (decides own) time here.0) in
-      c.planned.ensures x tt c.requires decided (λ allowed. subst (replies own) time here.1),
+      (own_tests caller a.notice a.lot s (time_of x) a.security) refl refl (subst (decides own) time here.0) in
+      c.planned.ensures x _ tt c.requires decided (λ allowed. subst (replies own) time here.1),
 )
