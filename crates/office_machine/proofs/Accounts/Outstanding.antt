@@ -21,9 +21,9 @@ use Rattle.office_base.specs.declared.records.NoticeRow.{NoticeRow}
 use Rattle.office_base.specs.declared.records.LotRow.{LotRow}
 use Rattle.office_base.specs.declared.records.ContractRow.{ContractRow}
 use Rattle.office_base.specs.declared.records.EntryRow.{EntryRow}
-use Rattle.award_core.specs.Rules.AmendContract.{is_taken, has_ended, is_beyond, change_row, amend_contract_effect}
-use Rattle.award_core.specs.Rules.Pay.{payment_row, pay_effect}
-use Rattle.award_core.specs.Rules.End.{ended_contract, end_effect}
+use Rattle.award_core.specs.Rules.AmendContract.{is_taken, has_ended, is_beyond, change_row, amend_contract_puts}
+use Rattle.award_core.specs.Rules.Pay.{payment_row, pay_puts}
+use Rattle.award_core.specs.Rules.End.{ended_contract, end_puts}
 use Rattle.office_machine.specs.Readings.{Readings}
 use Rattle.office_machine.specs.Machine.{Means, Given, Reaches, time_of, command_tests}
 use Rattle.office_machine.specs.Outstanding.{left_with, left_by_payment, left_by_change, left_by_end, left_before, notice_under, line_under, IsLeft, LeftIsKnown, IsBooked, LeftIsBooked}
@@ -88,14 +88,14 @@ module _ (s : Tables) (c : ℕ) where
 
   module _ (t : ℕ) (entry : List ℕ) (amount : ℕ) (new : list_any (is_taken entry) own ≡ false) where
     left_paid : (o : Option ContractRow) (n : Option NoticeRow) → contract_at c s ≡ o
-        → left_at c (after_puts (pay_effect s.clock t o n entry amount) s) ≡ left_by_payment o own n amount
+        → left_at c (after_puts (pay_puts (record { contract = o; entries = []; notice = n; clock = s.clock }) t entry amount) s) ≡ left_by_payment o own n amount
     left_paid None n is = untouched None is
     left_paid (Some r) None is = untouched (Some r) is
     left_paid (Some r) (Some n) is = left_after_entry r is (payment_row t r entry amount) refl new
 
     left_amended : (kind : ChangeKind) (rationale : List ℕ) (o : Option ContractRow) (n : Option NoticeRow) (w : Option LineRow)
         → contract_at c s ≡ o
-        → left_at c (after_puts (amend_contract_effect s.clock t o n w entry kind amount rationale) s) ≡ left_by_change kind o own n w amount
+        → left_at c (after_puts (amend_contract_puts (record { contract = o; entries = []; notice = n; line = w; clock = s.clock }) t entry kind amount rationale) s) ≡ left_by_change kind o own n w amount
     left_amended kind rationale None n w is = untouched None is
     left_amended kind rationale (Some r) None w is = untouched (Some r) is
     left_amended kind rationale (Some r) (Some n) None is = untouched (Some r) is
@@ -105,7 +105,7 @@ module _ (s : Tables) (c : ℕ) where
         left_after_entry r is (change_row t r entry change_kinds.Cut amount rationale) refl new
 
   left_ended : (t : ℕ) (how : How) (o : Option ContractRow) (n : Option NoticeRow) (w : Option LineRow) (performance : Option PerformanceRow) → contract_at c s ≡ o
-      → left_at c (after_puts (end_effect s.clock t how o own n w performance) s) ≡ left_by_end o own n w
+      → left_at c (after_puts (end_puts (record { contract = o; entries = own; notice = n; line = w; performance = performance; clock = s.clock }) t how) s) ≡ left_by_end o own n w
   left_ended t how None n w performance is = untouched None is
   left_ended t how (Some r) None w performance is = untouched (Some r) is
   left_ended t how (Some r) (Some n) None performance is = untouched (Some r) is
@@ -117,7 +117,7 @@ module _ (s : Tables) (c : ℕ) where
       let left : outstanding s.entries r' ≡ left_with own r r.released (outstanding own r) = omega (arith, same_sum r is is_raise, same_sum r is is_less) in
       ap (λ o. left_of o s.entries) found ∙ left)
     where
-      tail : (p : Option PerformanceRow) → left_at c (after_puts (end_effect s.clock t how (Some r) own (Some n) (Some w) p) s) ≡ left_at c (after_puts (end_effect s.clock t how (Some r) own (Some n) (Some w) None) s)
+      tail : (p : Option PerformanceRow) → left_at c (after_puts (end_puts (record { contract = Some r; entries = own; notice = Some n; line = Some w; performance = p; clock = s.clock }) t how) s) ≡ left_at c (after_puts (end_puts (record { contract = Some r; entries = own; notice = Some n; line = Some w; performance = None; clock = s.clock }) t how) s)
       tail None = refl
       tail (Some p) = refl
 

@@ -23,7 +23,7 @@ use Rattle.office_base.specs.Parents.{notice_of_contract, lot_of_contract, line_
 use Rattle.office_base.specs.EntryKinds.{is_raise, is_less, is_payment}
 use Rattle.office_base.specs.declared.records.ClockRow.{ClockRow}
 use Rattle.office_base.specs.declared.puts.Put.TheVariants as puts
-use Rattle.award_core.specs.Rules.AmendContract.{amend_contract_tests, amend_contract_rows, is_running, is_beyond, has_ended, is_raising, entry_kind, line_after, change_row, amend_contract_effect}
+use Rattle.award_core.specs.Rules.AmendContract.{amend_contract_tests, amend_contract_rows, is_running, is_beyond, has_ended, is_raising, entry_kind, line_after, change_row, amend_contract_puts}
 use Rattle.office_machine.specs.Parents.{HaveParents}
 use Rattle.office_machine.specs.Machine.{Given, time_of, command_tests, effect}
 use Rattle.office_machine.specs.Readings.{Readings}
@@ -170,9 +170,8 @@ module _ (readings : Readings) (xs : List Given) (s : Tables) (moment : ℕ) (ca
       no_contract = no_contract_are x xs s kept order c r l row is lot number new_here comes goes (within_by kind enough) s';
     }
 
-    effect_is : amend_contract_effect s.clock (time_of x) (Some r) (Some n) (Some w) entry kind amount rationale ≡ effect readings x
-    effect_is = λ i. amend_contract_effect s.clock (time_of x) (sym is i) (sym (ap (λ o. notice_of_contract o s) is ∙ notice) i)
-        (sym (ap (λ o. line_of_lot o s) (ap (λ o. lot_of_contract o s) is ∙ lot) ∙ line) i) entry kind amount rationale
+    effect_is : amend_contract_puts (record { contract = Some r; entries = []; notice = Some n; line = Some w; clock = s.clock }) (time_of x) entry kind amount rationale ≡ effect readings x
+    effect_is = λ i. amend_contract_puts (record { contract = sym is i; entries = []; notice = (sym (ap (λ o. notice_of_contract o s) is ∙ notice) i); line = (sym (ap (λ o. line_of_lot o s) (ap (λ o. lot_of_contract o s) is ∙ lot) ∙ line) i); clock = s.clock }) (time_of x) entry kind amount rationale
 
     keeps : IsKept (x ∷ xs) (after_puts (effect readings x) s)
     keeps = subst (λ ps. IsKept (x ∷ xs) (after_puts ps s)) effect_is
@@ -208,7 +207,7 @@ module _ (readings : Readings) (xs : List Given) (s : Tables) (moment : ℕ) (ca
 
 -- what is put touches no tender and no security
 quiet_puts : (V : View) (clock : ClockRow) (t : ℕ) (c : Option ContractRow) (n : Option NoticeRow) (r : Option LineRow) (entry : List ℕ) (kind : ChangeKind) (amount : ℕ) (rationale : List ℕ) → Stands V n
-    → AllByRecursion (IsQuiet V clock.receipts) (amend_contract_effect clock t c n r entry kind amount rationale)
+    → AllByRecursion (IsQuiet V clock.receipts) (amend_contract_puts (record { contract = c; entries = []; notice = n; line = r; clock = clock }) t entry kind amount rationale)
 quiet_puts V clock t (Some c) (Some n) (Some r) entry kind amount rationale h = (tt, (tt, (h n refl, (refl, tt))))
 quiet_puts V clock t None _ _ entry kind amount rationale h = tt
 quiet_puts V clock t (Some c) None _ entry kind amount rationale h = tt
@@ -226,14 +225,14 @@ fates_kept readings contract entry kind amount rationale xs t m caller kept own 
 module _ (s u : Tables) (have : HaveParents s s) (g : Grows s u) where
   -- what its rows speak of is there
   parents_of : (clock : ClockRow) (t contract : ℕ) (c : Option ContractRow) (n : Option NoticeRow) (w : Option LineRow) (entry : List ℕ) (kind : ChangeKind) (amount : ℕ) (rationale : List ℕ) → contract_at contract s ≡ c
-      → AllParents u (amend_contract_effect clock t c n w entry kind amount rationale)
+      → AllParents u (amend_contract_puts (record { contract = c; entries = []; notice = n; line = w; clock = clock }) t entry kind amount rationale)
   parents_of clock t contract (Some c) (Some n) (Some w) entry kind amount rationale is = (record { contract = entry_has s u have g contract c is }, (tt, (tt, (tt, tt))))
   parents_of clock t contract None n w entry kind amount rationale is = tt
   parents_of clock t contract (Some c) None w entry kind amount rationale is = tt
   parents_of clock t contract (Some c) (Some n) None entry kind amount rationale is = tt
 
 -- it puts the same in both worlds
-plain : (clock : ClockRow) (t : ℕ) (c : Option ContractRow) (n : Option NoticeRow) (w : Option LineRow) (entry : List ℕ) (kind : ChangeKind) (amount : ℕ) (rationale : List ℕ) → AllByRecursion IsPlain (amend_contract_effect clock t c n w entry kind amount rationale)
+plain : (clock : ClockRow) (t : ℕ) (c : Option ContractRow) (n : Option NoticeRow) (w : Option LineRow) (entry : List ℕ) (kind : ChangeKind) (amount : ℕ) (rationale : List ℕ) → AllByRecursion IsPlain (amend_contract_puts (record { contract = c; entries = []; notice = n; line = w; clock = clock }) t entry kind amount rationale)
 plain clock t (Some c) (Some n) (Some w) entry kind amount rationale = (tt, (tt, (tt, (tt, tt))))
 plain clock t None n w entry kind amount rationale = tt
 plain clock t (Some c) None w entry kind amount rationale = tt
@@ -247,10 +246,10 @@ amend_contract contract entry kind amount rationale = record {
   tail = λ readings s moment caller have allowed.
       let tests = none_holds (amend_contract_tests (amend_contract_rows s contract) entry kind amount) allowed in
       let of = of_contract s have contract (not_false _ tests.0) in
-      moved refl (λ i. amend_contract_effect s.clock (max moment s.clock.moment) (of.is i) (of.notice i) (of.line i) entry kind amount rationale)
+      moved refl (λ i. amend_contract_puts (record { contract = of.is i; entries = []; notice = of.notice i; line = of.line i; clock = s.clock }) (max moment s.clock.moment) entry kind amount rationale)
       (front (puts.Entry _ ∷ puts.Line _ ∷ []) (refl, (refl, tt)) (on_contract contract of (neither _ (has_all_releases (notice_of_contract (contract_at contract s) s)) tests.1.1.1.1.1.0).1));
   parents = λ readings s moment caller order have registered may allowed u grown later. parents_of s u have grown s.clock _ contract (contract_at contract s) (notice_of_contract (contract_at contract s) s) (line_of_lot (lot_of_contract (contract_at contract s) s) s) entry kind amount rationale refl;
   alike = λ th W s es' ss' all seals readings t caller quiet.
-      plain_pairs th W (amend_contract_effect s.clock t (contract_at contract s) (notice_of_contract (contract_at contract s) s) (line_of_lot (lot_of_contract (contract_at contract s) s) s) entry kind amount rationale)
+      plain_pairs th W (amend_contract_puts (record { contract = contract_at contract s; entries = []; notice = (notice_of_contract (contract_at contract s) s); line = (line_of_lot (lot_of_contract (contract_at contract s) s) s); clock = s.clock }) t entry kind amount rationale)
       (plain s.clock t (contract_at contract s) (notice_of_contract (contract_at contract s) s) (line_of_lot (lot_of_contract (contract_at contract s) s) s) entry kind amount rationale);
 }

@@ -1,7 +1,7 @@
 -- The amendment of a notice keeps the laws of the office.
 use Rattle.std.proofs.Common.{arith, ◌≡◌, ℕ, List, [], ◌∷◌, Option, Some, None, refl}
 use Rattle.std.specs.Prelude.{max}
-use Rattle.tender_core.specs.Rules.AmendNotice.{amended, amend_notice_rows, amend_notice_tests, amend_notice_effect}
+use Rattle.tender_core.specs.Rules.AmendNotice.{amended, amend_notice_rows, amend_notice_tests, amend_notice_puts}
 use Rattle.office_acts.specs.declared.commands.Command.TheVariants.{AmendNotice}
 use Rattle.office_base.specs.RuleParts.{has_all_releases}
 use Rattle.office_base.specs.Tables.{Tables, notice_at}
@@ -18,18 +18,18 @@ use Rattle.office_machine.proofs.FateLaws.Seen.{seen, IsQuiet}
 use Rattle.office_machine.proofs.Commands.Tail.{moved, loud}
 
 -- what its rows speak of is there
-parents_of : (u : Tables) (clock : ClockRow) (t : ℕ) (notice : Option NoticeRow) (deadline : ℕ) → AllParents u (amend_notice_effect clock t notice deadline)
+parents_of : (u : Tables) (clock : ClockRow) (t : ℕ) (notice : Option NoticeRow) (deadline : ℕ) → AllParents u (amend_notice_puts (record { notice = notice; clock = clock }) t deadline)
 parents_of u clock t None deadline = tt
 parents_of u clock t (Some n) deadline = (tt, (tt, tt))
 
 -- the notice stands as it did
 quiet_puts : (s : Tables) (t : ℕ) (key : List ℕ) (deadline : ℕ) (notice : Option NoticeRow) → notice_at key s ≡ notice
-    → AllByRecursion (IsQuiet (seen s) s.clock.receipts) (amend_notice_effect s.clock t notice deadline)
+    → AllByRecursion (IsQuiet (seen s) s.clock.receipts) (amend_notice_puts (record { notice = notice; clock = s.clock }) t deadline)
 quiet_puts s t key deadline None is = tt
 quiet_puts s t key deadline (Some n) is = (notice_stands s key n is, (refl, tt))
 
 -- it puts the same in both worlds
-plain : (clock : ClockRow) (t : ℕ) (notice : Option NoticeRow) (deadline : ℕ) → AllByRecursion IsPlain (amend_notice_effect clock t notice deadline)
+plain : (clock : ClockRow) (t : ℕ) (notice : Option NoticeRow) (deadline : ℕ) → AllByRecursion IsPlain (amend_notice_puts (record { notice = notice; clock = clock }) t deadline)
 plain clock t None deadline = tt
 plain clock t (Some n) deadline = (tt, (tt, tt))
 
@@ -44,8 +44,8 @@ amend_notice notice deadline rationale = record {
       let now : ℕ = max moment s.clock.moment in
       let tests = none_holds (amend_notice_tests (amend_notice_rows s notice) now deadline) allowed in
       let n = witness (notice_at notice s) (not_false _ tests.0) in
-      moved refl (λ i. amend_notice_effect s.clock now (n.1 i) deadline)
+      moved refl (λ i. amend_notice_puts (record { notice = n.1 i; clock = s.clock }) now deadline)
       (loud notice n.0 (amended deadline n.0) _ [] n.1 (neither _ (has_all_releases (notice_at notice s)) tests.1.1.1.1.0).1 refl refl tt refl (omega arith));
   parents = λ readings s moment caller order have registered may allowed u grown later. parents_of u s.clock _ (notice_at notice s) deadline;
-  alike = λ th W s es' ss' all seals readings t caller quiet. plain_pairs th W (amend_notice_effect s.clock t (notice_at notice s) deadline) (plain s.clock t (notice_at notice s) deadline);
+  alike = λ th W s es' ss' all seals readings t caller quiet. plain_pairs th W (amend_notice_puts (record { notice = notice_at notice s; clock = s.clock }) t deadline) (plain s.clock t (notice_at notice s) deadline);
 }

@@ -18,7 +18,7 @@ use Rattle.office_base.specs.declared.records.ClockRow.{ClockRow}
 use Rattle.office_base.specs.declared.puts.Put.TheVariants as puts
 use Rattle.award_core.specs.Best.{IsBest, IsAnswer}
 use Rattle.award_core.proofs.BestFound.{of_one, best_is_found}
-use Rattle.award_core.specs.Rules.Award.{winner, decision_puts, award_rows, award_tests, award_effect, best_of}
+use Rattle.award_core.specs.Rules.Award.{winner, decision_puts, award_rows, award_tests, best_of, award_puts}
 use Rattle.office_machine.specs.Worlds.{Theirs, Pairs}
 use Rattle.office_machine.specs.Parents.{HaveParents}
 use Rattle.office_machine.proofs.Worlds.WorldsPut.{Alike, AlikeOptions, plain-map, IsPlain, PutPair, blind-option, plain_pairs}
@@ -62,7 +62,7 @@ module _ (s u : Tables) (have : HaveParents s s) (g : Grows s u) (order : IsSort
 
   -- what its rows speak of is there
   parents_of : (clock : ClockRow) (t : ℕ) (notice lot : List ℕ) (n : Option NoticeRow) (o : Option LotRow) (w : Option LineRow) → lot_at (notice, lot) s ≡ o
-      → AllParents u (award_effect clock t n o w (envelopes_of_lot notice lot s) (securities_of_lot notice lot s))
+      → AllParents u (award_puts (record { notice = n; lot = o; line = w; envelopes = envelopes_of_lot notice lot s; securities = securities_of_lot notice lot s; clock = clock }) t)
   parents_of clock t notice lot (Some n) (Some l) (Some w) is = decision_parents clock t notice lot n l w is (winner (Some n) (envelopes_of_lot notice lot s)) refl
   parents_of clock t notice lot None o w is = tt
   parents_of clock t notice lot (Some n) None w is = tt
@@ -82,7 +82,7 @@ module _ (th : Theirs) (W : ℕ → Bool) where
 
   -- what it puts is alike
   pairs : (clock : ClockRow) (t : ℕ) (n : Option NoticeRow) (l : Option LotRow) (w : Option LineRow) (es es' : List EnvelopeRow) (securities : List SecurityRow) → Pairs (Alike th W) es es'
-      → Pairs (PutPair th W) (award_effect clock t n l w es securities) (award_effect clock t n l w es' securities)
+      → Pairs (PutPair th W) (award_puts (record { notice = n; lot = l; line = w; envelopes = es; securities = securities; clock = clock }) t) (award_puts (record { notice = n; lot = l; line = w; envelopes = es'; securities = securities; clock = clock }) t)
   pairs clock t (Some n) (Some l) (Some w) es es' securities all = decision_pairs clock t n l w (winner (Some n) es) (winner (Some n) es') securities (pairs-winner th W (Some n) es es' all)
   pairs clock t None l w es es' securities all = tt
   pairs clock t (Some n) None w es es' securities all = tt
@@ -100,7 +100,7 @@ award notice lot = record {
       let l = witness (lot_at (notice, lot) s) (not_false _ tests.1.0) in
       let w = witness (line_at l.0.line s) (have.lots (notice, lot) l.0 l.1).line in
       let line : line_of_lot (lot_at (notice, lot) s) s ≡ Some w.0 = ap (λ o. line_of_lot o s) l.1 ∙ w.1 in
-      moved refl (λ i. award_effect s.clock now (n.1 i) (l.1 i) (line i) (envelopes_of_lot notice lot s) (securities_of_lot notice lot s))
+      moved refl (λ i. award_puts (record { notice = n.1 i; lot = l.1 i; line = line i; envelopes = envelopes_of_lot notice lot s; securities = securities_of_lot notice lot s; clock = s.clock }) now)
       (decided s now notice lot n.0 l.0 w.0 n.1 tests.1.1.1.1.1.1.1.0 (winner (Some n.0) (envelopes_of_lot notice lot s)));
   parents = λ readings s moment caller order have registered may allowed u grown later. parents_of s u have grown order s.clock _ notice lot (notice_at notice s) (lot_at (notice, lot) s) (line_of_lot (lot_at (notice, lot) s) s) refl;
   alike = λ th W s es' ss' all seals readings t caller quiet.

@@ -16,7 +16,7 @@ use Rattle.office_base.specs.declared.records.ClockRow.{ClockRow}
 use Rattle.office_base.specs.declared.puts.Put.{Put}
 use Rattle.office_base.specs.RuleParts.{security_returned, has_all_releases, clock_put}
 use Rattle.office_base.specs.declared.puts.Put.TheVariants as puts
-use Rattle.tender_core.specs.Rules.Cancel.{line_put as cancel_line, lot_put as cancel_lot, cancel_tests, cancel_rows, is_open_lot, is_ended_award, award_put, is_ended_envelope, envelope_put, drop_put, is_ended_security, cancel_effect, cancelled_notice, returned_envelope}
+use Rattle.tender_core.specs.Rules.Cancel.{line_put as cancel_line, lot_put as cancel_lot, cancel_tests, cancel_rows, is_open_lot, is_ended_award, award_put, is_ended_envelope, envelope_put, drop_put, is_ended_security, cancelled_notice, returned_envelope, cancel_puts}
 use Rattle.office_machine.specs.Worlds.{Theirs, Pairs}
 use Rattle.office_machine.specs.Parents.{HaveParents, LotHas, EnvelopeHas, AwardHas}
 use Rattle.office_machine.proofs.Commands.Tail.{HasTail, moved, front_map, loud}
@@ -34,7 +34,7 @@ use Rattle.office_machine.proofs.Rows.Keyed as keyed
 -- six kinds of rows before its notice and the clock
 tail_of : (s : Tables) (t : ℕ) (notice : List ℕ) (n : NoticeRow) → notice_at notice s ≡ Some n → has_all_releases (notice_at notice s) ≡ false
     → HasTail s t (Lines ∷ Lots ∷ Awards ∷ Envelopes ∷ Seals ∷ Securities ∷ []) (Some notice) None
-    (cancel_effect s.clock t s.lines (Some n) (lots_of_notice notice s) (awards_of_notice notice s) (envelopes_of_notice notice s) (securities_of_notice notice s))
+    (cancel_puts (record { notice = Some n; lines = s.lines; lots = lots_of_notice notice s; awards = awards_of_notice notice s; envelopes = envelopes_of_notice notice s; securities = securities_of_notice notice s; clock = s.clock }) t)
 tail_of s t notice n is full =
     let lots : List LotRow = lots_of_notice notice s in
     let ended : List LotRow = filter is_open_lot lots in
@@ -61,7 +61,7 @@ module _ (s u : Tables) (have : HaveParents s s) (g : Grows s u) (order : IsSort
   envelopes_have make h = all-table keyed.envelopes (λ e. Parents u (make e)) s.envelopes order.envelopes (λ k e is. h e (envelope_still s u g e (have.envelopes k e is)))
 
   -- what its rows speak of is there
-  parents_of : (clock : ClockRow) (t : ℕ) (notice : List ℕ) (row : Option NoticeRow) → AllParents u (cancel_effect clock t s.lines row (lots_of_notice notice s) (awards_of_notice notice s) (envelopes_of_notice notice s) (securities_of_notice notice s))
+  parents_of : (clock : ClockRow) (t : ℕ) (notice : List ℕ) (row : Option NoticeRow) → AllParents u (cancel_puts (record { notice = row; lines = s.lines; lots = lots_of_notice notice s; awards = awards_of_notice notice s; envelopes = envelopes_of_notice notice s; securities = securities_of_notice notice s; clock = clock }) t)
   parents_of clock t notice None = tt
   parents_of clock t notice (Some n) =
       let lots : List LotRow = lots_of_notice notice s in
@@ -81,7 +81,7 @@ module _ (s u : Tables) (have : HaveParents s s) (g : Grows s u) (order : IsSort
 -- rows that are alike are ended alike
 module _ (th : Theirs) (W : ℕ → Bool) where
   pairs : (clock : ClockRow) (t : ℕ) (lines : List LineRow) (n : Option NoticeRow) (lots : List LotRow) (awards : List AwardRow) (es es' : List EnvelopeRow) (securities : List SecurityRow) → Pairs (Alike th W) es es'
-      → Pairs (PutPair th W) (cancel_effect clock t lines n lots awards es securities) (cancel_effect clock t lines n lots awards es' securities)
+      → Pairs (PutPair th W) (cancel_puts (record { notice = n; lines = lines; lots = lots; awards = awards; envelopes = es; securities = securities; clock = clock }) t) (cancel_puts (record { notice = n; lines = lines; lots = lots; awards = awards; envelopes = es'; securities = securities; clock = clock }) t)
   pairs clock t lines None lots awards es es' securities all = tt
   pairs clock t lines (Some n) lots awards es es' securities all =
       let ended : List LotRow = filter is_open_lot lots in
@@ -106,7 +106,7 @@ cancel notice rationale = record {
       let now : ℕ = max moment s.clock.moment in
       let tests = none_holds (cancel_tests (cancel_rows s notice)) allowed in
       let n = witness (notice_at notice s) (not_false _ tests.0) in
-      moved refl (λ i. cancel_effect s.clock now s.lines (n.1 i) (lots_of_notice notice s) (awards_of_notice notice s) (envelopes_of_notice notice s) (securities_of_notice notice s))
+      moved refl (λ i. cancel_puts (record { notice = n.1 i; lines = s.lines; lots = lots_of_notice notice s; awards = awards_of_notice notice s; envelopes = envelopes_of_notice notice s; securities = securities_of_notice notice s; clock = s.clock }) now)
       (tail_of s now notice n.0 n.1 tests.1.1.0);
   parents = λ readings s moment caller order have registered may allowed u grown later. parents_of s u have grown order s.clock _ notice (notice_at notice s);
   alike = λ th W s es' ss' all seals readings t caller quiet.

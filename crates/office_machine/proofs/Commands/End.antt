@@ -25,7 +25,7 @@ use Rattle.office_base.specs.declared.records.EntryRow.{EntryRow}
 use Rattle.office_base.specs.declared.records.ClockRow.{ClockRow}
 use Rattle.office_base.specs.declared.puts.Put.TheVariants as puts
 use Rattle.office_base.proofs.ExactKeys.{other_keys}
-use Rattle.award_core.specs.Rules.End.{end_tests, end_rows, ended_contract, end_effect, ended_state}
+use Rattle.award_core.specs.Rules.End.{end_tests, end_rows, ended_contract, ended_state, end_puts}
 use Rattle.award_core.specs.Rules.AmendContract.{has_ended}
 use Rattle.office_machine.specs.Parents.{HaveParents}
 use Rattle.office_machine.specs.Machine.{Given, time_of, command_tests, effect}
@@ -156,9 +156,8 @@ module _ (readings : Readings) (xs : List Given) (s : Tables) (moment : ℕ) (ca
       no_contract = no_contract_is;
     }
 
-    effect_is : end_effect s.clock (time_of x) how (Some r) (entries_of_contract c s) (Some n) (Some w) (performance_at c s) ≡ effect readings x
-    effect_is = λ i. end_effect s.clock (time_of x) how (sym is i) (entries_of_contract c s) (sym (ap (λ o. notice_of_contract o s) is ∙ notice) i)
-        (sym (ap (λ o. line_of_lot o s) (ap (λ o. lot_of_contract o s) is ∙ lot) ∙ line) i) (performance_at c s)
+    effect_is : end_puts (record { contract = Some r; entries = entries_of_contract c s; notice = Some n; line = Some w; performance = performance_at c s; clock = s.clock }) (time_of x) how ≡ effect readings x
+    effect_is = λ i. end_puts (record { contract = sym is i; entries = entries_of_contract c s; notice = (sym (ap (λ o. notice_of_contract o s) is ∙ notice) i); line = (sym (ap (λ o. line_of_lot o s) (ap (λ o. lot_of_contract o s) is ∙ lot) ∙ line) i); performance = performance_at c s; clock = s.clock }) (time_of x) how
 
     keeps : IsKept (x ∷ xs) (after_puts (effect readings x) s)
     keeps = subst (λ ps. IsKept (x ∷ xs) (after_puts ps s)) effect_is
@@ -181,7 +180,7 @@ module _ (readings : Readings) (xs : List Given) (s : Tables) (moment : ℕ) (ca
 
 -- what is put touches no tender and no security
 quiet_puts : (V : View) (clock : ClockRow) (t : ℕ) (how : How) (c : Option ContractRow) (entries : List EntryRow) (n : Option NoticeRow) (r : Option LineRow) (p : Option PerformanceRow) → Stands V n
-    → AllByRecursion (IsQuiet V clock.receipts) (end_effect clock t how c entries n r p)
+    → AllByRecursion (IsQuiet V clock.receipts) (end_puts (record { contract = c; entries = entries; notice = n; line = r; performance = p; clock = clock }) t how)
 quiet_puts V clock t how (Some c) entries (Some n) (Some r) None h = (tt, (tt, (h n refl, (refl, tt))))
 quiet_puts V clock t how (Some c) entries (Some n) (Some r) (Some p) h = (tt, (tt, (h n refl, (refl, (tt, tt)))))
 quiet_puts V clock t how None entries _ _ p h = tt
@@ -198,14 +197,14 @@ fates_kept readings contract how xs t m caller kept own allowed =
 
 module _ (s u : Tables) (have : HaveParents s s) (g : Grows s u) where
   -- what its rows speak of is there
-  parents_of : (clock : ClockRow) (t : ℕ) (how : How) (contract : ℕ) (c : Option ContractRow) (entries : List EntryRow) (n : Option NoticeRow) (w : Option LineRow) (p : Option PerformanceRow) → contract_at contract s ≡ c → AllParents u (end_effect clock t how c entries n w p)
+  parents_of : (clock : ClockRow) (t : ℕ) (how : How) (contract : ℕ) (c : Option ContractRow) (entries : List EntryRow) (n : Option NoticeRow) (w : Option LineRow) (p : Option PerformanceRow) → contract_at contract s ≡ c → AllParents u (end_puts (record { contract = c; entries = entries; notice = n; line = w; performance = p; clock = clock }) t how)
   parents_of clock t how contract (Some c) entries (Some n) (Some w) p is = let h = contract_still s u g c (have.contracts contract c is) in (record { notice = h.notice; lot = h.lot; tenderer = h.tenderer }, (tt, (tt, (tt, parents-if u (performance_settled (ended_state how)) p (λ _ _. tt)))))
   parents_of clock t how contract None entries n w p is = tt
   parents_of clock t how contract (Some c) entries None w p is = tt
   parents_of clock t how contract (Some c) entries (Some n) None p is = tt
 
 -- it puts the same in both worlds
-plain : (clock : ClockRow) (t : ℕ) (how : How) (c : Option ContractRow) (es : List EntryRow) (n : Option NoticeRow) (w : Option LineRow) (p : Option PerformanceRow) → AllByRecursion IsPlain (end_effect clock t how c es n w p)
+plain : (clock : ClockRow) (t : ℕ) (how : How) (c : Option ContractRow) (es : List EntryRow) (n : Option NoticeRow) (w : Option LineRow) (p : Option PerformanceRow) → AllByRecursion IsPlain (end_puts (record { contract = c; entries = es; notice = n; line = w; performance = p; clock = clock }) t how)
 plain clock t how (Some c) es (Some n) (Some w) p = (tt, (tt, (tt, (tt, plain-if (performance_settled (ended_state how)) p (λ _. tt)))))
 plain clock t how None es n w p = tt
 plain clock t how (Some c) es None w p = tt
@@ -219,11 +218,11 @@ end_contract contract how = record {
   tail = λ readings s moment caller have allowed.
       let tests = none_holds (end_tests (end_rows s contract)) allowed in
       let of = of_contract s have contract (not_false _ tests.0) in
-      moved refl (λ i. end_effect s.clock (max moment s.clock.moment) how (of.is i) (entries_of_contract contract s) (of.notice i) (of.line i) (performance_at contract s))
+      moved refl (λ i. end_puts (record { contract = of.is i; entries = entries_of_contract contract s; notice = of.notice i; line = of.line i; performance = performance_at contract s; clock = s.clock }) (max moment s.clock.moment) how)
       (bonded (settled_performance (ended_state how)) (performance_at contract s)
       (front (puts.Contract _ ∷ puts.Line _ ∷ []) (refl, (refl, tt)) (on_contract contract of tests.1.1.0)));
   parents = λ readings s moment caller order have registered may allowed u grown later. parents_of s u have grown s.clock _ how contract (contract_at contract s) (entries_of_contract contract s) (notice_of_contract (contract_at contract s) s) (line_of_lot (lot_of_contract (contract_at contract s) s) s) (performance_at contract s) refl;
   alike = λ th W s es' ss' all seals readings t caller quiet.
-      plain_pairs th W (end_effect s.clock t how (contract_at contract s) (entries_of_contract contract s) (notice_of_contract (contract_at contract s) s) (line_of_lot (lot_of_contract (contract_at contract s) s) s) (performance_at contract s))
+      plain_pairs th W (end_puts (record { contract = contract_at contract s; entries = entries_of_contract contract s; notice = (notice_of_contract (contract_at contract s) s); line = (line_of_lot (lot_of_contract (contract_at contract s) s) s); performance = performance_at contract s; clock = s.clock }) t how)
       (plain s.clock t how (contract_at contract s) (entries_of_contract contract s) (notice_of_contract (contract_at contract s) s) (line_of_lot (lot_of_contract (contract_at contract s) s) s) (performance_at contract s));
 }

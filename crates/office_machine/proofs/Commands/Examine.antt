@@ -11,7 +11,7 @@ use Rattle.office_base.specs.declared.records.EnvelopeRow.{EnvelopeRow}
 use Rattle.office_base.specs.declared.records.ClockRow.{ClockRow}
 use Rattle.office_base.specs.RuleParts.{clock_put}
 use Rattle.office_base.specs.declared.puts.Put.TheVariants as puts
-use Rattle.award_core.specs.Rules.Examine.{examine_rows, examine_tests, examine_effect, examined}
+use Rattle.award_core.specs.Rules.Examine.{examine_rows, examine_tests, examined, examine_puts}
 use Rattle.office_machine.specs.Worlds.{Theirs, Pairs}
 use Rattle.office_machine.specs.Parents.{HaveParents}
 use Rattle.office_machine.specs.Machine.{Given}
@@ -79,7 +79,7 @@ module _ (readings : Readings) (receipt : ℕ) (responsive : Bool) (quality : Op
         (order-puts (puts.Envelope (examined responsive quality e) ∷ clock_put t.clock (max m t.clock.moment) ∷ []) t kept.order)
 
   examine_by : (o : Option EnvelopeRow) → envelope_at receipt t ≡ o
-      → IsKept readings (x ∷ xs) (after_puts (examine_effect t.clock (max m t.clock.moment) o responsive quality) t)
+      → IsKept readings (x ∷ xs) (after_puts (examine_puts (record { envelope = o; notice = None; lot = None; clock = t.clock }) (max m t.clock.moment) responsive quality) t)
   examine_by None found = one_more readings xs x t kept refl (λ r. refl) (λ s. refl)
   examine_by (Some e) found = examined_kept e found
 
@@ -90,7 +90,7 @@ fates_kept readings receipt responsive quality xs t m caller kept _ allowed =
 
 -- what its rows speak of is there
 parents_of : (s u : Tables) → HaveParents s s → Grows s u → (clock : ClockRow) (t receipt : ℕ) (responsive : Bool) (quality : Option ℕ) (o : Option EnvelopeRow)
-    → envelope_at receipt s ≡ o → AllParents u (examine_effect clock t o responsive quality)
+    → envelope_at receipt s ≡ o → AllParents u (examine_puts (record { envelope = o; notice = None; lot = None; clock = clock }) t responsive quality)
 parents_of s u have g clock t receipt responsive quality None is = tt
 parents_of s u have g clock t receipt responsive quality (Some e) is =
     let h = envelope_still s u g e (have.envelopes receipt e is) in
@@ -98,7 +98,7 @@ parents_of s u have g clock t receipt responsive quality (Some e) is =
 
 -- tenders that are alike are examined alike
 module _ (th : Theirs) (W : ℕ → Bool) where
-  pairs : (clock : ClockRow) (t : ℕ) (responsive : Bool) (quality : Option ℕ) (o o' : Option EnvelopeRow) → AlikeOptions th W o o' → Pairs (PutPair th W) (examine_effect clock t o responsive quality) (examine_effect clock t o' responsive quality)
+  pairs : (clock : ClockRow) (t : ℕ) (responsive : Bool) (quality : Option ℕ) (o o' : Option EnvelopeRow) → AlikeOptions th W o o' → Pairs (PutPair th W) (examine_puts (record { envelope = o; notice = None; lot = None; clock = clock }) t responsive quality) (examine_puts (record { envelope = o'; notice = None; lot = None; clock = clock }) t responsive quality)
   pairs clock t responsive quality None None a = tt
   pairs clock t responsive quality None (Some e') a = absurd a
   pairs clock t responsive quality (Some e) None a = absurd a
@@ -115,7 +115,7 @@ examine receipt responsive quality = record {
   tail = λ readings s moment caller have allowed.
       let tests = none_holds (examine_tests (examine_rows s receipt) responsive quality) allowed in
       let e = witness (envelope_at receipt s) (not_false _ tests.1.0) in
-      moved refl (λ i. examine_effect s.clock (max moment s.clock.moment) (e.1 i) responsive quality) (front (puts.Envelope _ ∷ []) (refl, tt) (quiet _ [] tt refl (omega arith)));
+      moved refl (λ i. examine_puts (record { envelope = e.1 i; notice = None; lot = None; clock = s.clock }) (max moment s.clock.moment) responsive quality) (front (puts.Envelope _ ∷ []) (refl, tt) (quiet _ [] tt refl (omega arith)));
   parents = λ readings s moment caller order have registered may allowed u grown later. parents_of s u have grown s.clock _ receipt responsive quality (envelope_at receipt s) refl;
   alike = λ th W s es' ss' all seals readings t caller quiet. pairs th W s.clock t responsive quality (envelope_at receipt s) (find_envelope es' receipt) (envelope_pair th W s es' all receipt);
 }

@@ -15,7 +15,7 @@ use Rattle.office_base.specs.declared.records.AwardRow.{AwardRow}
 use Rattle.office_base.specs.declared.records.SecurityState.TheVariants.{Forfeited}
 use Rattle.office_base.specs.declared.records.ClockRow.{ClockRow}
 use Rattle.office_base.specs.declared.puts.Put.TheVariants as puts
-use Rattle.award_core.specs.Rules.Fail.{fail_tests, fail_rows, fail_effect}
+use Rattle.award_core.specs.Rules.Fail.{fail_tests, fail_rows, fail_puts}
 use Rattle.office_machine.specs.Worlds.{Theirs, Pairs}
 use Rattle.office_machine.specs.Parents.{HaveParents, EnvelopeHas}
 use Rattle.office_machine.proofs.Commands.Footprint.{Envelopes, Awards, Lots, Securities, TableName, on-append, on-if}
@@ -37,7 +37,7 @@ module _ (s u : Tables) (have : HaveParents s s) (g : Grows s u) where
 
   -- what its rows speak of is there
   parents_of : (clock : ClockRow) (t award : ℕ) (o : Option AwardRow) (n : Option NoticeRow) (l : Option LotRow) → award_at award s ≡ o → lot_of_award o s ≡ l
-      → AllParents u (fail_effect clock t o n l (envelope_of_award o s) (security_of_envelope (envelope_of_award o s) s))
+      → AllParents u (fail_puts (record { award = o; notice = n; lot = l; envelope = envelope_of_award o s; security = (security_of_envelope (envelope_of_award o s) s); clock = clock }) t)
   parents_of clock t award (Some a) (Some n) (Some l) is lot =
       let h = award_still s u g a (have.awards award a is) in
       let k = lot_of s u have g (Some a) l lot in (
@@ -61,7 +61,7 @@ module _ (s u : Tables) (have : HaveParents s s) (g : Grows s u) where
 
 -- tenders that are alike fail alike
 module _ (th : Theirs) (W : ℕ → Bool) where
-  pairs : (clock : ClockRow) (t : ℕ) (w : Option AwardRow) (n : Option NoticeRow) (l : Option LotRow) (o o' : Option EnvelopeRow) (r r' : Option SecurityRow) → AlikeOptions th W o o' → r' ≡ r → Pairs (PutPair th W) (fail_effect clock t w n l o r) (fail_effect clock t w n l o' r')
+  pairs : (clock : ClockRow) (t : ℕ) (w : Option AwardRow) (n : Option NoticeRow) (l : Option LotRow) (o o' : Option EnvelopeRow) (r r' : Option SecurityRow) → AlikeOptions th W o o' → r' ≡ r → Pairs (PutPair th W) (fail_puts (record { award = w; notice = n; lot = l; envelope = o; security = r; clock = clock }) t) (fail_puts (record { award = w; notice = n; lot = l; envelope = o'; security = r'; clock = clock }) t)
   pairs clock t None n l o o' r r' a same = tt
   pairs clock t (Some w) None l o o' r r' a same = tt
   pairs clock t (Some w) (Some n) None o o' r r' a same = tt
@@ -98,7 +98,7 @@ fail award = record {
       let own : TableName → Bool = is_own (Awards ∷ Lots ∷ Envelopes ∷ Securities ∷ []) in
       let envelope = envelope_of_award (award_at award s) s in
       let security = security_of_envelope envelope s in
-      moved (ap (option_map (λ (a : AwardRow). a.notice)) of.is) (λ i. fail_effect s.clock now (of.is i) (of.notice i) (of.lot i) envelope security)
+      moved (ap (option_map (λ (a : AwardRow). a.notice)) of.is) (λ i. fail_puts (record { award = of.is i; notice = of.notice i; lot = of.lot i; envelope = envelope; security = security; clock = s.clock }) now)
       (front (puts.Award _ ∷ puts.Lot _ ∷ []) (refl, (refl, tt))
       (loud of.w.notice of.n (released of.n) _ _ of.notice_is (ap has_all_releases (of.notice_is ∙ sym of.notice) ∙ tests.1.1.1.1.0) refl refl
       (on-append own _ _ (on-if own (λ e. puts.Envelope (passed_over e)) envelope (λ _. refl)) (on-if own (security_settled Forfeited) security (λ _. refl))) refl (omega arith)));

@@ -7,7 +7,7 @@ use Rattle.office_acts.specs.declared.commands.Command.TheVariants.{Import}
 use Rattle.office_acts.specs.declared.budget.BudgetRow.{BudgetRow}
 use Rattle.office_base.specs.Standings.{standings}
 use Rattle.office_base.specs.declared.puts.Put.TheVariants as puts
-use Rattle.tender_core.specs.Rules.Import.{line_put, import_effect, after_rows}
+use Rattle.tender_core.specs.Rules.Import.{line_put, import_puts, import_rows, after_rows}
 use Rattle.office_machine.specs.Readings.{Readings}
 use Rattle.office_machine.proofs.Commands.Lawful.{given, Lawful, Moving}
 use Rattle.office_machine.proofs.Worlds.WorldsPut.{plain-map, plain-append, plain_pairs}
@@ -36,6 +36,6 @@ import_budget batch rows = record {
   parents = λ readings s moment caller order have registered may allowed u grown later.
       parents-append u (map (line_put (after_rows (standings s) rows)) rows) _ (parents-map u (line_put (after_rows (standings s) rows)) rows (λ _. tt)) (tt, (tt, tt));
   alike = λ th W s es' ss' all seals readings t caller quiet.
-      plain_pairs th W (import_effect s.clock t batch (standings s) rows)
+      plain_pairs th W (import_puts (import_rows s batch rows) t batch)
       (plain-append (map (line_put (after_rows (standings s) rows)) rows) _ (plain-map (line_put (after_rows (standings s) rows)) rows (λ _. tt)) (tt, (tt, tt)));
 }

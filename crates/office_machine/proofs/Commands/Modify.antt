@@ -9,7 +9,7 @@ use Rattle.office_base.specs.Rows.{holds_of}
 use Rattle.office_base.specs.declared.records.ClockRow.{ClockRow}
 use Rattle.office_base.specs.declared.puts.Put.TheVariants as puts
 use Rattle.office_base.specs.declared.records.EnvelopeState.TheVariants as envelope_states
-use Rattle.tender_core.specs.Rules.Modify.{modify_tests, modify_rows, modify_effect, withdrawn, replacing}
+use Rattle.tender_core.specs.Rules.Modify.{modify_tests, modify_rows, withdrawn, replacing, modify_puts}
 use Rattle.office_machine.specs.Worlds.{Theirs, Pairs, is_theirs}
 use Rattle.office_machine.specs.Parents.{HaveParents}
 use Rattle.office_machine.proofs.Commands.Footprint.{Envelopes, Seals}
@@ -22,7 +22,7 @@ use Rattle.office_machine.proofs.Commands.Modify.Fates as modify_fates
 
 module _ (s u : Tables) (have : HaveParents s s) (g : Grows s u) where
   -- what its rows speak of is there
-  parents_of : (digest : List ℕ → List ℕ) (clock : ClockRow) (t receipt : ℕ) (bytes : List ℕ) (o : Option EnvelopeRow) → envelope_at receipt s ≡ o → AllParents u (modify_effect digest clock t o bytes)
+  parents_of : (digest : List ℕ → List ℕ) (clock : ClockRow) (t receipt : ℕ) (bytes : List ℕ) (o : Option EnvelopeRow) → envelope_at receipt s ≡ o → AllParents u (modify_puts digest (record { envelope = o; notice = None; clock = clock }) t bytes)
   parents_of digest clock t receipt bytes None is = tt
   parents_of digest clock t receipt bytes (Some e) is =
       let h = envelope_still s u g e (have.envelopes receipt e is) in
@@ -31,7 +31,7 @@ module _ (s u : Tables) (have : HaveParents s s) (g : Grows s u) where
 -- in two worlds, with the one's bytes and with the other's
 module _ (th : Theirs) (W : ℕ → Bool) (digest : List ℕ → List ℕ) (clock : ClockRow) (t : ℕ) (bytes bytes' : List ℕ) (len : length bytes ≡ length bytes') where
   pub modify_pairs : (o o' : Option EnvelopeRow) → AlikeOptions th W o o' → (holds_of (is_theirs th) o ≡ W (clock.receipts + 1)) → (holds_of (is_theirs th) o ≡ false → bytes ≡ bytes')
-      → Pairs (PutPair th W) (modify_effect digest clock t o bytes) (modify_effect digest clock t o' bytes')
+      → Pairs (PutPair th W) (modify_puts digest (record { envelope = o; notice = None; clock = clock }) t bytes) (modify_puts digest (record { envelope = o'; notice = None; clock = clock }) t bytes')
   modify_pairs None None a own same = tt
   modify_pairs None (Some e') a own same = absurd a
   modify_pairs (Some e) None a own same = absurd a
@@ -64,7 +64,7 @@ modify receipt bytes = record {
   tail = λ readings s moment caller have allowed.
       let now : ℕ = max moment s.clock.moment in
       let e = witness (envelope_at receipt s) (not_false _ (none_holds (modify_tests (modify_rows s receipt) now caller) allowed).0) in
-      moved refl (λ i. modify_effect readings.digest s.clock now (e.1 i) bytes)
+      moved refl (λ i. modify_puts readings.digest (record { envelope = e.1 i; notice = None; clock = s.clock }) now bytes)
       (front (puts.Envelope _ ∷ puts.DropSeal _ ∷ puts.Envelope _ ∷ puts.Seal _ ∷ []) (refl, (refl, (refl, (refl, tt)))) (quiet _ [] tt refl (omega arith)));
   parents = λ readings s moment caller order have registered may allowed u grown later. parents_of s u have grown readings.digest s.clock _ receipt bytes (envelope_at receipt s) refl;
   alike = λ th W s es' ss' all seals readings t caller quiet. absurd quiet;

@@ -12,7 +12,7 @@ use Rattle.office_base.specs.declared.records.EnvelopeRow.{EnvelopeRow}
 use Rattle.office_base.specs.declared.records.NoticeRow.{NoticeRow}
 use Rattle.office_base.specs.declared.records.ClockRow.{ClockRow}
 use Rattle.office_base.specs.declared.records.EnvelopeState.TheVariants as envelope_states
-use Rattle.tender_core.specs.Rules.Open.{open_tests, open_rows, opened_put, opened_notice, open_effect, is_sealed_envelope, opened_envelope}
+use Rattle.tender_core.specs.Rules.Open.{open_tests, open_rows, opened_put, opened_notice, is_sealed_envelope, opened_envelope, open_puts}
 use Rattle.office_machine.specs.Rule.{sealed_tenders, sealed_tender, bytes_in, items_in}
 use Rattle.office_machine.specs.Worlds.{Theirs, Pairs}
 use Rattle.office_machine.specs.Parents.{HaveParents, EnvelopeHas}
@@ -33,7 +33,7 @@ module _ (s u : Tables) (have : HaveParents s s) (g : Grows s u) (order : IsSort
   opened_all read (e ∷ rows) h = (record { notice = h.0.notice; lot = h.0.lot; tenderer = h.0.tenderer; security = h.0.security }, opened_all read rows h.1)
 
   -- what its rows speak of is there
-  parents_of : (read : List ℕ → List Item → Reading) (clock : ClockRow) (t : ℕ) (notice : List ℕ) (row : Option NoticeRow) → AllParents u (open_effect read clock t row (sealed_tenders notice s))
+  parents_of : (read : List ℕ → List Item → Reading) (clock : ClockRow) (t : ℕ) (notice : List ℕ) (row : Option NoticeRow) → AllParents u (open_puts read (record { notice = row; clock = clock }) t (sealed_tenders notice s))
   parents_of read clock t notice None = tt
   parents_of read clock t notice (Some n) =
       parents-append u (map (opened_put read) (sealed_tenders notice s)) _
@@ -63,7 +63,7 @@ module _ (th : Theirs) (W : ℕ → Bool) (s : Tables) (es' : List EnvelopeRow) 
   opened_pairs read (e ∷ es) (e' ∷ es'') all same = (opened_pair read e e' all.0 same.0, opened_pairs read es es'' all.1 same.1)
 
   -- what it puts is alike
-  pairs : (read : List ℕ → List Item → Reading) (clock : ClockRow) (t : ℕ) (notice : List ℕ) (n : Option NoticeRow) → SealsAlike s ss' (filter is_sealed_envelope (envelopes_of_notice notice s)) → Pairs (PutPair th W) (open_effect read clock t n (sealed_tenders notice s)) (open_effect read clock t n (sealed_tenders notice other))
+  pairs : (read : List ℕ → List Item → Reading) (clock : ClockRow) (t : ℕ) (notice : List ℕ) (n : Option NoticeRow) → SealsAlike s ss' (filter is_sealed_envelope (envelopes_of_notice notice s)) → Pairs (PutPair th W) (open_puts read (record { notice = n; clock = clock }) t (sealed_tenders notice s)) (open_puts read (record { notice = n; clock = clock }) t (sealed_tenders notice other))
   pairs read clock t notice None same = tt
   pairs read clock t notice (Some n) same =
       pairs-append th W (map (opened_put read) (sealed_tenders notice s)) (map (opened_put read) (sealed_tenders notice other)) _ _
@@ -80,7 +80,7 @@ open_tenders notice = record {
       let now : ℕ = max moment s.clock.moment in
       let tests = none_holds (open_tests (open_rows s notice) now) allowed in
       let n = witness (notice_at notice s) (not_false _ tests.0) in
-      moved refl (λ i. open_effect readings.read s.clock now (n.1 i) (sealed_tenders notice s))
+      moved refl (λ i. open_puts readings.read (record { notice = n.1 i; clock = s.clock }) now (sealed_tenders notice s))
       (front_map (opened_put readings.read) (sealed_tenders notice s) (λ _. refl)
       (loud notice n.0 (opened_notice now n.0) _ [] n.1 tests.1.1.1.1.0 refl refl tt refl (omega arith)));
   parents = λ readings s moment caller order have registered may allowed u grown later. parents_of s u have grown order readings.read s.clock _ notice (notice_at notice s);

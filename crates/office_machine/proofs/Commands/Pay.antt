@@ -19,7 +19,7 @@ use Rattle.office_base.specs.Parents.{notice_of_contract, lot_of_contract}
 use Rattle.office_base.specs.declared.records.ClockRow.{ClockRow}
 use Rattle.office_base.specs.declared.puts.Put.TheVariants as puts
 use Rattle.award_core.specs.Rules.AmendContract.{is_beyond, has_ended}
-use Rattle.award_core.specs.Rules.Pay.{pay_effect, payment_row, pay_rows, pay_tests}
+use Rattle.award_core.specs.Rules.Pay.{payment_row, pay_rows, pay_tests, pay_puts}
 use Rattle.office_machine.specs.Parents.{HaveParents}
 use Rattle.office_machine.specs.Machine.{Given, time_of, command_tests, effect}
 use Rattle.office_machine.specs.Readings.{Readings}
@@ -103,8 +103,8 @@ module _ (readings : Readings) (xs : List Given) (s : Tables) (moment : ℕ) (ca
       no_contract = no_contract_are x xs s kept order c r l row is lot number new_here (λ n. zero_at (same_number c n)) (λ n. refl) within s';
     }
 
-    effect_is : pay_effect s.clock (time_of x) (Some r) (Some n) entry amount ≡ effect readings x
-    effect_is = λ i. pay_effect s.clock (time_of x) (sym is i) (sym (ap (λ o. notice_of_contract o s) is ∙ notice) i) entry amount
+    effect_is : pay_puts (record { contract = Some r; entries = []; notice = Some n; clock = s.clock }) (time_of x) entry amount ≡ effect readings x
+    effect_is = λ i. pay_puts (record { contract = sym is i; entries = []; notice = (sym (ap (λ o. notice_of_contract o s) is ∙ notice) i); clock = s.clock }) (time_of x) entry amount
 
     keeps : IsKept (x ∷ xs) (after_puts (effect readings x) s)
     keeps = subst (λ ps. IsKept (x ∷ xs) (after_puts ps s)) effect_is
@@ -131,7 +131,7 @@ module _ (readings : Readings) (xs : List Given) (s : Tables) (moment : ℕ) (ca
 
 -- what is put touches no tender and no security
 quiet_puts : (V : View) (clock : ClockRow) (t : ℕ) (c : Option ContractRow) (n : Option NoticeRow) (entry : List ℕ) (amount : ℕ) → Stands V n
-    → AllByRecursion (IsQuiet V clock.receipts) (pay_effect clock t c n entry amount)
+    → AllByRecursion (IsQuiet V clock.receipts) (pay_puts (record { contract = c; entries = []; notice = n; clock = clock }) t entry amount)
 quiet_puts V clock t (Some c) (Some n) entry amount h = (tt, (h n refl, (refl, tt)))
 quiet_puts V clock t None _ entry amount h = tt
 quiet_puts V clock t (Some c) None entry amount h = tt
@@ -145,13 +145,13 @@ fates_kept readings contract entry amount xs t m caller kept own allowed =
 
 module _ (s u : Tables) (have : HaveParents s s) (g : Grows s u) where
   -- what its rows speak of is there
-  parents_of : (clock : ClockRow) (t contract : ℕ) (c : Option ContractRow) (n : Option NoticeRow) (entry : List ℕ) (amount : ℕ) → contract_at contract s ≡ c → AllParents u (pay_effect clock t c n entry amount)
+  parents_of : (clock : ClockRow) (t contract : ℕ) (c : Option ContractRow) (n : Option NoticeRow) (entry : List ℕ) (amount : ℕ) → contract_at contract s ≡ c → AllParents u (pay_puts (record { contract = c; entries = []; notice = n; clock = clock }) t entry amount)
   parents_of clock t contract (Some c) (Some n) entry amount is = (record { contract = entry_has s u have g contract c is }, (tt, (tt, tt)))
   parents_of clock t contract None n entry amount is = tt
   parents_of clock t contract (Some c) None entry amount is = tt
 
 -- it puts the same in both worlds
-plain : (clock : ClockRow) (t : ℕ) (c : Option ContractRow) (n : Option NoticeRow) (entry : List ℕ) (amount : ℕ) → AllByRecursion IsPlain (pay_effect clock t c n entry amount)
+plain : (clock : ClockRow) (t : ℕ) (c : Option ContractRow) (n : Option NoticeRow) (entry : List ℕ) (amount : ℕ) → AllByRecursion IsPlain (pay_puts (record { contract = c; entries = []; notice = n; clock = clock }) t entry amount)
 plain clock t (Some c) (Some n) entry amount = (tt, (tt, (tt, tt)))
 plain clock t None n entry amount = tt
 plain clock t (Some c) None entry amount = tt
@@ -164,10 +164,10 @@ pay contract entry amount = record {
   tail = λ readings s moment caller have allowed.
       let tests = none_holds (pay_tests (pay_rows s contract) entry amount) allowed in
       let of = of_contract s have contract (not_false _ tests.0) in
-      moved refl (λ i. pay_effect s.clock (max moment s.clock.moment) (of.is i) (of.notice i) entry amount)
+      moved refl (λ i. pay_puts (record { contract = of.is i; entries = []; notice = of.notice i; clock = s.clock }) (max moment s.clock.moment) entry amount)
       (front (puts.Entry _ ∷ []) (refl, tt)
       (on_contract contract of (neither _ (has_all_releases (notice_of_contract (contract_at contract s) s)) tests.1.1.1.1.0).1));
   parents = λ readings s moment caller order have registered may allowed u grown later. parents_of s u have grown s.clock _ contract (contract_at contract s) (notice_of_contract (contract_at contract s) s) entry amount refl;
   alike = λ th W s es' ss' all seals readings t caller quiet.
-      plain_pairs th W (pay_effect s.clock t (contract_at contract s) (notice_of_contract (contract_at contract s) s) entry amount) (plain s.clock t (contract_at contract s) (notice_of_contract (contract_at contract s) s) entry amount);
+      plain_pairs th W (pay_puts (record { contract = contract_at contract s; entries = []; notice = (notice_of_contract (contract_at contract s) s); clock = s.clock }) t entry amount) (plain s.clock t (contract_at contract s) (notice_of_contract (contract_at contract s) s) entry amount);
 }

@@ -15,7 +15,7 @@ use Rattle.office_base.specs.declared.records.NoticeRow.{NoticeRow}
 use Rattle.office_base.specs.declared.records.ClockRow.{ClockRow}
 use Rattle.office_base.specs.declared.puts.Put.{Put}
 use Rattle.office_base.specs.declared.puts.Put.TheVariants as puts
-use Rattle.tender_core.specs.Rules.Publish.{publish_tests, publish_rows, publish_effect, publish_parts, late_puts, line_put, lot_put, notice_row}
+use Rattle.tender_core.specs.Rules.Publish.{publish_tests, publish_rows, publish_parts, late_puts, line_put, lot_put, notice_row, publish_puts}
 use Rattle.office_machine.specs.Machine.{command_tests, time_of}
 use Rattle.office_machine.specs.Counted.{releases_in}
 use Rattle.office_machine.proofs.Commands.Tail.{HasTail, is_own, front, back, counted}
@@ -40,7 +40,7 @@ late_own notice Refused = tt
 late_own notice Forfeits = (refl, tt)
 
 -- what it puts
-tail_of : (s : Tables) (t : ℕ) (notice : List ℕ) (content : NewNotice) → is_some (notice_at notice s) ≡ false → HasTail s t (Lines ∷ Lots ∷ LateRules ∷ []) (Some notice) None (publish_effect s.clock t notice s.lines content)
+tail_of : (s : Tables) (t : ℕ) (notice : List ℕ) (content : NewNotice) → is_some (notice_at notice s) ≡ false → HasTail s t (Lines ∷ Lots ∷ LateRules ∷ []) (Some notice) None (publish_puts (record { notice = None; lines = s.lines; clock = s.clock }) t notice content)
 tail_of s t notice content new =
     let own : TableName → Bool = is_own (Lines ∷ Lots ∷ LateRules ∷ []) in
     let old = ap releases_in (absent (notice_at notice s) new) in
@@ -55,7 +55,7 @@ module _ (s u : Tables) (g : Grows s u) where
   published_lots notice there (l ∷ lots) on = (record { notice = there; line = g.lines l.line on.0 }, published_lots notice there lots on.1)
 
   -- what its rows speak of is there
-  parents_of : (clock : ClockRow) (t : ℕ) (notice : List ℕ) (content : NewNotice) → OnLines s.lines content.lots → IsSome (notice_at notice u) → AllParents u (publish_effect clock t notice s.lines content)
+  parents_of : (clock : ClockRow) (t : ℕ) (notice : List ℕ) (content : NewNotice) → OnLines s.lines content.lots → IsSome (notice_at notice u) → AllParents u (publish_puts (record { notice = None; lines = s.lines; clock = clock }) t notice content)
   parents_of clock t notice content on there =
       parents-append u (publish_parts clock t notice s.lines content) (late_puts notice content.late_withdrawal)
       (parents-append u (map (line_put s.lines content.lots) content.lots ++ map (lot_put notice) content.lots) _
@@ -81,7 +81,7 @@ late_leaves Refused notice k u there = there
 late_leaves Forfeits notice k u there = there
 
 -- it puts the same in both worlds
-plain : (s : Tables) (t : ℕ) (notice : List ℕ) (content : NewNotice) → AllByRecursion IsPlain (publish_effect s.clock t notice s.lines content)
+plain : (s : Tables) (t : ℕ) (notice : List ℕ) (content : NewNotice) → AllByRecursion IsPlain (publish_puts (record { notice = None; lines = s.lines; clock = s.clock }) t notice content)
 plain s t notice content =
     plain-append (publish_parts s.clock t notice s.lines content) (late_puts notice content.late_withdrawal)
     (plain-append (map (line_put s.lines content.lots) content.lots ++ map (lot_put notice) content.lots) _
@@ -105,5 +105,5 @@ publish notice content = record {
       (later.notices notice
       (subst (λ u. IsSome (notice_at notice u)) (sym (after-append (publish_parts s.clock (time_of (given s moment caller (Publish notice content))) notice s.lines content) (late_puts notice content.late_withdrawal) s))
       (late_leaves content.late_withdrawal notice notice _ (notice_put_there (map (line_put s.lines content.lots) content.lots ++ map (lot_put notice) content.lots) _ _ s))));
-  alike = λ th W s es' ss' all seals readings t caller quiet. plain_pairs th W (publish_effect s.clock t notice s.lines content) (plain s t notice content);
+  alike = λ th W s es' ss' all seals readings t caller quiet. plain_pairs th W (publish_puts (record { notice = None; lines = s.lines; clock = s.clock }) t notice content) (plain s t notice content);
 }

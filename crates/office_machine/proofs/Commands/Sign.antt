@@ -16,7 +16,7 @@ use Rattle.office_base.specs.declared.records.SecurityRow.{SecurityRow}
 use Rattle.office_base.specs.declared.records.AwardRow.{AwardRow}
 use Rattle.office_base.specs.declared.records.ClockRow.{ClockRow}
 use Rattle.office_base.specs.declared.puts.Put.TheVariants as puts
-use Rattle.award_core.specs.Rules.Sign.{sign_tests, sign_rows, sign_puts, performance_row, sign_effect, tenderer_in, performance_put, signed_award, contracted_lot, contract_row}
+use Rattle.award_core.specs.Rules.Sign.{sign_tests, sign_rows, sign_puts, performance_row, tenderer_in, performance_put, signed_award, contracted_lot, contract_row}
 use Rattle.office_machine.specs.Worlds.{Theirs, Pairs}
 use Rattle.office_machine.specs.Parents.{HaveParents}
 use Rattle.office_machine.proofs.Worlds.WorldsPut.{Alike, plain-map, plain-append, plain-if, IsPlain, PutPair, blind-option, plain_pairs}
@@ -38,7 +38,7 @@ module _ (s u : Tables) (have : HaveParents s s) (g : Grows s u) (order : IsSort
 
   -- what its rows speak of is there
   parents_of : (clock : ClockRow) (t award : ℕ) (named : Option NamedSecurity) (o : Option AwardRow) (n : Option NoticeRow) (l : Option LotRow) → award_at award s ≡ o → lot_of_award o s ≡ l
-      → AllParents u (sign_effect clock t o n l (envelope_of_award o s) (securities_of_award o s) named)
+      → AllParents u (sign_puts (record { award = o; notice = n; lot = l; envelope = envelope_of_award o s; securities = securities_of_award o s; clock = clock }) t named)
   parents_of clock t award named (Some a) (Some n) (Some l) is lot =
       let had = have.awards award a is in
       let h = award_still s u g a had in
@@ -54,14 +54,14 @@ module _ (s u : Tables) (have : HaveParents s s) (g : Grows s u) (order : IsSort
   parents_of clock t award named (Some a) (Some n) None is lot = tt
 
 -- it puts the same in both worlds
-plain : (clock : ClockRow) (t : ℕ) (w : Option AwardRow) (n : Option NoticeRow) (l : Option LotRow) (o : Option EnvelopeRow) (r : List SecurityRow) (named : Option NamedSecurity) → AllByRecursion IsPlain (sign_effect clock t w n l o r named)
+plain : (clock : ClockRow) (t : ℕ) (w : Option AwardRow) (n : Option NoticeRow) (l : Option LotRow) (o : Option EnvelopeRow) (r : List SecurityRow) (named : Option NamedSecurity) → AllByRecursion IsPlain (sign_puts (record { award = w; notice = n; lot = l; envelope = o; securities = r; clock = clock }) t named)
 plain clock t (Some w) (Some n) (Some l) o r named = (tt, (tt, (tt, (tt, (tt, plain-append (map security_returned (filter is_held_security r)) (put_if (performance_put w) named) (plain-map security_returned (filter is_held_security r) (λ _. tt)) (plain-if (performance_put w) named (λ _. tt)))))))
 plain clock t None n l o r named = tt
 plain clock t (Some w) None l o r named = tt
 plain clock t (Some w) (Some n) None o r named = tt
 
 -- a tender is looked at for its tenderer alone
-same_signer : (clock : ClockRow) (t : ℕ) (w : Option AwardRow) (n : Option NoticeRow) (l : Option LotRow) (o o' : Option EnvelopeRow) (r : List SecurityRow) (named : Option NamedSecurity) → tenderer_in o' ≡ tenderer_in o → sign_effect clock t w n l o' r named ≡ sign_effect clock t w n l o r named
+same_signer : (clock : ClockRow) (t : ℕ) (w : Option AwardRow) (n : Option NoticeRow) (l : Option LotRow) (o o' : Option EnvelopeRow) (r : List SecurityRow) (named : Option NamedSecurity) → tenderer_in o' ≡ tenderer_in o → sign_puts (record { award = w; notice = n; lot = l; envelope = o'; securities = r; clock = clock }) t named ≡ sign_puts (record { award = w; notice = n; lot = l; envelope = o; securities = r; clock = clock }) t named
 same_signer clock t (Some w) (Some n) (Some l) o o' r named e =
     ap (λ x. puts.Award (signed_award w) ∷ puts.Lot (contracted_lot l) ∷ puts.Contract (contract_row t w x) ∷ puts.Notice (released n) ∷ clock_put clock t ∷ securities_returned r ++ put_if (performance_put w) named) e
 same_signer clock t None n l o o' r named e = refl
@@ -89,7 +89,7 @@ sign award named = record {
       let of = of_award s have award (not_false _ tests.0) in
       let securities = securities_of_award (award_at award s) s in
       moved (ap (option_map (λ (a : AwardRow). a.notice)) of.is)
-      (λ i. sign_effect s.clock now (of.is i) (of.notice i) (of.lot i) (envelope_of_award (award_at award s) s) securities named)
+      (λ i. sign_puts (record { award = of.is i; notice = of.notice i; lot = of.lot i; envelope = (envelope_of_award (award_at award s) s); securities = securities; clock = s.clock }) now named)
       (bound (ap (option_and_then (λ (w : AwardRow). option_map (performance_row w) named)) of.is)
       (bonded (performance_row of.w) named
       (front (puts.Award _ ∷ puts.Lot _ ∷ puts.Contract _ ∷ []) (refl, (refl, (refl, tt)))

@@ -14,7 +14,7 @@ use Rattle.office_base.specs.declared.records.LateRow.{LateRow}
 use Rattle.office_base.specs.declared.records.NoticeRow.{NoticeRow}
 use Rattle.office_base.specs.declared.records.ClockRow.{ClockRow}
 use Rattle.office_base.specs.declared.puts.Put.TheVariants as puts
-use Rattle.tender_core.specs.Rules.Withdraw.{withdraw_puts, withdraw_rows, withdraw_tests, withdraw_effect, taken_back_puts}
+use Rattle.tender_core.specs.Rules.Withdraw.{withdraw_puts, withdraw_rows, withdraw_tests, taken_back_puts}
 use Rattle.tender_core.specs.Rules.Modify.{withdrawn}
 use Rattle.office_machine.specs.Worlds.{Theirs, Pairs}
 use Rattle.office_machine.specs.Parents.{HaveParents, SecurityHas}
@@ -46,7 +46,7 @@ module _ (s u : Tables) (have : HaveParents s s) (g : Grows s u) where
       (record { notice = h.notice; lot = h.lot; tenderer = h.tenderer; security = h.security }, (tt, parents-if u (security_settled Forfeited) (security_of_envelope (Some e) s) (λ r found. settled_has Forfeited r (security_found s u have g (Some e) r found))))
 
   -- what its rows speak of is there
-  parents_of : (clock : ClockRow) (t receipt : ℕ) (o : Option EnvelopeRow) (n : Option NoticeRow) (late : Option LateRow) → envelope_at receipt s ≡ o → AllParents u (withdraw_effect clock t o n late (security_of_envelope o s))
+  parents_of : (clock : ClockRow) (t receipt : ℕ) (o : Option EnvelopeRow) (n : Option NoticeRow) (late : Option LateRow) → envelope_at receipt s ≡ o → AllParents u (withdraw_puts (record { envelope = o; notice = n; lot = None; late = late; security = security_of_envelope o s; clock = clock }) t)
   parents_of clock t receipt None n late is = tt
   parents_of clock t receipt (Some e) n late is = taken_back_parents clock t receipt e is (is_late late t n)
 
@@ -65,7 +65,7 @@ module _ (th : Theirs) (W : ℕ → Bool) where
     (Plain tt refl, subst (λ q. Pairs (PutPair th W) (put_if (security_settled Forfeited) r) (put_if (security_settled Forfeited) q)) (sym same) (plain_pairs th W (put_if (security_settled Forfeited) r) (plain-if (security_settled Forfeited) r (λ _. tt)))),
   )
 
-  withdraw_pairs : (clock : ClockRow) (t : ℕ) (o o' : Option EnvelopeRow) (n : Option NoticeRow) (late : Option LateRow) (r r' : Option SecurityRow) → AlikeOptions th W o o' → r' ≡ r → Pairs (PutPair th W) (withdraw_effect clock t o n late r) (withdraw_effect clock t o' n late r')
+  withdraw_pairs : (clock : ClockRow) (t : ℕ) (o o' : Option EnvelopeRow) (n : Option NoticeRow) (late : Option LateRow) (r r' : Option SecurityRow) → AlikeOptions th W o o' → r' ≡ r → Pairs (PutPair th W) (withdraw_puts (record { envelope = o; notice = n; lot = None; late = late; security = r; clock = clock }) t) (withdraw_puts (record { envelope = o'; notice = n; lot = None; late = late; security = r'; clock = clock }) t)
   withdraw_pairs clock t None None n late r r' a same = tt
   withdraw_pairs clock t None (Some e') n late r r' a same = absurd a
   withdraw_pairs clock t (Some e) None n late r r' a same = absurd a
@@ -81,7 +81,7 @@ module _ (th : Theirs) (W : ℕ → Bool) (s : Tables) (es' : List EnvelopeRow) 
       let notice : notice_of_envelope o s ≡ notice_of_envelope o' s = sym (blind-option th W (λ o. notice_of_envelope o s) (λ _ _. refl) o o' pair) in
       let late : late_of_envelope o s ≡ late_of_envelope o' s = sym (blind-option th W (λ o. late_of_envelope o s) (λ _ _. refl) o o' pair) in
       subst (λ ps. Pairs (PutPair th W) (withdraw_puts (withdraw_rows s receipt) t) ps)
-      (λ i. withdraw_effect s.clock t o' (notice i) (late i) (security_of_envelope o' s))
+      (λ i. withdraw_puts (record { envelope = o'; notice = notice i; lot = None; late = late i; security = security_of_envelope o' s; clock = s.clock }) t)
       (withdraw_pairs th W s.clock t o o' (notice_of_envelope o s) (late_of_envelope o s) (security_of_envelope o s) (security_of_envelope o' s) pair (blind-option th W (λ o. security_of_envelope o s) (λ _ _. refl) o o' pair))
 
 pub withdraw : (receipt : ℕ) → Lawful (Withdraw receipt)
@@ -94,7 +94,7 @@ withdraw receipt = record {
       let rows = withdraw_rows s receipt in
       let tests = none_holds (withdraw_tests rows t caller) allowed in
       let e = witness (envelope_at receipt s) (not_false _ tests.0) in
-      moved refl (λ i. withdraw_effect s.clock t (e.1 i) rows.notice rows.late rows.security) (tail_of s t e.0 rows.security (is_late rows.late t rows.notice));
+      moved refl (λ i. withdraw_puts (record { envelope = e.1 i; notice = rows.notice; lot = None; late = rows.late; security = rows.security; clock = s.clock }) t) (tail_of s t e.0 rows.security (is_late rows.late t rows.notice));
   parents = λ readings s moment caller order have registered may allowed u grown later. parents_of s u have grown s.clock _ receipt (envelope_at receipt s) (notice_of_envelope (envelope_at receipt s) s) (late_of_envelope (envelope_at receipt s) s) refl;
   alike = λ th W s es' ss' all seals readings t caller quiet. alike th W s es' all t receipt;
 }

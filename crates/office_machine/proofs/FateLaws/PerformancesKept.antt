@@ -25,8 +25,8 @@ use Rattle.office_base.specs.RuleParts.{put_if, performance_settled, settled_per
 use Rattle.office_base.specs.declared.records.ReleaseRow.{ReleaseRow}
 use Rattle.office_base.specs.declared.records.CompiledRow.{CompiledRow}
 use Rattle.office_base.specs.Tables.{award_at, entries_of_contract, after_puts}
-use Rattle.award_core.specs.Rules.Sign.{sign_parts, sign_effect, performance_put, performance_row}
-use Rattle.award_core.specs.Rules.End.{end_parts, end_effect, ended_state}
+use Rattle.award_core.specs.Rules.Sign.{sign_parts, performance_put, performance_row, sign_puts}
+use Rattle.award_core.specs.Rules.End.{end_parts, ended_state, end_puts}
 use Rattle.award_core.specs.Rules.Fail.{isnt_active}
 use Rattle.office_base.specs.States.{is_active}
 use Rattle.office_machine.specs.Machine.{Given, Means, Reaches, time_of, effect, publication, publication_puts, command_tests, with_trees}
@@ -201,7 +201,7 @@ module _ (means : Means) (xs : List Given) (s : Tables) (moment : ℕ) (caller :
     ps = parts ++ put_if (performance_put of.w) named
 
     effect_is : effect means.readings x ≡ ps
-    effect_is = λ i. sign_effect s.clock (time_of x) (of.is i) (of.notice i) (of.lot i) (envelope_of_award (award_at award s) s) (securities_of_award (award_at award s) s) named
+    effect_is = λ i. sign_puts (record { award = of.is i; notice = of.notice i; lot = of.lot i; envelope = (envelope_of_award (award_at award s) s); securities = (securities_of_award (award_at award s) s); clock = s.clock }) (time_of x) named
 
     abbrev first : Tables
     first = after_puts parts s
@@ -269,7 +269,7 @@ module _ (means : Means) (xs : List Given) (s : Tables) (moment : ℕ) (caller :
     qs = ending ++ put_if (performance_settled (ended_state how)) (performance_at contract s)
 
     end_is : effect means.readings y ≡ qs
-    end_is = λ i. end_effect s.clock (time_of y) how (ends_of.is i) (entries_of_contract contract s) (ends_of.notice i) (ends_of.line i) (performance_at contract s)
+    end_is = λ i. end_puts (record { contract = ends_of.is i; entries = entries_of_contract contract s; notice = ends_of.notice i; line = ends_of.line i; performance = performance_at contract s; clock = s.clock }) (time_of y) how
 
     abbrev settled : PerformanceRow → PerformanceRow
     settled w = settled_performance (ended_state how) w

@@ -21,7 +21,7 @@ use Rattle.office_base.specs.declared.records.SealRow.{SealRow}
 use Rattle.office_base.specs.declared.puts.Put.{Put}
 use Rattle.office_base.specs.declared.puts.Put.TheVariants as puts
 use Rattle.tender_core.specs.Rules.Present.{received, seal_puts, security_put}
-use Rattle.tender_core.specs.Rules.Modify.{is_anothers, modify_effect, replacing, withdrawn}
+use Rattle.tender_core.specs.Rules.Modify.{is_anothers, replacing, withdrawn, modify_puts}
 use Rattle.office_machine.specs.Worlds.{Theirs, is_of_lot, is_theirs, AlikeRows, Pairs, IsNext, SameBut, Same, Presented, Modified, AcceptedAlike, StepsStayAlike}
 use Rattle.office_base.proofs.ExactKeys.{equal_keys, equal_ids, same_itself}
 use Rattle.office_machine.proofs.Rows.Keyed.{each_found, found_put, own_key}
@@ -107,7 +107,7 @@ module _ (th : Theirs) (readings : Readings) (s : Tables) (es' : List EnvelopeRo
           (record { but_sealed = refl; envelopes = all; seals = same_seals }) order order');
     }
 
-    modify_there : (t : ℕ) (bytes : List ℕ) (o : Option EnvelopeRow) → holds_of (is_theirs th) o ≡ true → is_some (envelope_at last (after_puts (modify_effect readings.digest s.clock t o bytes) s)) ≡ true
+    modify_there : (t : ℕ) (bytes : List ℕ) (o : Option EnvelopeRow) → holds_of (is_theirs th) o ≡ true → is_some (envelope_at last (after_puts (modify_puts readings.digest (record { envelope = o; notice = None; clock = s.clock }) t bytes) s)) ≡ true
     modify_there t bytes None e = cc
     modify_there t bytes (Some x) e = ap is_some (found_put keyed.envelopes (Rattle.office_base.specs.Tables.put_envelope s.envelopes (withdrawn x)) (replacing readings.digest s.clock t x bytes))
 

@@ -14,11 +14,11 @@ use Rattle.office_base.specs.declared.records.NoticeRow.{NoticeRow}
 use Rattle.office_base.specs.declared.records.LotRow.{LotRow}
 use Rattle.office_base.specs.Parents.{notice_of_envelope, lot_of_envelope, line_of_lot, late_of_envelope}
 use Rattle.tender_core.specs.Rules.Present.{is_sealed_by}
-use Rattle.tender_core.specs.Rules.Modify.{modify_conditions}
-use Rattle.tender_core.specs.Rules.Withdraw.{withdraw_conditions}
+use Rattle.tender_core.specs.Rules.Modify.{modify_tests}
+use Rattle.tender_core.specs.Rules.Withdraw.{withdraw_tests}
 use Rattle.tender_core.specs.Rules.Open.{is_sealed_envelope}
-use Rattle.award_core.specs.Rules.Award.{reserved_in, is_admissible, isnt_examined, is_above, winner, award_conditions}
-use Rattle.award_core.specs.Rules.Examine.{examine_conditions}
+use Rattle.award_core.specs.Rules.Award.{reserved_in, is_admissible, isnt_examined, is_above, winner, award_tests}
+use Rattle.award_core.specs.Rules.Examine.{examine_tests}
 use Rattle.office_machine.specs.Worlds.{Theirs, Pairs}
 use Rattle.office_machine.specs.Readings.{Readings}
 use Rattle.office_machine.specs.Machine.{tests_for, puts_for}
@@ -33,7 +33,7 @@ module _ (th : Theirs) (W : ℕ → Bool) (s : Tables) (es' : List EnvelopeRow) 
   abbrev pub s' : Tables
   s' = record s { envelopes = es'; seals = ss' }
 
-  awards_alike : (t : ℕ) (n : Option NoticeRow) (l : Option LotRow) (w : Option LineRow) (es es'' : List EnvelopeRow) → Pairs (Alike th W) es es'' → award_conditions t n l w es'' ≡ award_conditions t n l w es
+  awards_alike : (t : ℕ) (n : Option NoticeRow) (l : Option LotRow) (w : Option LineRow) (es es'' : List EnvelopeRow) → Pairs (Alike th W) es es'' → award_tests (record { notice = n; lot = l; line = w; envelopes = es''; securities = []; clock = s.clock }) t ≡ award_tests (record { notice = n; lot = l; line = w; envelopes = es; securities = []; clock = s.clock }) t
   awards_alike t n l w es es'' all =
       rw (
         pairs-any th W isnt_examined (λ _ _. refl) es es'' all,
@@ -45,11 +45,11 @@ module _ (th : Theirs) (W : ℕ → Bool) (s : Tables) (es' : List EnvelopeRow) 
   pub tests_same : (t : ℕ) (caller : Caller) (command : Command) → tests_for s' t caller command ≡ tests_for s t caller command
   tests_same t caller (Present notice lot security bytes) = rw (pairs-any th W (is_sealed_by caller) (λ _ _. refl) (envelopes_of_lot notice lot s) (envelopes_of_lot notice lot s') (lot_pairs th W s es' all notice lot)) refl
   tests_same t caller (Modify receipt bytes) =
-      blind-option th W (λ o. modify_conditions s.clock t caller o (notice_of_envelope o s)) (λ _ _. refl) (envelope_at receipt s) (find_envelope es' receipt) (envelope_pair th W s es' all receipt)
+      blind-option th W (λ o. modify_tests (record { envelope = o; notice = notice_of_envelope o s; clock = s.clock }) t caller) (λ _ _. refl) (envelope_at receipt s) (find_envelope es' receipt) (envelope_pair th W s es' all receipt)
   tests_same t caller (Withdraw receipt) =
-      blind-option th W (λ o. withdraw_conditions t caller o (notice_of_envelope o s) (lot_of_envelope o s) (late_of_envelope o s)) (λ _ _. refl) (envelope_at receipt s) (find_envelope es' receipt) (envelope_pair th W s es' all receipt)
+      blind-option th W (λ o. withdraw_tests (record { envelope = o; notice = notice_of_envelope o s; lot = lot_of_envelope o s; late = late_of_envelope o s; security = None; clock = s.clock }) t caller) (λ _ _. refl) (envelope_at receipt s) (find_envelope es' receipt) (envelope_pair th W s es' all receipt)
   tests_same t caller (Examine receipt responsive quality) =
-      blind-option th W (λ o. examine_conditions o (notice_of_envelope o s) (lot_of_envelope o s) responsive quality) (λ _ _. refl) (envelope_at receipt s) (find_envelope es' receipt) (envelope_pair th W s es' all receipt)
+      blind-option th W (λ o. examine_tests (record { envelope = o; notice = notice_of_envelope o s; lot = lot_of_envelope o s; clock = s.clock }) responsive quality) (λ _ _. refl) (envelope_at receipt s) (find_envelope es' receipt) (envelope_pair th W s es' all receipt)
   tests_same t caller (Award notice lot) =
       awards_alike t (notice_at notice s) (lot_at (notice, lot) s) (line_of_lot (lot_at (notice, lot) s) s) (envelopes_of_lot notice lot s) (envelopes_of_lot notice lot s') (lot_pairs th W s es' all notice lot)
   tests_same t caller _ = refl

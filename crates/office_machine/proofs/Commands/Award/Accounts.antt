@@ -34,7 +34,7 @@ use Rattle.office_base.specs.declared.records.SecurityRow.{SecurityRow}
 use Rattle.office_base.specs.States.{is_open, is_undecided, is_active}
 use Rattle.office_base.specs.declared.records.LotState.{LotState}
 use Rattle.office_base.specs.declared.records.LotState.TheVariants as lot_states
-use Rattle.award_core.specs.Rules.Award.{price_of, winner, is_above, reserved_in, unsuccessful, awarded, award_row, decision_puts, award_effect}
+use Rattle.award_core.specs.Rules.Award.{price_of, winner, is_above, reserved_in, unsuccessful, awarded, award_row, decision_puts, award_puts}
 
 open_too : (l : LotState) → is_undecided l ≡ true → is_open l ≡ true
 open_too lot_states.Undecided e = refl
@@ -197,7 +197,7 @@ module _ (readings : Readings) (xs : List Given) (s : Tables) (moment : ℕ) (ca
     effect_is : (o : Option EnvelopeRow) → best ≡ o → decision_puts s.clock (time_of x) row l w o securities ≡ effect readings x
     effect_is o won =
         (λ z. decision_puts s.clock (time_of x) row l w (sym (ap (λ r. winner r (envelopes_of_lot n i s)) (sym notice) ∙ won) z) securities)
-        ∙ (λ z. award_effect s.clock (time_of x) (sym notice z) (sym lot z) (sym (ap (λ o. line_of_lot o s) lot ∙ line) z) (envelopes_of_lot n i s) securities)
+        ∙ (λ z. award_puts (record { notice = sym notice z; lot = sym lot z; line = (sym (ap (λ o. line_of_lot o s) lot ∙ line) z); envelopes = envelopes_of_lot n i s; securities = securities; clock = s.clock }) (time_of x))
 
     puts_by : (o : Option EnvelopeRow) → best ≡ o → price o ≤ l.reserved + w.free → IsKept (x ∷ xs) (after_puts (decision_puts s.clock (time_of x) row l w o securities) s)
     puts_by None won p =

@@ -27,7 +27,7 @@ use Rattle.office_base.specs.declared.puts.Put.{Put}
 use Rattle.office_base.specs.States.{is_read}
 use Rattle.office_base.specs.Rules.{first_of}
 use Rattle.office_base.specs.RuleParts.{clock_put, released, is_held_security, security_returned, returned}
-use Rattle.award_core.specs.Rules.Award.{is_admissible, is_responsive, lowest_price, winner, unsuccessful, awarded, award_row, decision_puts, award_conditions, award_effect}
+use Rattle.award_core.specs.Rules.Award.{is_admissible, is_responsive, lowest_price, winner, unsuccessful, awarded, award_row, decision_puts, award_tests, award_puts}
 use Rattle.office_base.specs.Tables.{Tables, lot_cmp, lot_key, award_key, envelope_key, security_key, award_at, lot_at, notice_at, line_at, envelope_at, seal_at, security_at, envelopes_of_lot, securities_of_lot, after_puts}
 use Rattle.office_base.specs.Parents.{line_of_lot}
 use Rattle.office_machine.specs.Machine.{Given}
@@ -247,33 +247,33 @@ module _ (readings : Readings) (name lot_name : List ℕ) (xs : List Given) (t :
 
 award_by : (readings : Readings) (name lot_name : List ℕ) (xs : List Given) (t : Tables) (m : ℕ) (caller : Caller) (kept : IsKept readings xs t) (n : NoticeRow) → notice_at name t ≡ Some n
     → (l : LotRow) → lot_at (name, lot_name) t ≡ Some l
-    → first_of (award_conditions (max m t.clock.moment) (Some n) (Some l) (line_at l.line t) (envelopes_of_lot name lot_name t)) ≡ None
+    → first_of (award_tests (record { notice = Some n; lot = Some l; line = line_at l.line t; envelopes = envelopes_of_lot name lot_name t; securities = []; clock = t.clock }) (max m t.clock.moment)) ≡ None
     → IsKept readings (given t m caller (Award name lot_name) ∷ xs)
-    (after_puts (award_effect t.clock (max m t.clock.moment) (Some n) (Some l) (line_at l.line t) (envelopes_of_lot name lot_name t) (securities_of_lot name lot_name t)) t)
+    (after_puts (award_puts (record { notice = Some n; lot = Some l; line = line_at l.line t; envelopes = envelopes_of_lot name lot_name t; securities = securities_of_lot name lot_name t; clock = t.clock }) (max m t.clock.moment)) t)
 award_by readings name lot_name xs t m caller kept n n_is l l_is allowed =
-    let tests = award_conditions (max m t.clock.moment) (Some n) (Some l) (line_at l.line t) (envelopes_of_lot name lot_name t) in
+    let tests = award_tests (record { notice = Some n; lot = Some l; line = line_at l.line t; envelopes = envelopes_of_lot name lot_name t; securities = []; clock = t.clock }) (max m t.clock.moment) in
     let passes : AllByRecursion (λ (test : Bool × Refusal). test.0 ≡ false) tests = none_holds tests allowed in
     let r = there (line_at l.line t) (on_line readings xs t kept (name, lot_name) l l_is) in
     subst (λ o. IsKept readings (given t m caller (Award name lot_name) ∷ xs)
-    (after_puts (award_effect t.clock (max m t.clock.moment) (Some n) (Some l) o (envelopes_of_lot name lot_name t) (securities_of_lot name lot_name t)) t)) (sym r.1)
+    (after_puts (award_puts (record { notice = Some n; lot = Some l; line = o; envelopes = envelopes_of_lot name lot_name t; securities = securities_of_lot name lot_name t; clock = t.clock }) (max m t.clock.moment)) t)) (sym r.1)
     (decided_kept readings name lot_name xs t m caller kept n n_is l l_is r.0 (opened_state n.state passes.1.1.0) (undecided_state l.state passes.1.1.1.0) (winner (Some n) (envelopes_of_lot name lot_name t)) refl)
 
 pub award_keeps : (readings : Readings) (notice lot : List ℕ) → Keeps readings (Award notice lot)
 award_keeps readings name lot_name xs t m caller kept _ allowed =
-    let tests = award_conditions (max m t.clock.moment) (notice_at name t) (lot_at (name, lot_name) t) (line_of_lot (lot_at (name, lot_name) t) t) (envelopes_of_lot name lot_name t) in
+    let tests = award_tests (record { notice = notice_at name t; lot = (lot_at (name, lot_name) t); line = (line_of_lot (lot_at (name, lot_name) t) t); envelopes = envelopes_of_lot name lot_name t; securities = []; clock = t.clock }) (max m t.clock.moment) in
     let passes : AllByRecursion (λ (test : Bool × Refusal). test.0 ≡ false) tests = none_holds tests allowed in
     let n = there (notice_at name t) (not_false (is_some (notice_at name t)) passes.0) in
     let l = there (lot_at (name, lot_name) t) (not_false (is_some (lot_at (name, lot_name) t)) passes.1.0) in
     by_rows n.0 n.1 l.0 l.1
   where
     Goal : Option NoticeRow → Option LotRow → Type 0
-    Goal o p = first_of (award_conditions (max m t.clock.moment) o p (line_of_lot p t) (envelopes_of_lot name lot_name t)) ≡ None
+    Goal o p = first_of (award_tests (record { notice = o; lot = p; line = line_of_lot p t; envelopes = envelopes_of_lot name lot_name t; securities = []; clock = t.clock }) (max m t.clock.moment)) ≡ None
         → IsKept readings (given t m caller (Award name lot_name) ∷ xs)
-        (after_puts (award_effect t.clock (max m t.clock.moment) o p (line_of_lot p t) (envelopes_of_lot name lot_name t) (securities_of_lot name lot_name t)) t)
+        (after_puts (award_puts (record { notice = o; lot = p; line = line_of_lot p t; envelopes = envelopes_of_lot name lot_name t; securities = securities_of_lot name lot_name t; clock = t.clock }) (max m t.clock.moment)) t)
 
     by_rows : (n : NoticeRow) → notice_at name t ≡ Some n → (l : LotRow) → lot_at (name, lot_name) t ≡ Some l
         → IsKept readings (given t m caller (Award name lot_name) ∷ xs)
-        (after_puts (award_effect t.clock (max m t.clock.moment) (notice_at name t) (lot_at (name, lot_name) t) (line_of_lot (lot_at (name, lot_name) t) t) (envelopes_of_lot name lot_name t) (securities_of_lot name lot_name t)) t)
+        (after_puts (award_puts (record { notice = notice_at name t; lot = (lot_at (name, lot_name) t); line = (line_of_lot (lot_at (name, lot_name) t) t); envelopes = envelopes_of_lot name lot_name t; securities = securities_of_lot name lot_name t; clock = t.clock }) (max m t.clock.moment)) t)
     by_rows n n_is l l_is =
         let goal : Goal (notice_at name t) (lot_at (name, lot_name) t) =
         subst (λ o. Goal o (lot_at (name, lot_name) t)) (sym n_is) (subst (λ p. Goal (Some n) p) (sym l_is) (award_by readings name lot_name xs t m caller kept n n_is l l_is)) in

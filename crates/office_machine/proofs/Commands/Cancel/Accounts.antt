@@ -35,7 +35,7 @@ use Rattle.office_base.specs.declared.records.EnvelopeRow.{EnvelopeRow}
 use Rattle.office_base.specs.declared.records.SecurityRow.{SecurityRow}
 use Rattle.office_base.specs.States.{is_active}
 use Rattle.tender_core.specs.Rules.Publish.{no_line}
-use Rattle.tender_core.specs.Rules.Cancel.{is_open_lot, cancelled_lot, freed, line_row, ends, is_ended_award, cancelled_award, is_ended_envelope, envelope_put, drop_put, is_ended_security, cancelled_notice, cancel_effect}
+use Rattle.tender_core.specs.Rules.Cancel.{is_open_lot, cancelled_lot, freed, line_row, ends, is_ended_award, cancelled_award, is_ended_envelope, envelope_put, drop_put, is_ended_security, cancelled_notice, cancel_puts}
 use Rattle.office_machine.proofs.Rows.RowsPut.{rows_put, some_has, lines_put, lots_put, after_lines, after_lots, found_after, there_after}
 use Rattle.office_machine.proofs.Accounts.Joins.{is_of}
 use Rattle.office_machine.proofs.Rows.Lists.{row_at-filter}
@@ -313,7 +313,7 @@ module _ (readings : Readings) (xs : List Given) (s : Tables) (moment : ℕ) (ca
         (aside-append s.clock.awards (map security_returned securities) last_puts (aside-map s.clock.awards security_returned securities (λ _. tt)) (tt, (omega arith, tt))))
 
     abbrev all_puts : List Put
-    all_puts = cancel_effect s.clock (time_of x) s.lines (Some row) lots (awards_of_notice n s) (envelopes_of_notice n s) (securities_of_notice n s)
+    all_puts = cancel_puts (record { notice = Some row; lines = s.lines; lots = lots; awards = awards_of_notice n s; envelopes = envelopes_of_notice n s; securities = securities_of_notice n s; clock = s.clock }) (time_of x)
 
     cancelled_is : after_puts all_puts s ≡ after_puts rest s'
     cancelled_is =
@@ -323,7 +323,7 @@ module _ (readings : Readings) (xs : List Given) (s : Tables) (moment : ℕ) (ca
         ∙ (λ i. after_puts rest (record s { lines = lines'; lots = lots_after i; awards = awards_after i }))
 
     effect_is : all_puts ≡ effect readings x
-    effect_is = λ i. cancel_effect s.clock (time_of x) s.lines (sym notice i) lots (awards_of_notice n s) (envelopes_of_notice n s) (securities_of_notice n s)
+    effect_is = λ i. cancel_puts (record { notice = sym notice i; lines = s.lines; lots = lots; awards = awards_of_notice n s; envelopes = envelopes_of_notice n s; securities = securities_of_notice n s; clock = s.clock }) (time_of x)
 
     keeps : IsKept (x ∷ xs) (after_puts (effect readings x) s)
     keeps = subst (IsKept (x ∷ xs)) (sym cancelled_is ∙ ap (λ ps. after_puts ps s) effect_is) (kept_aside (x ∷ xs) rest s' rest_aside ended_keeps)

@@ -29,7 +29,7 @@ use Rattle.office_base.specs.declared.puts.Put.{Put}
 use Rattle.office_base.specs.States.{is_sealed, is_held, is_active, is_receiving}
 use Rattle.office_base.specs.Rules.{first_of}
 use Rattle.office_base.specs.RuleParts.{clock_put, security_returned, returned}
-use Rattle.tender_core.specs.Rules.Cancel.{is_open_lot, cancelled_lot, lot_put, line_row, line_put, ends, is_ended_award, cancelled_award, award_put, is_ended_envelope, returned_envelope, envelope_put, drop_put, is_ended_security, cancelled_notice, cancel_conditions, cancel_effect}
+use Rattle.tender_core.specs.Rules.Cancel.{is_open_lot, cancelled_lot, lot_put, line_row, line_put, ends, is_ended_award, cancelled_award, award_put, is_ended_envelope, returned_envelope, envelope_put, drop_put, is_ended_security, cancelled_notice, cancel_tests, cancel_puts}
 use Rattle.office_base.specs.Tables.{Tables, lot_cmp, line_key, lot_key, envelope_key, seal_key, security_key, award_key, find_lot, of_notice, envelope_at, seal_at, security_at, award_at, lot_at, notice_at, lots_of_notice, envelopes_of_notice, securities_of_notice, awards_of_notice, after_puts}
 use Rattle.office_machine.specs.Machine.{Given}
 use Rattle.office_machine.specs.Readings.{Readings}
@@ -131,7 +131,7 @@ module _ (readings : Readings) (name : List ℕ) (rationale : List ℕ) (xs : Li
   ended_securities = filter (is_ended_security lots) (securities_of_notice name t)
 
   abbrev ps : List Put
-  ps = cancel_effect t.clock T t.lines (Some n) lots (awards_of_notice name t) (envelopes_of_notice name t) (securities_of_notice name t)
+  ps = cancel_puts (record { notice = Some n; lines = t.lines; lots = lots; awards = awards_of_notice name t; envelopes = envelopes_of_notice name t; securities = securities_of_notice name t; clock = t.clock }) T
 
   abbrev last_puts : List Put
   last_puts = puts.Notice (cancelled_notice n) ∷ clock_put t.clock T ∷ []
@@ -327,11 +327,11 @@ module _ (readings : Readings) (name : List ℕ) (rationale : List ℕ) (xs : Li
       (subst (λ (u : Tables). AreInOrder u) after_is (order-puts ps t kept.order))
 
 cancel_by : (readings : Readings) (name rationale : List ℕ) (xs : List Given) (t : Tables) (m : ℕ) (caller : Caller) (kept : IsKept readings xs t) (o : Option NoticeRow) → notice_at name t ≡ o
-    → first_of (cancel_conditions o (lots_of_notice name t)) ≡ None
+    → first_of (cancel_tests (record { notice = o; lines = []; lots = lots_of_notice name t; awards = []; envelopes = []; securities = []; clock = t.clock })) ≡ None
     → IsKept readings (given t m caller (Cancel name rationale) ∷ xs)
-    (after_puts (cancel_effect t.clock (max m t.clock.moment) t.lines o (lots_of_notice name t) (awards_of_notice name t) (envelopes_of_notice name t) (securities_of_notice name t)) t)
+    (after_puts (cancel_puts (record { notice = o; lines = t.lines; lots = lots_of_notice name t; awards = awards_of_notice name t; envelopes = envelopes_of_notice name t; securities = securities_of_notice name t; clock = t.clock }) (max m t.clock.moment)) t)
 cancel_by readings name rationale xs t m caller kept None found allowed =
-    let passes : AllByRecursion (λ (test : Bool × Refusal). test.0 ≡ false) (cancel_conditions None (lots_of_notice name t)) = none_holds (cancel_conditions None (lots_of_notice name t)) allowed in
+    let passes : AllByRecursion (λ (test : Bool × Refusal). test.0 ≡ false) (cancel_tests (record { notice = None; lines = []; lots = lots_of_notice name t; awards = []; envelopes = []; securities = []; clock = t.clock })) = none_holds (cancel_tests (record { notice = None; lines = []; lots = lots_of_notice name t; awards = []; envelopes = []; securities = []; clock = t.clock })) allowed in
     let no : true ≡ false = passes.0 in absurd cc
 cancel_by readings name rationale xs t m caller kept (Some n) found allowed =
     subst (IsKept readings (given t m caller (Cancel name rationale) ∷ xs)) (sym (after_is readings name rationale xs t m caller kept n found)) (cancelled_kept readings name rationale xs t m caller kept n found)

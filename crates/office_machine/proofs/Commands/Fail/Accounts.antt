@@ -23,7 +23,7 @@ use Rattle.office_machine.proofs.Accounts.Kept.{IsKept, PotsAre, AwardIs, is_awa
 use Rattle.office_machine.proofs.Passed.{none_holds, not_false, witness, test_of}
 use Rattle.office_base.specs.declared.records.AwardRow.{AwardRow}
 use Rattle.office_base.specs.States.{is_active}
-use Rattle.award_core.specs.Rules.Fail.{isnt_active, failed_award, undecided_again, fail_effect}
+use Rattle.award_core.specs.Rules.Fail.{isnt_active, failed_award, undecided_again, fail_puts}
 use Rattle.office_base.specs.declared.records.AwardState.TheVariants as award_states
 use Rattle.office_base.specs.declared.records.LotState.TheVariants as lot_states
 use Rattle.office_machine.proofs.Accounts.LotChanged.{joined, reserved_after, lots_are, awards_are, one_active, award_of}
@@ -85,8 +85,8 @@ module _ (readings : Readings) (xs : List Given) (s : Tables) (moment : ℕ) (ca
       no_contract = λ c h. let old = kept.no_contract c h in record { came_in = omega (arith, old.came_in); went_out = omega (arith, old.went_out); raised = old.raised; lessened = old.lessened; paid_out = old.paid_out };
     }
 
-    effect_is : fail_effect s.clock (time_of x) (Some w) (Some n) (Some l) (envelope_of_award (award_at a s) s) (security_of_envelope (envelope_of_award (award_at a s) s) s) ≡ effect readings x
-    effect_is = λ i. fail_effect s.clock (time_of x) (sym is i) (sym (ap (λ o. notice_of_award o s) is ∙ notice) i) (sym (ap (λ o. lot_of_award o s) is ∙ lot) i) (envelope_of_award (award_at a s) s) (security_of_envelope (envelope_of_award (award_at a s) s) s)
+    effect_is : fail_puts (record { award = Some w; notice = Some n; lot = Some l; envelope = (envelope_of_award (award_at a s) s); security = (security_of_envelope (envelope_of_award (award_at a s) s) s); clock = s.clock }) (time_of x) ≡ effect readings x
+    effect_is = λ i. fail_puts (record { award = sym is i; notice = (sym (ap (λ o. notice_of_award o s) is ∙ notice) i); lot = (sym (ap (λ o. lot_of_award o s) is ∙ lot) i); envelope = (envelope_of_award (award_at a s) s); security = (security_of_envelope (envelope_of_award (award_at a s) s) s); clock = s.clock }) (time_of x)
 
     abbrev rest : List Rattle.office_base.specs.declared.puts.Put.Put
     rest = put_if (λ e. puts.Envelope (passed_over e)) (envelope_of_award (award_at a s) s) ++ put_if (security_settled Forfeited) (security_of_envelope (envelope_of_award (award_at a s) s) s)

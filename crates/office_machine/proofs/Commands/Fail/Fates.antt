@@ -21,7 +21,7 @@ use Rattle.office_base.specs.declared.puts.Put.{Put}
 use Rattle.office_base.specs.States.{is_held}
 use Rattle.office_base.specs.Rules.{first_of}
 use Rattle.office_base.specs.RuleParts.{released, passed_over, settled}
-use Rattle.award_core.specs.Rules.Fail.{failed_award, undecided_again, fail_conditions, fail_effect}
+use Rattle.award_core.specs.Rules.Fail.{failed_award, undecided_again, fail_tests, fail_puts}
 use Rattle.office_base.specs.Tables.{Tables, envelope_key, award_key, lot_key, envelope_at, seal_at, security_at, award_at, lot_at, notice_at, after_puts}
 use Rattle.office_base.specs.Parents.{notice_of_award, lot_of_award, envelope_of_award, security_of_envelope}
 use Rattle.office_machine.specs.Machine.{Given}
@@ -85,7 +85,7 @@ module _ (readings : Readings) (number : ℕ) (xs : List Given) (t : Tables) (m 
 
   module _ (n : NoticeRow) (notice_found : notice_at w.notice t ≡ Some n) (l : LotRow) (lot_found : lot_at (w.notice, w.lot) t ≡ Some l) where
     abbrev ps : Option SecurityRow → List Put
-    ps so = fail_effect t.clock T (Some w) (Some n) (Some l) (Some e) so
+    ps so = fail_puts (record { award = Some w; notice = Some n; lot = Some l; envelope = Some e; security = so; clock = t.clock }) T
 
     abbrev after : Option SecurityRow → Tables
     after so = after_puts (ps so) t
@@ -168,21 +168,21 @@ module _ (readings : Readings) (number : ℕ) (xs : List Given) (t : Tables) (m 
       (subst (λ o. P (Some n.0) o (envelope_at w.receipt t)) (sym l.1)
       (subst (λ o. P (Some n.0) (Some l.0) o) (sym fits.found) (f n.0 n.1 l.0 l.1)))
 
-  fail_kept : IsKept readings (x ∷ xs) (after_puts (fail_effect t.clock T (Some w) (notice_at w.notice t) (lot_at (w.notice, w.lot) t) (envelope_at w.receipt t) (security_of_envelope (envelope_at w.receipt t) t)) t)
+  fail_kept : IsKept readings (x ∷ xs) (after_puts (fail_puts (record { award = Some w; notice = notice_at w.notice t; lot = (lot_at (w.notice, w.lot) t); envelope = envelope_at w.receipt t; security = (security_of_envelope (envelope_at w.receipt t) t); clock = t.clock }) T) t)
   fail_kept =
-      rows_there (λ n l o. IsKept readings (x ∷ xs) (after_puts (fail_effect t.clock T (Some w) n l o (security_of_envelope o t)) t))
+      rows_there (λ n l o. IsKept readings (x ∷ xs) (after_puts (fail_puts (record { award = Some w; notice = n; lot = l; envelope = o; security = security_of_envelope o t; clock = t.clock }) T) t))
       (λ n n_is l l_is. by_security n n_is l l_is e.security refl)
 
 fail_by : (readings : Readings) (number : ℕ) (xs : List Given) (t : Tables) (m : ℕ) (caller : Caller) (kept : IsKept readings xs t) (o : Option AwardRow)
     → award_at number t ≡ o
-    → first_of (fail_conditions (max m t.clock.moment) o (notice_of_award o t)) ≡ None
+    → first_of (fail_tests (record { award = o; notice = notice_of_award o t; lot = None; envelope = None; security = None; clock = t.clock }) (max m t.clock.moment)) ≡ None
     → IsKept readings (given t m caller (Fail number) ∷ xs)
-    (after_puts (fail_effect t.clock (max m t.clock.moment) o (notice_of_award o t) (lot_of_award o t) (envelope_of_award o t) (security_of_envelope (envelope_of_award o t) t)) t)
+    (after_puts (fail_puts (record { award = o; notice = notice_of_award o t; lot = lot_of_award o t; envelope = envelope_of_award o t; security = (security_of_envelope (envelope_of_award o t) t); clock = t.clock }) (max m t.clock.moment)) t)
 fail_by readings number xs t m caller kept None found allowed =
-    let passes : AllByRecursion (λ (test : Bool × Refusal). test.0 ≡ false) (fail_conditions (max m t.clock.moment) None None) = none_holds (fail_conditions (max m t.clock.moment) None None) allowed in
+    let passes : AllByRecursion (λ (test : Bool × Refusal). test.0 ≡ false) (fail_tests (record { award = None; notice = None; lot = None; envelope = None; security = None; clock = t.clock }) (max m t.clock.moment)) = none_holds (fail_tests (record { award = None; notice = None; lot = None; envelope = None; security = None; clock = t.clock }) (max m t.clock.moment)) allowed in
     let no : true ≡ false = passes.0 in absurd cc
 fail_by readings number xs t m caller kept (Some w) found allowed =
-    let tests = fail_conditions (max m t.clock.moment) (Some w) (notice_at w.notice t) in
+    let tests = fail_tests (record { award = Some w; notice = notice_at w.notice t; lot = None; envelope = None; security = None; clock = t.clock }) (max m t.clock.moment) in
     let passes : AllByRecursion (λ (test : Bool × Refusal). test.0 ≡ false) tests = none_holds tests allowed in
     fail_kept readings number xs t m caller kept w found (active_state w.state passes.1.0)
 

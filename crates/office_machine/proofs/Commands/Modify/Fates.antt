@@ -15,7 +15,7 @@ use Rattle.office_base.specs.declared.records.EnvelopeState.TheVariants as envel
 use Rattle.office_base.specs.declared.records.SecurityState.TheVariants as security
 use Rattle.office_base.specs.States.{is_sealed}
 use Rattle.office_base.specs.Rules.{first_of}
-use Rattle.tender_core.specs.Rules.Modify.{withdrawn, replacing, modify_conditions, modify_effect}
+use Rattle.tender_core.specs.Rules.Modify.{withdrawn, replacing, modify_tests, modify_puts}
 use Rattle.office_base.specs.Parents.{notice_of_envelope}
 use Rattle.office_machine.specs.Machine.{Given}
 use Rattle.office_machine.specs.Readings.{Readings}
@@ -58,7 +58,7 @@ module _ (readings : Readings) (receipt : ℕ) (bytes : List ℕ) (xs : List Giv
     new = replacing readings.digest t.clock T e bytes
 
     abbrev after : Tables
-    after = after_puts (modify_effect readings.digest t.clock T (Some e) bytes) t
+    after = after_puts (modify_puts readings.digest (record { envelope = Some e; notice = None; clock = t.clock }) T bytes) t
 
     abbrev f : ℕ → EnvelopeRow → EnvelopeRow
     f r d = cond (eq_by_cmp nat_cmp r receipt) (withdrawn d) d
@@ -201,16 +201,16 @@ module _ (readings : Readings) (receipt : ℕ) (bytes : List ℕ) (xs : List Giv
           subst (EnvelopesMatch readings.digest (came (x ∷ xs)) (fate_of_tender (x ∷ xs)) (λ r. seal_at r after) k) (sym (λ i r. envelopes_are r i)) tenders_after;
       named = securities_stay readings xs t kept x (unnamed (came xs receipt)) (λ s. refl);
       lines = kept.lines;
-      order = order-puts (modify_effect readings.digest t.clock T (Some e) bytes) t kept.order;
+      order = order-puts (modify_puts readings.digest (record { envelope = Some e; notice = None; clock = t.clock }) T bytes) t kept.order;
     }
 
-  by_envelope : (o : Option EnvelopeRow) → envelope_at receipt t ≡ o → first_of (modify_conditions t.clock T caller o (notice_of_envelope o t)) ≡ None
-      → IsKept readings (x ∷ xs) (after_puts (modify_effect readings.digest t.clock T o bytes) t)
+  by_envelope : (o : Option EnvelopeRow) → envelope_at receipt t ≡ o → first_of (modify_tests (record { envelope = o; notice = notice_of_envelope o t; clock = t.clock }) T caller) ≡ None
+      → IsKept readings (x ∷ xs) (after_puts (modify_puts readings.digest (record { envelope = o; notice = None; clock = t.clock }) T bytes) t)
   by_envelope None found allowed =
-      let passes : AllByRecursion (λ (test : Bool × Refusal). test.0 ≡ false) (modify_conditions t.clock T caller None None) = none_holds (modify_conditions t.clock T caller None None) allowed in
+      let passes : AllByRecursion (λ (test : Bool × Refusal). test.0 ≡ false) (modify_tests (record { envelope = None; notice = None; clock = t.clock }) T caller) = none_holds (modify_tests (record { envelope = None; notice = None; clock = t.clock }) T caller) allowed in
       let no : true ≡ false = passes.0 in cc
   by_envelope (Some e) found allowed =
-      let passes : AllByRecursion (λ (test : Bool × Refusal). test.0 ≡ false) (modify_conditions t.clock T caller (Some e) (notice_at e.notice t)) = none_holds (modify_conditions t.clock T caller (Some e) (notice_at e.notice t)) allowed in
+      let passes : AllByRecursion (λ (test : Bool × Refusal). test.0 ≡ false) (modify_tests (record { envelope = Some e; notice = notice_at e.notice t; clock = t.clock }) T caller) = none_holds (modify_tests (record { envelope = Some e; notice = notice_at e.notice t; clock = t.clock }) T caller) allowed in
       modified_kept e found (is_sealed_state e.state passes.1.1.1.0)
 
 pub modify_keeps : (readings : Readings) (receipt : ℕ) (bytes : List ℕ) → Keeps readings (Modify receipt bytes)

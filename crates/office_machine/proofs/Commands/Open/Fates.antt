@@ -20,7 +20,7 @@ use Rattle.office_base.specs.Tables.{Tables, envelope_key, envelope_at, notice_a
 use Rattle.office_base.specs.declared.records.EnvelopeState.TheVariants as envelope
 use Rattle.office_base.specs.declared.records.NoticeState.TheVariants as notice
 use Rattle.office_base.specs.declared.puts.Put.TheVariants as puts
-use Rattle.tender_core.specs.Rules.Open.{is_sealed_envelope, opened_envelope, opened_put, opened_notice, open_conditions, open_effect}
+use Rattle.tender_core.specs.Rules.Open.{is_sealed_envelope, opened_envelope, opened_put, opened_notice, open_tests, open_puts}
 use Rattle.office_machine.specs.Machine.{Given}
 use Rattle.office_machine.specs.Readings.{Readings}
 use Rattle.office_machine.specs.Rule.{sealed_tender, sealed_tenders}
@@ -58,7 +58,7 @@ module _ (readings : Readings) (name : List ℕ) (xs : List Given) (t : Tables) 
     after =
         after_puts (puts.Notice (opened_notice T n) ∷ clock_put t.clock T ∷ []) (record t { envelopes = rows_put nat_cmp envelope_key t.envelopes opened_rows })
 
-    after_is : after_puts (open_effect readings.read t.clock T (Some n) (sealed_tenders name t)) t ≡ after
+    after_is : after_puts (open_puts readings.read (record { notice = Some n; clock = t.clock }) T (sealed_tenders name t)) t ≡ after
     after_is =
         after-append (map (opened_put readings.read) (sealed_tenders name t)) (puts.Notice (opened_notice T n) ∷ clock_put t.clock T ∷ []) t
         ∙ ap (after_puts (puts.Notice (opened_notice T n) ∷ clock_put t.clock T ∷ []))
@@ -142,10 +142,10 @@ module _ (readings : Readings) (name : List ℕ) (xs : List Given) (t : Tables) 
         (order-puts (puts.Notice (opened_notice T n) ∷ clock_put t.clock T ∷ []) (record t { envelopes = rows_put nat_cmp envelope_key t.envelopes opened_rows })
         (subst (λ (u : Tables). Rattle.office_machine.proofs.FateLaws.Seen.AreInOrder u) (after_envelopes open_row (filter test t.envelopes) t) (order-puts (map (λ e. puts.Envelope (open_row e)) (filter test t.envelopes)) t kept.order)))
 
-  by_notice : (o : Option NoticeRow) → notice_at name t ≡ o → first_of (open_conditions T o) ≡ None
-      → IsKept readings (x ∷ xs) (after_puts (open_effect readings.read t.clock T o (sealed_tenders name t)) t)
+  by_notice : (o : Option NoticeRow) → notice_at name t ≡ o → first_of (open_tests (record { notice = o; clock = t.clock }) T) ≡ None
+      → IsKept readings (x ∷ xs) (after_puts (open_puts readings.read (record { notice = o; clock = t.clock }) T (sealed_tenders name t)) t)
   by_notice None found allowed =
-      let passes : AllByRecursion (λ (test : Bool × Refusal). test.0 ≡ false) (open_conditions T None) = none_holds (open_conditions T None) allowed in
+      let passes : AllByRecursion (λ (test : Bool × Refusal). test.0 ≡ false) (open_tests (record { notice = None; clock = t.clock }) T) = none_holds (open_tests (record { notice = None; clock = t.clock }) T) allowed in
       let no : true ≡ false = passes.0 in cc
   by_notice (Some n) found allowed = subst (IsKept readings (x ∷ xs)) (sym (after_is n found)) (opened_kept n found)
 

@@ -22,7 +22,7 @@ use Rattle.office_base.specs.declared.records.LotState.{LotState}
 use Rattle.office_base.specs.declared.puts.Put.{Put}
 use Rattle.office_base.specs.States.{is_cancelled, is_opened}
 use Rattle.office_base.specs.RuleParts.{is_in_time}
-use Rattle.tender_core.specs.Rules.Present.{received, security_row, received_puts, present_conditions}
+use Rattle.tender_core.specs.Rules.Present.{received, security_row, received_puts, present_tests}
 use Rattle.office_machine.specs.Machine.{Given}
 use Rattle.office_machine.specs.Readings.{Readings}
 use Rattle.office_machine.specs.Fates.{presented, came, brought, tender_decided, fate_after, fate_of_tender, first_state, security_received, security_decided, security_after, fate_of_security, is_kept}
@@ -360,7 +360,7 @@ module _ (readings : Readings) (name lot_name : List ℕ) (bytes : List ℕ) (xs
 pub present_keeps : (readings : Readings) (notice lot : List ℕ) (security : Option NamedSecurity) (bytes : List ℕ)
     → Keeps readings (Present notice lot security bytes)
 present_keeps readings name lot_name sec bytes xs t m caller kept _ allowed =
-    let tests = present_conditions t.clock (max m t.clock.moment) caller (notice_at name t) (lot_at (name, lot_name) t) (envelopes_of_lot name lot_name t) sec in
+    let tests = present_tests (record { notice = notice_at name t; lot = (lot_at (name, lot_name) t); envelopes = envelopes_of_lot name lot_name t; clock = t.clock }) (max m t.clock.moment) caller sec in
     let passes : AllByRecursion (λ (test : Bool × Refusal). test.0 ≡ false) tests = none_holds tests allowed in
     presented_kept readings name lot_name bytes xs t m caller kept (not_false (is_some (notice_at name t)) passes.0) (not_false (is_some (lot_at (name, lot_name) t)) passes.1.0) passes.1.1.0 sec
     (holds_of (is_in_time (max m t.clock.moment)) (notice_at name t)) refl

@@ -23,7 +23,7 @@ use Rattle.office_base.specs.declared.records.NoticeState.TheVariants as notice
 use Rattle.office_base.specs.declared.records.NoticeState.{NoticeState}
 use Rattle.office_base.specs.declared.puts.Put.TheVariants as puts
 use Rattle.office_base.specs.declared.puts.Put.{Put}
-use Rattle.tender_core.specs.Rules.Publish.{is_on_no_line, publish_conditions, publish_effect, line_row, line_put, lot_row, lot_put, notice_row, notice_put, publish_parts, late_puts}
+use Rattle.tender_core.specs.Rules.Publish.{is_on_no_line, line_row, line_put, lot_row, lot_put, notice_row, notice_put, publish_parts, late_puts, publish_puts, publish_rows, publish_tests}
 use Rattle.office_base.specs.Tables.{Tables, lot_cmp, line_key, lot_key, notice_key, find_line, put_notice, envelope_at, seal_at, security_at, lot_at, notice_at, after_puts}
 use Rattle.office_machine.specs.Machine.{Given}
 use Rattle.office_machine.specs.Readings.{Readings}
@@ -168,7 +168,7 @@ module _ (readings : Readings) (name : List ℕ) (content : NewNotice) (xs : Lis
   late_quiet Refused u = tt
   late_quiet Forfeits u = (tt, tt)
 
-  published_kept : IsKept readings (x ∷ xs) (after_puts (publish_effect t.clock T name t.lines content) t)
+  published_kept : IsKept readings (x ∷ xs) (after_puts (publish_puts (record { notice = None; lines = t.lines; clock = t.clock }) T name content) t)
   published_kept =
       subst (IsKept readings (x ∷ xs)) (sym (after-append ps (late_puts name content.late_withdrawal) t))
       (kept_after readings (x ∷ xs) (late_puts name content.late_withdrawal) (after_puts ps t) (late_quiet content.late_withdrawal (after_puts ps t))
@@ -176,6 +176,6 @@ module _ (readings : Readings) (name : List ℕ) (content : NewNotice) (xs : Lis
 
 pub publish_keeps : (readings : Readings) (notice : List ℕ) (content : NewNotice) → Keeps readings (Publish notice content)
 publish_keeps readings name content xs t m caller kept _ allowed =
-    let tests = publish_conditions t.lines (is_some (notice_at name t)) (max m t.clock.moment) content in
+    let tests = publish_tests (publish_rows t name) (max m t.clock.moment) content in
     let passes : AllByRecursion (λ (test : Bool × Refusal). test.0 ≡ false) tests = none_holds tests allowed in
     published_kept readings name content xs t m caller kept passes.0 passes.1.0

@@ -32,7 +32,7 @@ use Rattle.office_base.specs.States.{is_open, is_active}
 use Rattle.office_base.specs.declared.records.LotState.{LotState}
 use Rattle.office_base.specs.declared.records.LotState.TheVariants as lot_states
 use Rattle.award_core.specs.Rules.Fail.{isnt_active}
-use Rattle.award_core.specs.Rules.Sign.{signed_award, contracted_lot, contract_row, tenderer_in, sign_effect, performance_put}
+use Rattle.award_core.specs.Rules.Sign.{signed_award, contracted_lot, contract_row, tenderer_in, performance_put, sign_puts}
 use Rattle.office_base.specs.declared.records.AwardState.TheVariants as award_states
 use Rattle.office_machine.proofs.Accounts.LotChanged.{joined, reserved_after, lots_are, awards_are, one_active, award_of}
 use Rattle.office_machine.proofs.Accounts.Joins.{over_contracts-new}
@@ -192,8 +192,8 @@ module _ (readings : Readings) (xs : List Given) (s : Tables) (moment : ℕ) (ca
       no_contract = no_contract;
     }
 
-    effect_is : sign_effect s.clock (time_of x) (Some w) (Some n) (Some l) (envelope_of_award (award_at a s) s) (securities_of_award (award_at a s) s) named ≡ effect readings x
-    effect_is = λ i. sign_effect s.clock (time_of x) (sym is i) (sym (ap (λ o. notice_of_award o s) is ∙ notice) i) (sym (ap (λ o. lot_of_award o s) is ∙ lot) i) (envelope_of_award (award_at a s) s) (securities_of_award (award_at a s) s) named
+    effect_is : sign_puts (record { award = Some w; notice = Some n; lot = Some l; envelope = (envelope_of_award (award_at a s) s); securities = (securities_of_award (award_at a s) s); clock = s.clock }) (time_of x) named ≡ effect readings x
+    effect_is = λ i. sign_puts (record { award = sym is i; notice = (sym (ap (λ o. notice_of_award o s) is ∙ notice) i); lot = (sym (ap (λ o. lot_of_award o s) is ∙ lot) i); envelope = (envelope_of_award (award_at a s) s); securities = (securities_of_award (award_at a s) s); clock = s.clock }) (time_of x) named
 
     keeps : IsKept (x ∷ xs) (after_puts (effect readings x) s)
     keeps = subst (λ ps. IsKept (x ∷ xs) (after_puts ps s)) effect_is

@@ -20,7 +20,7 @@ use Rattle.office_base.specs.declared.puts.Put.TheVariants as puts
 use Rattle.office_base.specs.declared.puts.Put.{Put}
 use Rattle.office_base.specs.Rules.{first_of}
 use Rattle.office_base.specs.RuleParts.{clock_put, released, is_held_security, security_returned, returned, put_if}
-use Rattle.award_core.specs.Rules.Sign.{signed_award, contracted_lot, contract_row, tenderer_in, sign_conditions, sign_effect, sign_parts, performance_put}
+use Rattle.award_core.specs.Rules.Sign.{signed_award, contracted_lot, contract_row, tenderer_in, sign_parts, performance_put, sign_tests, sign_puts}
 use Rattle.office_base.specs.Tables.{Tables, award_key, security_key, award_at, lot_at, notice_at, envelope_at, securities_of_lot, after_puts}
 use Rattle.office_base.specs.Parents.{notice_of_award, lot_of_award, envelope_of_award, securities_of_award}
 use Rattle.office_machine.specs.Machine.{Given}
@@ -117,22 +117,22 @@ module _ (readings : Readings) (number : ℕ) (named : Option NamedSecurity) (xs
         subst (IsKept readings (x ∷ xs)) (sym (after-append ps (put_if (performance_put w) named) t))
         (kept_after readings (x ∷ xs) (put_if (performance_put w) named) (after_puts ps t) (performance_quiet named (after_puts ps t)) (subst (IsKept readings (x ∷ xs)) (sym after_is) after_kept))
 
-  sign_kept : IsKept readings (x ∷ xs) (after_puts (sign_effect t.clock T (Some w) (notice_at w.notice t) (lot_at (w.notice, w.lot) t) (envelope_at w.receipt t) (securities_of_lot w.notice w.lot t) named) t)
+  sign_kept : IsKept readings (x ∷ xs) (after_puts (sign_puts (record { award = Some w; notice = notice_at w.notice t; lot = (lot_at (w.notice, w.lot) t); envelope = envelope_at w.receipt t; securities = securities_of_lot w.notice w.lot t; clock = t.clock }) T named) t)
   sign_kept =
       rows_there readings number xs t m caller kept w found active
-      (λ n l o. IsKept readings (x ∷ xs) (after_puts (sign_effect t.clock T (Some w) n l o (securities_of_lot w.notice w.lot t) named) t))
+      (λ n l o. IsKept readings (x ∷ xs) (after_puts (sign_puts (record { award = Some w; notice = n; lot = l; envelope = o; securities = securities_of_lot w.notice w.lot t; clock = t.clock }) T named) t))
       (λ n n_is l l_is. signed_kept n n_is l l_is fits.tender)
 
 sign_by : (readings : Readings) (number : ℕ) (named : Option NamedSecurity) (xs : List Given) (t : Tables) (m : ℕ) (caller : Caller) (kept : IsKept readings xs t) (o : Option AwardRow)
     → award_at number t ≡ o
-    → first_of (sign_conditions (max m t.clock.moment) o (notice_of_award o t) named) ≡ None
+    → first_of (sign_tests (record { award = o; notice = notice_of_award o t; lot = None; envelope = None; securities = []; clock = t.clock }) (max m t.clock.moment) named) ≡ None
     → IsKept readings (given t m caller (Sign number named) ∷ xs)
-    (after_puts (sign_effect t.clock (max m t.clock.moment) o (notice_of_award o t) (lot_of_award o t) (envelope_of_award o t) (securities_of_award o t) named) t)
+    (after_puts (sign_puts (record { award = o; notice = notice_of_award o t; lot = lot_of_award o t; envelope = envelope_of_award o t; securities = securities_of_award o t; clock = t.clock }) (max m t.clock.moment) named) t)
 sign_by readings number named xs t m caller kept None found allowed =
-    let passes : AllByRecursion (λ (test : Bool × Refusal). test.0 ≡ false) (sign_conditions (max m t.clock.moment) None None named) = none_holds (sign_conditions (max m t.clock.moment) None None named) allowed in
+    let passes : AllByRecursion (λ (test : Bool × Refusal). test.0 ≡ false) (sign_tests (record { award = None; notice = None; lot = None; envelope = None; securities = []; clock = t.clock }) (max m t.clock.moment) named) = none_holds (sign_tests (record { award = None; notice = None; lot = None; envelope = None; securities = []; clock = t.clock }) (max m t.clock.moment) named) allowed in
     let no : true ≡ false = passes.0 in absurd cc
 sign_by readings number named xs t m caller kept (Some w) found allowed =
-    let tests = sign_conditions (max m t.clock.moment) (Some w) (notice_at w.notice t) named in
+    let tests = sign_tests (record { award = Some w; notice = notice_at w.notice t; lot = None; envelope = None; securities = []; clock = t.clock }) (max m t.clock.moment) named in
     let passes : AllByRecursion (λ (test : Bool × Refusal). test.0 ≡ false) tests = none_holds tests allowed in
     sign_kept readings number named xs t m caller kept w found (active_state w.state passes.1.1.1.1.0)
 

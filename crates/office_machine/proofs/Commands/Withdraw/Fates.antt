@@ -21,7 +21,7 @@ use Rattle.office_base.specs.States.{is_sealed, is_held}
 use Rattle.office_base.specs.Rules.{first_of}
 use Rattle.office_base.specs.RuleParts.{is_past_deadline, passed_over, settled}
 use Rattle.tender_core.specs.Rules.Modify.{withdrawn}
-use Rattle.tender_core.specs.Rules.Withdraw.{withdraw_conditions, withdraw_effect, taken_back_puts, cant_be_taken_back}
+use Rattle.tender_core.specs.Rules.Withdraw.{taken_back_puts, cant_be_taken_back, withdraw_tests, withdraw_puts}
 use Rattle.office_base.specs.Tables.{Tables, envelope_key, seal_key, envelope_at, seal_at, security_at, notice_at, find_envelope, find_security, find_seal, put_envelope, put_security, after_puts}
 use Rattle.office_base.specs.Parents.{notice_of_envelope, lot_of_envelope, security_of_envelope, late_of_envelope}
 use Rattle.office_machine.specs.Machine.{Given}
@@ -242,14 +242,14 @@ module _ (readings : Readings) (receipt : ℕ) (xs : List Given) (t : Tables) (m
     taken_back_kept None false is allowed sealed = early_kept is (sealed refl)
 
   by_envelope : (o : Option EnvelopeRow) → envelope_at receipt t ≡ o
-      → first_of (withdraw_conditions T caller o (notice_of_envelope o t) (lot_of_envelope o t) (late_of_envelope o t)) ≡ None
-      → IsKept readings (x ∷ xs) (after_puts (withdraw_effect t.clock T o (notice_of_envelope o t) (late_of_envelope o t) (security_of_envelope o t)) t)
+      → first_of (withdraw_tests (record { envelope = o; notice = notice_of_envelope o t; lot = lot_of_envelope o t; late = late_of_envelope o t; security = None; clock = t.clock }) T caller) ≡ None
+      → IsKept readings (x ∷ xs) (after_puts (withdraw_puts (record { envelope = o; notice = notice_of_envelope o t; lot = None; late = late_of_envelope o t; security = security_of_envelope o t; clock = t.clock }) T) t)
   by_envelope None found allowed =
-      let tests = withdraw_conditions T caller None None None None in
+      let tests = withdraw_tests (record { envelope = None; notice = None; lot = None; late = None; security = None; clock = t.clock }) T caller in
       let passes : AllByRecursion (λ (test : Bool × Refusal). test.0 ≡ false) tests = none_holds tests allowed in
       let no : true ≡ false = passes.0 in absurd cc
   by_envelope (Some e) found allowed =
-      let tests = withdraw_conditions T caller (Some e) (notice_at e.notice t) (lot_of_envelope (Some e) t) (late_of_envelope (Some e) t) in
+      let tests = withdraw_tests (record { envelope = Some e; notice = notice_at e.notice t; lot = (lot_of_envelope (Some e) t); late = (late_of_envelope (Some e) t); security = None; clock = t.clock }) T caller in
       let passes : AllByRecursion (λ (test : Bool × Refusal). test.0 ≡ false) tests = none_holds tests allowed in
       taken_back_kept e found (late_of_envelope (Some e) t) (holds_of (is_past_deadline T) (notice_at e.notice t)) refl passes.1.1.0
       (λ early. is_sealed_state e.state (sym (ap (λ b. cant_be_taken_back b e) early) ∙ passes.1.1.1.0))
