@@ -22,7 +22,8 @@ use Rattle.office_machine.specs.Moves.{moves, line_in, raised_by, cut_by, move_o
 use Rattle.office_acts.specs.declared.commands.Command.TheVariants as commands
 use Rattle.office_base.specs.declared.puts.Put.TheVariants as puts
 use Rattle.office_machine.proofs.Aside.{kept_aside}
-use Rattle.office_machine.proofs.Keyed.{found_key, found, still_there}
+use Rattle.office_machine.proofs.Keyed.{found, still_there}
+use Rattle.office_base.proofs.RowLaws.Keyed.{found_key}
 use Rattle.office_machine.proofs.Keyed as keyed
 use Rattle.office_machine.proofs.Kept.{IsKept, PotsAre, ContractIs, over_contracts}
 use Rattle.office_machine.proofs.Joins.{outstanding-own, free-replaced}

@@ -23,7 +23,8 @@ use Rattle.office_acts.specs.declared.commands.Command.TheVariants as commands
 use Rattle.office_base.specs.declared.puts.Put.TheVariants as puts
 use Rattle.office_machine.proofs.Aside.{kept_aside, aside-if}
 use Rattle.office_base.proofs.ExactKeys.{other_keys}
-use Rattle.office_machine.proofs.Keyed.{found_key, found, still_there, none_before, own_key}
+use Rattle.office_machine.proofs.Keyed.{found, still_there, none_before}
+use Rattle.office_base.proofs.RowLaws.Keyed.{found_key, own_key}
 use Rattle.office_machine.proofs.Keyed as keyed
 use Rattle.office_machine.proofs.Kept.{IsKept, PotsAre, ContractIs, NoContractIs, over_contracts}
 use Rattle.office_machine.proofs.Joins.{outstanding-own, over_contracts-replaced, free-replaced}

@@ -1,8 +1,6 @@
-pub mod Filtered
 pub mod RowsPut
 pub mod Passed
 pub mod Keyed
-pub mod Lists
 pub mod Mapped
 pub mod ImportedColumns
 pub mod PublishedRows

@@ -27,7 +27,9 @@ use Rattle.office_machine.specs.Readings.{Readings}
 use Rattle.office_machine.specs.Rule.{sealed_tender, sealed_tenders}
 use Rattle.office_machine.specs.Fates.{is_of_notice, is_kept}
 use Rattle.office_machine.proofs.Passed.{none_holds}
-use Rattle.office_machine.proofs.RowsChanged.{rows_put, changed, filter_filter, found_key, row_at-changed, row_at-changed_put}
+use Rattle.office_machine.proofs.RowsChanged.{rows_put, changed, row_at-changed, row_at-changed_put}
+use Rattle.office_base.proofs.RowLaws.Filters.{filter_filter}
+use Rattle.office_base.proofs.RowLaws.Keyed.{found_key}
 use Rattle.office_machine.proofs.Views.{Change, after_change}
 use Rattle.office_machine.proofs.Steps.{choose, cond_keeps, both_true, opening, fair_opening, examination, fair_examination}
 use Rattle.office_machine.proofs.Seen.{seen, alike, order-puts, after-append, after_envelopes}
@@ -35,6 +37,7 @@ use Rattle.office_machine.proofs.FatesHold.{IsKept, Keeps, given, still_sealed, 
 use Rattle.office_machine.proofs.QuietFates.{one_more}
 use Rattle.office_machine.proofs.FatesChanged.{kept_by_change}
 use Rattle.office_machine.proofs.States.{map_same, notices_put, same_id_key, sealed_state, map_map}
+use Rattle.office_machine.proofs.Keyed as keyed
 
 module _ (readings : Readings) (name : List ℕ) (xs : List Given) (t : Tables) (m : ℕ) (caller : Caller) (kept : IsKept readings xs t) where
   abbrev T : ℕ
@@ -179,7 +182,7 @@ module _ (readings : Readings) (receipt : ℕ) (responsive : Bool) (quality : Op
           none = refl;
           seen_is =
               alike (seen after_examine) (after_change examine_change (seen t))
-              (λ r. row_at-changed_put nat_cmp_total nat_cmp-IsAntisymmetric envelope_key (examined responsive quality) t.envelopes receipt r e found (found_key nat_cmp_total nat_cmp-IsAntisymmetric envelope_key t.envelopes receipt e found))
+              (λ r. row_at-changed_put nat_cmp_total nat_cmp-IsAntisymmetric envelope_key (examined responsive quality) t.envelopes receipt r e found (found_key keyed.envelopes t.envelopes receipt e found))
               (λ s. map_same ((seen t).security_at s)) (λ a. map_same ((seen t).award_at a)) (λ k. map_same ((seen t).lot_at k)) (λ n. map_same ((seen t).notice_at n));
           receipts_are = refl;
           e_keeps = record {

@@ -58,7 +58,8 @@ use Rattle.office_base.specs.declared.records.CompiledRow.{CompiledRow}
 use Rattle.office_machine.specs.Parents.{LotHas, EnvelopeHas, SecurityHas, AwardHas, HaveParents, ParentsAreThere}
 use Rattle.office_machine.proofs.Aside.{after-append}
 use Rattle.award_core.proofs.BestFound.{best_is_found}
-use Rattle.office_machine.proofs.Keyed.{found_put, found_key, all_found}
+use Rattle.office_machine.proofs.Keyed.{found_put, all_found}
+use Rattle.office_base.proofs.RowLaws.Keyed.{found_key}
 use Rattle.office_machine.proofs.Keyed as keyed
 use Rattle.office_machine.proofs.ParentsPut.{Grows, grows-puts, Parents, AllParents, lot_still, envelope_still, security_still, award_still, contract_still, parents_after, parents-append, parents-map, parents-if, parents-all, all-filter, all-table}
 use Rattle.office_machine.proofs.Runs.{along}

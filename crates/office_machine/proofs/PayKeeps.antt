@@ -19,7 +19,7 @@ use Rattle.office_machine.specs.Moves.{moves, line_in}
 use Rattle.office_acts.specs.declared.commands.Command.TheVariants as commands
 use Rattle.office_base.specs.declared.puts.Put.TheVariants as puts
 use Rattle.office_machine.proofs.Aside.{kept_aside}
-use Rattle.office_machine.proofs.Keyed.{found_key}
+use Rattle.office_base.proofs.RowLaws.Keyed.{found_key}
 use Rattle.office_machine.proofs.Keyed as keyed
 use Rattle.office_machine.proofs.Kept.{IsKept, PotsAre, ContractIs}
 use Rattle.office_machine.proofs.Joins.{outstanding-own}

@@ -24,7 +24,7 @@ use Rattle.office_base.proofs.ExactKeys.{equal_ids}
 use Rattle.office_machine.proofs.Reached.{steps_reach}
 use Rattle.office_machine.proofs.FatesKept.{all_kept}
 use Rattle.office_machine.proofs.NextReceipt.{no_envelope_yet, nothing_yet}
-use Rattle.office_machine.proofs.Keyed.{each_found}
+use Rattle.office_base.proofs.RowLaws.Found.{each_found}
 use Rattle.office_machine.proofs.Keyed as keyed
 use Rattle.office_machine.proofs.Seen.{after-append}
 use Rattle.office_machine.proofs.SortedTables.{sorted}

@@ -19,7 +19,7 @@ use Rattle.award_core.specs.Rules.End.{ended_state}
 use Rattle.office_machine.specs.Counted.{releases_in}
 use Rattle.office_machine.proofs.Aside.{after-append}
 use Rattle.office_machine.proofs.Footprint.{TableName, Notices, Releases, Merges, Performances, Clock, AreOn, on-map, on-if, leaves}
-use Rattle.office_machine.proofs.Keyed.{found_key}
+use Rattle.office_base.proofs.RowLaws.Keyed.{found_key}
 use Rattle.office_machine.proofs.Keyed as keyed
 
 -- a command's own rows: no notice, no release, no merge, no performance security, and not the clock

@@ -18,7 +18,7 @@ use Rattle.office_machine.specs.Requests.{Demand, Asks, Looks, Request, asked, j
 use Rattle.office_machine.specs.Sights.{Packages}
 use Rattle.office_machine.specs.Seals.{PublishesBlindly, SeesBlindly, SameButSeals, AlikeThroughout, bytes_of, is_gone, DifferingAreGone, WholeRunsAreAlike}
 use Rattle.office_machine.proofs.FatesKept.{all_kept}
-use Rattle.office_machine.proofs.Keyed.{each_found}
+use Rattle.office_base.proofs.RowLaws.Found.{each_found}
 use Rattle.office_machine.proofs.Keyed as keyed
 use Rattle.office_machine.proofs.NextReceipt.{came_old}
 use Rattle.office_machine.proofs.SortedTables.{sorted}
