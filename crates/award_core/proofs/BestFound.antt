@@ -6,8 +6,9 @@ use Rattle.std.specs.Cmp.{nat_cmp_total, tied_itself}
 use Rattle.std.proofs.lemmas.Bool.Decides.{nat_tests}
 use Rattle.office_base.specs.declared.records.EnvelopeRow.{EnvelopeRow}
 use Rattle.std.specs.declared.cmp.Ordering.TheVariants.{Less, Equal}
-use Rattle.office_base.specs.Rows.{StartsAbove, IsInOrder}
+use Rattle.office_base.specs.Rows.{IsInOrder}
 use Rattle.office_base.specs.Tables.{envelope_key}
+use Rattle.office_base.proofs.RowLaws.Starts.{all_above}
 use Rattle.award_core.specs.Rules.Award.{is_admissible, price_of, lesser, lowest_price, points, is_better, better, best_with, best_of}
 use Rattle.award_core.specs.Best.{lowest_in, IsBest, IsLowest, NoneIsAdmissible, IsAnswer, IsLowestAnswer, receipt_in, IsBestReceipt, BestIsFound}
 
@@ -160,12 +161,6 @@ of_one P [] k e all lt is = absurd (let none : k < 0 = lt in omega arith)
 of_one P (f ∷ rows) zero e all lt is = subst P is all.0
 of_one P (f ∷ rows) (suc k) e all lt is = of_one P rows k e all.1 (omega arith) is
 
--- each row stands above the start
-all_above : (k : ℕ) (rows : List EnvelopeRow) → StartsAbove nat_cmp envelope_key k rows → IsInOrder nat_cmp envelope_key rows → AllByRecursion (λ (f : EnvelopeRow). nat_cmp k f.receipt ≡ Less) rows
-all_above k [] start order = tt
-all_above k (x ∷ []) start order = (start, tt)
-all_above k (x ∷ y ∷ rows) start order = (start, all_above k (y ∷ rows) (nat_cmp_total.trans k x.receipt y.receipt start order.0) order.1)
-
 not_below_itself : (m n : ℕ) → m ≡ n → nat_cmp m n ≡ Less → ⊥
 not_below_itself m n same below = let tied : Less ≡ Equal = sym below ∙ (ap (nat_cmp m) (sym same) ∙ tied_itself nat_cmp_total m) in cc
 
@@ -174,9 +169,9 @@ same_row : (rows : List EnvelopeRow) (j k : ℕ) (e f : EnvelopeRow) → IsInOrd
 same_row [] j k e f order lt is lt' is' same = absurd (let none : j < 0 = lt in omega arith)
 same_row (x ∷ rows) zero zero e f order lt is lt' is' same = sym is ∙ is'
 same_row (x ∷ rows) zero (suc k) e f order lt is lt' is' same =
-    absurd (not_below_itself x.receipt f.receipt (ap (λ (g : EnvelopeRow). g.receipt) is ∙ same) (of_one (λ (g : EnvelopeRow). nat_cmp x.receipt g.receipt ≡ Less) rows k f (all_above x.receipt rows order.0 order.1) (omega arith) is'))
+    absurd (not_below_itself x.receipt f.receipt (ap (λ (g : EnvelopeRow). g.receipt) is ∙ same) (of_one (λ (g : EnvelopeRow). nat_cmp x.receipt g.receipt ≡ Less) rows k f (all_above nat_cmp_total envelope_key x.receipt rows order.0 order.1) (omega arith) is'))
 same_row (x ∷ rows) (suc j) zero e f order lt is lt' is' same =
-    absurd (not_below_itself x.receipt e.receipt (ap (λ (g : EnvelopeRow). g.receipt) is' ∙ sym same) (of_one (λ (g : EnvelopeRow). nat_cmp x.receipt g.receipt ≡ Less) rows j e (all_above x.receipt rows order.0 order.1) (omega arith) is))
+    absurd (not_below_itself x.receipt e.receipt (ap (λ (g : EnvelopeRow). g.receipt) is' ∙ sym same) (of_one (λ (g : EnvelopeRow). nat_cmp x.receipt g.receipt ≡ Less) rows j e (all_above nat_cmp_total envelope_key x.receipt rows order.0 order.1) (omega arith) is))
 same_row (x ∷ rows) (suc j) (suc k) e f order lt is lt' is' same = same_row rows j k e f order.1 (omega arith) is (omega arith) is' same
 
 is_only : (weight : ℕ) (rows : List EnvelopeRow) (e f : EnvelopeRow) → IsInOrder nat_cmp envelope_key rows → IsBest weight rows e → IsBest weight rows f → e ≡ f

@@ -16,3 +16,4 @@ pub mod row;
 pub mod rows;
 pub mod shelf;
 pub mod standing;
+pub mod stored;

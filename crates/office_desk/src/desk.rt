@@ -11,7 +11,7 @@ ghost use Rattle.office_publications.specs.Publishing.{publishing};
 ghost use Rattle.office_machine.specs.Machine.{Given, IsRegistered, Reaches};
 ghost use Rattle.office_values.specs.declared.settings.Settings.{Settings as SettingsOf};
 ghost use Rattle.office_plans.specs.Asking.{given};
-ghost use Rattle.stored_shelf.specs.Shutting.{TellsShut};
+ghost use Rattle.office_base.specs.Shutting.{TellsShut};
 ghost use Rattle.office_desk.specs.Callers.{caller_of, names_no_tenderer};
 ghost use Rattle.office_desk.specs.Steps.{Does, IsPlan, IsPlanned, IsAnswered, IsSeen, Joins, read_text};
 
@@ -22,6 +22,7 @@ use office_acts::command::{Caller, may, may_look};
 use office_acts::commands::Command;
 use office_acts::queries::Query;
 use office_base::shelf::{Lookups, Shelf, ShelfFault};
+use office_base::stored::StoredShelf;
 use office_machine::{fates, laws};
 use office_plans::planned::Planned;
 use office_publications::laws::keeping;
@@ -30,7 +31,6 @@ use office_values::refusal::Refusal;
 use office_values::settings::Settings;
 use std::alloc::Global;
 use std::marker::Model;
-use stored_shelf::stored::StoredShelf;
 use tender_core::asking::Asking;
 
 /// A desk: it answers commands and queries from what a shelf holds.

@@ -5,7 +5,7 @@ ghost use Rattle.office_machine.specs.Machine.{Given, Reaches};
 ghost use Rattle.office_publications.specs.Keeping.{KeepsReleases};
 ghost use Rattle.office_publications.specs.Publishing.{publishing};
 ghost use Rattle.office_publications.specs.Standing.{Stands};
-ghost use Rattle.stored_shelf.specs.Shutting.{TellsShut};
+ghost use Rattle.office_base.specs.Shutting.{TellsShut};
 ghost use Rattle.office_desk.specs.Steps.{IsKept};
 ghost use Rattle.office_wire.specs.Counting.{HasStopped};
 ghost use Rattle.office_wire.specs.Runs.{Step, Ran, Served, office_left};
@@ -16,6 +16,7 @@ ghost use Rattle.office_http.specs.Stops.{StopsBy, StopsOnce};
 use crate::answering::{answer_request, fault_response};
 use crate::laws;
 use office_base::shelf::{Lookups, Shelf, ShelfFault};
+use office_base::stored::StoredShelf;
 use office_desk::desk::Desk;
 use office_requests::routes::Routes;
 use office_values::moment::Moment;
@@ -29,7 +30,6 @@ use office_wire::watched::WatchedWriter;
 use std::alloc::{AllocError, Global};
 use std::io::{BufRead, Write};
 use std::marker::Model;
-use stored_shelf::stored::StoredShelf;
 
 /// An office that is asked over HTTP: its desk, and the table of its routes.
 pub struct Office<H: Shelf + Drop> {

@@ -4,6 +4,7 @@ use Rattle.std.proofs.Common.{refl, ap, ◌∙◌}
 use Rattle.std.specs.Ordering.{nat_cmp, is_eq}
 use Rattle.std.specs.Cmp.{tied_itself, nat_cmp_total}
 use Rattle.office_base.specs.Rows.{StartsAbove, IsInOrder}
+use Rattle.office_base.specs.EntrySums.{bare_sums, sums_with_entry, sums_with_entries}
 use Rattle.office_base.specs.Tables.{Tables, contract_key, same_number, entries_of_contract}
 use Rattle.office_base.specs.Joined.{sums_of}
 use Rattle.office_base.specs.declared.ledger.ContractSums.{ContractSums}
@@ -14,7 +15,7 @@ use Rattle.office_ledger.specs.Inside.Adding.{opened, with_sums, settle, settled
 use Rattle.office_ledger.specs.declared.joined.JoinedEntry.{JoinedEntry}
 use Rattle.office_ledger.specs.declared.line_sums.OpenContract.{OpenContract}
 use Rattle.office_ledger.specs.declared.line_sums.LineSums.{LineSums}
-use Rattle.office_ledger.proofs.Entries.{bare_sums, with_entries, sums_are}
+use Rattle.office_base.proofs.EntrySums.{sums_are}
 use Rattle.office_ledger.proofs.Taken.{grouped}
 
 pub same_itself : (n : ℕ) → same_number n n ≡ true
@@ -44,9 +45,9 @@ module _ (t : Tables) (c : ContractRow) where
   open_with sums = record { contract = c.contract; sums = sums }
 
   entries_taken : (es : List EntryRow) (s : LineSums) (sums : ContractSums)
-      → takes take_entry (map entry_part es) (record s { contract = Some (open_with sums) }) ≡ record s { contract = Some (open_with (with_entries sums es)) }
+      → takes take_entry (map entry_part es) (record s { contract = Some (open_with sums) }) ≡ record s { contract = Some (open_with (sums_with_entries sums es)) }
   entries_taken [] s sums = refl
-  entries_taken (e ∷ es) s sums = entries_taken es s (Rattle.office_ledger.specs.Inside.Adding.with_kind e.kind e.amount sums)
+  entries_taken (e ∷ es) s sums = entries_taken es s (sums_with_entry e.kind e.amount sums)
 
   -- the sums once its rows have come
   abbrev pub contract_done : LineSums → LineSums
@@ -58,7 +59,7 @@ module _ (t : Tables) (c : ContractRow) where
       (map entry_part (entries_of_contract c.contract t)) s
       ∙ ap (λ b. takes take_entry (map entry_part (entries_of_contract c.contract t)) (cond b s (record (settled s) { contract = Some (open_with (bare_sums c)) }))) new
       ∙ entries_taken (entries_of_contract c.contract t) (settled s) (bare_sums c)
-      ∙ ap (λ sums. record (settled s) { contract = Some (open_with sums) }) (sums_are t c)
+      ∙ ap (λ sums. record (settled s) { contract = Some (open_with sums) }) (sums_are t.entries c)
 
 -- several contracts, in the order of their numbers
 module _ (t : Tables) where

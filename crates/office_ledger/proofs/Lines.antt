@@ -26,7 +26,9 @@ use Rattle.office_ledger.specs.declared.joined.JoinedLot.{JoinedLot}
 use Rattle.office_ledger.specs.declared.joined.JoinedRow.{JoinedRow}
 use Rattle.office_ledger.specs.declared.ledger_sums.OpenLine.{OpenLine}
 use Rattle.office_ledger.specs.declared.line_sums.LineSums.{LineSums}
-use Rattle.office_ledger.proofs.Lots.{lots_total, in_order-filter, lots_sums, lots_taken, reserved_are, outstanding_are, overdrawn_are, paid_are}
+use Rattle.office_base.proofs.Orders.{lots_total}
+use Rattle.office_base.proofs.RowLaws.Filters.{in_order-filter}
+use Rattle.office_ledger.proofs.Lots.{lots_sums, lots_taken, reserved_are, outstanding_are, overdrawn_are, paid_are}
 use Rattle.office_ledger.proofs.Taken.{takes-append, takes-flat_map, grouped}
 
 same_itself : (a : List ℕ) → same_id a a ≡ true

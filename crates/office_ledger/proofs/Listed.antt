@@ -5,6 +5,7 @@ use Rattle.std.proofs.lemmas.List.{append_assoc}
 use Rattle.std.specs.Ordering.{nat_cmp, is_eq}
 use Rattle.std.specs.Cmp.{nat_cmp_total}
 use Rattle.office_base.specs.Rows.{StartsAbove, IsInOrder}
+use Rattle.office_base.specs.EntrySums.{bare_sums, sums_with_entry, sums_with_entries}
 use Rattle.office_base.specs.Tables.{Tables, IsSorted, lot_cmp, lot_key, contract_key, same_number, lots_of_line, contracts_of_lot, entries_of_contract}
 use Rattle.office_base.specs.Joined.{sums_of, sums_under, sums_of_line}
 use Rattle.office_base.specs.declared.ledger.ContractSums.{ContractSums}
@@ -14,13 +15,15 @@ use Rattle.office_base.specs.declared.records.LotRow.{LotRow}
 use Rattle.office_base.specs.declared.shelf.ShelfFault.{ShelfFault}
 use Rattle.office_ledger.specs.Joins.{entry_part, with_entry, with_contract, joined_contract, joined_lot, joined_lots}
 use Rattle.office_ledger.specs.Listing.{Listing, HasListed}
-use Rattle.office_ledger.specs.Inside.Adding.{with_kind, takes}
+use Rattle.office_ledger.specs.Inside.Adding.{takes}
 use Rattle.office_ledger.specs.Inside.Listing.{Listed, nothing_listed, all_listed, is_coming, enter_listed, entry_coming, list_entry, list_contract, list_lot, listed}
 use Rattle.office_ledger.specs.declared.contract_list.ComingContract.{ComingContract}
 use Rattle.office_ledger.specs.declared.joined.JoinedEntry.{JoinedEntry}
 use Rattle.office_ledger.specs.declared.joined.JoinedLot.{JoinedLot}
-use Rattle.office_ledger.proofs.Entries.{bare_sums, with_entries, sums_are}
-use Rattle.office_ledger.proofs.Lots.{in_order-filter, lots_total, same_key, same_itself}
+use Rattle.office_base.proofs.EntrySums.{sums_are}
+use Rattle.office_base.proofs.Orders.{lots_total}
+use Rattle.office_base.proofs.RowLaws.Filters.{in_order-filter}
+use Rattle.office_ledger.proofs.Lots.{same_key, same_itself}
 use Rattle.office_ledger.proofs.Contracts.{same_itself as same_number_itself}
 use Rattle.office_ledger.proofs.Following.{length-snoc}
 use Rattle.office_ledger.proofs.Taken.{takes-append, takes-flat_map, grouped}
@@ -53,9 +56,9 @@ module _ (t : Tables) (x : LotRow) (c : ContractRow) where
   coming_with sums = record { notice = x.notice; lot = x.lot; contract = c.contract; sums = sums }
 
   entries_listed : (es : List EntryRow) (done : List ContractSums) (sums : ContractSums)
-      → takes list_entry (map entry_part es) (record { done = done; coming = Some (coming_with sums) }) ≡ record { done = done; coming = Some (coming_with (with_entries sums es)) }
+      → takes list_entry (map entry_part es) (record { done = done; coming = Some (coming_with sums) }) ≡ record { done = done; coming = Some (coming_with (sums_with_entries sums es)) }
   entries_listed [] done sums = refl
-  entries_listed (e ∷ es) done sums = entries_listed es done (with_kind e.kind e.amount sums)
+  entries_listed (e ∷ es) done sums = entries_listed es done (sums_with_entry e.kind e.amount sums)
 
   abbrev pub contract_listed : Listed → Listed
   contract_listed s = record { done = all_listed s; coming = Some (coming_with (sums_of t.entries c)) }
@@ -66,7 +69,7 @@ module _ (t : Tables) (x : LotRow) (c : ContractRow) where
       (map entry_part (entries_of_contract c.contract t)) s
       ∙ ap (λ b. takes list_entry (map entry_part (entries_of_contract c.contract t)) (cond b s (record { done = all_listed s; coming = Some (coming_with (bare_sums c)) }))) new
       ∙ entries_listed (entries_of_contract c.contract t) (all_listed s) (bare_sums c)
-      ∙ ap (λ sums. record { done = all_listed s; coming = Some (coming_with sums) }) (sums_are t c)
+      ∙ ap (λ sums. record { done = all_listed s; coming = Some (coming_with sums) }) (sums_are t.entries c)
 
 -- ---- the contracts of a lot
 

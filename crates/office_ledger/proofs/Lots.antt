@@ -4,8 +4,7 @@ use Rattle.std.proofs.Common.{refl, sym, ap, ◌∙◌, arith}
 use Rattle.std.specs.Ordering.{nat_cmp, is_eq, eq_by_cmp, ordering_then}
 use Rattle.std.specs.declared.cmp.Ordering.{Ordering}
 use Rattle.std.specs.declared.cmp.Ordering.TheVariants.{Less, Equal, Greater}
-use Rattle.std.proofs.lemmas.Cmp.{on_total, then_total}
-use Rattle.std.specs.Cmp.{IsTotalOrder, nat_cmp_total, tied_itself}
+use Rattle.std.specs.Cmp.{nat_cmp_total, tied_itself}
 use Rattle.std.specs.Cmp.Lexicographic.{texts_ties, nat_list_cmp_total}
 use Rattle.office_values.specs.Ids.{id_cmp, same_id}
 use Rattle.office_base.specs.Rows.{StartsAbove, IsInOrder}
@@ -22,34 +21,11 @@ use Rattle.office_ledger.specs.declared.joined.JoinedEntry.{JoinedEntry}
 use Rattle.office_ledger.specs.declared.joined.JoinedContract.{JoinedContract}
 use Rattle.office_ledger.specs.declared.line_sums.OpenContract.{OpenContract}
 use Rattle.office_ledger.specs.declared.line_sums.LineSums.{LineSums}
+use Rattle.office_base.proofs.RowLaws.Filters.{in_order-filter}
 use Rattle.office_ledger.proofs.Contracts.{counted, ContractsAbove, contracts_taken}
 use Rattle.office_ledger.proofs.Taken.{takes-flat_map, grouped}
 
--- ---- rows that pass a test stay in order
-
-module _ {K X : Type 0} {R : K → K → Ordering} (total : IsTotalOrder R) (key : X → K) where
-  above_later : (k : K) (x : X) (xs : List X) → R k (key x) ≡ Less → StartsAbove R key (key x) xs → StartsAbove R key k xs
-  above_later k x [] e s = tt
-  above_later k x (y ∷ ys) e s = total.trans k (key x) (key y) e s
-
-  above-filter : (k : K) (p : X → Bool) (xs : List X) → StartsAbove R key k xs → IsInOrder R key xs → StartsAbove R key k (filter p xs)
-  above-filter k p [] s o = tt
-  above-filter k p (x ∷ xs) s o = elim (p x) as (λ b. StartsAbove R key k (cond b (x ∷ filter p xs) (filter p xs))) [
-    | true ↦ s
-    | false ↦ above-filter k p xs (above_later k x xs s o.0) o.1
-  ]
-
-  pub in_order-filter : (p : X → Bool) (xs : List X) → IsInOrder R key xs → IsInOrder R key (filter p xs)
-  in_order-filter p [] o = tt
-  in_order-filter p (x ∷ xs) o = elim (p x) as (λ b. IsInOrder R key (cond b (x ∷ filter p xs) (filter p xs))) [
-    | true ↦ (above-filter (key x) p xs o.0 o.1, in_order-filter p xs o.1)
-    | false ↦ in_order-filter p xs o.1
-  ]
-
 -- ---- keys of lots
-
-pub lots_total : IsTotalOrder lot_cmp
-lots_total = then_total (on_total (λ (k : List ℕ × List ℕ). k.0) nat_list_cmp_total) (on_total (λ (k : List ℕ × List ℕ). k.1) nat_list_cmp_total)
 
 then_eq : (a b : Ordering) → is_eq (ordering_then a b) ≡ is_eq a && is_eq b
 then_eq Less b = refl

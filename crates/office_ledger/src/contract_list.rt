@@ -10,7 +10,6 @@ ghost use Rattle.office_ledger.specs.Inside.Listing.{all_listed, is_coming, ente
 ghost use Rattle.office_ledger.specs.declared.joined.JoinedLot.{JoinedLot};
 
 use crate::joined::{JoinedContract, JoinedLot};
-use crate::line_sums::sums_with;
 use office_base::ledger::ContractSums;
 use office_base::shelf::ShelfFault;
 use office_values::given::GivenNumber;
@@ -125,7 +124,7 @@ impl ContractList {
             self.left = left;
             if let (Some(entry), Some(coming)) = (&contract.entry, self.coming) {
                 self.coming = Some(ComingContract {
-                    sums: sums_with(entry, coming.sums),
+                    sums: coming.sums.with_entry(entry.kind, entry.amount),
                     ..coming
                 });
             }

@@ -4,7 +4,8 @@ use Rattle.office_base.specs.Tables.{Tables}
 use Rattle.office_values.specs.declared.refusal.Refusal.{Refusal}
 use Rattle.office_machine.specs.Machine.{Means, Given, CanBeGiven, Reaches, refusal_of, puts_of, next}
 use Rattle.office_machine.specs.Requests.{Demand, Asks, Looks, Request, asked, office_by, joined_by, demand_office, demand_joined, office_after, joined, IsDemand, RunsReach, StepsReach}
-use Rattle.office_machine.proofs.Rows.SortedTables.{sorted, sorted-puts}
+use Rattle.office_machine.proofs.Rows.SortedTables.{sorted}
+use Rattle.office_base.proofs.SortedTables.{sorted-puts}
 use Rattle.std.specs.Prelude.{cond}
 
 -- an accepted command leads to the office after it

@@ -11,7 +11,11 @@ use Rattle.office_base.specs.Rows.{by_order, row_at, row_put, StartsAbove, IsInO
 use Rattle.office_base.specs.Tables.{Tables, tenderer_key, find_tenderer, put_tenderer}
 use Rattle.office_base.specs.declared.records.EnvelopeRow.{EnvelopeRow}
 use Rattle.office_base.specs.declared.records.TendererRow.{TendererRow}
-use Rattle.office_machine.proofs.Rows.Keyed.{tenderers, found_key, all_above, none_below}
+use Rattle.office_base.proofs.RowLaws.Keyed.{found_key}
+use Rattle.office_base.proofs.RowLaws.Starts.{start_of, tied, all_above, none_below}
+use Rattle.office_base.proofs.RowLaws.Puts.{put_first}
+use Rattle.office_base.proofs.RowLaws.Filters.{all_filter}
+use Rattle.office_machine.proofs.Rows.Keyed.{tenderers}
 use Rattle.office_publications.specs.NoticeEvents.{has_sealed}
 use Rattle.tender_core.specs.Rules.Open.{is_sealed_envelope}
 use Rattle.office_releases.specs.Inside.Tenderers.{tenderer_in, with_found, with_tenderers, tenderers_named}
@@ -36,12 +40,6 @@ none_pass : (rows : List TendererRow) → filter (λ (r : TendererRow). false) r
 none_pass [] = refl
 none_pass (r ∷ rows) = none_pass rows
 
--- a row below all others is put first
-put_first : (r : TendererRow) (rows : List TendererRow) → StartsAbove id_cmp tenderer_key r.tenderer rows → put_tenderer rows r ≡ r ∷ rows
-unfolding row_put
-put_first r [] h = refl
-put_first r (x ∷ rows) h = ap (λ o. by_order o (r ∷ x ∷ rows) (r ∷ rows) (x ∷ put_tenderer rows r)) h
-
 -- the rows that pass, or are of one identifier
 module _ (p : TendererRow → Bool) (n : List ℕ) where
   abbrev or_named : TendererRow → Bool
@@ -58,14 +56,6 @@ module _ (p : TendererRow → Bool) (n : List ℕ) where
       ap (λ b. cond b (r ∷ filter p rows) (filter p rows)) (sym (ap (λ d. p r || d) other ∙ or_false (p r)))
       ∙ ap (λ rs. cond (or_named r) (r ∷ rs) rs) (unnamed rows h.1)
 
-  start : (rows : List TendererRow) → AreAbove rows → StartsAbove id_cmp tenderer_key n (filter p rows)
-  start [] h = tt
-  start (r ∷ rows) h =
-      elim (p r) as (λ b. StartsAbove id_cmp tenderer_key n (cond b (r ∷ filter p rows) (filter p rows))) [
-        | true ↦ h.0
-        | false ↦ start rows h.1
-      ]
-
   -- the rows with what was found, where it isn't there yet
   abbrev With : List TendererRow → Option TendererRow → List TendererRow
   With rows found = cond (is_some (find_tenderer rows n)) rows (with_found rows found)
@@ -76,10 +66,10 @@ module _ (p : TendererRow → Bool) (n : List ℕ) where
     here c = tenderers.exact n y.tenderer c
 
     below : id_cmp n y.tenderer ≡ Less → AreAbove ys
-    below c = (all_above tenderers n (y ∷ ys) c order).1
+    below c = (all_above tenderers.total tenderer_key n (y ∷ ys) c order).1
 
     level : id_cmp n y.tenderer ≡ Equal → AreAbove ys
-    level c = all_above tenderers n ys (subst (λ k. StartsAbove id_cmp tenderer_key k ys) (sym (here c)) order.0) order.1
+    level c = all_above tenderers.total tenderer_key n ys (tied tenderers.total tenderer_key n y.tenderer ys c order.0) order.1
 
     onto : id_cmp n y.tenderer ≡ Greater → (found : Option TendererRow) → find_tenderer ys n ≡ found → (a : Bool)
         → cond a (y ∷ filter p ys) (with_found (y ∷ filter p ys) found) ≡ y ∷ cond a (filter p ys) (with_found (filter p ys) found)
@@ -104,9 +94,9 @@ module _ (p : TendererRow → Bool) (n : List ℕ) where
         ∙ onto c (find_tenderer ys n) refl (is_some (find_tenderer (filter p ys) n)) ∙ ap (λ rs. y ∷ rs) ih
     grown ih false Less c = either_way (is_some (find_tenderer (filter p ys) n)) (filter p ys) ∙ unnamed ys (below c)
     grown ih false Equal c =
-        let first : StartsAbove id_cmp tenderer_key n (filter p ys) = start ys (level c) in
-        ap (λ o. cond (is_some o) (filter p ys) (put_tenderer (filter p ys) y)) (none_below tenderers n (filter p ys) first)
-        ∙ put_first y (filter p ys) (subst (λ k. StartsAbove id_cmp tenderer_key k (filter p ys)) (here c) first)
+        let first : StartsAbove id_cmp tenderer_key n (filter p ys) = start_of id_cmp tenderer_key n (filter p ys) (all_filter (λ (r : TendererRow). id_cmp n r.tenderer ≡ Less) p ys (level c)) in
+        ap (λ o. cond (is_some o) (filter p ys) (put_tenderer (filter p ys) y)) (none_below id_cmp tenderer_key n (filter p ys) first)
+        ∙ put_first id_cmp tenderer_key y (filter p ys) (subst (λ k. StartsAbove id_cmp tenderer_key k (filter p ys)) (here c) first)
         ∙ ap (λ rs. y ∷ rs) (unnamed ys (level c))
     grown ih false Greater c = ih
 

@@ -20,10 +20,11 @@ use Rattle.sqlite_rules.proofs.ProbeLemmas.{mapped_has}
 use Rattle.sqlite_rules.specs.Edit as edit
 use Rattle.office_base.specs.Rows.{row_drop}
 use Rattle.office_base.proofs.ExactKeys.{equal_keys}
-use Rattle.office_base.proofs.RowLaws.{in_order-drop}
+use Rattle.office_base.proofs.RowLaws.Keyed.{IsKeyed}
+use Rattle.office_base.proofs.RowLaws.Drops.{in_order-drop, row_at-row_drop}
 use Rattle.office_sql.specs.Kept.{key_of, entry, table_of, AreKept}
 use Rattle.office_sql.specs.Standing.{Stand}
-use Rattle.office_sql.proofs.Sorted.{IsKeyed, same_rows, row_at-row_drop}
+use Rattle.office_sql.proofs.Sorted.{same_rows}
 use Rattle.office_sql.proofs.KeptRows.{found, finds, in_order-table_of}
 use Rattle.office_sql.proofs.RowsPut.{left_from, unmapped, left_up, at_itself}
 use Rattle.office_sql.proofs.Selected.{picked, permuted_has}

@@ -26,7 +26,10 @@ use Rattle.office_base.specs.Rows.{row_at, IsInOrder}
 use Rattle.office_base.specs.Sums.{sum_over}
 use Rattle.office_sql.specs.Kept.{table_of, AreKept}
 use Rattle.office_base.proofs.ExactKeys.{equal_keys}
-use Rattle.office_sql.proofs.Sorted.{if_passes, IsKeyed, each_found, Climbs, climbs, count_at, in_order_from_sorted, in_order-filter, row_at-filter, same_members}
+use Rattle.office_base.proofs.RowLaws.Keyed.{IsKeyed}
+use Rattle.office_base.proofs.RowLaws.Found.{each_found}
+use Rattle.office_base.proofs.RowLaws.Filters.{if_passes, in_order-filter, row_at-filter}
+use Rattle.office_sql.proofs.Sorted.{Climbs, climbs, count_at, in_order_from_sorted, same_members}
 use Rattle.office_sql.proofs.KeptRows.{found, finds, in_order-table_of}
 
 abbrev pub picked : (Row → Bool) → (Row → Env) → List Row → List Env
@@ -188,7 +191,7 @@ module _ {K X : Type 0} (R : K → K → Ordering) (total : IsTotalOrder R) (sam
       in_order = in_order_from_sorted t ws (climb ws ws_pass (subst (Climbs cmp) shuffled.1 (climbs cmp ordered sorted))) once
 
       passing_in_order : IsInOrder R key (filter p table)
-      passing_in_order = in_order-filter t p table (in_order-table_of R total same key form decode rows)
+      passing_in_order = in_order-filter total key p table (in_order-table_of R total same key form decode rows)
 
       looked_up : (q : K) → row_at R key (filter p table) q ≡ if_passes p (row_at R key table q)
       looked_up q = row_at-filter t p table q (in_order-table_of R total same key form decode rows)

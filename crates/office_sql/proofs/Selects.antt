@@ -29,7 +29,7 @@ use Rattle.office_base.specs.declared.records.CompiledRow.{CompiledRow}
 use Rattle.office_base.specs.declared.records.LateRow.{LateRow}
 use Rattle.office_base.specs.declared.records.PerformanceRow.{PerformanceRow}
 use Rattle.office_base.specs.declared.records.ClockRow.{ClockRow}
-use Rattle.office_base.proofs.ExactKeys.{ids_exact, lots_exact, same_id_is}
+use Rattle.office_base.proofs.ExactKeys.{ids_exact, lots_exact, entries_exact, releases_exact, same_id_is}
 use Rattle.office_base.proofs.Orders.{lots_total, entries_total, releases_total}
 use Rattle.office_rows.specs.Values.{number_in}
 use Rattle.office_rows.specs.Budget.{line_row, line_read, line_in, batch_row, batch_read, batch_in}
@@ -45,7 +45,7 @@ use Rattle.office_sql.specs.Known.{IsIn}
 use Rattle.office_sql.specs.Schema.{former_notices}
 use Rattle.office_sql.specs.Standing.{Stand, Holds}
 use Rattle.office_sql.proofs.Cells.{text_tested, number_tested, three_tested, numbers_cmp, and_true, then_equal, pair_then, both_equal, same_number_is}
-use Rattle.office_sql.proofs.Keys.{entries_exact, releases_exact, clock_total, clock_exact}
+use Rattle.office_sql.proofs.Keys.{clock_total, clock_exact}
 use Rattle.office_sql.proofs.SelectTexts.{get_line, get_line_means, get_batch, get_batch_means, get_tenderer, get_tenderer_means, get_notice, get_notice_means, get_lot, get_lot_means, get_envelope, get_envelope_means, get_seal, get_seal_means, get_security, get_security_means, get_award, get_award_means, get_contract, get_contract_means, get_entry, get_entry_means, get_release, get_release_means, get_compiled, get_compiled_means, get_late, get_late_means, get_performance, get_performance_means, get_clock, get_clock_means, get_version, get_version_means, list_lines, list_lines_means, list_former, list_former_means, list_lots_of_notice, list_lots_of_notice_means, list_lots_of_line, list_lots_of_line_means, list_reservations_of_line, list_reservations_of_line_means, list_envelopes_of_notice, list_envelopes_of_notice_means, list_envelopes_of_tenderer, list_envelopes_of_tenderer_means, list_securities_of_notice, list_securities_of_notice_means, list_awards_of_notice, list_awards_of_notice_means, list_contracts_of_notice, list_contracts_of_notice_means, list_entries_of_contract, list_entries_of_contract_means, list_releases_of_notice, list_releases_of_notice_means}
 use Rattle.office_sql.proofs.Asking.{shows_rows, lists, gets, filter-all}
 

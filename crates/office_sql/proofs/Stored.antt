@@ -31,7 +31,7 @@ use Rattle.office_base.specs.declared.records.ClockRow.{ClockRow}
 use Rattle.office_rows.specs.Values.{as_number}
 use Rattle.office_rows.specs.Words.{how_text}
 use Rattle.office_rows.specs.Readings.{reading_word, stated_of, corrected_of, corrections_of}
-use Rattle.office_base.proofs.ExactKeys.{ids_exact, lots_exact}
+use Rattle.office_base.proofs.ExactKeys.{ids_exact, lots_exact, entries_exact, releases_exact}
 use Rattle.office_base.proofs.Orders.{lots_total, entries_total, releases_total}
 use Rattle.office_rows.specs.Budget.{line_row, batch_row}
 use Rattle.office_rows.specs.Notices.{tenderer_row, notice_row, late_row, lot_row}
@@ -45,7 +45,7 @@ use Rattle.office_sql.specs.Schema.OfficeTable.{Lines, Batches, Tenderers, Notic
 use Rattle.office_sql.proofs.Cells.{cast_null, cast_int, cast_perhaps, cast_words, texts_equal, equal_texts, numbers_equal, equal_numbers, both_true, one_true, first_true, only_true}
 use Rattle.office_sql.proofs.Keyed.{keyed}
 use Rattle.office_sql.proofs.Writes.{IsStored, IsBare}
-use Rattle.office_sql.proofs.Keys.{entries_exact, releases_exact, clock_total, clock_exact}
+use Rattle.office_sql.proofs.Keys.{clock_total, clock_exact}
 
 pub bare : (k : OfficeTable) → IsBare (table_of k)
 bare Lines = record { childless = refl; key = keyed Lines; uncounted = refl }

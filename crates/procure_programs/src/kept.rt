@@ -8,13 +8,13 @@ use crate::serving::serve;
 use crate::showing::show;
 use office_acts::queries::Query;
 use office_base::shelf::{Lookups, Shelf};
+use office_base::stored::StoredShelf;
 use office_desk::desk::Desk;
 use office_http::office::Office;
 use office_values::settings::Settings;
 use procure_config::fault::ProgramFault;
 use std::io::Write;
 use std::net::{Ipv4Addr, TcpListener};
-use stored_shelf::stored::StoredShelf;
 
 // Serves so many connections on 127.0.0.1 and this port. `Input` also where the port can't be had.
 fn serve_at<H: StoredShelf + Drop>(

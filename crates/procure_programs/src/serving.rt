@@ -6,6 +6,7 @@ ghost use Rattle.procure_programs.specs.Turns.{ServesInTurn};
 
 use crate::clock::moment_now;
 use office_base::shelf::{Lookups, Shelf};
+use office_base::stored::StoredShelf;
 use office_http::answering::fault_response;
 use office_http::laws;
 use office_http::office::{Office, serve_one};
@@ -20,7 +21,6 @@ use std::io;
 use std::io::BufReader;
 use std::net::{TcpListener, TcpStream};
 use std::time::{Clock, Duration};
-use stored_shelf::stored::StoredShelf;
 
 /// How many seconds a read or a write of a socket may wait.
 pub const PATIENCE: u64 = 10;

@@ -1,13 +1,14 @@
 -- The sums of contracts as their joined rows come, lot by lot.
 use Rattle.std.specs.Prelude.{ℕ, ◌+◌, ◌*◌, ◌^◌, ◌<◌, Bool, false, cond, ◌&&◌, List, [], ◌∷◌, ◌++◌, Option, Some, None}
 use Rattle.office_values.specs.Ids.{same_id}
+use Rattle.office_base.specs.EntrySums.{sums_with_entry}
 use Rattle.office_base.specs.Tables.{same_number}
 use Rattle.office_base.specs.declared.ledger.ContractSums.{ContractSums}
 use Rattle.office_ledger.specs.declared.joined.JoinedLot.{JoinedLot}
 use Rattle.office_ledger.specs.declared.joined.JoinedContract.{JoinedContract}
 use Rattle.office_ledger.specs.declared.joined.JoinedEntry.{JoinedEntry}
 use Rattle.office_ledger.specs.declared.contract_list.ComingContract.{ComingContract}
-use Rattle.office_ledger.specs.Inside.Adding.{sums_with, takes}
+use Rattle.office_ledger.specs.Inside.Adding.{takes}
 
 -- the contracts that are done, and the one whose rows are coming
 pub record Listed : Type 0 where
@@ -38,7 +39,7 @@ enter_listed l c s = cond (is_coming l c.contract s.coming) s (record { done = a
 
 abbrev pub entry_coming : JoinedEntry → Option ComingContract → Option ComingContract
 entry_coming e None = None
-entry_coming e (Some c) = Some (record c { sums = sums_with e c.sums })
+entry_coming e (Some c) = Some (record c { sums = sums_with_entry e.kind e.amount c.sums })
 
 abbrev pub list_entry : JoinedEntry → Listed → Listed
 list_entry e s = record s { coming = entry_coming e s.coming }

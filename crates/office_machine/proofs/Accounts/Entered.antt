@@ -18,7 +18,7 @@ use Rattle.office_machine.specs.Moves.{held_for, brought, brought_by, taken, tak
 use Rattle.office_base.proofs.ExactKeys.{equal_keys, same_itself}
 use Rattle.office_machine.proofs.Accounts.Kept.{IsKept, ContractIs, NoContractIs, over_contracts}
 use Rattle.office_machine.proofs.Accounts.Joins.{entry_sum-new, over_contracts-gains}
-use Rattle.office_machine.proofs.Rows.Keyed.{found_key, own_key}
+use Rattle.office_base.proofs.RowLaws.Keyed.{found_key, own_key}
 use Rattle.office_machine.proofs.Rows.Keyed as keyed
 use Rattle.office_machine.proofs.Passed.{neither, both}
 

@@ -14,7 +14,8 @@ use Rattle.office_machine.proofs.Accounts.Kept.{reserved_by, reserved_over, over
 use Rattle.office_base.proofs.SumsOver.{sum_over-ext, sum_over-filter}
 use Rattle.office_base.proofs.ExactKeys.{same_id_is, equal_ids, equal_keys, lots_exact}
 use Rattle.office_base.proofs.RowLaws.{row_at-row_put}
-use Rattle.office_machine.proofs.Rows.Keyed.{sum-new, sum-replaced, sum-gains, found_put, elsewhere, sum-found_agree}
+use Rattle.office_machine.proofs.Rows.Keyed.{sum-replaced, sum-gains, found_put, elsewhere}
+use Rattle.office_base.proofs.SumsOver.{sum_over-put_new}
 use Rattle.office_machine.proofs.Rows.Keyed as by
 
 -- the lot is of the line
@@ -33,7 +34,7 @@ pub over_contracts-lot_kept : (w : ContractRow → ℕ) (lots : List LotRow) (cs
 over_contracts-lot_kept w lots cs l l' q is same = sum_over-ext _ _ cs (λ r. ap (λ b. cond b (w r) 0) (line_kept lots l l' is same (r.notice, r.lot) q))
 
 pub over_contracts-new : (w : ContractRow → ℕ) (lots : List LotRow) (cs : List ContractRow) (r : ContractRow) (l : LotRow) (q : List ℕ) → find_contract cs r.contract ≡ None → find_lot lots (r.notice, r.lot) ≡ Some l → over_contracts w lots (put_contract cs r) q ≡ over_contracts w lots cs q + cond (same_id l.line q) (w r) 0
-over_contracts-new w lots cs r l q is here = omega (arith, sum-new nat_cmp contract_key (λ (c : ContractRow). cond (is_on_line lots q c) (w c) 0) cs r is, ap (λ o. cond (is_of o q) (w r) 0) here)
+over_contracts-new w lots cs r l q is here = omega (arith, sum_over-put_new nat_cmp contract_key (λ (c : ContractRow). cond (is_on_line lots q c) (w c) 0) cs r is, ap (λ o. cond (is_of o q) (w r) 0) here)
 
 pub over_contracts-replaced : (w : ContractRow → ℕ) (lots : List LotRow) (cs : List ContractRow) (r r' : ContractRow) (l : LotRow) (q : List ℕ) → find_contract cs r'.contract ≡ Some r → find_lot lots (r.notice, r.lot) ≡ Some l → find_lot lots (r'.notice, r'.lot) ≡ Some l → over_contracts w lots (put_contract cs r') q + cond (same_id l.line q) (w r) 0 ≡ over_contracts w lots cs q + cond (same_id l.line q) (w r') 0
 over_contracts-replaced w lots cs r r' l q is here here' =
@@ -53,7 +54,7 @@ pub over_contracts-agree : (w w' : ContractRow → ℕ) (lots : List LotRow) (cs
 over_contracts-agree w w' lots cs q h = sum_over-ext _ _ cs (λ x. ap (λ m. cond (is_on_line lots q x) m 0) (h x))
 
 pub entry_sum-new : (kind : EntryKind → Bool) (es : List EntryRow) (r : EntryRow) (n : ℕ) → find_entry es (r.contract, r.entry) ≡ None → entry_sum kind (put_entry es r) n ≡ entry_sum kind es n + cond (kind r.kind && same_number r.contract n) r.amount 0
-entry_sum-new kind es r n is = sum-new entry_cmp entry_key (λ (e : EntryRow). cond (kind e.kind && same_number e.contract n) e.amount 0) es r is
+entry_sum-new kind es r n is = sum_over-put_new entry_cmp entry_key (λ (e : EntryRow). cond (kind e.kind && same_number e.contract n) e.amount 0) es r is
 
 pub reserved-replaced : (lots : List LotRow) (l l' : LotRow) (q : List ℕ) → find_lot lots (lot_key l') ≡ Some l → l'.line ≡ l.line → reserved_over q (put_lot lots l') + cond (same_id l.line q) l.reserved 0 ≡ reserved_over q lots + cond (same_id l.line q) l'.reserved 0
 reserved-replaced lots l l' q is same =

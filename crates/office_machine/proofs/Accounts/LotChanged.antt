@@ -18,7 +18,8 @@ use Rattle.office_machine.specs.Machine.{Given}
 use Rattle.office_machine.specs.Moves.{Free, Reserved, moves, held_for}
 use Rattle.office_base.proofs.ExactKeys.{equal_keys, other_keys, lots_exact}
 use Rattle.office_machine.proofs.Accounts.Joins.{over_contracts-lot_kept, reserved-replaced, free-replaced}
-use Rattle.office_machine.proofs.Rows.Keyed.{found, found_put, elsewhere, own_key}
+use Rattle.office_machine.proofs.Rows.Keyed.{found, found_put, elsewhere}
+use Rattle.office_base.proofs.RowLaws.Keyed.{own_key}
 use Rattle.office_machine.proofs.Rows.Keyed as keyed
 use Rattle.office_machine.proofs.Accounts.Kept.{IsKept, PotsAre, LotIs, AwardIs, reserved_over, over_contracts, is_awarded}
 use Rattle.office_machine.proofs.Passed.{split}

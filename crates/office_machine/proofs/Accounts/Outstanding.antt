@@ -30,7 +30,8 @@ use Rattle.office_machine.specs.Outstanding.{left_with, left_by_payment, left_by
 use Rattle.office_machine.specs.Replies.{left_of}
 use Rattle.office_machine.proofs.Accounts.Entered.{not_taken}
 use Rattle.office_machine.proofs.Accounts.Joins.{entry_sum-new, entry_sum-own, outstanding-own}
-use Rattle.office_machine.proofs.Rows.Keyed.{found_key, found_put, own_key}
+use Rattle.office_machine.proofs.Rows.Keyed.{found_put}
+use Rattle.office_base.proofs.RowLaws.Keyed.{found_key, own_key}
 use Rattle.office_machine.proofs.Rows.Keyed as keyed
 use Rattle.office_machine.proofs.Accounts.Kept.{IsKept}
 use Rattle.office_machine.proofs.Accounts.AccountsKept.{all_kept}

@@ -33,7 +33,8 @@ use Rattle.office_machine.proofs.Commands.Tail.{on_contract, moved, front}
 use Rattle.office_machine.proofs.FateLaws.QuietFates.{Stands, contract_notice, kept_after, one_more}
 use Rattle.office_machine.proofs.Parents.RowsHave.{entry_has}
 use Rattle.office_machine.proofs.Accounts.Aside.{kept_aside}
-use Rattle.office_machine.proofs.Rows.Keyed.{found_key, found, still_there}
+use Rattle.office_machine.proofs.Rows.Keyed.{found, still_there}
+use Rattle.office_base.proofs.RowLaws.Keyed.{found_key}
 use Rattle.office_machine.proofs.Accounts.Kept.{IsKept, PotsAre, ContractIs, over_contracts}
 use Rattle.office_machine.proofs.Accounts.Joins.{outstanding-own, free-replaced}
 use Rattle.office_machine.proofs.Passed.{none_holds, not_false, not_both, not_all, at_least, witness, test_of, split, neither}

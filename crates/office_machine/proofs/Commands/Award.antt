@@ -30,7 +30,8 @@ use Rattle.office_machine.proofs.Commands.Footprint.{Awards, Lots, Lines, Securi
 use Rattle.office_machine.proofs.Commands.Lawful.{Lawful, Moving}
 use Rattle.office_machine.proofs.Passed.{none_holds, not_false, witness}
 use Rattle.office_machine.proofs.Commands.Tail.{HasTail, moved, front, loud, returned_own}
-use Rattle.office_machine.proofs.Rows.Keyed.{found_key, all_found}
+use Rattle.office_machine.proofs.Rows.Keyed.{all_found}
+use Rattle.office_base.proofs.RowLaws.Keyed.{found_key}
 use Rattle.office_machine.proofs.Commands.Award.Fates as award_fates
 use Rattle.office_machine.proofs.Rows.Keyed as keyed
 

@@ -37,7 +37,8 @@ use Rattle.office_machine.proofs.Worlds.WorldsPut.{plain-if, IsPlain, plain_pair
 use Rattle.office_machine.proofs.Commands.Tail.{on_contract, moved, bonded, front}
 use Rattle.office_machine.proofs.FateLaws.QuietFates.{Stands, contract_notice, kept_after, one_more}
 use Rattle.office_machine.proofs.Accounts.Aside.{kept_aside, aside-if}
-use Rattle.office_machine.proofs.Rows.Keyed.{found_key, found, still_there, none_before, own_key}
+use Rattle.office_machine.proofs.Rows.Keyed.{found, still_there, none_before}
+use Rattle.office_base.proofs.RowLaws.Keyed.{found_key, own_key}
 use Rattle.office_machine.proofs.Accounts.Kept.{IsKept, PotsAre, ContractIs, NoContractIs, over_contracts}
 use Rattle.office_machine.proofs.Accounts.Joins.{outstanding-own, over_contracts-replaced, free-replaced}
 use Rattle.office_machine.proofs.Passed.{none_holds, not_false, witness, test_of, split}

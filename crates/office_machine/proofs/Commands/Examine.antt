@@ -24,7 +24,8 @@ use Rattle.office_machine.proofs.Parents.ParentsPut.{Grows, AllParents, envelope
 use Rattle.office_machine.proofs.Worlds.WorldsRows.{envelope_pair}
 use Rattle.office_machine.proofs.Passed.{none_holds, not_false, witness}
 use Rattle.office_machine.proofs.Commands.Tail.{moved, front, quiet}
-use Rattle.office_machine.proofs.Rows.RowsChanged.{found_key, row_at-changed_put}
+use Rattle.office_machine.proofs.Rows.RowsChanged.{row_at-changed_put}
+use Rattle.office_base.proofs.RowLaws.Keyed.{found_key}
 use Rattle.office_machine.proofs.FateLaws.Views.{Change, after_change}
 use Rattle.office_machine.proofs.FateLaws.Steps.{cond_keeps, examination, fair_examination}
 use Rattle.office_machine.proofs.FateLaws.Seen.{seen, alike, order-puts}
@@ -32,6 +33,7 @@ use Rattle.office_machine.proofs.FateLaws.FatesHold.{IsKept, Keeps, still_sealed
 use Rattle.office_machine.proofs.FateLaws.QuietFates.{one_more}
 use Rattle.office_machine.proofs.FateLaws.FatesChanged.{kept_by_change}
 use Rattle.office_machine.proofs.FateLaws.States.{map_same}
+use Rattle.office_machine.proofs.Rows.Keyed as keyed
 
 module _ (readings : Readings) (receipt : ℕ) (responsive : Bool) (quality : Option ℕ) (xs : List Given) (t : Tables) (m : ℕ) (caller : Caller)
     (kept : IsKept readings xs t) where
@@ -56,7 +58,7 @@ module _ (readings : Readings) (receipt : ℕ) (responsive : Bool) (quality : Op
           none = refl;
           seen_is =
               alike (seen after_examine) (after_change examine_change (seen t))
-              (λ r. row_at-changed_put nat_cmp_total nat_cmp-IsAntisymmetric envelope_key (examined responsive quality) t.envelopes receipt r e found (found_key nat_cmp_total nat_cmp-IsAntisymmetric envelope_key t.envelopes receipt e found))
+              (λ r. row_at-changed_put nat_cmp_total nat_cmp-IsAntisymmetric envelope_key (examined responsive quality) t.envelopes receipt r e found (found_key keyed.envelopes t.envelopes receipt e found))
               (λ s. map_same ((seen t).security_at s)) (λ a. map_same ((seen t).award_at a)) (λ k. map_same ((seen t).lot_at k)) (λ n. map_same ((seen t).notice_at n));
           receipts_are = refl;
           e_keeps = record {

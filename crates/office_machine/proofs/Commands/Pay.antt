@@ -29,7 +29,7 @@ use Rattle.office_machine.proofs.Commands.Tail.{on_contract, moved, front}
 use Rattle.office_machine.proofs.FateLaws.QuietFates.{Stands, contract_notice, kept_after, one_more}
 use Rattle.office_machine.proofs.Parents.RowsHave.{entry_has}
 use Rattle.office_machine.proofs.Accounts.Aside.{kept_aside}
-use Rattle.office_machine.proofs.Rows.Keyed.{found_key}
+use Rattle.office_base.proofs.RowLaws.Keyed.{found_key}
 use Rattle.office_machine.proofs.Accounts.Kept.{IsKept, PotsAre, ContractIs}
 use Rattle.office_machine.proofs.Accounts.Joins.{outstanding-own}
 use Rattle.office_machine.proofs.Passed.{none_holds, not_false, not_both, at_least, witness, test_of, neither}

@@ -22,7 +22,7 @@ use Rattle.office_machine.specs.Counted.{releases_in}
 use Rattle.office_machine.proofs.Parents.SpokenOf.{OfContract}
 use Rattle.office_machine.proofs.Accounts.Aside.{after-append}
 use Rattle.office_machine.proofs.Commands.Footprint.{TableName, Notices, Securities, Releases, Merges, Performances, Clock, IsOn, AreOn, on-append, on-wider, on-map, on-if, is_in, leaves}
-use Rattle.office_machine.proofs.Rows.Keyed.{found_key}
+use Rattle.office_base.proofs.RowLaws.Keyed.{found_key}
 use Rattle.office_machine.proofs.Rows.Keyed as keyed
 
 -- a command's own rows: of the tables that it names, and no notice, no release, no merge, no performance security, and not the clock

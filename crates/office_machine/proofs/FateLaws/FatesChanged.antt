@@ -19,12 +19,14 @@ use Rattle.office_base.specs.Tables.{Tables, security_key, envelope_at, seal_at,
 use Rattle.office_machine.specs.Machine.{Given}
 use Rattle.office_machine.specs.Readings.{Readings}
 use Rattle.office_machine.specs.Fates.{Reception, brought, came, tender_decided, fate_of_tender, security_decided, fate_of_security, is_kept, has_number, is_before_deadline, is_effective, EnvelopeIs, SecurityIs}
-use Rattle.office_machine.proofs.Rows.RowsChanged.{found_key, row_at-changed_put}
+use Rattle.office_machine.proofs.Rows.RowsChanged.{row_at-changed_put}
+use Rattle.office_base.proofs.RowLaws.Keyed.{found_key}
 use Rattle.office_machine.proofs.Rows.Counting.{is_live}
 use Rattle.office_machine.proofs.FateLaws.Views.{View, IsSound, EnvelopeFits, Change, IsFair, after_change, sound_changed}
 use Rattle.office_machine.proofs.FateLaws.Matched.{EnvelopeKeeps, SecurityKeeps, EnvelopesMatch}
 use Rattle.office_machine.proofs.FateLaws.Seen.{seen, AreInOrder, OnLines}
 use Rattle.office_machine.proofs.FateLaws.FatesHold.{IsKept, tenders_changed, named_changed}
+use Rattle.office_machine.proofs.Rows.Keyed as keyed
 
 -- what the command does to tenders, to seals and to securities is what it decides of them
 pub record Decides (digest : List ℕ → List ℕ) (xs : List Given) (x : Given) (t u : Tables) (c : Change) : Type 0 where
@@ -82,7 +84,7 @@ pub securities_put : (make : SecurityRow → SecurityRow) (rows : List SecurityR
     → (make w).security ≡ w.security
     → (s : ℕ) → find_security (put_security rows (make w)) s ≡ option_map (λ w. cond (has_number s (Some n)) (make w) w) (find_security rows s)
 securities_put make rows n w found keeps s =
-    row_at-changed_put nat_cmp_total nat_cmp-IsAntisymmetric security_key make rows n s w found (keeps ∙ found_key nat_cmp_total nat_cmp-IsAntisymmetric security_key rows n w found)
+    row_at-changed_put nat_cmp_total nat_cmp-IsAntisymmetric security_key make rows n s w found (keeps ∙ found_key keyed.securities rows n w found)
 
 pub securities_left : (make : SecurityRow → SecurityRow) (rows : List SecurityRow) (s : ℕ)
     → find_security rows s ≡ option_map (λ w. cond (has_number s None) (make w) w) (find_security rows s)

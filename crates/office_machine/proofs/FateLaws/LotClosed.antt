@@ -23,7 +23,8 @@ use Rattle.office_machine.specs.Readings.{Readings}
 use Rattle.office_machine.specs.Fates.{Reception, brought, came, is_of_lot, tender_decided, security_decided, fate_of_security, SecurityIs}
 use Rattle.office_machine.proofs.Rows.Counting.{is_live}
 use Rattle.office_base.proofs.ExactKeys.{equal_ids, same_itself}
-use Rattle.office_machine.proofs.Rows.RowsChanged.{rows_put, changed, filter_filter, row_at-changed}
+use Rattle.office_machine.proofs.Rows.RowsChanged.{rows_put, changed, row_at-changed}
+use Rattle.office_base.proofs.RowLaws.Filters.{filter_filter}
 use Rattle.office_machine.proofs.FateLaws.Views.{Change, after_change}
 use Rattle.office_machine.proofs.FateLaws.Steps.{cond_keeps, both_true}
 use Rattle.office_machine.proofs.FateLaws.Decisions.{closing, fair_closing}

@@ -45,7 +45,8 @@ use Rattle.office_machine.proofs.Passed.{none_holds, allowed_by, not_false, test
 use Rattle.office_machine.proofs.Rows.Keyed.{found_put}
 use Rattle.office_base.specs.declared.puts.Put.{Put}
 use Rattle.office_machine.proofs.Rows.Keyed as keyed
-use Rattle.office_machine.proofs.Rows.RowsChanged.{found_key, row_at-changed_put}
+use Rattle.office_machine.proofs.Rows.RowsChanged.{row_at-changed_put}
+use Rattle.office_base.proofs.RowLaws.Keyed.{found_key}
 use Rattle.office_base.proofs.RowLaws.{row_at-row_put}
 
 -- ---- what one row goes through, whatever the tables
@@ -192,7 +193,7 @@ module _ (means : Means) (xs : List Given) (s : Tables) (moment : ℕ) (caller :
     none_yet = none_by (performance_at award s) refl
 
     number : of.w.award ≡ award
-    number = found_key nat_cmp_total nat_cmp-IsAntisymmetric Rattle.office_base.specs.Tables.award_key s.awards award of.w of.is
+    number = found_key keyed.awards s.awards award of.w of.is
 
     abbrev parts : List Put
     parts = sign_parts s.clock (time_of x) of.w of.n of.l (envelope_of_award (award_at award s) s) (securities_of_award (award_at award s) s)
@@ -283,7 +284,7 @@ module _ (means : Means) (xs : List Given) (s : Tables) (moment : ℕ) (caller :
         by false e (Some w) is = is
         by true e (Some w) is = let no : None ≡ Some w = sym at ∙ sym (ap (λ c. performance_at c s) (equal_numbers c contract e)) ∙ is in absurd cc
     settled_after (Some w) at c =
-        row_at-changed_put nat_cmp_total nat_cmp-IsAntisymmetric performance_key settled s.performances contract c w at (found_key nat_cmp_total nat_cmp-IsAntisymmetric performance_key s.performances contract w at)
+        row_at-changed_put nat_cmp_total nat_cmp-IsAntisymmetric performance_key settled s.performances contract c w at (found_key keyed.performances s.performances contract w at)
 
     ended_by : (c : ℕ) (b : Bool) → eq_by_cmp nat_cmp c contract ≡ b → HasPerformance c (performance_named (y ∷ xs) c) (fate_of_performance (y ∷ xs) c) (option_map (λ w. cond b (settled w) w) (performance_at c s))
     ended_by c false other =

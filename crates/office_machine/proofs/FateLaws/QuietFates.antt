@@ -2,7 +2,6 @@
 use Rattle.std.specs.Prelude.{◌≡◌, ℕ, List, [], ◌∷◌, ◌++◌, map, Option, Some, None, option_map}
 use Rattle.std.proofs.Common.{refl, sym, ap, ◌∙◌, subst}
 use Rattle.std.specs.List.{AllByRecursion}
-use Rattle.std.specs.Cmp.Lexicographic.{nat_list_cmp_total}
 use Rattle.office_base.specs.declared.records.LineRow.{LineRow}
 use Rattle.office_base.specs.declared.records.NoticeRow.{NoticeRow}
 use Rattle.office_base.specs.declared.records.EnvelopeRow.{EnvelopeRow}
@@ -10,21 +9,21 @@ use Rattle.office_base.specs.declared.records.SealRow.{SealRow}
 use Rattle.office_base.specs.declared.records.SecurityRow.{SecurityRow}
 use Rattle.office_base.specs.declared.records.ContractRow.{ContractRow}
 use Rattle.office_base.specs.declared.puts.Put.{Put}
-use Rattle.office_base.specs.Tables.{Tables, notice_key, notice_at, envelope_at, seal_at, security_at, find_seal, after_puts}
+use Rattle.office_base.specs.Tables.{Tables, notice_at, envelope_at, seal_at, security_at, find_seal, after_puts}
 use Rattle.office_base.specs.declared.records.ReleaseRow.{ReleaseRow}
 use Rattle.office_base.specs.Parents.{notice_of_contract}
 use Rattle.office_base.specs.declared.records.EnvelopeState.TheVariants as envelope
 use Rattle.office_base.specs.declared.records.SecurityState.TheVariants as security
 use Rattle.office_base.specs.declared.puts.Put.TheVariants as puts
-use Rattle.office_base.proofs.ExactKeys.{ids_exact}
 use Rattle.office_machine.specs.Machine.{Given, publication_puts}
 use Rattle.office_machine.specs.Readings.{Readings}
 use Rattle.office_machine.specs.Fates.{brought, came, tender_decided, fate_of_tender, security_decided, fate_of_security}
-use Rattle.office_machine.proofs.Rows.RowsChanged.{found_key}
+use Rattle.office_base.proofs.RowLaws.Keyed.{found_key}
 use Rattle.office_machine.proofs.FateLaws.Views.{View, IsSound}
 use Rattle.office_machine.proofs.FateLaws.Matched.{EnvelopesMatch, SecuritiesMatch}
 use Rattle.office_machine.proofs.FateLaws.Seen.{seen, notice_state, IsQuiet, quiet, LotFits, lines-puts, order-puts}
 use Rattle.office_machine.proofs.FateLaws.FatesHold.{IsKept, tenders_same, named_same}
+use Rattle.office_machine.proofs.Rows.Keyed as keyed
 
 quiet_fits : (V : View) (n : ℕ) (lines : List LineRow) (p : Put) → IsQuiet V n p → LotFits lines p
 quiet_fits V n lines (puts.Lot r) h = absurd h
@@ -76,7 +75,7 @@ all_of_map P f (x ∷ xs) h = (h x, all_of_map P f xs h)
 -- a notice that is found stands so
 pub notice_stands : (t : Tables) (k : List ℕ) (n : NoticeRow) → notice_at k t ≡ Some n → (seen t).notice_at n.notice ≡ Some n.state
 notice_stands t k n found =
-    ap (λ k. option_map notice_state (notice_at k t)) (found_key nat_list_cmp_total ids_exact notice_key t.notices k n found) ∙ ap (option_map notice_state) found
+    ap (λ k. option_map notice_state (notice_at k t)) (found_key keyed.notices t.notices k n found) ∙ ap (option_map notice_state) found
 
 pub contract_notice : (t : Tables) (o : Option ContractRow) (n : NoticeRow) → notice_of_contract o t ≡ Some n → (seen t).notice_at n.notice ≡ Some n.state
 contract_notice t None n found = let no : None ≡ Some n = found in cc

@@ -23,8 +23,10 @@ use Rattle.office_base.specs.declared.puts.Put.{Put}
 use Rattle.office_base.proofs.Orders.{lots_total}
 use Rattle.office_base.proofs.ExactKeys.{ids_exact, equal_keys}
 use Rattle.office_base.proofs.RowLaws.{row_at-row_put, in_order-put, still_there, all-put}
-use Rattle.office_machine.proofs.Rows.RowsChanged.{rows_put, rows_drop, in_order-drop, row_at-row_drop, some_passes}
+use Rattle.office_machine.proofs.Rows.RowsChanged.{rows_put, rows_drop, some_passes}
+use Rattle.office_base.proofs.RowLaws.Drops.{in_order-drop, row_at-row_drop}
 use Rattle.office_machine.proofs.FateLaws.Views.{View}
+use Rattle.office_machine.proofs.Rows.Keyed as keyed
 
 abbrev pub lot_state : LotRow → LotState
 lot_state r = r.state
@@ -126,7 +128,7 @@ AreInOrder t =
 order-put : (p : Put) (t : Tables) → AreInOrder t → AreInOrder (after_put p t)
 order-put (puts.Envelope r) t h = (in_order-put nat_cmp_total envelope_key t.envelopes r h.0, h.1, h.2, h.3, h.4)
 order-put (puts.Seal r) t h = (h.0, in_order-put nat_cmp_total seal_key t.seals r h.1, h.2, h.3, h.4)
-order-put (puts.DropSeal n) t h = (h.0, in_order-drop nat_cmp_total nat_cmp-IsAntisymmetric seal_key t.seals n h.1, h.2, h.3, h.4)
+order-put (puts.DropSeal n) t h = (h.0, in_order-drop nat_cmp_total seal_key t.seals n h.1, h.2, h.3, h.4)
 order-put (puts.Security r) t h = (h.0, h.1, in_order-put nat_cmp_total security_key t.securities r h.2, h.3, h.4)
 order-put (puts.Award r) t h = (h.0, h.1, h.2, in_order-put nat_cmp_total award_key t.awards r h.3, h.4)
 order-put (puts.Lot r) t h = (h.0, h.1, h.2, h.3, in_order-put lots_total lot_key t.lots r h.4)
@@ -223,8 +225,8 @@ drops_step : (e : EnvelopeRow) (rest : List ℕ) (seals : List SealRow) (q : ℕ
     → ((seals : List SealRow) → IsInOrder nat_cmp seal_key seals → row_at nat_cmp seal_key (rows_drop nat_cmp seal_key seals rest) q ≡ cond others None (row_at nat_cmp seal_key seals q))
     → (b : Bool) → row_at nat_cmp seal_key (rows_drop nat_cmp seal_key seals (cond b (e.receipt ∷ rest) rest)) q ≡ cond ((b && eq_by_cmp nat_cmp q e.receipt) || others) None (row_at nat_cmp seal_key seals q)
 drops_step e rest seals q others order ih true =
-    ih (row_drop nat_cmp seal_key seals e.receipt) (in_order-drop nat_cmp_total nat_cmp-IsAntisymmetric seal_key seals e.receipt order)
-    ∙ ap (cond others None) (row_at-row_drop nat_cmp_total nat_cmp-IsAntisymmetric seal_key seals e.receipt q order)
+    ih (row_drop nat_cmp seal_key seals e.receipt) (in_order-drop nat_cmp_total seal_key seals e.receipt order)
+    ∙ ap (cond others None) (row_at-row_drop keyed.seals seals e.receipt q order)
     ∙ either_none (eq_by_cmp nat_cmp q e.receipt) others (row_at nat_cmp seal_key seals q)
 drops_step e rest seals q others order ih false = ih seals order
 

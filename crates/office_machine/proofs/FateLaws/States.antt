@@ -20,8 +20,10 @@ use Rattle.office_base.specs.States.{is_sealed, is_held, is_active, is_undecided
 use Rattle.office_base.specs.Tables.{lot_cmp, notice_key, lot_key, find_notice, put_notice, find_lot, put_lot}
 use Rattle.office_base.proofs.Orders.{lots_total}
 use Rattle.office_base.proofs.ExactKeys.{ids_exact, lots_exact}
-use Rattle.office_machine.proofs.Rows.RowsChanged.{found_key, row_at-changed_put}
+use Rattle.office_machine.proofs.Rows.RowsChanged.{row_at-changed_put}
+use Rattle.office_base.proofs.RowLaws.Keyed.{found_key}
 use Rattle.office_machine.proofs.FateLaws.Seen.{lot_state, notice_state}
+use Rattle.office_machine.proofs.Rows.Keyed as keyed
 
 pub map_same : {X : Type 0} (o : Option X) → o ≡ option_map (λ x. x) o
 map_same None = refl
@@ -39,7 +41,7 @@ pub lots_put : (rows : List LotRow) (k q : List ℕ × List ℕ) (l : LotRow) (g
     → ((l : LotRow) → lot_key (g l) ≡ lot_key l) → find_lot rows k ≡ Some l
     → option_map lot_state (find_lot (put_lot rows (g l)) q) ≡ option_map (λ s. cond (eq_by_cmp lot_cmp q k) (h s) s) (option_map lot_state (find_lot rows q))
 lots_put rows k q l g h state_is keeps found =
-    ap (option_map lot_state) (row_at-changed_put lots_total lots_exact lot_key g rows k q l found (keeps l ∙ found_key lots_total lots_exact lot_key rows k l found))
+    ap (option_map lot_state) (row_at-changed_put lots_total lots_exact lot_key g rows k q l found (keeps l ∙ found_key keyed.lots rows k l found))
     ∙ map_step lot_state g h state_is (eq_by_cmp lot_cmp q k) (find_lot rows q)
 
 pub notices_put : (rows : List NoticeRow) (k q : List ℕ) (n : NoticeRow) (g : NoticeRow → NoticeRow) (h : NoticeState → NoticeState)
@@ -47,7 +49,7 @@ pub notices_put : (rows : List NoticeRow) (k q : List ℕ) (n : NoticeRow) (g : 
     → ((n : NoticeRow) → (g n).notice ≡ n.notice) → find_notice rows k ≡ Some n
     → option_map notice_state (find_notice (put_notice rows (g n)) q) ≡ option_map (λ s. cond (eq_by_cmp id_cmp q k) (h s) s) (option_map notice_state (find_notice rows q))
 notices_put rows k q n g h state_is keeps found =
-    ap (option_map notice_state) (row_at-changed_put nat_list_cmp_total ids_exact notice_key g rows k q n found (keeps n ∙ found_key nat_list_cmp_total ids_exact notice_key rows k n found))
+    ap (option_map notice_state) (row_at-changed_put nat_list_cmp_total ids_exact notice_key g rows k q n found (keeps n ∙ found_key keyed.notices rows k n found))
     ∙ map_step notice_state g h state_is (eq_by_cmp id_cmp q k) (find_notice rows q)
 
 pub same_id_key : (a b : List ℕ) → same_id a b ≡ eq_by_cmp id_cmp a b

@@ -14,7 +14,8 @@ use Rattle.office_base.specs.declared.puts.Put.{Put}
 use Rattle.office_base.specs.declared.puts.Put.TheVariants as puts
 use Rattle.office_base.specs.RuleParts.{put_if}
 use Rattle.office_machine.specs.Parents.{LotHas, EnvelopeHas, SecurityHas, AwardHas, ContractHas, EntryHas, HaveParents}
-use Rattle.office_machine.proofs.Rows.Keyed.{IsKeyed, found, still_there, each_found}
+use Rattle.office_machine.proofs.Rows.Keyed.{found, still_there}
+use Rattle.office_base.proofs.RowLaws.Keyed.{IsKeyed}
 use Rattle.office_machine.proofs.Rows.Keyed as keyed
 
 -- nothing goes

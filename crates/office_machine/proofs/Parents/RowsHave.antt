@@ -14,7 +14,7 @@ use Rattle.office_base.specs.RuleParts.{security_returned, securities_returned, 
 use Rattle.office_base.specs.Parents.{security_of_envelope, lot_of_award}
 use Rattle.office_machine.specs.Parents.{HaveParents, LotHas, SecurityHas}
 use Rattle.office_machine.proofs.Parents.ParentsPut.{Grows, Parents, AllParents, lot_still, security_still, parents-all, all-filter, all-table}
-use Rattle.office_machine.proofs.Rows.Keyed.{found_key}
+use Rattle.office_base.proofs.RowLaws.Keyed.{found_key}
 use Rattle.office_machine.proofs.Rows.Keyed as keyed
 
 module _ (s u : Tables) (have : HaveParents s s) (g : Grows s u) where

@@ -12,7 +12,8 @@ use Rattle.office_machine.specs.Counted.{releases_in}
 use Rattle.office_machine.specs.Machine.{Means, Given, next}
 use Rattle.office_machine.specs.Releases.{AreNumbered, ReleasesAreNumbered}
 use Rattle.office_base.proofs.ExactKeys.{equal_ids, equal_keys, same_itself}
-use Rattle.office_machine.proofs.Rows.Keyed.{found_put, elsewhere, own_key}
+use Rattle.office_machine.proofs.Rows.Keyed.{found_put, elsewhere}
+use Rattle.office_base.proofs.RowLaws.Keyed.{own_key}
 use Rattle.office_machine.proofs.Rows.Keyed as keyed
 use Rattle.office_machine.proofs.Releases.ReleasesCounted.{Counts, published}
 use Rattle.office_machine.proofs.Parents.ParentsThere.{parents_there}

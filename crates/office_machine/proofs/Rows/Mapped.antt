@@ -7,7 +7,9 @@ use Rattle.std.specs.declared.cmp.Ordering.{Ordering}
 use Rattle.std.specs.declared.cmp.Ordering.TheVariants.{Less, Equal, Greater}
 use Rattle.office_base.specs.Rows.{by_order, row_at, row_put, IsInOrder}
 use Rattle.office_base.specs.Sums.{sum_over}
-use Rattle.office_machine.proofs.Rows.Keyed.{IsKeyed, all_above}
+use Rattle.office_base.proofs.RowLaws.Keyed.{IsKeyed}
+use Rattle.office_base.proofs.RowLaws.Starts.{all_above}
+use Rattle.office_base.proofs.RowLaws.Filters.{all_filter}
 use Rattle.office_base.proofs.SumsOver.{sum_over-map}
 
 -- the rows that pass, added up
@@ -38,15 +40,11 @@ module _ {K X : Type 0} {R : K → K → Ordering} {key : X → K} (t : IsKeyed 
   behind x xs [] h = refl
   behind x xs (y ∷ ys) h = ap (λ zs. put_changed R key g zs ys) (put_behind x y xs h.0) ∙ behind x (row_put R key xs (g y)) ys h.1
 
-  all_filter : (P : X → Type 0) (xs : List X) → AllByRecursion P xs → AllByRecursion P (filter p xs)
-  all_filter P [] h = tt
-  all_filter P (x ∷ xs) h = elim (p x) as (λ b. AllByRecursion P (cond b (x ∷ filter p xs) (filter p xs))) [ true ↦ (h.0, all_filter P xs h.1) | false ↦ all_filter P xs h.1 ]
-
   -- to put the changed rows that pass is to change each row that passes
   pub put_changed_is : (xs : List X) → IsInOrder R key xs → put_changed R key g xs (filter p xs) ≡ map (changed p g) xs
   put_changed_is [] o = refl
   put_changed_is (x ∷ xs) o =
-      let above = all_filter _ xs (all_above t (key x) xs o.0 o.1) in
+      let above = all_filter (λ y. R (key x) (key y) ≡ Less) p xs (all_above t.total key (key x) xs o.0 o.1) in
       elim (p x) as (λ b. put_changed R key g (x ∷ xs) (cond b (x ∷ filter p xs) (filter p xs)) ≡ cond b (g x) x ∷ map (changed p g) xs) [
         | true ↦
             ap (λ zs. put_changed R key g zs (filter p xs)) (put_here x xs)

@@ -2,13 +2,12 @@
 use Rattle.std.specs.Prelude.{◌≡◌, ℕ, zero, suc, ◌+◌, ◌≤◌, ◌<◌, ◌⊎◌, true, false, List, [], ◌∷◌, map, Some, None, is_some}
 use Rattle.std.proofs.Common.{refl, sym, ap, ◌∙◌, inl, inr, arith}
 use Rattle.std.specs.Cmp.{nat_cmp_total, nat_cmp_is}
-use Rattle.std.specs.FinMap.{nat_cmp-IsAntisymmetric}
 use Rattle.std.specs.Ordering.{nat_cmp}
 use Rattle.std.specs.declared.cmp.Ordering.TheVariants.{Less, Equal, Greater}
 use Rattle.office_base.specs.Rows.{by_order, row_at, IsInOrder}
 use Rattle.office_machine.specs.Fates.{numbers}
 use Rattle.office_base.proofs.Orders.{same_key}
-use Rattle.office_machine.proofs.Rows.RowsChanged.{none_below, starts_before, starts_level}
+use Rattle.office_base.proofs.RowLaws.Starts.{none_below, above, tied}
 
 module _ {X : Type 0} (key : X → ℕ) where
   -- each number from here on is found, as many as this, and no other
@@ -64,10 +63,10 @@ module _ {X : Type 0} (key : X → ℕ) where
     where
       by : (q : ℕ) (y : X) → row_at nat_cmp key xs q ≡ Some y → (q < key x) ⊎ ((q ≡ key x) ⊎ (key x < q)) → (from + 1 ≤ q) × (q < from + 1 + n)
       by q y found (inl below) =
-          let none = none_below nat_cmp_total nat_cmp-IsAntisymmetric key q xs (starts_before nat_cmp_total nat_cmp-IsAntisymmetric key q (key x) xs (less q (key x) below) order.0) in
+          let none = none_below nat_cmp key q xs (above nat_cmp_total key q (key x) xs (less q (key x) below) order.0) in
           let no : None ≡ Some y = sym none ∙ found in absurd cc
       by q y found (inr (inl same)) =
-          let none = none_below nat_cmp_total nat_cmp-IsAntisymmetric key q xs (starts_level nat_cmp_total nat_cmp-IsAntisymmetric key q (key x) xs (equal q (key x) same) order.0) in
+          let none = none_below nat_cmp key q xs (tied nat_cmp_total key q (key x) xs (equal q (key x) same) order.0) in
           let no : None ≡ Some y = sym none ∙ found in absurd cc
       by q y found (inr (inr above)) =
           let at = finds.nowhere q y (after_first x xs q (greater q (key x) above) ∙ found) in

@@ -1,16 +1,16 @@
--- Tables whose rows are changed in place, and dropped.
+-- Tables whose rows are changed in place.
 use Rattle.std.specs.Prelude.{◌≡◌, Bool, true, false, cond, ◌&&◌, ◌||◌, List, [], ◌∷◌, map, filter, Option, Some, None, option_map}
-use Rattle.std.proofs.Common.{refl, sym, ap, ◌∙◌, subst}
+use Rattle.std.proofs.Common.{refl, sym, ap, ◌∙◌}
 use Rattle.std.specs.List.{AllByRecursion, list_any}
 use Rattle.std.specs.Cmp.{IsTotalOrder}
 use Rattle.std.specs.FinMap.{IsAntisymmetric}
 use Rattle.std.specs.Ordering.{is_eq, eq_by_cmp}
 use Rattle.std.specs.declared.cmp.Ordering.{Ordering}
 use Rattle.std.specs.declared.cmp.Ordering.TheVariants.{Less, Equal, Greater}
-use Rattle.office_base.specs.Rows.{by_order, row_at, row_put, row_drop, StartsAbove, IsInOrder, holds_of}
-use Rattle.office_machine.proofs.Rows.Filtered.{if_passes}
+use Rattle.office_base.specs.Rows.{by_order, row_at, row_put, row_drop, IsInOrder, holds_of}
 use Rattle.office_base.proofs.ExactKeys.{equal_keys}
 use Rattle.office_base.proofs.RowLaws.{row_at-row_put}
+use Rattle.office_base.proofs.RowLaws.Starts.{above, tied, all_above}
 
 -- the rows of a table after these are put
 abbrev pub rows_put : {K X : Type 0} → (K → K → Ordering) → (X → K) → List X → List X → List X
@@ -26,28 +26,7 @@ rows_drop R key xs (k ∷ ks) = rows_drop R key (row_drop R key xs k) ks
 abbrev pub changed : {X : Type 0} → (X → Bool) → (X → X) → X → X
 changed p g x = cond (p x) (g x) x
 
-filter_step : {X : Type 0} (p : X → Bool) (x : X) (once twice : List X) (c : Bool) → filter p once ≡ twice → (b : Bool) → p x ≡ c
-    → filter p (cond b (x ∷ once) once) ≡ cond (b && c) (x ∷ twice) twice
-filter_step p x once twice c ih true e = ap (λ ys. cond (p x) (x ∷ ys) ys) ih ∙ ap (λ c. cond c (x ∷ twice) twice) e
-filter_step p x once twice c ih false e = ih
-
-pub filter_filter : {X : Type 0} (p q : X → Bool) (xs : List X) → filter p (filter q xs) ≡ filter (λ x. q x && p x) xs
-filter_filter p q [] = refl
-filter_filter p q (x ∷ xs) = filter_step p x (filter q xs) (filter (λ x. q x && p x) xs) (p x) (filter_filter p q xs) (q x) refl
-
 module _ {K X : Type 0} {R : K → K → Ordering} (o : IsTotalOrder R) (exact : IsAntisymmetric R) (key : X → K) where
-  -- a row that is found has the key
-  found_step : (x y : X) (k : K) (found : Option X) → (found ≡ Some y → key y ≡ k) → (c : Ordering) → R k (key x) ≡ c
-      → by_order c None (Some x) found ≡ Some y → key y ≡ k
-  found_step x y k found ih Less e h = cc
-  found_step x y k found ih Equal e h = let same : Some x ≡ Some y = h in let is : x ≡ y = cc in ap key (sym is) ∙ sym (exact k (key x) e)
-  found_step x y k found ih Greater e h = ih h
-
-  pub found_key : (xs : List X) (k : K) (y : X) → row_at R key xs k ≡ Some y → key y ≡ k
-  unfolding row_at
-  found_key [] k y h = let no : None ≡ Some y = h in cc
-  found_key (x ∷ xs) k y h = found_step x y k (row_at R key xs k) (found_key xs k y) (R k (key x)) refl h
-
   put_step : (g : X → X) (xs : List X) (k q : K) (x : X) → row_at R key xs k ≡ Some x → (b : Bool) → eq_by_cmp R q k ≡ b
       → cond b (Some (g x)) (row_at R key xs q) ≡ option_map (λ y. cond b (g y) y) (row_at R key xs q)
   put_step g xs k q x found true e = sym (ap (option_map g) (ap (row_at R key xs) (equal_keys exact q k e) ∙ found))
@@ -63,115 +42,6 @@ module _ {K X : Type 0} {R : K → K → Ordering} (o : IsTotalOrder R) (exact :
       row_at-row_put o key xs (g x) q
       ∙ ap (λ j. cond (eq_by_cmp R q j) (Some (g x)) (row_at R key xs q)) keeps
       ∙ put_step g xs k q x found (eq_by_cmp R q k) refl
-
-  -- each row stands above the start
-  pub all_above : (k : K) (xs : List X) → StartsAbove R key k xs → IsInOrder R key xs → AllByRecursion (λ x. R k (key x) ≡ Less) xs
-  all_above k [] s h = tt
-  all_above k (x ∷ []) s h = (s, tt)
-  all_above k (x ∷ y ∷ ys) s h = (s, all_above k (y ∷ ys) (o.trans k (key x) (key y) s h.0) h.1)
-
-  pub starts_before : (k q : K) (xs : List X) → R k q ≡ Less → StartsAbove R key q xs → StartsAbove R key k xs
-  starts_before k q [] e s = tt
-  starts_before k q (y ∷ ys) e s = o.trans k q (key y) e s
-
-  pub starts_level : (k q : K) (xs : List X) → R k q ≡ Equal → StartsAbove R key q xs → StartsAbove R key k xs
-  starts_level k q xs e h = subst (λ k. StartsAbove R key k xs) (sym (exact k q e)) h
-
-  -- nothing is found below the start
-  pub none_below : (k : K) (xs : List X) → StartsAbove R key k xs → row_at R key xs k ≡ None
-  unfolding row_at
-  none_below k [] s = refl
-  none_below k (x ∷ xs) s = ap (λ o. by_order o None (Some x) (row_at R key xs k)) s
-
-  pub all_filter : (P : X → Type 0) (p : X → Bool) (xs : List X) → AllByRecursion P xs → AllByRecursion P (filter p xs)
-  all_filter P p [] h = tt
-  all_filter P p (x ∷ xs) h = elim (p x) as (λ b. AllByRecursion P (cond b (x ∷ filter p xs) (filter p xs))) [ true ↦ (h.0, all_filter P p xs h.1) | false ↦ all_filter P p xs h.1 ]
-
-  -- of the rows that pass, one is found where one is found that passes
-  starts_filter : (k : K) (p : X → Bool) (xs : List X) → StartsAbove R key k xs → IsInOrder R key xs → StartsAbove R key k (filter p xs)
-  starts_filter k p xs s h = start_of (filter p xs) (all_filter _ p xs (all_above k xs s h)) where
-    start_of : (ys : List X) → AllByRecursion (λ x. R k (key x) ≡ Less) ys → StartsAbove R key k ys
-    start_of [] a = tt
-    start_of (y ∷ ys) a = a.0
-
-  passing_step : (p : X → Bool) (x : X) (xs : List X) (q : K) → IsInOrder R key (x ∷ xs)
-      → row_at R key (filter p xs) q ≡ if_passes p (row_at R key xs q)
-      → (b : Bool) → p x ≡ b → (c : Ordering) → R q (key x) ≡ c → row_at R key (cond b (x ∷ filter p xs) (filter p xs)) q ≡ if_passes p (by_order c None (Some x) (row_at R key xs q))
-  unfolding row_at
-  passing_step p x xs q order ih true e Less c = ap (λ c. by_order c None (Some x) (row_at R key (filter p xs) q)) c
-  passing_step p x xs q order ih true e Equal c =
-      ap (λ c. by_order c None (Some x) (row_at R key (filter p xs) q)) c
-      ∙ ap (λ b. cond b (Some x) None) (sym e)
-  passing_step p x xs q order ih true e Greater c = ap (λ c. by_order c None (Some x) (row_at R key (filter p xs) q)) c ∙ ih
-  passing_step p x xs q order ih false e Less c = none_below q (filter p xs) (starts_filter q p xs (starts_before q (key x) xs c order.0) order.1)
-  passing_step p x xs q order ih false e Equal c =
-      none_below q (filter p xs) (starts_filter q p xs (starts_level q (key x) xs c order.0) order.1)
-      ∙ ap (λ b. cond b (Some x) None) (sym e)
-  passing_step p x xs q order ih false e Greater c = ih
-
-  pub row_at-filter : (p : X → Bool) (xs : List X) (q : K) → IsInOrder R key xs → row_at R key (filter p xs) q ≡ if_passes p (row_at R key xs q)
-  unfolding row_at
-  row_at-filter p [] q order = refl
-  row_at-filter p (x ∷ xs) q order = passing_step p x xs q order (row_at-filter p xs q order.1) (p x) refl (R q (key x)) refl
-
-  -- a look-up after a drop
-  drop_step : (x : X) (xs : List X) (k q : K) → IsInOrder R key (x ∷ xs)
-      → row_at R key (row_drop R key xs k) q ≡ cond (eq_by_cmp R q k) None (row_at R key xs q)
-      → (c : Ordering) → R k (key x) ≡ c → (d : Ordering) → R q k ≡ d
-      → row_at R key (by_order c (x ∷ xs) xs (x ∷ row_drop R key xs k)) q ≡ cond (is_eq d) None (by_order (R q (key x)) None (Some x) (row_at R key xs q))
-  unfolding row_at
-  drop_step x xs k q order ih Less c Less d = refl
-  drop_step x xs k q order ih Less c Equal d = ap (λ r. by_order r None (Some x) (row_at R key xs q)) (ap (λ q. R q (key x)) (exact q k d) ∙ c)
-  drop_step x xs k q order ih Less c Greater d = refl
-  drop_step x xs k q order ih Equal c Less d =
-      let j : R q (key x) ≡ Less = ap (R q) (sym (exact k (key x) c)) ∙ d in
-      none_below q xs (starts_before q (key x) xs j order.0) ∙ sym (ap (λ r. by_order r None (Some x) (row_at R key xs q)) j)
-  drop_step x xs k q order ih Equal c Equal d = none_below q xs (starts_level q (key x) xs (ap (R q) (sym (exact k (key x) c)) ∙ d) order.0)
-  drop_step x xs k q order ih Equal c Greater d =
-      let j : R q (key x) ≡ Greater = ap (R q) (sym (exact k (key x) c)) ∙ d in
-      sym (ap (λ r. by_order r None (Some x) (row_at R key xs q)) j)
-  drop_step x xs k q order ih Greater c Less d = ap (by_order (R q (key x)) None (Some x)) (ih ∙ ap (λ d. cond (is_eq d) None (row_at R key xs q)) d)
-  drop_step x xs k q order ih Greater c Equal d =
-      ap (λ r. by_order r None (Some x) (row_at R key (row_drop R key xs k) q)) (ap (λ q. R q (key x)) (exact q k d) ∙ c) ∙ ih ∙ ap (λ d. cond (is_eq d) None (row_at R key xs q)) d
-  drop_step x xs k q order ih Greater c Greater d =
-      ap (by_order (R q (key x)) None (Some x)) (ih ∙ ap (λ d. cond (is_eq d) None (row_at R key xs q)) d)
-
-  pub row_at-row_drop : (xs : List X) (k q : K) → IsInOrder R key xs
-      → row_at R key (row_drop R key xs k) q ≡ cond (eq_by_cmp R q k) None (row_at R key xs q)
-  unfolding row_at row_drop
-  row_at-row_drop [] k q order = none (eq_by_cmp R q k) where
-    none : (b : Bool) → (let a : Option X = None in a) ≡ cond b None None
-    none true = refl
-    none false = refl
-  row_at-row_drop (x ∷ xs) k q order = drop_step x xs k q order (row_at-row_drop xs k q order.1) (R k (key x)) refl (R q k) refl
-
-  -- a drop keeps the order
-  below_start : (j : K) (x : X) (xs : List X) → R j (key x) ≡ Less → IsInOrder R key (x ∷ xs) → StartsAbove R key j xs
-  below_start j x [] e h = tt
-  below_start j x (y ∷ ys) e h = o.trans j (key x) (key y) e h.0
-
-  starts_drop_step : (j : K) (x : X) (xs : List X) (k : K) → R j (key x) ≡ Less → IsInOrder R key (x ∷ xs) → (c : Ordering)
-      → StartsAbove R key j (by_order c (x ∷ xs) xs (x ∷ row_drop R key xs k))
-  starts_drop_step j x xs k e h Less = e
-  starts_drop_step j x xs k e h Equal = below_start j x xs e h
-  starts_drop_step j x xs k e h Greater = e
-
-  starts_drop : (j : K) (xs : List X) (k : K) → StartsAbove R key j xs → IsInOrder R key xs → StartsAbove R key j (row_drop R key xs k)
-  unfolding row_drop
-  starts_drop j [] k s h = tt
-  starts_drop j (x ∷ xs) k s h = starts_drop_step j x xs k s h (R k (key x))
-
-  order_drop_step : (x : X) (xs : List X) (k : K) → IsInOrder R key (x ∷ xs) → IsInOrder R key (row_drop R key xs k)
-      → StartsAbove R key (key x) (row_drop R key xs k)
-      → (c : Ordering) → IsInOrder R key (by_order c (x ∷ xs) xs (x ∷ row_drop R key xs k))
-  order_drop_step x xs k h ih s Less = h
-  order_drop_step x xs k h ih s Equal = h.1
-  order_drop_step x xs k h ih s Greater = (s, ih)
-
-  pub in_order-drop : (xs : List X) (k : K) → IsInOrder R key xs → IsInOrder R key (row_drop R key xs k)
-  unfolding row_drop
-  in_order-drop [] k h = tt
-  in_order-drop (x ∷ xs) k h = order_drop_step x xs k h (in_order-drop xs k h.1) (starts_drop (key x) xs k h.0 h.1) (R k (key x))
 
   -- whether one that passes has the key
   abbrev pub some_passes : (X → Bool) → List X → K → Bool
@@ -191,11 +61,11 @@ module _ {K X : Type 0} {R : K → K → Ordering} (o : IsTotalOrder R) (exact :
 
   passes_step : (p : X → Bool) (x : X) (xs : List X) (q : K) → IsInOrder R key (x ∷ xs) → some_passes p xs q ≡ holds_of p (row_at R key xs q)
       → (c : Ordering) → R q (key x) ≡ c → (b : Bool) → p x ≡ b → ((b && is_eq c) || some_passes p xs q) ≡ holds_of p (by_order c None (Some x) (row_at R key xs q))
-  passes_step p x xs q order ih Less c true e = none_passes p xs q (none_equal q xs (all_above q xs (starts_before q (key x) xs c order.0) order.1))
-  passes_step p x xs q order ih Less c false e = none_passes p xs q (none_equal q xs (all_above q xs (starts_before q (key x) xs c order.0) order.1))
+  passes_step p x xs q order ih Less c true e = none_passes p xs q (none_equal q xs (all_above o key q xs (above o key q (key x) xs c order.0) order.1))
+  passes_step p x xs q order ih Less c false e = none_passes p xs q (none_equal q xs (all_above o key q xs (above o key q (key x) xs c order.0) order.1))
   passes_step p x xs q order ih Equal c true e = sym e
   passes_step p x xs q order ih Equal c false e =
-      none_passes p xs q (none_equal q xs (all_above q xs (starts_level q (key x) xs c order.0) order.1))
+      none_passes p xs q (none_equal q xs (all_above o key q xs (tied o key q (key x) xs c order.0) order.1))
       ∙ sym e
   passes_step p x xs q order ih Greater c true e = ih
   passes_step p x xs q order ih Greater c false e = ih
@@ -244,7 +114,7 @@ module _ {K X : Type 0} {R : K → K → Ordering} (o : IsTotalOrder R) (exact :
         let no : false ≡ true = sym (ap (λ c. holds_of p (by_order c None (Some x) (row_at R key xs q))) c)
         ∙ h in cc
     puts_step p x xs zs q order h ih Equal c true e =
-        puts_elsewhere p xs (row_put R key zs (g x)) q (none_passes p xs q (none_equal q xs (all_above q xs (starts_level q (key x) xs c order.0) order.1)))
+        puts_elsewhere p xs (row_put R key zs (g x)) q (none_passes p xs q (none_equal q xs (all_above o key q xs (tied o key q (key x) xs c order.0) order.1)))
         ∙ row_at-row_put o key zs (g x) q
         ∙ ap (λ k. cond (eq_by_cmp R q k) (Some (g x)) (row_at R key zs q)) (keeps x)
         ∙ ap (λ c. cond (is_eq c) (Some (g x)) (row_at R key zs q)) c

@@ -1,36 +1,10 @@
--- The tables stay in the order of their keys.
-use Rattle.std.proofs.Common.{List, [], ◌∷◌}
-use Rattle.office_base.specs.Tables.{Tables, IsSorted, line_key, batch_key, tenderer_key, notice_key, lot_key, envelope_key, seal_key, security_key, award_key, contract_key, entry_key, release_key, compiled_key, late_key, performance_key, after_put, after_puts}
-use Rattle.office_base.specs.declared.puts.Put.{Put}
+-- The tables of a reached office are in the order of their keys.
+use Rattle.std.proofs.Common.{List}
+use Rattle.office_base.specs.Tables.{Tables, IsSorted}
 use Rattle.office_base.specs.declared.puts.Put.TheVariants as puts
 use Rattle.office_machine.specs.Machine.{Means, Given, Reaches, puts_of}
 use Rattle.office_machine.proofs.Runs.{along}
-use Rattle.office_machine.proofs.Rows.Keyed as keyed
-use Rattle.office_machine.proofs.Rows.Lists.{in_order-drop}
-use Rattle.office_base.proofs.RowLaws.{in_order-put}
-
-pub sorted-put : (p : Put) (t : Tables) → IsSorted t → IsSorted (after_put p t)
-sorted-put (puts.Line r) t h = record { lines = in_order-put keyed.lines.total line_key t.lines r h.lines; batches = h.batches; tenderers = h.tenderers; notices = h.notices; lots = h.lots; envelopes = h.envelopes; seals = h.seals; securities = h.securities; awards = h.awards; contracts = h.contracts; entries = h.entries; releases = h.releases; compiled = h.compiled; late_rules = h.late_rules; performances = h.performances }
-sorted-put (puts.Batch r) t h = record { lines = h.lines; batches = in_order-put keyed.batches.total batch_key t.batches r h.batches; tenderers = h.tenderers; notices = h.notices; lots = h.lots; envelopes = h.envelopes; seals = h.seals; securities = h.securities; awards = h.awards; contracts = h.contracts; entries = h.entries; releases = h.releases; compiled = h.compiled; late_rules = h.late_rules; performances = h.performances }
-sorted-put (puts.Tenderer r) t h = record { lines = h.lines; batches = h.batches; tenderers = in_order-put keyed.tenderers.total tenderer_key t.tenderers r h.tenderers; notices = h.notices; lots = h.lots; envelopes = h.envelopes; seals = h.seals; securities = h.securities; awards = h.awards; contracts = h.contracts; entries = h.entries; releases = h.releases; compiled = h.compiled; late_rules = h.late_rules; performances = h.performances }
-sorted-put (puts.Notice r) t h = record { lines = h.lines; batches = h.batches; tenderers = h.tenderers; notices = in_order-put keyed.notices.total notice_key t.notices r h.notices; lots = h.lots; envelopes = h.envelopes; seals = h.seals; securities = h.securities; awards = h.awards; contracts = h.contracts; entries = h.entries; releases = h.releases; compiled = h.compiled; late_rules = h.late_rules; performances = h.performances }
-sorted-put (puts.Lot r) t h = record { lines = h.lines; batches = h.batches; tenderers = h.tenderers; notices = h.notices; lots = in_order-put keyed.lots.total lot_key t.lots r h.lots; envelopes = h.envelopes; seals = h.seals; securities = h.securities; awards = h.awards; contracts = h.contracts; entries = h.entries; releases = h.releases; compiled = h.compiled; late_rules = h.late_rules; performances = h.performances }
-sorted-put (puts.Envelope r) t h = record { lines = h.lines; batches = h.batches; tenderers = h.tenderers; notices = h.notices; lots = h.lots; envelopes = in_order-put keyed.envelopes.total envelope_key t.envelopes r h.envelopes; seals = h.seals; securities = h.securities; awards = h.awards; contracts = h.contracts; entries = h.entries; releases = h.releases; compiled = h.compiled; late_rules = h.late_rules; performances = h.performances }
-sorted-put (puts.Seal r) t h = record { lines = h.lines; batches = h.batches; tenderers = h.tenderers; notices = h.notices; lots = h.lots; envelopes = h.envelopes; seals = in_order-put keyed.seals.total seal_key t.seals r h.seals; securities = h.securities; awards = h.awards; contracts = h.contracts; entries = h.entries; releases = h.releases; compiled = h.compiled; late_rules = h.late_rules; performances = h.performances }
-sorted-put (puts.DropSeal n) t h = record { lines = h.lines; batches = h.batches; tenderers = h.tenderers; notices = h.notices; lots = h.lots; envelopes = h.envelopes; seals = in_order-drop keyed.seals t.seals n h.seals; securities = h.securities; awards = h.awards; contracts = h.contracts; entries = h.entries; releases = h.releases; compiled = h.compiled; late_rules = h.late_rules; performances = h.performances }
-sorted-put (puts.Security r) t h = record { lines = h.lines; batches = h.batches; tenderers = h.tenderers; notices = h.notices; lots = h.lots; envelopes = h.envelopes; seals = h.seals; securities = in_order-put keyed.securities.total security_key t.securities r h.securities; awards = h.awards; contracts = h.contracts; entries = h.entries; releases = h.releases; compiled = h.compiled; late_rules = h.late_rules; performances = h.performances }
-sorted-put (puts.Award r) t h = record { lines = h.lines; batches = h.batches; tenderers = h.tenderers; notices = h.notices; lots = h.lots; envelopes = h.envelopes; seals = h.seals; securities = h.securities; awards = in_order-put keyed.awards.total award_key t.awards r h.awards; contracts = h.contracts; entries = h.entries; releases = h.releases; compiled = h.compiled; late_rules = h.late_rules; performances = h.performances }
-sorted-put (puts.Contract r) t h = record { lines = h.lines; batches = h.batches; tenderers = h.tenderers; notices = h.notices; lots = h.lots; envelopes = h.envelopes; seals = h.seals; securities = h.securities; awards = h.awards; contracts = in_order-put keyed.contracts.total contract_key t.contracts r h.contracts; entries = h.entries; releases = h.releases; compiled = h.compiled; late_rules = h.late_rules; performances = h.performances }
-sorted-put (puts.Entry r) t h = record { lines = h.lines; batches = h.batches; tenderers = h.tenderers; notices = h.notices; lots = h.lots; envelopes = h.envelopes; seals = h.seals; securities = h.securities; awards = h.awards; contracts = h.contracts; entries = in_order-put keyed.entries.total entry_key t.entries r h.entries; releases = h.releases; compiled = h.compiled; late_rules = h.late_rules; performances = h.performances }
-sorted-put (puts.Release r) t h = record { lines = h.lines; batches = h.batches; tenderers = h.tenderers; notices = h.notices; lots = h.lots; envelopes = h.envelopes; seals = h.seals; securities = h.securities; awards = h.awards; contracts = h.contracts; entries = h.entries; releases = in_order-put keyed.releases.total release_key t.releases r h.releases; compiled = h.compiled; late_rules = h.late_rules; performances = h.performances }
-sorted-put (puts.Compiled r) t h = record { lines = h.lines; batches = h.batches; tenderers = h.tenderers; notices = h.notices; lots = h.lots; envelopes = h.envelopes; seals = h.seals; securities = h.securities; awards = h.awards; contracts = h.contracts; entries = h.entries; releases = h.releases; compiled = in_order-put keyed.compiled.total compiled_key t.compiled r h.compiled; late_rules = h.late_rules; performances = h.performances }
-sorted-put (puts.Late r) t h = record { lines = h.lines; batches = h.batches; tenderers = h.tenderers; notices = h.notices; lots = h.lots; envelopes = h.envelopes; seals = h.seals; securities = h.securities; awards = h.awards; contracts = h.contracts; entries = h.entries; releases = h.releases; compiled = h.compiled; late_rules = in_order-put keyed.late_rules.total late_key t.late_rules r h.late_rules; performances = h.performances }
-sorted-put (puts.Performance r) t h = record { lines = h.lines; batches = h.batches; tenderers = h.tenderers; notices = h.notices; lots = h.lots; envelopes = h.envelopes; seals = h.seals; securities = h.securities; awards = h.awards; contracts = h.contracts; entries = h.entries; releases = h.releases; compiled = h.compiled; late_rules = h.late_rules; performances = in_order-put keyed.performances.total performance_key t.performances r h.performances }
-sorted-put (puts.Clock r) t h = record { lines = h.lines; batches = h.batches; tenderers = h.tenderers; notices = h.notices; lots = h.lots; envelopes = h.envelopes; seals = h.seals; securities = h.securities; awards = h.awards; contracts = h.contracts; entries = h.entries; releases = h.releases; compiled = h.compiled; late_rules = h.late_rules; performances = h.performances }
-
-pub sorted-puts : (ps : List Put) (t : Tables) → IsSorted t → IsSorted (after_puts ps t)
-sorted-puts [] t h = h
-sorted-puts (p ∷ ps) t h = sorted-puts ps (after_put p t) (sorted-put p t h)
+use Rattle.office_base.proofs.SortedTables.{sorted-puts}
 
 pub sorted : (means : Means) (xs : List Given) (t : Tables) → Reaches means xs t → IsSorted t
 sorted means = along means (λ xs t. IsSorted t) (record { lines = tt; batches = tt; tenderers = tt; notices = tt; lots = tt; envelopes = tt; seals = tt; securities = tt; awards = tt; contracts = tt; entries = tt; releases = tt; compiled = tt; late_rules = tt; performances = tt })

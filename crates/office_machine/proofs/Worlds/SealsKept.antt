@@ -24,7 +24,7 @@ use Rattle.office_base.proofs.ExactKeys.{equal_ids}
 use Rattle.office_machine.proofs.Reached.{steps_reach}
 use Rattle.office_machine.proofs.FateLaws.FatesKept.{all_kept}
 use Rattle.office_machine.proofs.FateLaws.NextReceipt.{no_envelope_yet, nothing_yet}
-use Rattle.office_machine.proofs.Rows.Keyed.{each_found}
+use Rattle.office_base.proofs.RowLaws.Found.{each_found}
 use Rattle.office_machine.proofs.Rows.Keyed as keyed
 use Rattle.office_machine.proofs.FateLaws.Seen.{after-append}
 use Rattle.office_machine.proofs.Rows.SortedTables.{sorted}

@@ -18,7 +18,7 @@ use Rattle.office_machine.specs.Requests.{Demand, Asks, Looks, Request, asked, j
 use Rattle.office_machine.specs.Sights.{Packages}
 use Rattle.office_machine.specs.Seals.{PublishesBlindly, SeesBlindly, SameButSeals, AlikeThroughout, bytes_of, is_gone, DifferingAreGone, WholeRunsAreAlike}
 use Rattle.office_machine.proofs.FateLaws.FatesKept.{all_kept}
-use Rattle.office_machine.proofs.Rows.Keyed.{each_found}
+use Rattle.office_base.proofs.RowLaws.Found.{each_found}
 use Rattle.office_machine.proofs.Rows.Keyed as keyed
 use Rattle.office_machine.proofs.FateLaws.NextReceipt.{came_old}
 use Rattle.office_machine.proofs.Rows.SortedTables.{sorted}

@@ -16,7 +16,9 @@ use Rattle.office_base.specs.declared.records.SealRow.{SealRow}
 use Rattle.office_base.specs.Tables.{Tables, IsSorted, envelope_key, envelope_at, seal_at, after_puts}
 use Rattle.office_acts.specs.declared.commands.Command.TheVariants as commands
 use Rattle.office_machine.specs.Worlds.{Theirs, is_theirs, AlikeRows, Pairs, AlikeOffices, OpensAlike, AcceptedAlike}
-use Rattle.office_machine.proofs.Rows.Keyed.{all_found, each_found, found_key, of_found}
+use Rattle.office_machine.proofs.Rows.Keyed.{all_found}
+use Rattle.office_base.proofs.RowLaws.Found.{each_found, of_found}
+use Rattle.office_base.proofs.RowLaws.Keyed.{found_key}
 use Rattle.office_machine.proofs.Rows.Keyed as keyed
 use Rattle.office_machine.proofs.Parents.ParentsPut.{grows-puts}
 use Rattle.office_machine.proofs.Passed.{witness}

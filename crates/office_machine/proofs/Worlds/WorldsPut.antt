@@ -13,9 +13,9 @@ use Rattle.office_base.specs.declared.puts.Put.TheVariants as puts
 use Rattle.office_base.specs.RuleParts.{put_if}
 use Rattle.office_machine.specs.Worlds.{Theirs, is_theirs, AlikeRows, Pairs}
 use Rattle.office_machine.proofs.Rows.Keyed as keyed
-use Rattle.office_machine.proofs.Rows.Lists.{row_at-row_drop}
+use Rattle.office_base.proofs.RowLaws.Drops.{row_at-row_drop}
+use Rattle.office_base.proofs.SortedTables.{sorted-put}
 use Rattle.office_base.proofs.RowLaws.{row_at-row_put}
-use Rattle.office_machine.proofs.Rows.SortedTables.{sorted-put}
 
 -- rows that are alike, each theirs as W says
 pub record Alike (th : Theirs) (W : ℕ → Bool) (e e' : EnvelopeRow) : Type 0 where

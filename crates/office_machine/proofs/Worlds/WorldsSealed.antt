@@ -24,7 +24,9 @@ use Rattle.tender_core.specs.Rules.Present.{received, seal_puts, security_put}
 use Rattle.tender_core.specs.Rules.Modify.{is_anothers, replacing, withdrawn, modify_puts}
 use Rattle.office_machine.specs.Worlds.{Theirs, is_of_lot, is_theirs, AlikeRows, Pairs, IsNext, SameBut, Same, Presented, Modified, AcceptedAlike, StepsStayAlike}
 use Rattle.office_base.proofs.ExactKeys.{equal_keys, equal_ids, same_itself}
-use Rattle.office_machine.proofs.Rows.Keyed.{each_found, found_put, own_key}
+use Rattle.office_machine.proofs.Rows.Keyed.{found_put}
+use Rattle.office_base.proofs.RowLaws.Found.{each_found}
+use Rattle.office_base.proofs.RowLaws.Keyed.{own_key}
 use Rattle.office_machine.proofs.Rows.Keyed as keyed
 use Rattle.office_machine.proofs.Parents.ParentsPut.{grows-puts}
 use Rattle.office_machine.proofs.Passed.{none_holds, allowed_by}

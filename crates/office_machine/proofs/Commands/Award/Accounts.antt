@@ -22,7 +22,8 @@ use Rattle.office_acts.specs.declared.commands.Command.TheVariants as commands
 use Rattle.office_base.specs.declared.puts.Put.TheVariants as puts
 use Rattle.office_machine.proofs.Accounts.Aside.{kept_aside, aside-securities}
 use Rattle.office_base.proofs.ExactKeys.{other_keys, equal_ids, same_itself}
-use Rattle.office_machine.proofs.Rows.Keyed.{found_key, found, found_put, elsewhere, still_there, own_key}
+use Rattle.office_machine.proofs.Rows.Keyed.{found, found_put, elsewhere, still_there}
+use Rattle.office_base.proofs.RowLaws.Keyed.{found_key, own_key}
 use Rattle.office_machine.proofs.Rows.Keyed as keyed
 use Rattle.office_machine.proofs.Accounts.Kept.{IsKept, PotsAre, LotIs, AwardIs, is_awarded}
 use Rattle.office_machine.proofs.Accounts.LotChanged.{lots_are, award_is, back, over, after_line}

@@ -3,7 +3,6 @@ use Rattle.std.specs.Prelude.{◌≡◌, ℕ, ◌+◌, Bool, true, false, cond, 
 use Rattle.std.proofs.Common.{refl, sym, ap, ◌∙◌, subst}
 use Rattle.std.specs.List.{AllByRecursion}
 use Rattle.std.specs.Cmp.{nat_cmp_total}
-use Rattle.std.specs.FinMap.{nat_cmp-IsAntisymmetric}
 use Rattle.std.specs.Ordering.{nat_cmp, eq_by_cmp}
 use Rattle.office_values.specs.Ids.{same_id}
 use Rattle.office_acts.specs.declared.command.Caller.{Caller}
@@ -28,16 +27,17 @@ use Rattle.office_base.specs.States.{is_read}
 use Rattle.office_base.specs.Rules.{first_of}
 use Rattle.office_base.specs.RuleParts.{clock_put, released, is_held_security, security_returned, returned}
 use Rattle.award_core.specs.Rules.Award.{is_admissible, is_responsive, lowest_price, winner, unsuccessful, awarded, award_row, decision_puts, award_tests, award_puts}
-use Rattle.office_base.specs.Tables.{Tables, lot_cmp, lot_key, award_key, envelope_key, security_key, award_at, lot_at, notice_at, line_at, envelope_at, seal_at, security_at, envelopes_of_lot, securities_of_lot, after_puts}
+use Rattle.office_base.specs.Tables.{Tables, lot_cmp, lot_key, award_key, security_key, award_at, lot_at, notice_at, line_at, envelope_at, seal_at, security_at, envelopes_of_lot, securities_of_lot, after_puts}
 use Rattle.office_base.specs.Parents.{line_of_lot}
 use Rattle.office_machine.specs.Machine.{Given}
 use Rattle.office_machine.specs.Readings.{Readings}
 use Rattle.office_machine.specs.Fates.{came, is_of_lot}
-use Rattle.office_base.proofs.ExactKeys.{equal_ids, lots_exact}
-use Rattle.office_base.proofs.Orders.{lots_total}
+use Rattle.office_base.proofs.ExactKeys.{equal_ids}
 use Rattle.office_machine.proofs.Passed.{none_holds, not_false}
 use Rattle.office_base.proofs.RowLaws.{row_at-row_put}
-use Rattle.office_machine.proofs.Rows.RowsChanged.{rows_put, found_key}
+use Rattle.office_machine.proofs.Rows.RowsChanged.{rows_put}
+use Rattle.office_base.proofs.RowLaws.Found.{each_found}
+use Rattle.office_base.proofs.RowLaws.Keyed.{found_key}
 use Rattle.office_machine.proofs.FateLaws.Views.{View, IsSound, AwardFits, Change, after_change, sound_changed}
 use Rattle.office_machine.proofs.FateLaws.Added.{added, sound_award}
 use Rattle.office_machine.proofs.FateLaws.Steps.{both_true}
@@ -46,9 +46,10 @@ use Rattle.office_machine.proofs.FateLaws.Seen.{seen, alike, lot_state, notices-
 use Rattle.office_machine.proofs.FateLaws.FatesHold.{IsKept, Keeps, given, tenders_same, named_same}
 use Rattle.office_machine.proofs.FateLaws.QuietFates.{notice_stands, all_of_map}
 use Rattle.office_machine.proofs.FateLaws.States.{map_same, lots_put, undecided_state, opened_state}
-use Rattle.office_machine.proofs.Commands.Award.Winners.{each_found, passing, best_is, best_none, best_some}
+use Rattle.office_machine.proofs.Commands.Award.Winners.{passing, best_is, best_none, best_some}
 use Rattle.office_machine.proofs.Commands.Fail.Fates.{on_line}
 use Rattle.office_machine.proofs.FateLaws.LotClosed.{closing_kept, securities_go_back}
+use Rattle.office_machine.proofs.Rows.Keyed as keyed
 
 there : {X : Type 0} (o : Option X) → is_some o ≡ true → (x : X) × (o ≡ Some x)
 there None h = absurd (let no : false ≡ true = h in cc)
@@ -109,7 +110,7 @@ module _ (readings : Readings) (name lot_name : List ℕ) (xs : List Given) (t :
   line_there = on_line readings xs t kept (name, lot_name) l lot_found
 
   key_is : lot_key l ≡ (name, lot_name)
-  key_is = found_key lots_total lots_exact lot_key t.lots (name, lot_name) l lot_found
+  key_is = found_key keyed.lots t.lots (name, lot_name) l lot_found
 
   -- nobody
 
@@ -164,7 +165,7 @@ module _ (readings : Readings) (name lot_name : List ℕ) (xs : List Given) (t :
     best =
         best_is Among n.weight lowest rows e
         (passing (λ (f : EnvelopeRow). envelope_at f.receipt t ≡ Some f) (λ (f : EnvelopeRow). same_id f.notice name && same_id f.lot lot_name) t.envelopes
-        (each_found nat_cmp_total nat_cmp-IsAntisymmetric envelope_key t.envelopes kept.order.0))
+        (each_found keyed.envelopes t.envelopes kept.order.0))
         wins
 
     admissible : (is_read e.state ≡ true) × (not e.failed ≡ true)

@@ -1,30 +1,9 @@
 -- The winner of a lot.
 use Rattle.std.specs.Prelude.{◌≡◌, ℕ, Bool, true, false, cond, ◌||◌, List, [], ◌∷◌, filter, Option, Some, None}
-use Rattle.std.proofs.Common.{refl, ap, ◌∙◌, subst}
+use Rattle.std.proofs.Common.{refl, subst}
 use Rattle.std.specs.List.{AllByRecursion, list_any}
-use Rattle.std.specs.Cmp.{IsTotalOrder}
-use Rattle.std.specs.FinMap.{IsAntisymmetric}
-use Rattle.std.specs.Ordering.{ordering_reverse}
-use Rattle.std.specs.declared.cmp.Ordering.{Ordering}
-use Rattle.std.specs.declared.cmp.Ordering.TheVariants.{Less}
-use Rattle.office_base.specs.Rows.{by_order, row_at, IsInOrder}
 use Rattle.office_base.specs.declared.records.EnvelopeRow.{EnvelopeRow}
 use Rattle.award_core.specs.Rules.Award.{is_admissible, is_better, better, best_with}
-use Rattle.office_base.proofs.Orders.{same_key}
-use Rattle.office_machine.proofs.Rows.RowsChanged.{all_above}
-
-module _ {K X : Type 0} {R : K → K → Ordering} (o : IsTotalOrder R) (exact : IsAntisymmetric R) (key : X → K) where
-  later : (x : X) (xs ys : List X) → AllByRecursion (λ y. R (key x) (key y) ≡ Less) ys → AllByRecursion (λ y. row_at R key xs (key y) ≡ Some y) ys
-      → AllByRecursion (λ y. by_order (R (key y) (key x)) None (Some x) (row_at R key xs (key y)) ≡ Some y) ys
-  later x xs [] a b = tt
-  later x xs (y ∷ ys) a b = (ap (λ c. by_order c None (Some x) (row_at R key xs (key y))) (o.antisymm (key y) (key x) ∙ ap ordering_reverse a.0) ∙ b.0, later x xs ys a.1 b.1)
-
-  -- each row is found at its key
-  pub each_found : (xs : List X) → IsInOrder R key xs → AllByRecursion (λ x. row_at R key xs (key x) ≡ Some x) xs
-  unfolding row_at
-  each_found [] h = tt
-  each_found (x ∷ xs) h =
-      (ap (λ c. by_order c None (Some x) (row_at R key xs (key x))) (same_key o (key x)), later x xs xs (all_above o exact key (key x) xs h.0 h.1) (each_found xs h.1))
 
 -- what passes, with what holds of it
 pub passing : {X : Type 0} (P : X → Type 0) (p : X → Bool) (xs : List X) → AllByRecursion P xs

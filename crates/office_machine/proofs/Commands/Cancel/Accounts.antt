@@ -20,14 +20,16 @@ use Rattle.office_machine.specs.Moves.{Move, Outside, Free, Reserved, Contracted
 use Rattle.office_acts.specs.declared.commands.Command.TheVariants as commands
 use Rattle.office_base.specs.declared.puts.Put.TheVariants as puts
 use Rattle.office_machine.proofs.Accounts.Aside.{kept_aside, AreAside, aside-append, aside-map}
+use Rattle.office_base.proofs.RowLaws.Filters.{filter_filter}
 use Rattle.office_base.proofs.ExactKeys.{equal_keys, ids_exact, same_id_is}
-use Rattle.office_machine.proofs.Rows.Keyed.{found_key, found, sum-found_agree}
+use Rattle.office_machine.proofs.Rows.Keyed.{found, sum-found_agree}
+use Rattle.office_base.proofs.RowLaws.Filters.{if_passes, row_at-filter}
+use Rattle.office_base.proofs.RowLaws.Keyed.{found_key}
 use Rattle.office_machine.proofs.Rows.Keyed as keyed
 use Rattle.office_machine.proofs.Accounts.Kept.{IsKept, PotsAre, LotIs, AwardIs, over_contracts, reserved_by, reserved_over, is_awarded}
 use Rattle.office_machine.proofs.Passed.{none_holds, neither, not_false, witness}
 use Rattle.std.specs.Cmp.Lexicographic.{nat_list_cmp_total}
 use Rattle.std.specs.declared.cmp.Ordering.{Ordering}
-use Rattle.office_machine.proofs.Rows.Filtered.{if_passes}
 use Rattle.office_base.specs.Sums.{sum_over}
 use Rattle.office_base.specs.declared.puts.Put.{Put}
 use Rattle.office_base.specs.declared.records.AwardRow.{AwardRow}
@@ -38,7 +40,6 @@ use Rattle.tender_core.specs.Rules.Publish.{no_line}
 use Rattle.tender_core.specs.Rules.Cancel.{is_open_lot, cancelled_lot, freed, line_row, ends, is_ended_award, cancelled_award, is_ended_envelope, envelope_put, drop_put, is_ended_security, cancelled_notice, cancel_puts}
 use Rattle.office_machine.proofs.Rows.RowsPut.{rows_put, some_has, lines_put, lots_put, after_lines, after_lots, found_after, there_after}
 use Rattle.office_machine.proofs.Accounts.Joins.{is_of}
-use Rattle.office_machine.proofs.Rows.Lists.{row_at-filter}
 use Rattle.office_machine.proofs.Rows.Mapped.{put_changed, changed, put_changed_is, row_at-changed, sum-put_filtered, sum_over-passing}
 use Rattle.office_base.proofs.SumsOver.{sum_over-append_map, sum_over-zero, sum_over-ext}
 
@@ -77,15 +78,6 @@ freed_after lines lots q =
     (each_freed lines lots lots q)
     (λ none. none_freed (find_line lines q) (freed q lots) (freed_of_none lines lots lots q none))
 
--- what passes two tests
-filter_both : {X : Type 0} (p r : X → Bool) (xs : List X) → filter r (filter p xs) ≡ filter (λ x. p x && r x) xs
-filter_both p r [] = refl
-filter_both p r (x ∷ xs) =
-    elim (p x) as (λ b. filter r (cond b (x ∷ filter p xs) (filter p xs)) ≡ cond (b && r x) (x ∷ filter (λ x. p x && r x) xs) (filter (λ x. p x && r x) xs)) [
-      | true ↦ ap (λ ys. cond (r x) (x ∷ ys) ys) (filter_both p r xs)
-      | false ↦ filter_both p r xs
-    ]
-
 -- changed rows, put one after another
 rows_put_changed : {K X : Type 0} (R : K → K → Ordering) (key : X → K) (g : X → X) (ys xs : List X) → rows_put R key xs (map g ys) ≡ put_changed R key g xs ys
 rows_put_changed R key g [] xs = refl
@@ -123,7 +115,7 @@ module _ (readings : Readings) (xs : List Given) (s : Tables) (moment : ℕ) (ca
   is_ended_one a = same_id a.notice n && is_ended_award lots a
 
   ended_is : ended ≡ filter is_ended s.lots
-  ended_is = filter_both (of_notice n) is_open_lot s.lots
+  ended_is = filter_filter is_open_lot (of_notice n) s.lots
 
   abbrev lots' : List LotRow
   lots' = map (changed is_ended cancelled_lot) s.lots
@@ -146,7 +138,7 @@ module _ (readings : Readings) (xs : List Given) (s : Tables) (moment : ℕ) (ca
   awards_after : rows_put nat_cmp award_key s.awards (map cancelled_award (filter (is_ended_award lots) (awards_of_notice n s))) ≡ awards'
   awards_after =
       rows_put_changed nat_cmp award_key cancelled_award (filter (is_ended_award lots) (awards_of_notice n s)) s.awards
-      ∙ ap (put_changed nat_cmp award_key cancelled_award s.awards) (filter_both (λ (a : AwardRow). same_id a.notice n) (is_ended_award lots) s.awards)
+      ∙ ap (put_changed nat_cmp award_key cancelled_award s.awards) (filter_filter (is_ended_award lots) (λ (a : AwardRow). same_id a.notice n) s.awards)
       ∙ put_changed_is keyed.awards is_ended_one cancelled_award (λ _. refl) s.awards order.awards
 
   lot_after : (j : List ℕ × List ℕ) → find_lot lots' j ≡ option_map (changed is_ended cancelled_lot) (find_lot s.lots j)

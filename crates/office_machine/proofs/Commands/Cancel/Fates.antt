@@ -11,7 +11,8 @@ use Rattle.office_acts.specs.declared.command.Caller.{Caller}
 use Rattle.office_acts.specs.declared.commands.Command.TheVariants.{Cancel}
 use Rattle.office_values.specs.declared.refusal.Refusal.{Refusal}
 use Rattle.office_base.specs.Rows.{holds_of}
-use Rattle.office_machine.proofs.Rows.Filtered.{if_passes}
+use Rattle.office_base.proofs.RowLaws.Filters.{if_passes, filter_filter, row_at-filter, all_filter}
+use Rattle.office_base.proofs.RowLaws.Keyed.{found_key}
 use Rattle.office_base.specs.declared.records.LineRow.{LineRow}
 use Rattle.office_base.specs.declared.records.NoticeRow.{NoticeRow}
 use Rattle.office_base.specs.declared.records.LotRow.{LotRow}
@@ -38,7 +39,7 @@ use Rattle.office_machine.proofs.Rows.Counting.{is_live}
 use Rattle.office_base.proofs.Orders.{lots_total}
 use Rattle.office_base.proofs.ExactKeys.{lots_exact, equal_ids, same_itself}
 use Rattle.office_machine.proofs.Passed.{none_holds}
-use Rattle.office_machine.proofs.Rows.RowsChanged.{rows_put, rows_drop, changed, filter_filter, found_key, row_at-filter, row_at-changed, some_passes_is, all_filter}
+use Rattle.office_machine.proofs.Rows.RowsChanged.{rows_put, rows_drop, changed, row_at-changed, some_passes_is}
 use Rattle.office_machine.proofs.FateLaws.Views.{Change, after_change}
 use Rattle.office_machine.proofs.FateLaws.Steps.{cond_keeps}
 use Rattle.office_machine.proofs.FateLaws.Decisions.{cancelling, fair_cancelling}
@@ -47,6 +48,7 @@ use Rattle.office_machine.proofs.FateLaws.FatesHold.{IsKept, Keeps, given}
 use Rattle.office_machine.proofs.FateLaws.QuietFates.{all_append, all_of_map}
 use Rattle.office_machine.proofs.FateLaws.FatesChanged.{kept_by_change, sealed_live}
 use Rattle.office_machine.proofs.FateLaws.States.{notices_put}
+use Rattle.office_machine.proofs.Rows.Keyed as keyed
 
 no_both : (a b : Bool) → (a && (b && false)) ≡ (b && false)
 no_both true true = refl
@@ -79,12 +81,12 @@ module _ (readings : Readings) (name : List ℕ) (rationale : List ℕ) (xs : Li
   E q k = ends lots q k
 
   ends_is : (q k : List ℕ) → E q k ≡ holds_of is_open_lot (if_passes (of_notice name) (lot_at (q, k) t))
-  ends_is q k = ap (holds_of is_open_lot) (row_at-filter lots_total lots_exact lot_key (of_notice name) t.lots (q, k) kept.order.4)
+  ends_is q k = ap (holds_of is_open_lot) (row_at-filter keyed.lots (of_notice name) t.lots (q, k) kept.order.4)
 
   ends_by : (q k : List ℕ) (o : Option LotRow) → lot_at (q, k) t ≡ o → holds_of is_open_lot (if_passes (of_notice name) o) ≡ true → q ≡ name
   ends_by q k None at h = let no : false ≡ true = h in cc
   ends_by q k (Some r) at h =
-      sym (ap (λ (k : List ℕ × List ℕ). k.0) (found_key lots_total lots_exact lot_key t.lots (q, k) r at)) ∙ equal_ids r.notice name (passes (of_notice name r) h)
+      sym (ap (λ (k : List ℕ × List ℕ). k.0) (found_key keyed.lots t.lots (q, k) r at)) ∙ equal_ids r.notice name (passes (of_notice name r) h)
     where
       passes : (b : Bool) → holds_of is_open_lot (cond b (Some r) None) ≡ true → b ≡ true
       passes true h = refl
@@ -97,7 +99,7 @@ module _ (readings : Readings) (name : List ℕ) (rationale : List ℕ) (xs : Li
       → holds_of is_open_lot (if_passes (of_notice name) o) ≡ true
   all_by q k None at e live = live
   all_by q k (Some r) at e live =
-      let own : r.notice ≡ name = ap (λ (k : List ℕ × List ℕ). k.0) (found_key lots_total lots_exact lot_key t.lots (q, k) r at) ∙ e in
+      let own : r.notice ≡ name = ap (λ (k : List ℕ × List ℕ). k.0) (found_key keyed.lots t.lots (q, k) r at) ∙ e in
       ap (λ b. holds_of is_open_lot (cond b (Some r) None)) (ap (λ n. same_id n name) own ∙ same_itself name) ∙ live
 
   ends_all : (q k : List ℕ) → q ≡ name → is_live ((seen t).lot_at (q, k)) ≡ true → E q k ≡ true
@@ -289,7 +291,7 @@ module _ (readings : Readings) (name : List ℕ) (rationale : List ℕ) (xs : Li
   fit =
       all_append (LotFits t.lines) (map (line_put t.lines open_lots) open_lots) _ (all_of_map (LotFits t.lines) (line_put t.lines open_lots) open_lots (λ l. tt))
       (all_append (LotFits t.lines) (map lot_put open_lots) _
-      (lots_fit t.lines open_lots (all_filter lots_total lots_exact lot_key (IsOnLine t.lines) is_open_lot lots (all_filter lots_total lots_exact lot_key (IsOnLine t.lines) (of_notice name) t.lots kept.lines)))
+      (lots_fit t.lines open_lots (all_filter (IsOnLine t.lines) is_open_lot lots (all_filter (IsOnLine t.lines) (of_notice name) t.lots kept.lines)))
       (all_append (LotFits t.lines) (map award_put ended_awards) _ (all_of_map (LotFits t.lines) award_put ended_awards (λ w. tt))
       (all_append (LotFits t.lines) (map envelope_put ended_envelopes) _ (all_of_map (LotFits t.lines) envelope_put ended_envelopes (λ e. tt))
       (all_append (LotFits t.lines) (map drop_put ended_envelopes) _ (all_of_map (LotFits t.lines) drop_put ended_envelopes (λ e. tt))

@@ -17,7 +17,8 @@ use Rattle.office_machine.specs.Moves.{moves}
 use Rattle.office_acts.specs.declared.commands.Command.TheVariants as commands
 use Rattle.office_base.specs.declared.puts.Put.TheVariants as puts
 use Rattle.office_machine.proofs.Accounts.Aside.{kept_aside, aside-append, aside-if}
-use Rattle.office_machine.proofs.Rows.Keyed.{found_key, found, still_there}
+use Rattle.office_machine.proofs.Rows.Keyed.{found, still_there}
+use Rattle.office_base.proofs.RowLaws.Keyed.{found_key}
 use Rattle.office_machine.proofs.Rows.Keyed as keyed
 use Rattle.office_machine.proofs.Accounts.Kept.{IsKept, PotsAre, AwardIs, is_awarded}
 use Rattle.office_machine.proofs.Passed.{none_holds, not_false, witness, test_of}

@@ -28,7 +28,8 @@ use Rattle.office_machine.specs.Machine.{Given}
 use Rattle.office_machine.specs.Readings.{Readings}
 use Rattle.office_machine.specs.Fates.{Reception, came, fate_of_tender, security_decided, fate_of_security, is_kept, has_number, carries, is_award_security, SecurityIs}
 use Rattle.office_machine.proofs.Passed.{none_holds}
-use Rattle.office_machine.proofs.Rows.RowsChanged.{found_key, row_at-changed_put}
+use Rattle.office_machine.proofs.Rows.RowsChanged.{row_at-changed_put}
+use Rattle.office_base.proofs.RowLaws.Keyed.{found_key}
 use Rattle.office_machine.proofs.FateLaws.Views.{AwardFits, Change, after_change}
 use Rattle.office_machine.proofs.FateLaws.Matched.{EnvelopeStands}
 use Rattle.office_machine.proofs.FateLaws.Steps.{cond_keeps, settled_keep, settled_goes}
@@ -39,6 +40,7 @@ use Rattle.office_machine.proofs.FateLaws.QuietFates.{notice_stands}
 use Rattle.office_machine.proofs.FateLaws.FatesChanged.{kept_by_change, securities_put, securities_left}
 use Rattle.office_machine.proofs.FateLaws.States.{map_same, lots_put, active_state}
 use Rattle.office_base.proofs.RowLaws.{all-found}
+use Rattle.office_machine.proofs.Rows.Keyed as keyed
 
 -- the row of which this is the state
 pub row_of : {X S : Type 0} (f : X → S) (o : Option X) (s : S) → option_map f o ≡ Some s → (x : X) × (o ≡ Some x) × (f x ≡ s)
@@ -111,9 +113,9 @@ module _ (readings : Readings) (number : ℕ) (xs : List Given) (t : Tables) (m 
       seen_is =
           rest
           ∙ alike (record (seen (after None)) { envelope_at = λ r. envelope_at r (after so); security_at = λ s. security_at s (after so) }) (after_change c (seen t))
-          (λ r. envelopes_are r ∙ row_at-changed_put nat_cmp_total nat_cmp-IsAntisymmetric envelope_key passed_over t.envelopes w.receipt r e fits.found (found_key nat_cmp_total nat_cmp-IsAntisymmetric envelope_key t.envelopes w.receipt e fits.found))
+          (λ r. envelopes_are r ∙ row_at-changed_put nat_cmp_total nat_cmp-IsAntisymmetric envelope_key passed_over t.envelopes w.receipt r e fits.found (found_key keyed.envelopes t.envelopes w.receipt e fits.found))
           back
-          (λ a. row_at-changed_put nat_cmp_total nat_cmp-IsAntisymmetric award_key failed_award t.awards number a w found (found_key nat_cmp_total nat_cmp-IsAntisymmetric award_key t.awards number w found))
+          (λ a. row_at-changed_put nat_cmp_total nat_cmp-IsAntisymmetric award_key failed_award t.awards number a w found (found_key keyed.awards t.awards number w found))
           (λ k. lots_put t.lots (w.notice, w.lot) k l undecided_again (λ s. lot.Undecided) (λ l. refl) (λ l. refl) lot_found)
           (λ q. notices-same t.notices (released n) (notice_stands t w.notice n notice_found) q ∙ map_same ((seen t).notice_at q))
 

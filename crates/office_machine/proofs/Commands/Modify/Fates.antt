@@ -23,7 +23,9 @@ use Rattle.office_machine.specs.Fates as fates
 use Rattle.office_machine.specs.Fates.{Reception, came, brought, tender_decided, fate_of_tender, is_kept, EnvelopeIs}
 use Rattle.office_machine.proofs.Passed.{none_holds}
 use Rattle.office_base.proofs.RowLaws.{row_at-row_put}
-use Rattle.office_machine.proofs.Rows.RowsChanged.{found_key, row_at-changed_put, row_at-row_drop}
+use Rattle.office_machine.proofs.Rows.RowsChanged.{row_at-changed_put}
+use Rattle.office_base.proofs.RowLaws.Drops.{row_at-row_drop}
+use Rattle.office_base.proofs.RowLaws.Keyed.{found_key}
 use Rattle.office_machine.proofs.FateLaws.Views.{View, IsSound, EnvelopeFits, Change, after_change, sound_changed}
 use Rattle.office_machine.proofs.FateLaws.Added.{added, equal_numbers, sound_envelope}
 use Rattle.office_machine.proofs.FateLaws.Matched.{EnvelopesMatch, EnvelopeStands, EnvelopeKeeps, named_in, same_itself, envelopes_received}
@@ -33,6 +35,7 @@ use Rattle.office_machine.proofs.FateLaws.FatesHold.{IsKept, Keeps, given, fate_
 use Rattle.office_machine.proofs.FateLaws.FatesChanged.{is_sealed_state}
 use Rattle.office_machine.proofs.FateLaws.States.{map_same}
 use Rattle.office_machine.proofs.FateLaws.NextReceipt.{none_fate, came_other, came_here, no_envelope_yet, nothing_yet, securities_stay}
+use Rattle.office_machine.proofs.Rows.Keyed as keyed
 
 module _ (readings : Readings) (receipt : ℕ) (bytes : List ℕ) (xs : List Given) (t : Tables) (m : ℕ) (caller : Caller) (kept : IsKept readings xs t) where
   abbrev T : ℕ
@@ -52,7 +55,7 @@ module _ (readings : Readings) (receipt : ℕ) (bytes : List ℕ) (xs : List Giv
     stands = kept.tenders.received receipt e found
 
     key_own : e.receipt ≡ receipt
-    key_own = found_key nat_cmp_total nat_cmp-IsAntisymmetric envelope_key t.envelopes receipt e found
+    key_own = found_key keyed.envelopes t.envelopes receipt e found
 
     abbrev new : EnvelopeRow
     new = replacing readings.digest t.clock T e bytes
@@ -107,7 +110,7 @@ module _ (readings : Readings) (receipt : ℕ) (bytes : List ℕ) (xs : List Giv
     seal_is r =
         row_at-row_put nat_cmp_total seal_key (drop_seal t.seals e.receipt) new_seal r
         ∙ ap (cond (eq_by_cmp nat_cmp r k) (Some new_seal))
-        (row_at-row_drop nat_cmp_total nat_cmp-IsAntisymmetric seal_key t.seals e.receipt r kept.order.1 ∙ ap (λ q. cond (eq_by_cmp nat_cmp r q) None (seal_at r t)) key_own)
+        (row_at-row_drop keyed.seals t.seals e.receipt r kept.order.1 ∙ ap (λ q. cond (eq_by_cmp nat_cmp r q) None (seal_at r t)) key_own)
 
     other_seal : (r : ℕ) → eq_by_cmp nat_cmp r k ≡ false → seal_at r after ≡ cond (eq_by_cmp nat_cmp r receipt) None (seal_at r t)
     other_seal r other = seal_is r ∙ ap (λ b. cond b (Some new_seal) (cond (eq_by_cmp nat_cmp r receipt) None (seal_at r t))) other

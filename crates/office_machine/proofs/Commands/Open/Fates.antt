@@ -26,7 +26,8 @@ use Rattle.office_machine.specs.Readings.{Readings}
 use Rattle.office_machine.specs.Rule.{sealed_tender, sealed_tenders}
 use Rattle.office_machine.specs.Fates.{is_of_notice, is_kept}
 use Rattle.office_machine.proofs.Passed.{none_holds}
-use Rattle.office_machine.proofs.Rows.RowsChanged.{rows_put, changed, filter_filter, row_at-changed}
+use Rattle.office_machine.proofs.Rows.RowsChanged.{rows_put, changed, row_at-changed}
+use Rattle.office_base.proofs.RowLaws.Filters.{filter_filter}
 use Rattle.office_machine.proofs.FateLaws.Views.{Change, after_change}
 use Rattle.office_machine.proofs.FateLaws.Steps.{choose, cond_keeps, both_true, opening, fair_opening}
 use Rattle.office_machine.proofs.FateLaws.Seen.{seen, alike, order-puts, after-append, after_envelopes}

@@ -23,7 +23,8 @@ use Rattle.office_acts.specs.declared.commands.Command.TheVariants as commands
 use Rattle.office_base.specs.declared.puts.Put.TheVariants as puts
 use Rattle.office_machine.proofs.Accounts.Aside.{kept_aside, aside-securities, aside-append, aside-if}
 use Rattle.office_base.proofs.ExactKeys.{other_keys}
-use Rattle.office_machine.proofs.Rows.Keyed.{found_key, found, found_put, still_there, none_before, own_key}
+use Rattle.office_machine.proofs.Rows.Keyed.{found, found_put, still_there, none_before}
+use Rattle.office_base.proofs.RowLaws.Keyed.{found_key, own_key}
 use Rattle.office_machine.proofs.Rows.Keyed as keyed
 use Rattle.office_machine.proofs.Accounts.Kept.{IsKept, PotsAre, LotIs, AwardIs, ContractIs, NoContractIs, over_contracts, is_awarded}
 use Rattle.office_machine.proofs.Passed.{none_holds, not_false, witness, test_of, is_there, no_zero}

@@ -27,7 +27,8 @@ use Rattle.office_machine.specs.Machine.{Given}
 use Rattle.office_machine.specs.Readings.{Readings}
 use Rattle.office_machine.specs.Fates.{came, is_of_award}
 use Rattle.office_machine.proofs.Passed.{none_holds}
-use Rattle.office_machine.proofs.Rows.RowsChanged.{rows_put, found_key, row_at-changed_put}
+use Rattle.office_machine.proofs.Rows.RowsChanged.{rows_put, row_at-changed_put}
+use Rattle.office_base.proofs.RowLaws.Keyed.{found_key}
 use Rattle.office_machine.proofs.FateLaws.Views.{AwardFits}
 use Rattle.office_machine.proofs.FateLaws.Matched.{same_itself}
 use Rattle.office_machine.proofs.FateLaws.Steps.{choose, cond_keeps}
@@ -37,6 +38,7 @@ use Rattle.office_machine.proofs.FateLaws.QuietFates.{notice_stands, all_of_map,
 use Rattle.office_machine.proofs.FateLaws.States.{lots_put, active_state}
 use Rattle.office_machine.proofs.Commands.Fail.Fates.{rows_there, on_line}
 use Rattle.office_machine.proofs.FateLaws.LotClosed.{closing_kept, securities_go_back}
+use Rattle.office_machine.proofs.Rows.Keyed as keyed
 
 module _ (readings : Readings) (number : ℕ) (named : Option NamedSecurity) (xs : List Given) (t : Tables) (m : ℕ) (caller : Caller) (kept : IsKept readings xs t)
     (w : AwardRow) (found : award_at number t ≡ Some w) (active : w.state ≡ award.Active) where
@@ -101,7 +103,7 @@ module _ (readings : Readings) (number : ℕ) (named : Option NamedSecurity) (xs
         (λ r. refl)
         (λ r. refl)
         (λ s. securities_go_back t w.notice w.lot s kept.order)
-        (λ a. row_at-changed_put nat_cmp_total nat_cmp-IsAntisymmetric award_key signed_award t.awards number a w found (found_key nat_cmp_total nat_cmp-IsAntisymmetric award_key t.awards number w found))
+        (λ a. row_at-changed_put nat_cmp_total nat_cmp-IsAntisymmetric award_key signed_award t.awards number a w found (found_key keyed.awards t.awards number w found))
         (λ k. lots_put t.lots (w.notice, w.lot) k l contracted_lot (λ s. lot.Contracted) (λ l. refl) (λ l. refl) lot_found)
         (notices-same t.notices (released n) (notice_stands t w.notice n notice_found))
         refl

@@ -22,13 +22,15 @@ use Rattle.office_base.specs.Rules.{first_of}
 use Rattle.office_base.specs.RuleParts.{is_past_deadline, passed_over, settled}
 use Rattle.tender_core.specs.Rules.Modify.{withdrawn}
 use Rattle.tender_core.specs.Rules.Withdraw.{taken_back_puts, cant_be_taken_back, withdraw_tests, withdraw_puts}
-use Rattle.office_base.specs.Tables.{Tables, envelope_key, seal_key, envelope_at, seal_at, security_at, notice_at, find_envelope, find_security, find_seal, put_envelope, put_security, after_puts}
+use Rattle.office_base.specs.Tables.{Tables, envelope_key, envelope_at, seal_at, security_at, notice_at, find_envelope, find_security, find_seal, put_envelope, put_security, after_puts}
 use Rattle.office_base.specs.Parents.{notice_of_envelope, lot_of_envelope, security_of_envelope, late_of_envelope}
 use Rattle.office_machine.specs.Machine.{Given}
 use Rattle.office_machine.specs.Readings.{Readings}
 use Rattle.office_machine.specs.Fates.{Reception, came, tender_decided, fate_of_tender, security_decided, is_kept, has_number, carries, is_effective, withdrawn_security, EnvelopeIs}
 use Rattle.office_machine.proofs.Passed.{none_holds}
-use Rattle.office_machine.proofs.Rows.RowsChanged.{found_key, row_at-changed_put, row_at-row_drop}
+use Rattle.office_machine.proofs.Rows.RowsChanged.{row_at-changed_put}
+use Rattle.office_base.proofs.RowLaws.Drops.{row_at-row_drop}
+use Rattle.office_base.proofs.RowLaws.Keyed.{found_key}
 use Rattle.office_machine.proofs.FateLaws.Views.{EnvelopeFits, Change, IsFair, after_change}
 use Rattle.office_machine.proofs.FateLaws.Added.{equal_numbers}
 use Rattle.office_machine.proofs.FateLaws.Matched.{EnvelopeStands, EnvelopeKeeps}
@@ -36,6 +38,7 @@ use Rattle.office_machine.proofs.FateLaws.Steps.{cond_keeps, settled_keep, settl
 use Rattle.office_machine.proofs.FateLaws.Seen.{seen, alike, LotFits, lines-puts, order-puts}
 use Rattle.office_machine.proofs.FateLaws.FatesHold.{IsKept, Keeps, given, still_sealed}
 use Rattle.office_machine.proofs.FateLaws.FatesChanged.{kept_by_change, is_sealed_state, securities_put, securities_left, effective, not_effective}
+use Rattle.office_machine.proofs.Rows.Keyed as keyed
 
 -- the parts of rows that a withdrawal leaves
 module _ (digest : List ℕ → List ℕ) (receipt : ℕ) (change : EnvelopeRow → EnvelopeRow)
@@ -71,7 +74,7 @@ module _ (readings : Readings) (receipt : ℕ) (xs : List Given) (t : Tables) (m
     stands = kept.tenders.received receipt e found
 
     own : e.receipt ≡ receipt
-    own = found_key nat_cmp_total nat_cmp-IsAntisymmetric envelope_key t.envelopes receipt e found
+    own = found_key keyed.envelopes t.envelopes receipt e found
 
     -- the security goes as the command decides
     security_goes : (state : SecurityState) → withdrawn_security x (came xs receipt) ≡ state → (s : ℕ) (w : SecurityRow)
@@ -173,7 +176,7 @@ module _ (readings : Readings) (receipt : ℕ) (xs : List Given) (t : Tables) (m
 
       seal_is : (r : ℕ) → seal_at r (after false withdrawn security.Returned None) ≡ cond (eq_by_cmp nat_cmp r receipt) None (seal_at r t)
       seal_is r =
-          row_at-row_drop nat_cmp_total nat_cmp-IsAntisymmetric seal_key t.seals e.receipt r kept.order.1
+          row_at-row_drop keyed.seals t.seals e.receipt r kept.order.1
           ∙ ap (λ k. cond (eq_by_cmp nat_cmp r k) None (seal_at r t)) own
 
       dropped : (b : Bool) (d : EnvelopeRow) (a : Reception) (r : ℕ) → EnvelopeIs readings.digest r a (fate_of_tender xs r) d (seal_at r t)

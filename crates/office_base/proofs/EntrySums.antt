@@ -2,23 +2,15 @@
 use Rattle.std.specs.Prelude.{◌≡◌, ℕ, ◌+◌, Bool, true, false, cond, ◌&&◌, List, [], ◌∷◌, filter}
 use Rattle.std.proofs.Common.{refl, sym, ap, ◌∙◌, arith}
 use Rattle.office_base.specs.EntryKinds.{is_raise, is_payment, is_less}
+use Rattle.office_base.specs.EntrySums.{bare_sums, sums_with_entry, sums_with_entries}
 use Rattle.office_base.specs.Sums.{sum_over}
-use Rattle.office_base.specs.Tables.{Tables, same_number, entries_of_contract}
+use Rattle.office_base.specs.Tables.{same_number}
 use Rattle.office_base.specs.Joined.{entry_sum, sums_of}
 use Rattle.office_base.specs.declared.ledger.ContractSums.{ContractSums}
 use Rattle.office_base.specs.declared.records.ContractRow.{ContractRow}
 use Rattle.office_base.specs.declared.records.EntryKind.{EntryKind}
 use Rattle.office_base.specs.declared.records.EntryKind.TheVariants.{Raise, Cut, Payment}
 use Rattle.office_base.specs.declared.records.EntryRow.{EntryRow}
-use Rattle.office_ledger.specs.Inside.Adding.{with_kind}
-
--- the sums of a contract without entries, and those with some
-abbrev pub bare_sums : ContractRow → ContractSums
-bare_sums c = record { gained = c.signed; lost = c.released; paid = 0 }
-
-abbrev pub with_entries : ContractSums → List EntryRow → ContractSums
-with_entries sums [] = sums
-with_entries sums (e ∷ es) = with_entries (with_kind e.kind e.amount sums) es
 
 -- the amounts of entries of some kinds
 abbrev amounts : (EntryKind → Bool) → List EntryRow → ℕ
@@ -34,6 +26,7 @@ amounts_cond : (kind : EntryKind → Bool) (c : Bool) (e : EntryRow) (es : List 
 amounts_cond kind true e es = refl
 amounts_cond kind false e es = refl
 
+-- those of a contract
 entry_amounts : (kind : EntryKind → Bool) (entries : List EntryRow) (contract : ℕ)
     → entry_sum kind entries contract ≡ amounts kind (filter (λ (e : EntryRow). same_number e.contract contract) entries)
 entry_amounts kind [] contract = refl
@@ -49,23 +42,24 @@ three_same : (a b c a' b' c' : ℕ) → a ≡ a' → b ≡ b' → c ≡ c' → t
 three_same a b c a' b' c' p q r = ap (λ x. three x b c) p ∙ ap (λ x. three a' x c) q ∙ ap (λ x. three a' b' x) r
 
 kind_step : (k : EntryKind) (n g l p : ℕ) (sums : ContractSums)
-    → three ((with_kind k n sums).gained + g) ((with_kind k n sums).lost + l) ((with_kind k n sums).paid + p)
+    → three ((sums_with_entry k n sums).gained + g) ((sums_with_entry k n sums).lost + l) ((sums_with_entry k n sums).paid + p)
     ≡ three (sums.gained + (cond (is_raise k) n 0 + g)) (sums.lost + (cond (is_less k) n 0 + l)) (sums.paid + (cond (is_payment k) n 0 + p))
 kind_step Raise n g l p sums = three_same _ _ _ _ _ _ (omega arith) (omega arith) (omega arith)
 kind_step Cut n g l p sums = three_same _ _ _ _ _ _ (omega arith) (omega arith) (omega arith)
 kind_step Payment n g l p sums = three_same _ _ _ _ _ _ (omega arith) (omega arith) (omega arith)
 
 with_entries_are : (sums : ContractSums) (es : List EntryRow)
-    → with_entries sums es ≡ three (sums.gained + amounts is_raise es) (sums.lost + amounts is_less es) (sums.paid + amounts is_payment es)
+    → sums_with_entries sums es ≡ three (sums.gained + amounts is_raise es) (sums.lost + amounts is_less es) (sums.paid + amounts is_payment es)
 with_entries_are sums [] = three_same sums.gained sums.lost sums.paid _ _ _ (omega arith) (omega arith) (omega arith)
 with_entries_are sums (e ∷ es) =
-    with_entries_are (with_kind e.kind e.amount sums) es
+    with_entries_are (sums_with_entry e.kind e.amount sums) es
     ∙ kind_step e.kind e.amount (amounts is_raise es) (amounts is_less es) (amounts is_payment es) sums
 
-pub sums_are : (t : Tables) (c : ContractRow) → with_entries (bare_sums c) (entries_of_contract c.contract t) ≡ sums_of t.entries c
-sums_are t c =
-    with_entries_are (bare_sums c) (entries_of_contract c.contract t)
+-- the entries of a contract make its sums
+pub sums_are : (entries : List EntryRow) (c : ContractRow) → sums_with_entries (bare_sums c) (filter (λ (e : EntryRow). same_number e.contract c.contract) entries) ≡ sums_of entries c
+sums_are entries c =
+    with_entries_are (bare_sums c) (filter (λ (e : EntryRow). same_number e.contract c.contract) entries)
     ∙ three_same _ _ _ _ _ _
-    (omega (arith, entry_amounts is_raise t.entries c.contract))
-    (omega (arith, entry_amounts is_less t.entries c.contract))
-    (omega (arith, entry_amounts is_payment t.entries c.contract))
+    (omega (arith, entry_amounts is_raise entries c.contract))
+    (omega (arith, entry_amounts is_less entries c.contract))
+    (omega (arith, entry_amounts is_payment entries c.contract))

@@ -1,7 +1,7 @@
 //! A shelf over a store that outlives the program.
-ghost use Rattle.stored_shelf.specs.Shutting.{Standing, TellsShut};
+ghost use Rattle.office_base.specs.Shutting.{Standing, TellsShut};
 
-use office_base::shelf::{Lookups, Shelf, ShelfFault};
+use crate::shelf::{Lookups, Shelf, ShelfFault};
 
 /// A shelf over a store that outlives the program, as a file does. A fault can shut it for good.
 pub trait StoredShelf: Shelf {
