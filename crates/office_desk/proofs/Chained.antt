@@ -14,7 +14,7 @@ use Rattle.office_publisher.specs.declared.released.Released.{Released}
 use Rattle.office_plans.specs.Asking.{given_by}
 use Rattle.office_plans.specs.Effects.{HasEffect, IsEffect}
 use Rattle.office_plans.specs.Plans.{Plan}
-use Rattle.office_desk.specs.Steps.{IsPlanned}
+use Rattle.office_plans.specs.Published.{IsPlanned}
 use Rattle.tender_core.specs.declared.asking.Asking.{Asking}
 
 -- what joins a plan and its release

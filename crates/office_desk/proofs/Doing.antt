@@ -12,7 +12,8 @@ use Rattle.office_base.specs.declared.puts.Put.{Put}
 use Rattle.office_publications.specs.Keeping.{KeepsReleases, kept_next}
 use Rattle.office_plans.specs.Asking.{given}
 use Rattle.office_plans.specs.Plans.{Plan}
-use Rattle.office_desk.specs.Steps.{Does, IsPlan, IsWholeOf}
+use Rattle.office_plans.specs.Published.{IsPlan}
+use Rattle.office_desk.specs.Steps.{Does, IsWholeOf}
 
 module _ {S : Type 0} (M : Meaning S) (settings : Settings) (moment : ℕ) (caller : Caller) (command : Command) where
   -- it was refused

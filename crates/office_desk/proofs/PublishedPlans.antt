@@ -18,7 +18,7 @@ use Rattle.office_publisher.specs.Released.{IsKept, IsReleased, as_row}
 use Rattle.office_publisher.specs.declared.released.Released.{Released}
 use Rattle.office_plans.specs.Effects.{HasEffect, IsEffect}
 use Rattle.office_plans.specs.Plans.{Plan}
-use Rattle.office_desk.specs.Steps.{IsPlan, IsPlanned}
+use Rattle.office_plans.specs.Published.{IsPlan, IsPlanned}
 
 module _ (settings : Settings) (x : Given) where
   -- a command that is no event

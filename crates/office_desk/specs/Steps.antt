@@ -9,39 +9,21 @@ use Rattle.office_values.specs.declared.refusal.Refusal.TheVariants.{Unavailable
 use Rattle.office_values.specs.declared.settings.Settings.{Settings}
 use Rattle.office_base.specs.Tables.{Tables}
 use Rattle.office_base.specs.Shelves.{Meaning}
-use Rattle.office_machine.specs.Machine.{Given, IsCommand, refusal_of, Reaches}
+use Rattle.office_machine.specs.Machine.{Given, refusal_of, Reaches}
 use Rattle.office_machine.specs.Accounts.{AccountsHold}
 use Rattle.office_machine.specs.Fates.{TendersHaveFates, SecuritiesHaveFates, PerformancesHaveFates}
 use Rattle.office_machine.specs.Sights.{Packages, told}
-use Rattle.office_publications.specs.Keeping.{KeepsReleases, PublicationReadsBack, kept_next, kept_puts}
+use Rattle.office_publications.specs.Keeping.{KeepsReleases, kept_next}
 use Rattle.office_publications.specs.Packages.{packages}
 use Rattle.office_publications.specs.Publishing.{publishing}
 use Rattle.office_publications.specs.Standing.{Stands}
 use Rattle.office_plans.specs.Effects.{accepted_reply}
-use Rattle.office_plans.specs.Plans.{Plan}
 use Rattle.office_plans.specs.Replies.{reply_text, text_of}
 
 -- a text as the list of its bytes
 abbrev pub read_text : Result (Vec ℕ Global) Refusal → Result (List ℕ) Refusal
 read_text (Ok text) = Ok text.items
 read_text (Err why) = Err why
-
--- what is planned is what the machine puts, with the merge that the release joins; and what is published can be read again
-pub record IsPut (settings : Settings) (x : Given) (planned : Plan) : Type 0 where
-  pub puts : planned.puts ≡ kept_puts settings x
-  pub reads : PublicationReadsBack settings x
-
--- the command is one that can be given and isn't refused, and this is its reply, and, where the office keeps its releases, what it puts
-pub record IsPlan (settings : Settings) (x : Given) (planned : Plan) : Type 0 where
-  pub given : IsCommand x.command
-  pub allowed : refusal_of x ≡ None
-  pub put : KeepsReleases x.before → IsPut settings x planned
-  pub reply : planned.reply ≡ reply_text (accepted_reply x)
-
--- the plan, or the command's refusal, or Unavailable
-abbrev pub IsPlanned : Settings → Given → Result Plan Refusal → Type 0
-IsPlanned settings x (Ok planned) = IsPlan settings x planned
-IsPlanned settings x (Err why) = (refusal_of x ≡ Some why) ⊎ (why ≡ Unavailable)
 
 -- the reply, or the command's refusal, or Unavailable
 abbrev pub IsAnswered : Settings → Given → Result (List ℕ) Refusal → Type 0

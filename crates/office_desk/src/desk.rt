@@ -13,7 +13,8 @@ ghost use Rattle.office_values.specs.declared.settings.Settings.{Settings as Set
 ghost use Rattle.office_plans.specs.Asking.{given};
 ghost use Rattle.stored_shelf.specs.Shutting.{TellsShut};
 ghost use Rattle.office_desk.specs.Callers.{caller_of, names_no_tenderer};
-ghost use Rattle.office_desk.specs.Steps.{Does, IsPlan, IsPlanned, IsAnswered, IsSeen, Joins, read_text};
+ghost use Rattle.office_plans.specs.Published.{IsPlan, IsPlanned};
+ghost use Rattle.office_desk.specs.Steps.{Does, IsAnswered, IsSeen, Joins, read_text};
 
 use crate::callers::{clerk_by, names_clerk, tenderer_named};
 use crate::published::plan_command;

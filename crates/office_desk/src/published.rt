@@ -11,7 +11,7 @@ ghost use Rattle.office_values.specs.declared.refusal.Refusal.TheVariants.{Unava
 ghost use Rattle.office_values.specs.declared.settings.Settings.{Settings as SettingsOf};
 ghost use Rattle.office_plans.specs.Asking.{given_by};
 ghost use Rattle.office_plans.specs.Effects.{HasEffect, IsEffect};
-ghost use Rattle.office_desk.specs.Steps.{IsPlanned};
+ghost use Rattle.office_plans.specs.Published.{IsPlanned};
 
 mod awards;
 mod contracts;
@@ -20,7 +20,9 @@ mod notices;
 use office_acts::commands::Command;
 use office_base::puts::Put;
 use office_base::shelf::Lookups;
-use office_plans::commands::{examine, import, modify, present, register, withdraw};
+use office_plans::commands::{
+    award, examine, import, modify, pay, present, register, withdraw,
+};
 use office_plans::planned::Planned;
 use office_publications::laws;
 use office_publications::publication::Publication;
@@ -110,9 +112,7 @@ pub(crate) fn plan_command<H: Lookups>(
             responsive,
             quality,
         } => silent(examine::plan(alloc, shelf, asking, receipt, responsive, quality)),
-        Command::Award { notice, lot } => awards::award(
-            alloc, shelf, settings, asking, notice, lot,
-        ),
+        Command::Award { notice, lot } => award::plan(alloc, shelf, settings, asking, notice, lot),
         Command::Fail { award } => awards::fail(alloc, shelf, settings, asking, award),
         Command::Sign { award, security } => awards::sign(
             alloc, shelf, settings, asking, award, security,
@@ -130,7 +130,7 @@ pub(crate) fn plan_command<H: Lookups>(
             contract,
             entry,
             amount,
-        } => contracts::pay(alloc, shelf, settings, asking, contract, entry, amount),
+        } => pay::plan(alloc, shelf, settings, asking, contract, entry, amount),
         Command::End { contract, how } => contracts::end(
             alloc, shelf, settings, asking, contract, how,
         ),

@@ -32,13 +32,21 @@ body_in r = body_of (data_in r)
 abbrev pub bodies : List ℕ → Tables → List Data
 bodies notice t = map body_in (releases_of_notice notice t)
 
+-- all releases of a notice can be merged
+abbrev pub AreReleasesOf : List ℕ → Tables → Type 0
+AreReleasesOf notice t = All CanBeMerged (releases_of_notice notice t)
+
+-- the merge that is kept of a notice's releases, where one is, is theirs
+abbrev pub IsMergedOf : List ℕ → Tables → Type 0
+IsMergedOf notice t = (c : CompiledRow) → compiled_at notice t ≡ Some c → KeepsMerge c.text (bodies notice t)
+
 -- all releases can be merged
 abbrev pub AreReleases : Tables → Type 0
-AreReleases t = (notice : List ℕ) → All CanBeMerged (releases_of_notice notice t)
+AreReleases t = (notice : List ℕ) → AreReleasesOf notice t
 
 -- each merge that is kept is that of its notice's releases
 abbrev pub AreMerged : Tables → Type 0
-AreMerged t = (notice : List ℕ) (c : CompiledRow) → compiled_at notice t ≡ Some c → KeepsMerge c.text (bodies notice t)
+AreMerged t = (notice : List ℕ) → IsMergedOf notice t
 
 -- the row that keeps the merge of these bodies
 pub record IsMerge (notice : List ℕ) (vs : List Data) (c : CompiledRow) : Type 0 where

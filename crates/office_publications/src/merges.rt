@@ -7,7 +7,7 @@ ghost use Rattle.ocds_merge.specs.Merge.{merge_or_null};
 ghost use Rattle.office_base.specs.Shelves.{LooksUp};
 ghost use Rattle.office_base.specs.Tables.{Tables};
 ghost use Rattle.office_values.specs.declared.refusal.Refusal.TheVariants.{Unavailable};
-ghost use Rattle.office_publications.specs.Merges.{bodies, body_in, AreMerged, IsKeptOf, IsMerge};
+ghost use Rattle.office_publications.specs.Merges.{bodies, body_in, IsMergedOf, IsKeptOf, IsMerge};
 
 use ocds_merge::{merge_from_text, merge_into, merge_into_text, merge_to_text, without_head};
 use office_base::json_text::JsonText;
@@ -103,7 +103,7 @@ fn merge_in(alloc: Global, kept: &CompiledRow) -> Result<Value, Refusal>
 
 /// The merge of a notice's releases without their heads.
 pub fn merge_kept(alloc: Global, kept: &Kept) -> Result<Value, Refusal>
-    ensures merge { IfOk result (λ merge. (notice : List ℕ) (t : Tables) → IsKeptOf notice t kept.now → AreMerged t
+    ensures merge { IfOk result (λ merge. (notice : List ℕ) (t : Tables) → IsKeptOf notice t kept.now → IsMergedOf notice t
         → view merge ≡ merge_or_null (bodies notice t)) }
     ensures none { IfErr result (λ why. why ≡ Unavailable) }
 {
@@ -120,7 +120,7 @@ pub fn merge_with(
     notice: Id,
     body: &Value,
 ) -> Result<CompiledRow, Refusal>
-    ensures merges { IfOk result (λ row. (t : Tables) → IsKeptOf notice t kept.now → AreMerged t → All IsStorable (bodies notice t ++ (view body.now ∷ []))
+    ensures merges { IfOk result (λ row. (t : Tables) → IsKeptOf notice t kept.now → IsMergedOf notice t → All IsStorable (bodies notice t ++ (view body.now ∷ []))
         → IsMerge notice (bodies notice t ++ (view body.now ∷ [])) row) }
     ensures none { IfErr result (λ why. why ≡ Unavailable) }
 {

@@ -5,7 +5,7 @@ ghost use Rattle.serde_json.specs.Written.{compact_text};
 ghost use Rattle.ocds_merge.specs.Stored.{IsStorable};
 ghost use Rattle.office_base.specs.Tables.{Tables};
 ghost use Rattle.office_values.specs.declared.refusal.Refusal.TheVariants.{Unavailable};
-ghost use Rattle.office_publications.specs.Keeping.{KeepsReleases, ReadsBack, merged_row};
+ghost use Rattle.office_publications.specs.Keeping.{KeepsReleasesOf, ReadsBack, merged_row};
 ghost use Rattle.office_publications.specs.Merges.{IsKeptOf};
 
 use crate::merges::{Kept, merge_with};
@@ -39,9 +39,9 @@ pub fn keep_release(
 ) -> Result<Publication, Refusal>
     ensures release { IfOk result (λ p. IsStorable (view release)
         → p.release ≡ record { notice = notice; seq = seq; moment = t; text = compact_text (view release) }) }
-    ensures merge { IfOk result (λ p. IsStorable (view release) → (s : Tables) → IsKeptOf notice s kept.now → KeepsReleases s
+    ensures merge { IfOk result (λ p. IsStorable (view release) → (s : Tables) → IsKeptOf notice s kept.now → KeepsReleasesOf notice s
         → p.merge ≡ merged_row s p.release) }
-    ensures read { IfOk result (λ p. IsStorable (view release) → (s : Tables) → IsKeptOf notice s kept.now → KeepsReleases s
+    ensures read { IfOk result (λ p. IsStorable (view release) → (s : Tables) → IsKeptOf notice s kept.now → KeepsReleasesOf notice s
         → ReadsBack s p.release) }
     ensures none { IfErr result (λ why. why ≡ Unavailable) }
 {

@@ -2,16 +2,16 @@
 ghost use Rattle.std.specs.Prelude.{◌≡◌, true};
 ghost use Rattle.office_acts.specs.Rights.{may};
 ghost use Rattle.office_acts.specs.declared.command.CommandKind.TheVariants as kinds;
-ghost use Rattle.office_acts.specs.declared.commands.Command.TheVariants.{Award, Fail, Sign};
+ghost use Rattle.office_acts.specs.declared.commands.Command.TheVariants.{Fail, Sign};
 ghost use Rattle.office_base.specs.Shelves.{Looks};
 ghost use Rattle.office_plans.specs.Asking.{given_by};
-ghost use Rattle.office_desk.specs.Steps.{IsPlanned};
+ghost use Rattle.office_plans.specs.Published.{IsPlanned};
 
 use super::with_release;
 use office_acts::tender::NamedSecurity;
 use office_base::laws::looks_follow;
 use office_base::shelf::Lookups;
-use office_plans::commands::{award, fail, sign};
+use office_plans::commands::{fail, sign};
 use office_plans::planned::Planned;
 use office_publisher::awards;
 use office_values::given::AskedNumber;
@@ -20,24 +20,6 @@ use office_values::refusal::Refusal;
 use office_values::settings::Settings;
 use std::alloc::Global;
 use tender_core::asking::Asking;
-
-/// Plans the award of a lot.
-pub(crate) fn award<H: Lookups>(
-    alloc: Global,
-    shelf: &mut H,
-    settings: &Settings,
-    asking: &Asking,
-    notice: Id,
-    lot: Id,
-) -> Result<Planned, Refusal>
-    requires { may asking.now.caller.now kinds.Award ≡ true }
-    ensures { Looks H.meaning shelf.old shelf.new (λ s. IsPlanned settings.now (given_by asking.now s (Award notice lot)) result) }
-{
-    looks_follow::<H>();
-    let planned = award::plan(alloc, shelf, asking, notice, lot)?;
-    let released = awards::awarded(alloc, shelf, settings, asking.moment, &notice, &lot)?;
-    with_release(alloc, shelf, planned, released)
-}
 
 /// Plans that the winner of an award is passed over.
 pub(crate) fn fail<H: Lookups>(

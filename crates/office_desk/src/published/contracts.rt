@@ -1,18 +1,18 @@
-//! Contracts: amended, paid, ended.
+//! Contracts: amended, ended.
 ghost use Rattle.std.specs.Prelude.{◌≡◌, true};
 ghost use Rattle.office_acts.specs.Rights.{may};
 ghost use Rattle.office_acts.specs.declared.command.CommandKind.TheVariants as kinds;
-ghost use Rattle.office_acts.specs.declared.commands.Command.TheVariants.{AmendContract, Pay, End};
+ghost use Rattle.office_acts.specs.declared.commands.Command.TheVariants.{AmendContract, End};
 ghost use Rattle.office_base.specs.Shelves.{Looks};
 ghost use Rattle.office_plans.specs.Asking.{given_by};
-ghost use Rattle.office_desk.specs.Steps.{IsPlanned};
+ghost use Rattle.office_plans.specs.Published.{IsPlanned};
 
 use super::with_release;
 use office_acts::amounts::EntryAmount;
 use office_acts::contract::{ChangeKind, How};
 use office_base::laws::looks_follow;
 use office_base::shelf::Lookups;
-use office_plans::commands::{amend_contract, end, pay};
+use office_plans::commands::{amend_contract, end};
 use office_plans::planned::Planned;
 use office_publisher::contracts;
 use office_values::given::AskedNumber;
@@ -54,33 +54,6 @@ pub(crate) fn amend<H: Lookups>(
         alloc, shelf, asking, contract, entry, kind, amount, rationale,
     )?;
     with_release(alloc, shelf, planned, released?)
-}
-
-/// Plans a payment under a contract.
-pub(crate) fn pay<H: Lookups>(
-    alloc: Global,
-    shelf: &mut H,
-    settings: &Settings,
-    asking: &Asking,
-    contract: AskedNumber,
-    entry: Id,
-    amount: EntryAmount,
-) -> Result<Planned, Refusal>
-    requires { may asking.now.caller.now kinds.Pay ≡ true }
-    ensures { Looks H.meaning shelf.old shelf.new (λ s. IsPlanned settings.now (given_by asking.now s (Pay contract entry amount)) result) }
-{
-    looks_follow::<H>();
-    let planned = pay::plan(alloc, shelf, asking, contract, entry, amount)?;
-    let released = contracts::paid(
-        alloc,
-        shelf,
-        settings,
-        asking.moment,
-        contract,
-        &entry,
-        amount,
-    )?;
-    with_release(alloc, shelf, planned, released)
 }
 
 /// Plans the end of a contract.

@@ -5,7 +5,7 @@ ghost use Rattle.office_acts.specs.declared.command.CommandKind.TheVariants as k
 ghost use Rattle.office_acts.specs.declared.commands.Command.TheVariants.{Publish, AmendNotice, Cancel, Open};
 ghost use Rattle.office_base.specs.Shelves.{Looks};
 ghost use Rattle.office_plans.specs.Asking.{given_by};
-ghost use Rattle.office_desk.specs.Steps.{IsPlanned};
+ghost use Rattle.office_plans.specs.Published.{IsPlanned};
 
 use super::with_release;
 use office_acts::notice::NewNotice;

@@ -1,0 +1,26 @@
+-- What follows from a decision that was made on rows.
+use Rattle.std.specs.Prelude.{◌≡◌, ◌⊎◌, List, Option, Some, None, Result, Vec, Ok, Err}
+use Rattle.std.proofs.Common.{refl, inl, inr}
+use Rattle.std.specs.declared.alloc.Global.{Global}
+use Rattle.office_values.specs.declared.refusal.Refusal.{Refusal}
+use Rattle.office_values.specs.declared.refusal.Refusal.TheVariants.{Unavailable}
+use Rattle.office_base.specs.Deciding.{Decides}
+use Rattle.office_base.specs.declared.puts.Put.{Put}
+
+-- a refusal is the first whose condition holds, or Unavailable
+pub refuses : (why : Refusal) (first : Option Refusal) (made : List Put) → Decides (Err why) first made → (first ≡ Some why) ⊎ (why ≡ Unavailable)
+unfolding Decides
+refuses why (Some w) made is = inl (let same : w ≡ why = cc in λ i. Some (same i))
+refuses why None made is = inr is.1
+
+-- where it is Ok no condition holds
+pub allows : (puts : Vec Put Global) (first : Option Refusal) (made : List Put) → Decides (Ok puts) first made → first ≡ None
+unfolding Decides
+allows puts (Some w) made is = absurd cc
+allows puts None made is = refl
+
+-- and these are the puts
+pub makes : (puts : Vec Put Global) (first : Option Refusal) (made : List Put) → Decides (Ok puts) first made → puts.items ≡ made
+unfolding Decides
+makes puts (Some w) made is = absurd cc
+makes puts None made is = is.0
