@@ -39,6 +39,12 @@ same_rank : (none : Bool) (s p r s' p' r' : ℕ) → beats none s p r s' p' r' �
 same_rank true s p r s' p' r' h g = same_place p r p' r' h g
 same_rank false s p r s' p' r' h g = grind (arith, nat_tests)
 
+contains_head : (e : EnvelopeRow) (rows : List EnvelopeRow) → Contains (e ∷ rows) e
+contains_head e rows = (0, omega arith, refl)
+
+contains_tail : (f e : EnvelopeRow) (rows : List EnvelopeRow) → Contains rows e → Contains (f ∷ rows) e
+contains_tail f e rows c = (suc c.0, omega (arith, c.1), c.2)
+
 module _ (weight lowest : ℕ) where
   no_better_trans : (x y z : EnvelopeRow) → is_better weight lowest x y ≡ false → is_better weight lowest y z ≡ false → is_better weight lowest x z ≡ false
   no_better_trans x y z h g = not_beaten_trans (nat_eq weight 0) (points weight lowest x) (price_of x) x.receipt (points weight lowest y) (price_of y) y.receipt (points weight lowest z) (price_of z) z.receipt h g
@@ -64,12 +70,6 @@ module _ (weight lowest : ℕ) where
   none_of : (rows : List EnvelopeRow) (e : EnvelopeRow) → NoneIsAdmissible rows → NoneBetter rows e
   none_of [] e none = tt
   none_of (f ∷ rows) e none = (λ a. let h = none.0 in absurd cc, none_of rows e none.1)
-
-  contains_head : (e : EnvelopeRow) (rows : List EnvelopeRow) → Contains (e ∷ rows) e
-  contains_head e rows = (0, omega arith, refl)
-
-  contains_tail : (f e : EnvelopeRow) (rows : List EnvelopeRow) → Contains rows e → Contains (f ∷ rows) e
-  contains_tail f e rows c = (suc c.0, omega (arith, c.1), c.2)
 
   -- what the pass has found of these
   record Found (rows : List EnvelopeRow) (e : EnvelopeRow) : Type 0 where
@@ -127,17 +127,24 @@ none_lower : (rows : List EnvelopeRow) (n : ℕ) → NoneIsAdmissible rows → A
 none_lower [] n none = tt
 none_lower (f ∷ rows) n none = (λ a. let h = none.0 in absurd cc, none_lower rows n none.1)
 
+abbrev IsPriceIn : List EnvelopeRow → ℕ → Type 0
+IsPriceIn rows price = (e : EnvelopeRow) × Contains rows e × (is_admissible e ≡ true) × (price_of e ≡ price)
+
+-- the row that has the price, behind one more
+one_later : (f : EnvelopeRow) (rows : List EnvelopeRow) (m : ℕ) → IsLowest rows m → IsPriceIn (f ∷ rows) m
+one_later f rows m old = (old.of_one.0, contains_tail f old.of_one.0 rows old.of_one.1, old.of_one.2, old.of_one.3)
+
 lesser_found : (e : EnvelopeRow) (rows : List EnvelopeRow) (m : ℕ) → is_admissible e ≡ true → IsLowest rows m → (b : Bool) → nat_lt m (price_of e) ≡ b → IsLowest (e ∷ rows) (cond b m (price_of e))
-lesser_found e rows m a old true h = let le : m ≤ price_of e = grind (arith, nat_tests) in record { of_one = old.of_one; least = (λ _. le, old.least) }
-lesser_found e rows m a old false h = let le : price_of e ≤ m = grind (arith, nat_tests) in record { of_one = (e, a, refl); least = (λ _. omega arith, lower_too rows (price_of e) m le old.least) }
+lesser_found e rows m a old true h = let le : m ≤ price_of e = grind (arith, nat_tests) in record { of_one = one_later e rows m old; least = (λ _. le, old.least) }
+lesser_found e rows m a old false h = let le : price_of e ≤ m = grind (arith, nat_tests) in record { of_one = (e, contains_head e rows, a, refl); least = (λ _. omega arith, lower_too rows (price_of e) m le old.least) }
 
 lowest_with : (e : EnvelopeRow) (rows : List EnvelopeRow) (o : Option ℕ) → is_admissible e ≡ true → IsLowestAnswer rows o → IsLowest (e ∷ rows) (lesser (price_of e) o)
-lowest_with e rows None a old = record { of_one = (e, a, refl); least = (λ _. omega arith, none_lower rows (price_of e) old) }
+lowest_with e rows None a old = record { of_one = (e, contains_head e rows, a, refl); least = (λ _. omega arith, none_lower rows (price_of e) old) }
 lowest_with e rows (Some m) a old = lesser_found e rows m a old (nat_lt m (price_of e)) refl
 
 lowest_without : (e : EnvelopeRow) (rows : List EnvelopeRow) (o : Option ℕ) → is_admissible e ≡ false → IsLowestAnswer rows o → IsLowestAnswer (e ∷ rows) o
 lowest_without e rows None a old = (a, old)
-lowest_without e rows (Some m) a old = record { of_one = old.of_one; least = (λ b. absurd cc, old.least) }
+lowest_without e rows (Some m) a old = record { of_one = one_later e rows m old; least = (λ b. absurd cc, old.least) }
 
 lowest_more : (e : EnvelopeRow) (rows : List EnvelopeRow) (o : Option ℕ) → IsLowestAnswer rows o → (b : Bool) → is_admissible e ≡ b → IsLowestAnswer (e ∷ rows) (cond b (Some (lesser (price_of e) o)) o)
 lowest_more e rows o old true a = lowest_with e rows o a old

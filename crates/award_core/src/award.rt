@@ -1,6 +1,7 @@
 //! The decision on the award of a lot.
-ghost use Rattle.std.specs.Prelude.{◌≡◌, ◌+◌, ◌-◌, IfOk, IfErr, IfSome, Some, None, [], option_map};
+ghost use Rattle.std.specs.Prelude.{◌≡◌, ◌+◌, ◌-◌, ◌<◌, IfOk, IfErr, IfSome, IfNone, Some, None, [], option_map};
 ghost use Rattle.std.specs.List.{list_any};
+ghost use Rattle.office_values.specs.Money.{total_limit};
 ghost use Rattle.office_values.specs.declared.refusal.Refusal.TheVariants.{Unavailable};
 ghost use Rattle.office_base.specs.Deciding.{Decides};
 ghost use Rattle.office_base.specs.Joined.{free_in};
@@ -60,9 +61,10 @@ fn is_above_funds(lot: &LotRow, line: &Option<LineRow>, winner: &EnvelopeRow) ->
     lot.reserved.units() + free_on(line).units() < price_of(winner).units()
 }
 
-// The line with what the lot had reserved free, but for the price. None above 10^15.
+// The line with what the lot had reserved free, but for the price. None exactly where that is above 10^15.
 fn line_after(line: LineRow, reserved: Amount, price: Amount) -> Option<LineRow>
-    ensures { IfSome result (λ row. row ≡ record line { free = (line.free + reserved) - price }) }
+    ensures found { IfSome result (λ row. row ≡ record line { free = (line.free + reserved) - price }) }
+    ensures none { IfNone result (total_limit < (line.free + reserved) - price) }
 {
     let free = line.free.units() as u128 + reserved.units() as u128;
     with_free(line, free.saturating_sub(price.units() as u128))

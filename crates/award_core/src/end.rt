@@ -1,5 +1,6 @@
 //! The decision on the end of a contract.
-ghost use Rattle.std.specs.Prelude.{◌≡◌, ◌++◌, IfSome, OnOk};
+ghost use Rattle.std.specs.Prelude.{◌≡◌, ◌++◌, IfSome, OnOk, IfOk, IfErr};
+ghost use Rattle.office_values.specs.declared.refusal.Refusal.TheVariants.{Unavailable};
 ghost use Rattle.office_base.specs.Deciding.{Decides};
 ghost use Rattle.office_base.specs.RuleParts.{performance_settled, put_if};
 ghost use Rattle.office_base.specs.Rules.{first_of};
@@ -55,33 +56,31 @@ fn push_settled(
     Ok(())
 }
 
-/// Decides the end of a contract: its refusal, or what it puts. `Unavailable` where the office lacks the notice or the line, or holds
-/// sums above their bounds, which none has that commands reach.
-#[tactic(auto, unfolding(office_base::specs::Deciding::Decides))]
-pub fn decide_end(alloc: Global, t: Moment, rows: EndRows, how: How) -> Result<Vec<Put>, Refusal>
-    ensures { Decides result (first_of (end_tests rows)) (end_puts rows t how) }
+/// Why the end of a contract is refused.
+pub fn refusal(rows: &EndRows) -> Option<Refusal>
+    ensures { result ≡ first_of (end_tests rows.now) }
 {
-    let EndRows {
-        contract,
-        entries,
-        notice,
-        line,
-        performance,
-        clock,
-    } = rows;
-    let Some(contract) = contract else {
-        return Err(Refusal::NoSuch(Thing::Contract));
+    let Some(contract) = &rows.contract else {
+        return Some(Refusal::NoSuch(Thing::Contract));
     };
     if contract.ended.is_some() {
-        return Err(Refusal::ContractEnded);
+        return Some(Refusal::ContractEnded);
     }
-    if has_all_releases(&notice) {
-        return Err(Refusal::LimitReached);
+    if has_all_releases(&rows.notice) {
+        return Some(Refusal::LimitReached);
     }
-    let (Some(notice), Some(line)) = (notice, line) else {
-        return Err(Refusal::Unavailable);
-    };
-    let rest = outstanding(entries.as_slice(), &contract);
+    None
+}
+
+/// What the end of a contract puts. `Unavailable` where a row isn't there, or a sum is above its bound.
+pub fn puts(alloc: Global, t: Moment, rows: EndRows, how: How) -> Result<Vec<Put>, Refusal>
+    ensures puts { IfOk result (λ made. made.items ≡ end_puts rows t how) }
+    ensures fault { IfErr result (λ e. e ≡ Unavailable) }
+{
+    let contract = rows.contract.ok_or(Refusal::Unavailable)?;
+    let notice = rows.notice.ok_or(Refusal::Unavailable)?;
+    let line = rows.line.ok_or(Refusal::Unavailable)?;
+    let rest = outstanding(rows.entries.as_slice(), &contract);
     let free = line.free.units() as u128 + rest;
     let notice = released(notice).ok_or(Refusal::Unavailable)?;
     let line = with_free(line, free).ok_or(Refusal::Unavailable)?;
@@ -95,7 +94,19 @@ pub fn decide_end(alloc: Global, t: Moment, rows: EndRows, how: How) -> Result<V
     made.push(Put::Contract(contract))?;
     made.push(Put::Line(line))?;
     made.push(Put::Notice(notice))?;
-    made.push(Put::Clock(at_moment(clock, t)))?;
-    push_settled(&mut made, performance, ended_state(how))?;
+    made.push(Put::Clock(at_moment(rows.clock, t)))?;
+    push_settled(&mut made, rows.performance, ended_state(how))?;
     Ok(made)
+}
+
+/// Decides the end of a contract: its refusal, or what it puts. `Unavailable` where the office lacks the notice or the line, or holds
+/// sums above their bounds, which none has that commands reach.
+#[tactic(auto, unfolding(office_base::specs::Deciding::Decides))]
+pub fn decide_end(alloc: Global, t: Moment, rows: EndRows, how: How) -> Result<Vec<Put>, Refusal>
+    ensures { Decides result (first_of (end_tests rows)) (end_puts rows t how) }
+{
+    match refusal(&rows) {
+        Some(why) => Err(why),
+        None => puts(alloc, t, rows, how),
+    }
 }

@@ -1,5 +1,6 @@
 //! The decision on the examination of a tender.
-ghost use Rattle.std.specs.Prelude.{◌≡◌, ◌||◌, not};
+ghost use Rattle.std.specs.Prelude.{◌≡◌, ◌||◌, not, IfOk, IfErr};
+ghost use Rattle.office_values.specs.declared.refusal.Refusal.TheVariants.{Unavailable};
 ghost use Rattle.office_base.specs.Rows.{holds_of};
 ghost use Rattle.office_base.specs.States.{is_undecided};
 ghost use Rattle.office_base.specs.Deciding.{Decides};
@@ -74,6 +75,43 @@ fn examined(responsive: bool, quality: Option<Quality>, envelope: EnvelopeRow) -
     }
 }
 
+/// Why the examination of a tender is refused.
+pub fn refusal(rows: &ExamineRows, responsive: bool, quality: &Option<Quality>) -> Option<Refusal>
+    ensures { result ≡ first_of (examine_tests rows.now responsive quality.now) }
+{
+    let Some(envelope) = &rows.envelope else {
+        return Some(Refusal::NoSuch(Thing::Tender));
+    };
+    if is_refused(responsive, quality, &rows.notice) {
+        return Some(Refusal::BadBody(BadPart::Field(Field::Quality)));
+    }
+    if envelope.state != EnvelopeState::Opened {
+        return Some(Refusal::NotOpened);
+    }
+    if is_decided(envelope, &rows.lot) {
+        return Some(Refusal::AlreadyDecided);
+    }
+    None
+}
+
+/// What the examination of a tender puts. `Unavailable` where the tender isn't there.
+pub fn puts(
+    alloc: Global,
+    t: Moment,
+    rows: ExamineRows,
+    responsive: bool,
+    quality: Option<Quality>,
+) -> Result<Vec<Put>, Refusal>
+    ensures puts { IfOk result (λ made. made.items ≡ examine_puts rows t responsive quality) }
+    ensures fault { IfErr result (λ e. e ≡ Unavailable) }
+{
+    let envelope = rows.envelope.ok_or(Refusal::Unavailable)?;
+    let mut made = Vec::with_capacity(alloc, 2)?;
+    made.push(Put::Envelope(examined(responsive, quality, envelope)))?;
+    made.push(Put::Clock(at_moment(rows.clock, t)))?;
+    Ok(made)
+}
+
 /// Decides the examination of a tender: its refusal, or what it puts.
 #[tactic(auto, unfolding(office_base::specs::Deciding::Decides))]
 pub fn decide_examine(
@@ -85,27 +123,8 @@ pub fn decide_examine(
 ) -> Result<Vec<Put>, Refusal>
     ensures { Decides result (first_of (examine_tests rows responsive quality)) (examine_puts rows t responsive quality) }
 {
-    let ExamineRows {
-        envelope,
-        notice,
-        lot,
-        clock,
-    } = rows;
-    let Some(envelope) = envelope else {
-        return Err(Refusal::NoSuch(Thing::Tender));
-    };
-    if is_refused(responsive, &quality, &notice) {
-        return Err(Refusal::BadBody(BadPart::Field(Field::Quality)));
+    match refusal(&rows, responsive, &quality) {
+        Some(why) => Err(why),
+        None => puts(alloc, t, rows, responsive, quality),
     }
-    if envelope.state != EnvelopeState::Opened {
-        return Err(Refusal::NotOpened);
-    }
-    if is_decided(&envelope, &lot) {
-        return Err(Refusal::AlreadyDecided);
-    }
-    let envelope = examined(responsive, quality, envelope);
-    let mut made = Vec::with_capacity(alloc, 2)?;
-    made.push(Put::Envelope(envelope))?;
-    made.push(Put::Clock(at_moment(clock, t)))?;
-    Ok(made)
 }

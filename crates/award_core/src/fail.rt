@@ -1,5 +1,6 @@
 //! The decision on an award whose winner doesn't sign.
-ghost use Rattle.std.specs.Prelude.{◌≡◌, ◌++◌, OnOk, Some};
+ghost use Rattle.std.specs.Prelude.{◌≡◌, ◌++◌, OnOk, Some, IfOk, IfErr};
+ghost use Rattle.office_values.specs.declared.refusal.Refusal.TheVariants.{Unavailable};
 ghost use Rattle.office_base.specs.Deciding.{Decides};
 ghost use Rattle.office_base.specs.RuleParts.{passed_over, put_if, security_settled};
 ghost use Rattle.office_base.specs.Rules.{first_of};
@@ -85,36 +86,24 @@ fn push_forfeited(made: &mut Vec<Put>, security: Option<SecurityRow>) -> Result<
     Ok(())
 }
 
-// Why an award can't fail.
-fn refusal_of(t: Moment, award: &Option<AwardRow>, notice: &Option<NoticeRow>) -> Option<Refusal>
-    ensures { result ≡ first_of (fail_conditions t award.now notice.now) }
+/// Why the failing of an award is refused.
+pub fn refusal(t: Moment, rows: &FailRows) -> Option<Refusal>
+    ensures { result ≡ first_of (fail_tests rows.now t) }
 {
-    match award {
-        Some(row) => standing_refusal(t, row, notice),
+    match &rows.award {
+        Some(row) => standing_refusal(t, row, &rows.notice),
         None => Some(Refusal::NoSuch(Thing::Award)),
     }
 }
 
-/// Decides the failing of an award: its refusal, or what it puts. `Unavailable` where the office lacks the award's notice or lot, which
-/// none does that commands reach.
-#[tactic(auto, unfolding(office_base::specs::Deciding::Decides))]
-pub fn decide_fail(alloc: Global, t: Moment, rows: FailRows) -> Result<Vec<Put>, Refusal>
-    ensures { Decides result (first_of (fail_tests rows t)) (fail_puts rows t) }
+/// What the failing of an award puts. `Unavailable` where a row isn't there.
+pub fn puts(alloc: Global, t: Moment, rows: FailRows) -> Result<Vec<Put>, Refusal>
+    ensures puts { IfOk result (λ made. made.items ≡ fail_puts rows t) }
+    ensures fault { IfErr result (λ e. e ≡ Unavailable) }
 {
-    let FailRows {
-        award,
-        notice,
-        lot,
-        envelope,
-        security,
-        clock,
-    } = rows;
-    if let Some(why) = refusal_of(t, &award, &notice) {
-        return Err(why);
-    }
-    let (Some(award), Some(notice), Some(lot)) = (award, notice, lot) else {
-        return Err(Refusal::Unavailable);
-    };
+    let award = rows.award.ok_or(Refusal::Unavailable)?;
+    let notice = rows.notice.ok_or(Refusal::Unavailable)?;
+    let lot = rows.lot.ok_or(Refusal::Unavailable)?;
     let notice = released(notice).ok_or(Refusal::Unavailable)?;
     let mut made = Vec::with_capacity(alloc, 6)?;
     made.push(Put::Award(AwardRow {
@@ -126,8 +115,19 @@ pub fn decide_fail(alloc: Global, t: Moment, rows: FailRows) -> Result<Vec<Put>,
         ..lot
     }))?;
     made.push(Put::Notice(notice))?;
-    made.push(Put::Clock(at_moment(clock, t)))?;
-    push_failed(&mut made, envelope)?;
-    push_forfeited(&mut made, security)?;
+    made.push(Put::Clock(at_moment(rows.clock, t)))?;
+    push_failed(&mut made, rows.envelope)?;
+    push_forfeited(&mut made, rows.security)?;
     Ok(made)
+}
+
+/// Decides the failing of an award: its refusal, or what it puts.
+#[tactic(auto, unfolding(office_base::specs::Deciding::Decides))]
+pub fn decide_fail(alloc: Global, t: Moment, rows: FailRows) -> Result<Vec<Put>, Refusal>
+    ensures { Decides result (first_of (fail_tests rows t)) (fail_puts rows t) }
+{
+    match refusal(t, &rows) {
+        Some(why) => Err(why),
+        None => puts(alloc, t, rows),
+    }
 }

@@ -1,5 +1,6 @@
 //! What a contract is worth once it is raised or cut.
-ghost use Rattle.std.specs.Prelude.{◌≡◌, ◌<◌, ◌^◌, IfSome};
+ghost use Rattle.std.specs.Prelude.{◌≡◌, ◌<◌, ◌^◌, IfSome, IfNone};
+ghost use Rattle.office_values.specs.Money.{total_limit};
 ghost use Rattle.office_base.specs.Joined.{entry_sum};
 ghost use Rattle.office_publications.specs.Worth.{is_cut, worth_after};
 
@@ -24,15 +25,16 @@ fn cut(entries: &[EntryRow], contract: GivenNumber) -> u128
     sum
 }
 
-/// What the contract is worth once it is raised or cut by this amount: what was signed and raised, less what was cut. None where that is
-/// above 10^15, as of no contract that commands lead to.
+/// What the contract is worth once it is raised or cut by this amount: what was signed and raised, less what was cut. None exactly
+/// where that is above 10^15, as of no contract that commands lead to.
 pub fn worth_after(
     entries: &[EntryRow],
     contract: &ContractRow,
     kind: ChangeKind,
     amount: EntryAmount,
 ) -> Option<Total>
-    ensures { IfSome result (λ worth. worth ≡ worth_after entries.now contract.now kind amount) }
+    ensures found { IfSome result (λ worth. worth ≡ worth_after entries.now contract.now kind amount) }
+    ensures none { IfNone result (total_limit < worth_after entries.now contract.now kind amount) }
 {
     let (more, less) = match kind {
         ChangeKind::Raise => (amount.get() as u128, 0),

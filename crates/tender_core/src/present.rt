@@ -81,11 +81,11 @@ fn isnt_asked(lot: &LotRow, security: &Option<NamedSecurity>) -> bool
     lot.security.units() == 0 && security.is_some()
 }
 
-// The first refusal whose condition holds.
-fn refusal_of(
-    rows: &PresentRows,
+/// Why a tender that is presented is refused.
+pub fn refusal(
     t: Moment,
     caller: &Caller,
+    rows: &PresentRows,
     security: &Option<NamedSecurity>,
 ) -> Option<Refusal>
     ensures { result ≡ first_of (present_tests rows.now t caller.now security.now) }
@@ -229,6 +229,36 @@ fn received_puts(
     Ok(made)
 }
 
+/// What a tender that is presented puts. `Unavailable` where no tenderer presents it, or all receipts are given out.
+pub fn puts(
+    alloc: Global,
+    t: Moment,
+    caller: &Caller,
+    rows: PresentRows,
+    notice: Id,
+    lot: Id,
+    security: Option<NamedSecurity>,
+    sealed: &Sealed<'_>,
+) -> Result<Vec<Put>, Refusal>
+    ensures puts { IfOk result (λ made. made.items ≡ present_puts sha256 rows t caller.now notice lot security sealed.now) }
+    ensures fault { IfErr result (λ e. e ≡ Unavailable) }
+{
+    let Caller::Tenderer(tenderer) = caller else {
+        return Err(Refusal::Unavailable);
+    };
+    let number = next_receipt(&rows.clock).ok_or(Refusal::Unavailable)?;
+    let receipt = Receipt {
+        clock: rows.clock,
+        t,
+        tenderer: *tenderer,
+        notice,
+        lot,
+        number,
+        in_time: is_in_time(t, &rows.notice),
+    };
+    received_puts(alloc, &receipt, &security, sealed)
+}
+
 /// Decides a tender that is presented: its refusal, or what it puts. Tenderers alone may present one.
 #[tactic(auto, unfolding(office_base::specs::Deciding::Decides))]
 pub fn decide_present(
@@ -243,23 +273,8 @@ pub fn decide_present(
 ) -> Result<Vec<Put>, Refusal>
     ensures { Decides result (first_of (present_tests rows t caller.now security)) (present_puts sha256 rows t caller.now notice lot security sealed.now) }
 {
-    if let Some(why) = refusal_of(&rows, t, caller, &security) {
-        return Err(why);
+    match refusal(t, caller, &rows, &security) {
+        Some(why) => Err(why),
+        None => puts(alloc, t, caller, rows, notice, lot, security, sealed),
     }
-    let Caller::Tenderer(tenderer) = caller else {
-        return Err(Refusal::Unavailable);
-    };
-    let Some(number) = next_receipt(&rows.clock) else {
-        return Err(Refusal::Unavailable);
-    };
-    let receipt = Receipt {
-        clock: rows.clock,
-        t,
-        tenderer: *tenderer,
-        notice,
-        lot,
-        number,
-        in_time: is_in_time(t, &rows.notice),
-    };
-    received_puts(alloc, &receipt, &security, sealed)
 }

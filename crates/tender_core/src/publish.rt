@@ -7,7 +7,7 @@ ghost use Rattle.office_base.specs.Joined.{free_in};
 ghost use Rattle.office_base.specs.Deciding.{Decides};
 ghost use Rattle.office_base.specs.Rules.{first_of};
 ghost use Rattle.office_base.specs.RuleParts.{clock_put};
-ghost use Rattle.tender_core.specs.Rules.Publish.{wanted, is_on_no_line, is_short, has_too_many_items, publish_tests, publish_puts, line_put, lot_put, notice_put, publish_conditions, late_puts};
+ghost use Rattle.tender_core.specs.Rules.Publish.{wanted, is_on_no_line, is_short, has_too_many_items, publish_tests, publish_puts, line_put, lot_put, notice_put, late_puts};
 
 use keyed_table::table::Table;
 use office_acts::amounts::amount_of;
@@ -96,15 +96,16 @@ fn is_too_long(lots: &[NewLot]) -> bool
     lots.len() > LOT_LIMIT || some_has_too_many_items(lots)
 }
 
-// The first refusal whose condition holds.
-fn refusal_of(lines: &Table<LineRow>, exists: bool, t: Moment, new: &NewNotice) -> Option<Refusal>
-    ensures { result ≡ first_of (publish_conditions lines.now exists t new.now) }
+/// Why the publication of a notice is refused.
+pub fn refusal(t: Moment, rows: &PublishRows, new: &NewNotice) -> Option<Refusal>
+    ensures { result ≡ first_of (publish_tests rows.now t new.now) }
 {
+    let lines = &rows.lines;
     let lots = new.lots.as_slice();
     if is_on_no_line(lines, lots) {
         return Some(Refusal::NoSuch(Thing::Line));
     }
-    if exists {
+    if rows.notice.is_some() {
         return Some(Refusal::Exists);
     }
     if new.deadline.second() <= t.second() {
@@ -216,15 +217,16 @@ fn push_notice(
     Ok(())
 }
 
-// The lines, the lots, the notice and the clock, and what the notice says of late withdrawals.
-fn publish_puts(
+/// What the publication of a notice puts: the lines, the lots, the notice and the clock, and what the notice says of late withdrawals.
+/// `Unavailable` where the line of a lot isn't there.
+pub fn puts(
     alloc: Global,
     t: Moment,
-    rows: &PublishRows,
+    rows: PublishRows,
     notice: Id,
     new: NewNotice,
 ) -> Result<Vec<Put>, Refusal>
-    ensures puts { IfOk result (λ made. made.items ≡ publish_puts rows.now t notice new) }
+    ensures puts { IfOk result (λ made. made.items ≡ publish_puts rows t notice new) }
     ensures fault { IfErr result (λ e. e ≡ Unavailable) }
 {
     let lots = new.lots.as_slice();
@@ -247,8 +249,8 @@ pub fn decide_publish(
 ) -> Result<Vec<Put>, Refusal>
     ensures { Decides result (first_of (publish_tests rows t new)) (publish_puts rows t notice new) }
 {
-    match refusal_of(&rows.lines, rows.notice.is_some(), t, &new) {
+    match refusal(t, &rows, &new) {
         Some(why) => Err(why),
-        None => publish_puts(alloc, t, &rows, notice, new),
+        None => puts(alloc, t, rows, notice, new),
     }
 }
