@@ -13,11 +13,11 @@ use Rattle.office_machine.specs.Machine.{Given, refusal_of, Reaches}
 use Rattle.office_machine.specs.Accounts.{AccountsHold}
 use Rattle.office_machine.specs.Fates.{TendersHaveFates, SecuritiesHaveFates, PerformancesHaveFates}
 use Rattle.office_machine.specs.Sights.{Packages, told}
-use Rattle.office_publications.specs.Keeping.{KeepsReleases, kept_next}
+use Rattle.office_publications.specs.Keeping.{KeepsItsReleases, KeepsReleases, kept_next}
 use Rattle.office_publications.specs.Packages.{packages}
 use Rattle.office_publications.specs.Publishing.{publishing}
 use Rattle.office_publications.specs.Standing.{Stands}
-use Rattle.office_plans.specs.Effects.{accepted_reply}
+use Rattle.office_plans.specs.Published.{accepted_reply}
 use Rattle.office_plans.specs.Replies.{reply_text, text_of}
 
 -- a text as the list of its bytes
@@ -30,17 +30,18 @@ abbrev pub IsAnswered : Settings → Given → Result (List ℕ) Refusal → Typ
 IsAnswered settings x (Ok reply) = (refusal_of x ≡ None) × (reply ≡ reply_text (accepted_reply x))
 IsAnswered settings x (Err why) = (refusal_of x ≡ Some why) ⊎ (why ≡ Unavailable)
 
--- these are the tables after the whole command, which isn't refused, of each office that was held with its releases
+-- these are the tables after the whole command, which isn't refused, of each office that was held where the notice that it publishes for keeps its
+-- releases
 abbrev pub IsWholeOf : {S : Type 0} → Meaning S → Settings → S → (Tables → Given) → Tables → Type 0
-IsWholeOf M settings old x u = (t : Tables) → M.holds old t → KeepsReleases t → (refusal_of (x t) ≡ None) × (u ≡ kept_next settings (x t))
+IsWholeOf M settings old x u = (t : Tables) → M.holds old t → KeepsItsReleases (x t) → (refusal_of (x t) ≡ None) × (u ≡ kept_next settings (x t))
 
--- a command that was asked for: it is done where the answer is Ok and the office keeps its releases, and else nothing is. A stop leaves the
--- one or the other whole: after a refusal what it could leave before, and the whole command perhaps where the answer is Unavailable
+-- a command that was asked for: it is done where the answer is Ok and the notice that it publishes for keeps its releases, and else nothing is. A stop
+-- leaves the one or the other whole: after a refusal what it could leave before, and the whole command perhaps where the answer is Unavailable
 pub record Does {S T : Type 0} (M : Meaning S) (settings : Settings) (old new : S) (result : Result T Refusal) (x : Tables → Given) : Type 0 where
   pub before : M.honest new → M.honest old
-  pub all : M.honest new → (t : Tables) → M.holds old t → KeepsReleases t → OnOk result (M.holds new (kept_next settings (x t)))
+  pub all : M.honest new → (t : Tables) → M.holds old t → KeepsItsReleases (x t) → OnOk result (M.holds new (kept_next settings (x t)))
   pub none : M.honest new → (t : Tables) → M.holds old t → OnErr result (M.holds new t)
-  pub stop_all : M.honest new → (t : Tables) → M.holds old t → KeepsReleases t
+  pub stop_all : M.honest new → (t : Tables) → M.holds old t → KeepsItsReleases (x t)
       → OnOk result ((u : Tables) → M.may_leave new u → u ≡ kept_next settings (x t))
   pub stop_none : M.honest new → IfErr result (λ why. (u : Tables) → M.may_leave new u → M.may_leave old u ⊎ ((why ≡ Unavailable) × IsWholeOf M settings old x u))
   pub sound : M.honest new → M.leaves_sound old → M.leaves_sound new

@@ -17,13 +17,13 @@ ghost use Rattle.office_plans.specs.Published.{IsPlan, IsPlanned};
 ghost use Rattle.office_desk.specs.Steps.{Does, IsAnswered, IsSeen, Joins, read_text};
 
 use crate::callers::{clerk_by, names_clerk, tenderer_named};
-use crate::published::plan_command;
 use crate::queries::look_at;
 use office_acts::command::{Caller, may, may_look};
 use office_acts::commands::Command;
 use office_acts::queries::Query;
 use office_base::shelf::{Lookups, Shelf, ShelfFault};
 use office_machine::{fates, laws};
+use office_plans::commands::plan_command;
 use office_plans::planned::Planned;
 use office_publications::laws::keeping;
 use office_values::moment::Moment;

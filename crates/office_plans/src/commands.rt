@@ -68,9 +68,7 @@ pub fn plan_command<H: Lookups>(
             security,
             sealed,
         } => present::plan(alloc, shelf, asking, notice, lot, security, sealed),
-        Command::Modify { receipt, sealed } => modify::plan(
-            alloc, shelf, asking, receipt, sealed,
-        ),
+        Command::Modify { receipt, sealed } => modify::plan(alloc, shelf, asking, receipt, sealed),
         Command::Withdraw { receipt } => withdraw::plan(alloc, shelf, asking, receipt),
         Command::Examine {
             receipt,
@@ -96,8 +94,6 @@ pub fn plan_command<H: Lookups>(
             entry,
             amount,
         } => pay::plan(alloc, shelf, settings, asking, contract, entry, amount),
-        Command::End { contract, how } => end::plan(
-            alloc, shelf, settings, asking, contract, how,
-        ),
+        Command::End { contract, how } => end::plan(alloc, shelf, settings, asking, contract, how),
     }
 }

@@ -6,10 +6,11 @@ ghost use Rattle.office_acts.specs.declared.queries.Query.TheVariants.{Record, R
 ghost use Rattle.office_base.specs.Shelves.{Looks};
 ghost use Rattle.office_desk.specs.Steps.{IsSeen, read_text};
 
+mod texts;
+
 use office_acts::command::Caller;
 use office_base::laws;
 use office_base::shelf::Lookups;
-use office_publisher::packages;
 use office_values::id::Id;
 use office_values::refusal::{Refusal, Thing};
 use office_values::settings::Settings;
@@ -30,7 +31,7 @@ pub(crate) fn look_at_releases<H: Lookups>(
     if shelf.get_notice(&notice)?.is_none() {
         return Err(Refusal::NoSuch(Thing::Notice));
     }
-    packages::releases_text(alloc, shelf, settings, &notice)
+    texts::releases_text(alloc, shelf, settings, &notice)
 }
 
 /// The package of a notice's record.
@@ -48,5 +49,5 @@ pub(crate) fn look_at_record<H: Lookups>(
     if shelf.get_notice(&notice)?.is_none() {
         return Err(Refusal::NoSuch(Thing::Notice));
     }
-    packages::record_text(alloc, shelf, settings, &notice)
+    texts::record_text(alloc, shelf, settings, &notice)
 }

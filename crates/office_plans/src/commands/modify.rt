@@ -54,14 +54,7 @@ fn reply(
     let digest = sealed.digest();
     let receipt = clock.receipts.get() + 1;
     let security = number_of(tender.security);
-    received_text(
-        alloc,
-        digest,
-        receipt,
-        security,
-        EnvelopeState::Sealed,
-        t,
-    )
+    received_text(alloc, digest, receipt, security, EnvelopeState::Sealed, t)
 }
 
 /// Plans the modification of a tender, which is another in its place: a refusal takes no memory beside the rows.

@@ -97,10 +97,7 @@ fn release<H: Lookups>(
 {
     let found = load_tenderers(alloc, shelf, tenders)?;
     let tenderers = Tenderers::of(found.as_slice());
-    let event = Event::Open(Opened {
-        notice,
-        tenderers,
-    });
+    let event = Event::Open(Opened { notice, tenderers });
     let t = asking.time(&rows.clock);
     make_release(alloc, settings, notice, &rows.notice, t, &event)
 }
@@ -125,7 +122,15 @@ pub fn plan<H: Lookups>(
     }
     let tenders = load_tenders(alloc, shelf, &notice)?;
     let text = reply(alloc, asking, &rows, notice, tenders.as_slice())?;
-    let release = release(alloc, shelf, settings, asking, &rows, notice, tenders.as_slice())?;
+    let release = release(
+        alloc,
+        shelf,
+        settings,
+        asking,
+        &rows,
+        notice,
+        tenders.as_slice(),
+    )?;
     let puts = puts(alloc, t, rows, tenders)?;
     published(alloc, shelf, puts, text, release)
 }
