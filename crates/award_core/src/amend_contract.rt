@@ -1,13 +1,13 @@
 //! The decision on the amendment of a contract.
-ghost use Rattle.std.specs.Prelude.{◌≡◌, ◌&&◌, ◌<◌, IfSome, IfNone, nat_lt, IfOk, IfErr};
+ghost use Rattle.std.specs.Prelude.{◌≡◌, ◌&&◌, ◌<◌, IfSome, IfNone, nat_lt, IfOk, IfErr, false};
 ghost use Rattle.office_values.specs.Money.{total_limit};
 ghost use Rattle.office_values.specs.declared.refusal.Refusal.TheVariants.{Unavailable};
 ghost use Rattle.office_base.specs.Deciding.{Decides};
 ghost use Rattle.office_base.specs.Joined.{free_in};
 ghost use Rattle.office_base.specs.Rules.{first_of};
-ghost use Rattle.award_core.specs.Rules.AmendContract.{is_running, is_raising, entry_kind, line_after, amend_contract_tests, amend_contract_puts};
+ghost use Rattle.award_core.specs.Rules.AmendContract.{is_running, is_raising, entry_kind, line_after, amend_contract_lacks, amend_contract_tests, amend_contract_puts};
 
-use crate::entries::{has_all_entries, has_entry, is_beyond};
+use crate::entries::{has_all_entries, has_entry, is_beyond, is_overdrawn};
 use crate::lines::{free_on, with_free};
 use office_acts::amounts::EntryAmount;
 use office_acts::contract::ChangeKind;
@@ -96,7 +96,8 @@ pub fn refusal(
     None
 }
 
-/// What the amendment of a contract puts. `Unavailable` where a row isn't there, or the line would have more free than 10^15.
+/// What the amendment of a contract puts. `Unavailable` where a row isn't there, more was cut and paid than
+/// signed and raised, or the line would have more free than 10^15.
 pub fn puts(
     alloc: Global,
     t: Moment,
@@ -107,11 +108,15 @@ pub fn puts(
     rationale: TextLine,
 ) -> Result<Vec<Put>, Refusal>
     ensures puts { IfOk result (λ made. made.items ≡ amend_contract_puts rows t entry kind amount rationale) }
+    ensures whole { IfOk result (λ _. amend_contract_lacks rows ≡ false) }
     ensures fault { IfErr result (λ e. e ≡ Unavailable) }
 {
     let contract = rows.contract.ok_or(Refusal::Unavailable)?;
     let notice = rows.notice.ok_or(Refusal::Unavailable)?;
     let line = rows.line.ok_or(Refusal::Unavailable)?;
+    if is_overdrawn(rows.entries.as_slice(), &contract) {
+        return Err(Refusal::Unavailable);
+    }
     let notice = released(notice).ok_or(Refusal::Unavailable)?;
     let line = line_after(kind, amount, line).ok_or(Refusal::Unavailable)?;
     let mut made = Vec::with_capacity(alloc, 4)?;
@@ -140,7 +145,7 @@ pub fn decide_amend_contract(
     amount: EntryAmount,
     rationale: TextLine,
 ) -> Result<Vec<Put>, Refusal>
-    ensures { Decides result (first_of (amend_contract_tests rows entry kind amount)) (amend_contract_puts rows t entry kind amount rationale) }
+    ensures { Decides result (first_of (amend_contract_tests rows entry kind amount)) (amend_contract_lacks rows) (amend_contract_puts rows t entry kind amount rationale) }
 {
     match refusal(&rows, &entry, kind, amount) {
         Some(why) => Err(why),

@@ -1,5 +1,5 @@
 //! The decision on the award of a lot.
-ghost use Rattle.std.specs.Prelude.{◌≡◌, ◌+◌, ◌-◌, ◌<◌, IfOk, IfErr, IfSome, IfNone, Some, None, [], option_map};
+ghost use Rattle.std.specs.Prelude.{◌≡◌, ◌+◌, ◌-◌, ◌<◌, IfOk, IfErr, IfSome, IfNone, Some, None, [], option_map, false};
 ghost use Rattle.std.specs.List.{list_any};
 ghost use Rattle.office_values.specs.Money.{total_limit};
 ghost use Rattle.office_values.specs.declared.refusal.Refusal.TheVariants.{Unavailable};
@@ -7,7 +7,7 @@ ghost use Rattle.office_base.specs.Deciding.{Decides};
 ghost use Rattle.office_base.specs.Joined.{free_in};
 ghost use Rattle.office_base.specs.declared.records.AwardState.TheVariants as award_states;
 ghost use Rattle.office_base.specs.Rules.{first_of};
-ghost use Rattle.award_core.specs.Rules.Award.{is_admissible, price_of, isnt_examined, is_above, winner, weight_in, decision_puts, award_row, award_tests, award_puts};
+ghost use Rattle.award_core.specs.Rules.Award.{is_admissible, price_of, isnt_examined, is_above, winner, weight_in, decision_puts, award_row, award_lacks, award_tests, award_puts};
 
 use crate::best::{best_row, is_admissible, is_priced, price_of};
 use crate::lines::{free_on, with_free};
@@ -204,6 +204,7 @@ pub fn refusal(t: Moment, rows: &AwardRows, best: Option<&EnvelopeRow>) -> Optio
 /// there, the notice counts no more releases, or the line would have more free than 10^15.
 pub fn puts(alloc: Global, t: Moment, rows: AwardRows) -> Result<Vec<Put>, Refusal>
     ensures puts { IfOk result (λ made. made.items ≡ award_puts rows t) }
+    ensures whole { IfOk result (λ _. award_lacks rows ≡ false) }
     ensures fault { IfErr result (λ e. e ≡ Unavailable) }
 {
     let AwardRows {
@@ -227,7 +228,7 @@ pub fn puts(alloc: Global, t: Moment, rows: AwardRows) -> Result<Vec<Put>, Refus
 /// office lacks the lot's line, or the line would have more free than 10^15, as in none that commands reach.
 #[tactic(auto, unfolding(office_base::specs::Deciding::Decides))]
 pub fn decide_award(alloc: Global, t: Moment, rows: AwardRows) -> Result<Vec<Put>, Refusal>
-    ensures { Decides result (first_of (award_tests rows t)) (award_puts rows t) }
+    ensures { Decides result (first_of (award_tests rows t)) (award_lacks rows) (award_puts rows t) }
 {
     match refusal(t, &rows, best_tender(&rows)) {
         Some(why) => Err(why),

@@ -1,12 +1,12 @@
 //! The decision on the end of a contract.
-ghost use Rattle.std.specs.Prelude.{◌≡◌, ◌++◌, IfSome, OnOk, IfOk, IfErr};
+ghost use Rattle.std.specs.Prelude.{◌≡◌, ◌++◌, IfSome, OnOk, IfOk, IfErr, false};
 ghost use Rattle.office_values.specs.declared.refusal.Refusal.TheVariants.{Unavailable};
 ghost use Rattle.office_base.specs.Deciding.{Decides};
 ghost use Rattle.office_base.specs.RuleParts.{performance_settled, put_if};
 ghost use Rattle.office_base.specs.Rules.{first_of};
-ghost use Rattle.award_core.specs.Rules.End.{end_tests, end_puts, ended_contract, ended_state};
+ghost use Rattle.award_core.specs.Rules.End.{end_lacks, end_tests, end_puts, ended_contract, ended_state, lacks_performance};
 
-use crate::entries::outstanding;
+use crate::entries::{is_overdrawn, outstanding};
 use crate::lines::with_free;
 use office_acts::contract::How;
 use office_base::parts::{at_moment, has_all_releases, released, settled_performance};
@@ -30,6 +30,13 @@ pub struct EndRows {
     pub line: Option<LineRow>,
     pub performance: Option<PerformanceRow>,
     pub clock: ClockRow,
+}
+
+// Whether the notice asks for a performance security that isn't there.
+fn lacks_performance(notice: &NoticeRow, performance: &Option<PerformanceRow>) -> bool
+    ensures { result ≡ lacks_performance notice.now performance.now }
+{
+    notice.performance.units() > 0 && performance.is_none()
 }
 
 // What becomes of the performance security where the contract ends so.
@@ -72,14 +79,22 @@ pub fn refusal(rows: &EndRows) -> Option<Refusal>
     None
 }
 
-/// What the end of a contract puts. `Unavailable` where a row isn't there, or a sum is above its bound.
+/// What the end of a contract puts. `Unavailable` where a row isn't there, more was cut and paid than signed and raised,
+/// or a sum is above its bound.
 pub fn puts(alloc: Global, t: Moment, rows: EndRows, how: How) -> Result<Vec<Put>, Refusal>
     ensures puts { IfOk result (λ made. made.items ≡ end_puts rows t how) }
+    ensures whole { IfOk result (λ _. end_lacks rows ≡ false) }
     ensures fault { IfErr result (λ e. e ≡ Unavailable) }
 {
     let contract = rows.contract.ok_or(Refusal::Unavailable)?;
     let notice = rows.notice.ok_or(Refusal::Unavailable)?;
     let line = rows.line.ok_or(Refusal::Unavailable)?;
+    if lacks_performance(&notice, &rows.performance) {
+        return Err(Refusal::Unavailable);
+    }
+    if is_overdrawn(rows.entries.as_slice(), &contract) {
+        return Err(Refusal::Unavailable);
+    }
     let rest = outstanding(rows.entries.as_slice(), &contract);
     let free = line.free.units() as u128 + rest;
     let notice = released(notice).ok_or(Refusal::Unavailable)?;
@@ -103,7 +118,7 @@ pub fn puts(alloc: Global, t: Moment, rows: EndRows, how: How) -> Result<Vec<Put
 /// sums above their bounds, which none has that commands reach.
 #[tactic(auto, unfolding(office_base::specs::Deciding::Decides))]
 pub fn decide_end(alloc: Global, t: Moment, rows: EndRows, how: How) -> Result<Vec<Put>, Refusal>
-    ensures { Decides result (first_of (end_tests rows)) (end_puts rows t how) }
+    ensures { Decides result (first_of (end_tests rows)) (end_lacks rows) (end_puts rows t how) }
 {
     match refusal(&rows) {
         Some(why) => Err(why),

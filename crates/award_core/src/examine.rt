@@ -1,11 +1,11 @@
 //! The decision on the examination of a tender.
-ghost use Rattle.std.specs.Prelude.{◌≡◌, ◌||◌, not, IfOk, IfErr};
+ghost use Rattle.std.specs.Prelude.{◌≡◌, ◌||◌, not, IfOk, IfErr, false};
 ghost use Rattle.office_values.specs.declared.refusal.Refusal.TheVariants.{Unavailable};
 ghost use Rattle.office_base.specs.Rows.{holds_of};
 ghost use Rattle.office_base.specs.States.{is_undecided};
 ghost use Rattle.office_base.specs.Deciding.{Decides};
 ghost use Rattle.office_base.specs.Rules.{first_of};
-ghost use Rattle.award_core.specs.Rules.Examine.{is_bad_quality, cant_be_examined, examined, examine_tests, examine_puts};
+ghost use Rattle.award_core.specs.Rules.Examine.{is_bad_quality, cant_be_examined, examined, examine_lacks, examine_tests, examine_puts};
 
 use crate::best::is_priced;
 use office_acts::tender::Quality;
@@ -94,7 +94,7 @@ pub fn refusal(rows: &ExamineRows, responsive: bool, quality: &Option<Quality>) 
     None
 }
 
-/// What the examination of a tender puts. `Unavailable` where the tender isn't there.
+/// What the examination of a tender puts. `Unavailable` where a row isn't there.
 pub fn puts(
     alloc: Global,
     t: Moment,
@@ -103,9 +103,13 @@ pub fn puts(
     quality: Option<Quality>,
 ) -> Result<Vec<Put>, Refusal>
     ensures puts { IfOk result (λ made. made.items ≡ examine_puts rows t responsive quality) }
+    ensures whole { IfOk result (λ _. examine_lacks rows ≡ false) }
     ensures fault { IfErr result (λ e. e ≡ Unavailable) }
 {
     let envelope = rows.envelope.ok_or(Refusal::Unavailable)?;
+    if rows.notice.is_none() || rows.lot.is_none() {
+        return Err(Refusal::Unavailable);
+    }
     let mut made = Vec::with_capacity(alloc, 2)?;
     made.push(Put::Envelope(examined(responsive, quality, envelope)))?;
     made.push(Put::Clock(at_moment(rows.clock, t)))?;
@@ -121,7 +125,7 @@ pub fn decide_examine(
     responsive: bool,
     quality: Option<Quality>,
 ) -> Result<Vec<Put>, Refusal>
-    ensures { Decides result (first_of (examine_tests rows responsive quality)) (examine_puts rows t responsive quality) }
+    ensures { Decides result (first_of (examine_tests rows responsive quality)) (examine_lacks rows) (examine_puts rows t responsive quality) }
 {
     match refusal(&rows, responsive, &quality) {
         Some(why) => Err(why),

@@ -1,14 +1,15 @@
 //! The decision on an award whose winner doesn't sign.
-ghost use Rattle.std.specs.Prelude.{◌≡◌, ◌++◌, OnOk, Some, IfOk, IfErr};
+ghost use Rattle.std.specs.Prelude.{◌≡◌, ◌++◌, OnOk, Some, IfOk, IfErr, false};
 ghost use Rattle.office_values.specs.declared.refusal.Refusal.TheVariants.{Unavailable};
 ghost use Rattle.office_base.specs.Deciding.{Decides};
-ghost use Rattle.office_base.specs.RuleParts.{passed_over, put_if, security_settled};
+ghost use Rattle.office_base.specs.RuleParts.{put_if, security_settled};
 ghost use Rattle.office_base.specs.Rules.{first_of};
-ghost use Rattle.office_base.specs.declared.puts.Put.TheVariants as puts;
 ghost use Rattle.office_base.specs.declared.records.SecurityState.TheVariants.{Forfeited};
-ghost use Rattle.award_core.specs.Rules.Fail.{stands_still, fail_tests, fail_puts, fail_conditions, standing_conditions};
+ghost use Rattle.award_core.specs.Rules.Fail.{stands_still, fail_lacks, fail_tests, fail_puts, standing_tests};
 
-use office_base::parts::{at_moment, has_all_releases, is_expired, passed_over, released, settled};
+use office_base::parts::{
+    at_moment, has_all_releases, is_expired, lacks_security, passed_over, released, settled,
+};
 use office_base::puts::Put;
 use office_base::records::{
     AwardRow, AwardState, ClockRow, EnvelopeRow, LotRow, LotState, NoticeRow, SecurityRow,
@@ -46,7 +47,7 @@ pub(crate) fn standing_refusal(
     award: &AwardRow,
     notice: &Option<NoticeRow>,
 ) -> Option<Refusal>
-    ensures { result ≡ first_of (standing_conditions t (Some award.now) notice.now) }
+    ensures { result ≡ first_of (standing_tests t (Some award.now) notice.now) }
 {
     if award.state != AwardState::Active {
         return Some(Refusal::AlreadyDecided);
@@ -64,16 +65,6 @@ pub(crate) fn standing_refusal(
         return Some(Refusal::LimitReached);
     }
     None
-}
-
-// The tender, passed over from now on.
-fn push_failed(made: &mut Vec<Put>, envelope: Option<EnvelopeRow>) -> Result<(), AllocError>
-    ensures { OnOk result (made.new.items ≡ made.old.items ++ put_if (λ e. puts.Envelope (passed_over e)) envelope) }
-{
-    if let Some(row) = envelope {
-        made.push(Put::Envelope(passed_over(row)))?;
-    }
-    Ok(())
 }
 
 // The tender's security, forfeited.
@@ -99,11 +90,16 @@ pub fn refusal(t: Moment, rows: &FailRows) -> Option<Refusal>
 /// What the failing of an award puts. `Unavailable` where a row isn't there.
 pub fn puts(alloc: Global, t: Moment, rows: FailRows) -> Result<Vec<Put>, Refusal>
     ensures puts { IfOk result (λ made. made.items ≡ fail_puts rows t) }
+    ensures whole { IfOk result (λ _. fail_lacks rows ≡ false) }
     ensures fault { IfErr result (λ e. e ≡ Unavailable) }
 {
     let award = rows.award.ok_or(Refusal::Unavailable)?;
     let notice = rows.notice.ok_or(Refusal::Unavailable)?;
     let lot = rows.lot.ok_or(Refusal::Unavailable)?;
+    let envelope = rows.envelope.ok_or(Refusal::Unavailable)?;
+    if lacks_security(&envelope, &rows.security) {
+        return Err(Refusal::Unavailable);
+    }
     let notice = released(notice).ok_or(Refusal::Unavailable)?;
     let mut made = Vec::with_capacity(alloc, 6)?;
     made.push(Put::Award(AwardRow {
@@ -116,7 +112,7 @@ pub fn puts(alloc: Global, t: Moment, rows: FailRows) -> Result<Vec<Put>, Refusa
     }))?;
     made.push(Put::Notice(notice))?;
     made.push(Put::Clock(at_moment(rows.clock, t)))?;
-    push_failed(&mut made, rows.envelope)?;
+    made.push(Put::Envelope(passed_over(envelope)))?;
     push_forfeited(&mut made, rows.security)?;
     Ok(made)
 }
@@ -124,7 +120,7 @@ pub fn puts(alloc: Global, t: Moment, rows: FailRows) -> Result<Vec<Put>, Refusa
 /// Decides the failing of an award: its refusal, or what it puts.
 #[tactic(auto, unfolding(office_base::specs::Deciding::Decides))]
 pub fn decide_fail(alloc: Global, t: Moment, rows: FailRows) -> Result<Vec<Put>, Refusal>
-    ensures { Decides result (first_of (fail_tests rows t)) (fail_puts rows t) }
+    ensures { Decides result (first_of (fail_tests rows t)) (fail_lacks rows) (fail_puts rows t) }
 {
     match refusal(t, &rows) {
         Some(why) => Err(why),

@@ -1,9 +1,9 @@
 //! The decision on a payment under a contract.
-ghost use Rattle.std.specs.Prelude.{◌≡◌, IfOk, IfErr};
+ghost use Rattle.std.specs.Prelude.{◌≡◌, IfOk, IfErr, false};
 ghost use Rattle.office_values.specs.declared.refusal.Refusal.TheVariants.{Unavailable};
 ghost use Rattle.office_base.specs.Deciding.{Decides};
 ghost use Rattle.office_base.specs.Rules.{first_of};
-ghost use Rattle.award_core.specs.Rules.Pay.{pay_tests, pay_puts};
+ghost use Rattle.award_core.specs.Rules.Pay.{pay_lacks, pay_tests, pay_puts};
 
 use crate::entries::{has_all_entries, has_entry, is_beyond};
 use office_acts::amounts::EntryAmount;
@@ -56,6 +56,7 @@ pub fn puts(
     amount: EntryAmount,
 ) -> Result<Vec<Put>, Refusal>
     ensures puts { IfOk result (λ made. made.items ≡ pay_puts rows t entry amount) }
+    ensures whole { IfOk result (λ _. pay_lacks rows ≡ false) }
     ensures fault { IfErr result (λ e. e ≡ Unavailable) }
 {
     let contract = rows.contract.ok_or(Refusal::Unavailable)?;
@@ -85,7 +86,7 @@ pub fn decide_pay(
     entry: Id,
     amount: EntryAmount,
 ) -> Result<Vec<Put>, Refusal>
-    ensures { Decides result (first_of (pay_tests rows entry amount)) (pay_puts rows t entry amount) }
+    ensures { Decides result (first_of (pay_tests rows entry amount)) (pay_lacks rows) (pay_puts rows t entry amount) }
 {
     match refusal(&rows, &entry, amount) {
         Some(why) => Err(why),

@@ -1,10 +1,10 @@
 //! The decision on the signing of a contract.
-ghost use Rattle.std.specs.Prelude.{◌≡◌, ◌++◌, OnOk, IfOk, IfErr};
+ghost use Rattle.std.specs.Prelude.{◌≡◌, ◌++◌, OnOk, IfOk, IfErr, false};
 ghost use Rattle.office_values.specs.declared.refusal.Refusal.TheVariants.{Unavailable};
 ghost use Rattle.office_base.specs.Deciding.{Decides};
 ghost use Rattle.office_base.specs.RuleParts.{put_if};
 ghost use Rattle.office_base.specs.Rules.{first_of};
-ghost use Rattle.award_core.specs.Rules.Sign.{contract_row, is_missing, is_too_small, isnt_asked, performance_put, performance_row, sign_conditions, sign_tests, sign_puts};
+ghost use Rattle.award_core.specs.Rules.Sign.{contract_row, is_missing, is_too_small, isnt_asked, performance_put, performance_row, sign_lacks, sign_tests, sign_puts};
 
 use crate::fail::standing_refusal;
 use crate::securities::push_returned;
@@ -130,6 +130,7 @@ pub fn puts(
     security: Option<NamedSecurity>,
 ) -> Result<Vec<Put>, Refusal>
     ensures puts { IfOk result (λ made. made.items ≡ sign_puts rows t security) }
+    ensures whole { IfOk result (λ _. sign_lacks rows ≡ false) }
     ensures fault { IfErr result (λ e. e ≡ Unavailable) }
 {
     let award = rows.award.ok_or(Refusal::Unavailable)?;
@@ -164,7 +165,7 @@ pub fn decide_sign(
     rows: SignRows,
     security: Option<NamedSecurity>,
 ) -> Result<Vec<Put>, Refusal>
-    ensures { Decides result (first_of (sign_tests rows t security)) (sign_puts rows t security) }
+    ensures { Decides result (first_of (sign_tests rows t security)) (sign_lacks rows) (sign_puts rows t security) }
 {
     match refusal(t, &rows, &security) {
         Some(why) => Err(why),

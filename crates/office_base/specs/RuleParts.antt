@@ -59,6 +59,10 @@ returned s = record s { state = security_states.Returned }
 abbrev pub settled : SecurityState → SecurityRow → SecurityRow
 settled state s = record s { state = cond (is_held s.state) state s.state }
 
+-- the tender names a security, and it isn't there
+abbrev pub lacks_security : EnvelopeRow → Option SecurityRow → Bool
+lacks_security e security = is_some e.security && not (is_some security)
+
 -- a tender that is out of the running
 abbrev pub passed_over : EnvelopeRow → EnvelopeRow
 passed_over e = record e { failed = true }
@@ -91,3 +95,8 @@ securities_returned securities = map security_returned (filter is_held_security 
 abbrev pub put_if : {X : Type 0} → (X → Put) → Option X → List Put
 put_if make None = []
 put_if make (Some x) = make x ∷ []
+
+-- puts that are made of a row, where it is there
+abbrev pub puts_if : {X : Type 0} → (X → List Put) → Option X → List Put
+puts_if make None = []
+puts_if make (Some x) = make x

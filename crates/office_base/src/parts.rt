@@ -1,6 +1,6 @@
 //! What the decisions on several commands share.
 ghost use Rattle.std.specs.Prelude.{◌≡◌, IfSome, IfNone, Some, true};
-ghost use Rattle.office_base.specs.RuleParts.{has_all_releases, is_expired, is_in_time, is_past_deadline, released, at_moment, returned, settled, settled_performance, passed_over};
+ghost use Rattle.office_base.specs.RuleParts.{has_all_releases, is_expired, is_in_time, is_past_deadline, released, at_moment, returned, settled, settled_performance, lacks_security, passed_over};
 
 use crate::counts::ReleaseCount;
 use crate::records::{
@@ -87,6 +87,13 @@ pub fn settled_performance(security: PerformanceRow, state: SecurityState) -> Pe
         return security;
     }
     PerformanceRow { state, ..security }
+}
+
+/// Whether the tender names a security that isn't there.
+pub fn lacks_security(envelope: &EnvelopeRow, security: &Option<SecurityRow>) -> bool
+    ensures { result ≡ lacks_security envelope.now security.now }
+{
+    envelope.security.is_some() && security.is_none()
 }
 
 /// The tender, out of the running.

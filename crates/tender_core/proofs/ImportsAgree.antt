@@ -10,10 +10,10 @@ use Rattle.office_acts.specs.declared.budget.BudgetRow.{BudgetRow}
 use Rattle.office_base.specs.Rows.{by_order, row_at}
 use Rattle.office_base.specs.Tables.{Tables, find_line, line_at}
 use Rattle.office_base.specs.Standings.{find_standing, columns_at, columns_of_row, standing_key, standing_of, standings}
-use Rattle.tender_core.specs.Rules.Import.{columns_after, after_row, after_rows, some_row, line_put, appropriation_of, free_of, cuts_nothing, cuts_too_much, passes_limit, import_conditions, import_effect}
-use Rattle.tender_core.specs.Agreeing.{AgreeOnRows, ImportsAgree}
+use Rattle.tender_core.specs.Rules.Import.{columns_after, after_row, after_rows, some_row, line_put, appropriation_of, free_of, cuts_nothing, cuts_too_much, passes_limit, cuts_below_zero, import_lacks, import_tests, import_puts}
+use Rattle.tender_core.specs.Agreeing.{AgreeOnRows, ImportsAgree, import_on}
+use Rattle.tender_core.specs.declared.import.ImportRows.{ImportRows}
 use Rattle.office_base.specs.declared.records.LineRow.{LineRow}
-use Rattle.office_base.specs.declared.records.ClockRow.{ClockRow}
 use Rattle.office_base.specs.declared.puts.Put.{Put}
 use Rattle.office_base.specs.declared.puts.Put.TheVariants as puts
 use Rattle.office_base.specs.declared.standing.Columns.{Columns}
@@ -64,15 +64,19 @@ lines_put-agree m n (row ∷ rows) h =
     ∙ ap (λ ps. line_put n row ∷ ps) (lines_put-agree m n rows h.1)
 
 -- the import is refused alike, and puts the same
-pub tests-agree : (m n : List Standing) (exists : Bool) (rows : List BudgetRow) → AgreeOnRows m n rows → import_conditions m exists rows ≡ import_conditions n exists rows
-tests-agree m n exists rows h =
-    rw (some_row-agree cuts_nothing m n rows h, some_row-agree cuts_too_much m n rows h, some_row-agree passes_limit m n rows h) refl
+pub tests-agree : (m n : List Standing) (rows : ImportRows) → AgreeOnRows m n rows.file.rows → import_tests (import_on m rows) ≡ import_tests (import_on n rows)
+tests-agree m n rows h =
+    rw (some_row-agree cuts_nothing m n rows.file.rows h, some_row-agree cuts_too_much m n rows.file.rows h, some_row-agree passes_limit m n rows.file.rows h) refl
 
-pub puts-agree : (clock : ClockRow) (t : ℕ) (batch : List ℕ) (m n : List Standing) (rows : List BudgetRow) → AgreeOnRows m n rows
-    → import_effect clock t batch m rows ≡ import_effect clock t batch n rows
-puts-agree clock t batch m n rows h =
-    ap (λ ps. ps ++ (puts.Batch (record { batch = batch; moment = t; rows = length rows }) ∷ puts.Clock (record clock { moment = t }) ∷ []))
-    (lines_put-agree (after_rows m rows) (after_rows n rows) rows (agree_after_rows m n rows rows h h))
+pub puts-agree : (m n : List Standing) (rows : ImportRows) (t : ℕ) (batch : List ℕ) → AgreeOnRows m n rows.file.rows
+    → import_puts (import_on m rows) t batch ≡ import_puts (import_on n rows) t batch
+puts-agree m n rows t batch h =
+    let file = rows.file.rows in
+    ap (λ ps. ps ++ (puts.Batch (record { batch = batch; moment = t; rows = length file }) ∷ puts.Clock (record rows.clock { moment = t }) ∷ []))
+    (lines_put-agree (after_rows m file) (after_rows n file) file (agree_after_rows m n file file h h))
+
+pub lacks-agree : (m n : List Standing) (rows : ImportRows) → AgreeOnRows m n rows.file.rows → import_lacks (import_on m rows) ≡ import_lacks (import_on n rows)
+lacks-agree m n rows h = some_row-agree cuts_below_zero m n rows.file.rows h
 
 standing_step : (q : List ℕ) (x : LineRow) (found : Option LineRow) (rest : Option Standing) → rest ≡ option_map standing_of found
     → (c : Ordering) → by_order c None (Some (standing_of x)) rest ≡ option_map standing_of (by_order c None (Some x) found)
@@ -94,4 +98,4 @@ pub columns_at-standings : (t : Tables) (q : List ℕ) → columns_at (standings
 columns_at-standings t q = ap (option_and_then (λ (x : Standing). x.columns)) (find_standing-map t.lines q) ∙ columns_step (line_at q t)
 
 pub imports_agree : ImportsAgree
-imports_agree = record { tests = tests-agree; puts = puts-agree; columns = columns_at-standings }
+imports_agree = record { tests = tests-agree; puts = puts-agree; lacks = lacks-agree; columns = columns_at-standings }

@@ -4,7 +4,7 @@ ghost use Rattle.office_values.specs.declared.refusal.Refusal.TheVariants.{Unava
 ghost use Rattle.office_base.specs.Deciding.{Decides};
 ghost use Rattle.office_base.specs.Rules.{first_of};
 ghost use Rattle.office_base.specs.RuleParts.{has_all_releases};
-ghost use Rattle.tender_core.specs.Rules.AmendNotice.{has_all_amendments, amended, amend_notice_tests, amend_notice_puts};
+ghost use Rattle.tender_core.specs.Rules.AmendNotice.{has_all_amendments, amended, amend_notice_lacks, amend_notice_tests, amend_notice_puts};
 
 use office_base::counts::{AmendmentCount, ReleaseCount};
 use office_base::parts::{at_moment, has_all_releases, is_past_deadline};
@@ -94,7 +94,7 @@ pub fn decide_amend_notice(
     rows: AmendNoticeRows,
     deadline: Moment,
 ) -> Result<Vec<Put>, Refusal>
-    ensures { Decides result (first_of (amend_notice_tests rows t deadline)) (amend_notice_puts rows t deadline) }
+    ensures { Decides result (first_of (amend_notice_tests rows t deadline)) (amend_notice_lacks rows) (amend_notice_puts rows t deadline) }
 {
     match refusal(t, &rows, deadline) {
         Some(why) => Err(why),

@@ -1,15 +1,16 @@
 //! The decision on the cancellation of a notice.
-ghost use Rattle.std.specs.Prelude.{◌≡◌, ◌∷◌, ◌++◌, [], IfOk, IfErr, IfSome, IfNone, OnOk, Some, true};
+ghost use Rattle.std.specs.Prelude.{◌≡◌, ◌∷◌, ◌++◌, [], IfOk, IfErr, IfSome, IfNone, OnOk, Some, true, false};
 ghost use Rattle.std.specs.List.{list_any};
 ghost use Rattle.office_values.specs.declared.refusal.Refusal.TheVariants.{Unavailable};
 ghost use Rattle.office_base.specs.Deciding.{Decides};
 ghost use Rattle.office_base.specs.Rules.{first_of};
 ghost use Rattle.office_base.specs.RuleParts.{has_all_releases, clock_put};
 ghost use Rattle.office_base.specs.declared.puts.Put.TheVariants as puts;
-ghost use Rattle.tender_core.specs.Rules.Cancel.{is_open_lot, cancelled_notice, cancel_tests, cancel_puts};
+ghost use Rattle.tender_core.specs.Rules.Cancel.{is_open_lot, cancelled_notice, cancel_lacks, cancel_tests, cancel_puts};
 
 use crate::ended::{
     is_open, push_awards, push_drops, push_envelopes, push_lines, push_lots, push_securities,
+    some_lacks_line,
 };
 use keyed_table::table::Table;
 use office_base::counts::ReleaseCount;
@@ -98,10 +99,14 @@ fn push_notice(
 /// would have more free than 10^15.
 pub fn puts(alloc: Global, t: Moment, rows: CancelRows) -> Result<Vec<Put>, Refusal>
     ensures puts { IfOk result (λ made. made.items ≡ cancel_puts rows t) }
+    ensures whole { IfOk result (λ _. cancel_lacks rows ≡ false) }
     ensures fault { IfErr result (λ e. e ≡ Unavailable) }
 {
     let notice = rows.notice.ok_or(Refusal::Unavailable)?;
     let lots = rows.lots.as_slice();
+    if some_lacks_line(&rows.lines, lots) {
+        return Err(Refusal::Unavailable);
+    }
     let mut made = Vec::new(alloc);
     push_lines(&mut made, &rows.lines, lots)?;
     push_lots(&mut made, lots)?;
@@ -116,7 +121,7 @@ pub fn puts(alloc: Global, t: Moment, rows: CancelRows) -> Result<Vec<Put>, Refu
 /// Decides the cancellation of a notice: its refusal, or what it puts. Of the lines, those of the lots that are open are looked at.
 #[tactic(auto, unfolding(office_base::specs::Deciding::Decides))]
 pub fn decide_cancel(alloc: Global, t: Moment, rows: CancelRows) -> Result<Vec<Put>, Refusal>
-    ensures { Decides result (first_of (cancel_tests rows)) (cancel_puts rows t) }
+    ensures { Decides result (first_of (cancel_tests rows)) (cancel_lacks rows) (cancel_puts rows t) }
 {
     match refusal(&rows) {
         Some(why) => Err(why),

@@ -1,8 +1,9 @@
 //! What ends with the lots of a notice that is cancelled.
 ghost use Rattle.std.specs.Prelude.{◌≡◌, ◌++◌, ◌<◌, ◌^◌, IfOk, IfErr, OnOk, filter, map};
+ghost use Rattle.std.specs.List.{list_any};
 ghost use Rattle.office_values.specs.declared.refusal.Refusal.TheVariants.{Unavailable};
 ghost use Rattle.office_base.specs.RuleParts.{security_returned};
-ghost use Rattle.tender_core.specs.Rules.Cancel.{is_open_lot, ends, freed, line_put, cancelled_lot, lot_put, is_ended_award, cancelled_award, award_put, is_ended_envelope, returned_envelope, envelope_put, drop_put, is_ended_security};
+ghost use Rattle.tender_core.specs.Rules.Cancel.{is_open_lot, lacks_line, ends, freed, line_put, cancelled_lot, lot_put, is_ended_award, cancelled_award, award_put, is_ended_envelope, returned_envelope, envelope_put, drop_put, is_ended_security};
 
 use keyed_table::table::Table;
 use office_base::puts::Put;
@@ -34,6 +35,18 @@ fn ends(lots: &[LotRow], notice: &Id, lot: &Id) -> bool
             Ordering::Less => return false,
             Ordering::Equal => return is_open(row),
             Ordering::Greater => {}
+        }
+    }
+    false
+}
+
+/// Whether the line of a lot that ends isn't there.
+pub fn some_lacks_line(lines: &Table<LineRow>, lots: &[LotRow]) -> bool
+    ensures { result ≡ list_any (lacks_line lines.now) (filter is_open_lot lots.now) }
+{
+    for row in lots {
+        if is_open(row) && lines.get(&row.line).is_none() {
+            return true;
         }
     }
     false

@@ -1,10 +1,10 @@
 //! The decision on the modification of a tender.
-ghost use Rattle.std.specs.Prelude.{◌≡◌, ◌+◌, IfOk, IfErr};
+ghost use Rattle.std.specs.Prelude.{◌≡◌, ◌+◌, IfOk, IfErr, false};
 ghost use Rattle.office_values.specs.declared.refusal.Refusal.TheVariants.{Unavailable};
 ghost use Rattle.sha2.specs.Sha256.{sha256};
 ghost use Rattle.office_base.specs.Deciding.{Decides};
 ghost use Rattle.office_base.specs.Rules.{first_of};
-ghost use Rattle.tender_core.specs.Rules.Modify.{replacing, modify_tests, modify_puts};
+ghost use Rattle.tender_core.specs.Rules.Modify.{replacing, modify_lacks, modify_tests, modify_puts};
 
 use crate::receipts::{length_of, next_receipt, receipt_clock};
 use crate::tenders::{is_by, is_past_deadline, withdrawn};
@@ -76,7 +76,7 @@ pub fn refusal(t: Moment, caller: &Caller, rows: &ModifyRows) -> Option<Refusal>
 }
 
 /// What the modification of a tender puts: the old tender, whose bytes are dropped, the new one with its bytes, and the clock.
-/// `Unavailable` where the tender isn't there, or all receipts are given out.
+/// `Unavailable` where the tender or its notice isn't there, or all receipts are given out.
 pub fn puts(
     alloc: Global,
     t: Moment,
@@ -84,9 +84,13 @@ pub fn puts(
     sealed: &Sealed<'_>,
 ) -> Result<Vec<Put>, Refusal>
     ensures puts { IfOk result (λ made. made.items ≡ modify_puts sha256 rows t sealed.now) }
+    ensures whole { IfOk result (λ _. modify_lacks rows ≡ false) }
     ensures fault { IfErr result (λ e. e ≡ Unavailable) }
 {
     let row = rows.envelope.ok_or(Refusal::Unavailable)?;
+    if rows.notice.is_none() {
+        return Err(Refusal::Unavailable);
+    }
     let receipt = next_receipt(&rows.clock).ok_or(Refusal::Unavailable)?;
     let old = row.receipt;
     let new = replacing(&rows.clock, t, &row, receipt, sealed);
@@ -111,7 +115,7 @@ pub fn decide_modify(
     rows: ModifyRows,
     sealed: &Sealed<'_>,
 ) -> Result<Vec<Put>, Refusal>
-    ensures { Decides result (first_of (modify_tests rows t caller.now)) (modify_puts sha256 rows t sealed.now) }
+    ensures { Decides result (first_of (modify_tests rows t caller.now)) (modify_lacks rows) (modify_puts sha256 rows t sealed.now) }
 {
     match refusal(t, caller, &rows) {
         Some(why) => Err(why),

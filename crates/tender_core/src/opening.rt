@@ -4,7 +4,7 @@ ghost use Rattle.office_values.specs.declared.refusal.Refusal.TheVariants.{Unava
 ghost use Rattle.office_base.specs.Deciding.{Decides};
 ghost use Rattle.office_base.specs.Rules.{first_of};
 ghost use Rattle.office_base.specs.RuleParts.{has_all_releases};
-ghost use Rattle.tender_core.specs.Rules.Open.{is_sealed_envelope, read_envelope, read_put, opened_notice, open_tests, opened_with};
+ghost use Rattle.tender_core.specs.Rules.Open.{is_sealed_envelope, read_envelope, read_put, opened_notice, open_lacks, open_tests, opened_with};
 
 use office_base::counts::ReleaseCount;
 use office_base::parts::{at_moment, has_all_releases};
@@ -137,7 +137,7 @@ pub fn decide_open(
     rows: OpenRows,
     tenders: Rows<OpenedTender>,
 ) -> Result<Vec<Put>, Refusal>
-    ensures { Decides result (first_of (open_tests rows t)) (opened_with rows.clock t rows.notice tenders) }
+    ensures { Decides result (first_of (open_tests rows t)) (open_lacks rows) (opened_with rows.clock t rows.notice tenders) }
 {
     match refusal(t, &rows) {
         Some(why) => Err(why),

@@ -8,7 +8,7 @@ ghost use Rattle.office_base.specs.Deciding.{Decides};
 ghost use Rattle.office_base.specs.Rows.{holds_of};
 ghost use Rattle.office_base.specs.Rules.{first_of};
 ghost use Rattle.office_base.specs.RuleParts.{put_if, receipt_clock};
-ghost use Rattle.tender_core.specs.Rules.Present.{is_sealed_by, asks_security, is_too_small, received, security_row, security_put, seal_puts, received_puts, present_tests, present_puts};
+ghost use Rattle.tender_core.specs.Rules.Present.{is_sealed_by, asks_security, is_too_small, received, security_row, security_put, seal_puts, received_puts, present_lacks, present_tests, present_puts};
 
 use crate::receipts::{length_of, next_receipt, receipt_clock};
 use crate::tenders::{is_by, is_in_time};
@@ -271,7 +271,7 @@ pub fn decide_present(
     security: Option<NamedSecurity>,
     sealed: &Sealed<'_>,
 ) -> Result<Vec<Put>, Refusal>
-    ensures { Decides result (first_of (present_tests rows t caller.now security)) (present_puts sha256 rows t caller.now notice lot security sealed.now) }
+    ensures { Decides result (first_of (present_tests rows t caller.now security)) (present_lacks rows) (present_puts sha256 rows t caller.now notice lot security sealed.now) }
 {
     match refusal(t, caller, &rows, &security) {
         Some(why) => Err(why),

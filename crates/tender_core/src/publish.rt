@@ -7,7 +7,7 @@ ghost use Rattle.office_base.specs.Joined.{free_in};
 ghost use Rattle.office_base.specs.Deciding.{Decides};
 ghost use Rattle.office_base.specs.Rules.{first_of};
 ghost use Rattle.office_base.specs.RuleParts.{clock_put};
-ghost use Rattle.tender_core.specs.Rules.Publish.{wanted, is_on_no_line, is_short, has_too_many_items, publish_tests, publish_puts, line_put, lot_put, notice_put, late_puts};
+ghost use Rattle.tender_core.specs.Rules.Publish.{wanted, is_on_no_line, is_short, has_too_many_items, publish_lacks, publish_tests, publish_puts, line_put, lot_put, notice_put, late_puts};
 
 use keyed_table::table::Table;
 use office_acts::amounts::amount_of;
@@ -247,7 +247,7 @@ pub fn decide_publish(
     notice: Id,
     new: NewNotice,
 ) -> Result<Vec<Put>, Refusal>
-    ensures { Decides result (first_of (publish_tests rows t new)) (publish_puts rows t notice new) }
+    ensures { Decides result (first_of (publish_tests rows t new)) (publish_lacks rows) (publish_puts rows t notice new) }
 {
     match refusal(t, &rows, &new) {
         Some(why) => Err(why),

@@ -3,7 +3,7 @@ ghost use Rattle.std.specs.Prelude.{◌≡◌, IfOk, IfErr};
 ghost use Rattle.office_values.specs.declared.refusal.Refusal.TheVariants.{Unavailable};
 ghost use Rattle.office_base.specs.Deciding.{Decides};
 ghost use Rattle.office_base.specs.Rules.{first_of};
-ghost use Rattle.tender_core.specs.Rules.Register.{register_tests, register_puts};
+ghost use Rattle.tender_core.specs.Rules.Register.{register_lacks, register_tests, register_puts};
 
 use office_base::parts::at_moment;
 use office_base::puts::Put;
@@ -67,7 +67,7 @@ pub fn decide_register(
     address: TextLine,
     key: [u8; 32],
 ) -> Result<Vec<Put>, Refusal>
-    ensures { Decides result (first_of (register_tests rows tenderer)) (register_puts rows t tenderer name address key) }
+    ensures { Decides result (first_of (register_tests rows tenderer)) (register_lacks rows) (register_puts rows t tenderer name address key) }
 {
     match refusal(&rows, &tenderer) {
         Some(why) => Err(why),

@@ -1,15 +1,15 @@
 //! The decision on the withdrawal of a tender.
-ghost use Rattle.std.specs.Prelude.{◌≡◌, ◌++◌, IfErr, OnOk, IfOk, Some, None};
+ghost use Rattle.std.specs.Prelude.{◌≡◌, ◌++◌, IfErr, OnOk, IfOk, Some, None, false};
 ghost use Rattle.office_values.specs.declared.refusal.Refusal.TheVariants.{Unavailable};
 ghost use Rattle.office_base.specs.Deciding.{Decides};
 ghost use Rattle.office_base.specs.Rows.{holds_of};
 ghost use Rattle.office_base.specs.Rules.{first_of};
 ghost use Rattle.office_base.specs.RuleParts.{is_expired, is_late, put_if, security_settled};
-ghost use Rattle.tender_core.specs.Rules.Withdraw.{cant_be_taken_back, is_decided, taken_back_puts, withdraw_tests, withdraw_puts};
+ghost use Rattle.tender_core.specs.Rules.Withdraw.{cant_be_taken_back, is_decided, taken_back_puts, withdraw_lacks, withdraw_tests, withdraw_puts};
 
 use crate::tenders::{is_by, is_late, is_past_deadline, withdrawn};
 use office_acts::command::Caller;
-use office_base::parts::{at_moment, is_expired, passed_over, settled};
+use office_base::parts::{at_moment, is_expired, lacks_security, passed_over, settled};
 use office_base::puts::Put;
 use office_base::records::{
     ClockRow, EnvelopeRow, EnvelopeState, LateRow, LotRow, LotState, NoticeRow, SecurityRow,
@@ -132,13 +132,21 @@ pub fn refusal(t: Moment, caller: &Caller, rows: &WithdrawRows) -> Option<Refusa
     None
 }
 
-/// What the withdrawal of a tender puts. `Unavailable` where the tender isn't there.
+/// What the withdrawal of a tender puts. `Unavailable` where the tender, its notice, its lot or the security that it names isn't
+/// there.
 pub fn puts(alloc: Global, t: Moment, rows: WithdrawRows) -> Result<Vec<Put>, Refusal>
     ensures puts { IfOk result (λ made. made.items ≡ withdraw_puts rows t) }
+    ensures whole { IfOk result (λ _. withdraw_lacks rows ≡ false) }
     ensures fault { IfErr result (λ e. e ≡ Unavailable) }
 {
     let late = is_late(&rows.late, t, &rows.notice);
     let envelope = rows.envelope.ok_or(Refusal::Unavailable)?;
+    if rows.notice.is_none() || rows.lot.is_none() {
+        return Err(Refusal::Unavailable);
+    }
+    if lacks_security(&envelope, &rows.security) {
+        return Err(Refusal::Unavailable);
+    }
     taken_back(alloc, t, rows.clock, envelope, rows.security, late)
 }
 
@@ -150,7 +158,7 @@ pub fn decide_withdraw(
     caller: &Caller,
     rows: WithdrawRows,
 ) -> Result<Vec<Put>, Refusal>
-    ensures { Decides result (first_of (withdraw_tests rows t caller.now)) (withdraw_puts rows t) }
+    ensures { Decides result (first_of (withdraw_tests rows t caller.now)) (withdraw_lacks rows) (withdraw_puts rows t) }
 {
     match refusal(t, caller, &rows) {
         Some(why) => Err(why),

@@ -65,15 +65,6 @@ cuts_too_much held row = is_cut row.kind && nat_lt (free_of held) row.amount
 abbrev pub passes_limit : Option Columns → BudgetRow → Bool
 passes_limit held row = not (is_cut row.kind) && nat_lt total_limit (appropriation_of held + row.amount)
 
--- when an import is refused, in the order of the refusals
-abbrev pub import_conditions : List Standing → Bool → List BudgetRow → List (Bool × Refusal)
-import_conditions m exists rows =
-    (some_row cuts_nothing m rows, NoSuch things.Line)
-    ∷ (exists, Exists)
-    ∷ (some_row cuts_too_much m rows, InsufficientFunds)
-    ∷ (nat_lt row_limit (length rows) || some_row passes_limit m rows, LimitReached)
-    ∷ []
-
 -- the line of a row, with its columns after all rows and the title of this one
 abbrev pub line_row : List Standing → BudgetRow → LineRow
 line_row after row = record {
@@ -91,17 +82,27 @@ abbrev pub puts_after : ClockRow → ℕ → List ℕ → List Standing → List
 puts_after clock t batch after rows =
     map (line_put after) rows ++ (puts.Batch (record { batch = batch; moment = t; rows = length rows }) ∷ puts.Clock (record clock { moment = t }) ∷ [])
 
--- what an import puts
-abbrev pub import_effect : ClockRow → ℕ → List ℕ → List Standing → List BudgetRow → List Put
-import_effect clock t batch m rows = puts_after clock t batch (after_rows m rows) rows
-
 -- the rows of an office that the import of a file looks at
 abbrev pub import_rows : Tables → List ℕ → List BudgetRow → ImportRows
 import_rows s batch budget = record { batch = batch_at batch s; file = record { lines = standings s; rows = budget }; clock = s.clock }
 
--- when it is refused, by these rows, and what it puts
-abbrev pub import_tests : ImportRows → List (Bool × Refusal)
-import_tests rows = import_conditions rows.file.lines (is_some rows.batch) rows.file.rows
+-- what is appropriated would go below 0, where as much may be free
+abbrev pub cuts_below_zero : Option Columns → BudgetRow → Bool
+cuts_below_zero held row = is_cut row.kind && nat_lt (appropriation_of held) row.amount
 
+-- what is lacking: what a cut takes from the appropriation of its line
+abbrev pub import_lacks : ImportRows → Bool
+import_lacks rows = some_row cuts_below_zero rows.file.lines rows.file.rows
+
+-- when it is refused, by these rows
+abbrev pub import_tests : ImportRows → List (Bool × Refusal)
+import_tests rows =
+    (some_row cuts_nothing rows.file.lines rows.file.rows, NoSuch things.Line)
+    ∷ (is_some rows.batch, Exists)
+    ∷ (some_row cuts_too_much rows.file.lines rows.file.rows, InsufficientFunds)
+    ∷ (nat_lt row_limit (length rows.file.rows) || some_row passes_limit rows.file.lines rows.file.rows, LimitReached)
+    ∷ []
+
+-- what it puts
 abbrev pub import_puts : ImportRows → ℕ → List ℕ → List Put
-import_puts rows t batch = import_effect rows.clock t batch rows.file.lines rows.file.rows
+import_puts rows t batch = puts_after rows.clock t batch (after_rows rows.file.lines rows.file.rows) rows.file.rows
