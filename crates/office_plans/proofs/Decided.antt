@@ -1,5 +1,5 @@
 -- What follows from a decision that was made on rows.
-use Rattle.std.specs.Prelude.{◌≡◌, ◌⊎◌, List, Option, Some, None, Result, Vec, Ok, Err, IsErrAnd}
+use Rattle.std.specs.Prelude.{◌≡◌, ◌⊎◌, Bool, List, Option, Some, None, Result, Vec, Ok, Err, IsErrAnd}
 use Rattle.std.proofs.Common.{◌∙◌, refl, sym, subst, inl, inr}
 use Rattle.std.specs.declared.alloc.Global.{Global}
 use Rattle.office_values.specs.declared.refusal.Refusal.{Refusal}
@@ -12,22 +12,22 @@ use Rattle.office_plans.specs.Plans.{Plan}
 use Rattle.office_plans.specs.Published.{IsPlanned}
 
 -- a refusal is the first whose condition holds, or Unavailable
-pub refuses : (why : Refusal) (first : Option Refusal) (made : List Put) → Decides (Err why) first made → (first ≡ Some why) ⊎ (why ≡ Unavailable)
+pub refuses : (why : Refusal) (first : Option Refusal) (lacks : Bool) (made : List Put) → Decides (Err why) first lacks made → (first ≡ Some why) ⊎ (why ≡ Unavailable)
 unfolding Decides
-refuses why (Some w) made is = inl (let same : w ≡ why = cc in λ i. Some (same i))
-refuses why None made is = inr is.1
+refuses why (Some w) lacks made is = inl (let same : w ≡ why = cc in λ i. Some (same i))
+refuses why None lacks made is = inr is.1
 
 -- where it is Ok no condition holds
-pub allows : (puts : Vec Put Global) (first : Option Refusal) (made : List Put) → Decides (Ok puts) first made → first ≡ None
+pub allows : (puts : Vec Put Global) (first : Option Refusal) (lacks : Bool) (made : List Put) → Decides (Ok puts) first lacks made → first ≡ None
 unfolding Decides
-allows puts (Some w) made is = absurd cc
-allows puts None made is = refl
+allows puts (Some w) lacks made is = absurd cc
+allows puts None lacks made is = refl
 
 -- and these are the puts
-pub makes : (puts : Vec Put Global) (first : Option Refusal) (made : List Put) → Decides (Ok puts) first made → puts.items ≡ made
+pub makes : (puts : Vec Put Global) (first : Option Refusal) (lacks : Bool) (made : List Put) → Decides (Ok puts) first lacks made → puts.items ≡ made
 unfolding Decides
-makes puts (Some w) made is = absurd cc
-makes puts None made is = is.0
+makes puts (Some w) lacks made is = absurd cc
+makes puts None lacks made is = is.0.1
 
 -- so what is handed on is the command's refusal, where its refusal is that one, or Unavailable
 pub told_refused : (settings : Settings) (x : Given) (result : Result Plan Refusal) (why : Refusal) (first : Option Refusal) → IsErrAnd result (λ y. y ≡ why)
