@@ -7,6 +7,7 @@ ghost use Rattle.ocds_merge.specs.Merge.{merge_or_null};
 ghost use Rattle.ocds_merge.specs.Stored.{KeepsMerge, IsStorable};
 ghost use Rattle.ocds_merge.specs.Inside.Step.{step};
 ghost use Rattle.ocds_merge.specs.Inside.Splice.{IsKept};
+ghost use Rattle.ocds_merge.specs.Inside.Readable.{Reads};
 ghost use Rattle.ocds_merge.specs.declared.stored.StoredFault.TheVariants.{NoMemory as no_memory};
 
 use crate::kept_value::is_kept;
@@ -77,12 +78,14 @@ pub fn is_object(alloc: Global, text: &str) -> Result<bool, NoMemory>
     }
 }
 
-/// The text that keeps the merge of some values, after one value more. A text that is no JSON keeps
-/// no merge, not even that of no values, which is `null`.
+/// The text that keeps the merge of some values, after one value more, whatever the form of the stored text that reads as their merge. A text
+/// that is no JSON keeps no merge, not even that of no values, which is `null`. Where the text reads as no merge of any values, as where it has a
+/// member that is null or an id twice in one list, what comes of it isn't stated.
 ///
-/// What the value doesn't touch is copied as it stands, and no tree is made of it.
+/// What the value doesn't touch is copied as it stands, and no tree is made of it, where the stored text is compact, its names without escapes and
+/// in their order.
 pub fn merge_into_text(alloc: Global, stored: &str, value: &Value) -> Result<String, StoredFault>
-    ensures keeps { IfOk result (λ text. (vs : List Data) → KeepsMerge stored.now vs
+    ensures keeps { IfOk result (λ text. (vs : List Data) → read stored.now ≡ Some (merge_or_null vs)
         → All IsStorable (vs ++ view value.now ∷ [])
         → KeepsMerge (string_bytes text) (vs ++ view value.now ∷ [])) }
     ensures memory { IfErr result (λ fault. (merge : Data) → read stored.now ≡ Some merge
@@ -99,7 +102,7 @@ pub fn merge_into_text(alloc: Global, stored: &str, value: &Value) -> Result<Str
 
 /// The same by a tree of the stored merge, whatever the form of its text.
 fn merged_anew(alloc: Global, stored: &str, value: &Value) -> Result<String, StoredFault>
-    ensures keeps { IfOk result (λ text. (vs : List Data) → KeepsMerge stored.now vs
+    ensures keeps { IfOk result (λ text. (vs : List Data) → read stored.now ≡ Some (merge_or_null vs)
         → All IsStorable (vs ++ view value.now ∷ [])
         → KeepsMerge (string_bytes text) (vs ++ view value.now ∷ [])) }
     ensures memory { IfErr result (λ fault. (merge : Data) → read stored.now ≡ Some merge
@@ -114,10 +117,10 @@ fn merged_anew(alloc: Global, stored: &str, value: &Value) -> Result<String, Sto
 
 /// The same by the stored text itself.
 fn spliced(alloc: Global, stored: &str, value: &Value) -> Result<String, Unspliced>
-    ensures keeps { IfOk result (λ text. (vs : List Data) → KeepsMerge stored.now vs
+    ensures keeps { IfOk result (λ text. (vs : List Data) → read stored.now ≡ Some (merge_or_null vs)
         → All IsStorable (vs ++ view value.now ∷ [])
         → KeepsMerge (string_bytes text) (vs ++ view value.now ∷ [])) }
-    ensures readable { OnOk result ((merge : Data) × (read stored.now ≡ Some merge)) }
+    ensures readable { OnOk result (Reads stored.now) }
     ensures empty { stored.now ≡ [] → result ≡ Err Unspliced.Unfit }
 {
     if !is_kept(value) {
