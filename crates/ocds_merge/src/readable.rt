@@ -5,9 +5,9 @@ ghost use Rattle.std.specs.Cmp.Lexicographic.{slice_cmp};
 ghost use Rattle.std.specs.Char.{digit_value};
 ghost use Rattle.std.specs.Str.Parse.{AllDigits};
 ghost use Rattle.json.specs.Print.{escape, escape_byte, quoted};
-ghost use Rattle.serde_json.specs.Data.{Members, object};
 ghost use Rattle.serde_json.specs.Read.{read};
 ghost use Rattle.serde_json.specs.Written.{comma_if};
+ghost use Rattle.ocds_merge.specs.Stored.{IsObjectText};
 ghost use Rattle.ocds_merge.specs.Inside.Readable.{Passed, PassedItems, PassedMembers, Reads};
 
 use crate::scan::{after_byte, after_plain, span_before};
@@ -220,6 +220,19 @@ fn is_in_turn(later: bool, last: &[u8], name: &[u8]) -> bool
     }
 }
 
+/// Whether a byte may stand between the values of a text, and before them.
+pub(crate) fn is_space(byte: u8) -> bool
+    ensures { IsTrue result → (rest : List ℕ) → read (byte ∷ rest) ≡ read rest }
+{
+    match byte {
+        b' ' => true,
+        b'\n' => true,
+        b'\r' => true,
+        b'\t' => true,
+        _ => false,
+    }
+}
+
 fn is_end(text: &[u8]) -> bool
     ensures { IsTrue result → text.now ≡ [] }
 {
@@ -239,7 +252,7 @@ pub(crate) fn is_plain_json(text: &[u8]) -> bool
 
 /// Whether a text is the compact text of such an object: where it isn't it may still be one.
 pub(crate) fn is_plain_object(text: &[u8]) -> bool
-    ensures { IsTrue result → (members : Members) × (read text.now ≡ Some (object members)) }
+    ensures { IsTrue result → IsObjectText text.now }
 {
     let Some(inside) = after_byte(text, b'{') else {
         return false;

@@ -1,10 +1,10 @@
-ghost use Rattle.std.specs.Prelude.{◌≡◌, List, [], ◌∷◌, ◌++◌, Some, None, Err, string_bytes, IsTrue, ◌↔◌, IfOk, OnOk, IfErr, IsErr, All, unwrap_or};
-ghost use Rattle.serde_json.specs.Data.{Data, Members, null, object};
+ghost use Rattle.std.specs.Prelude.{◌≡◌, List, ⊤, MatchBool, [], ◌∷◌, ◌++◌, Some, None, Err, string_bytes, IsTrue, ◌↔◌, IfOk, OnOk, IfErr, IsErr, All, unwrap_or};
+ghost use Rattle.serde_json.specs.Data.{Data, null};
 ghost use Rattle.serde_json.specs.Read.{read};
 ghost use Rattle.serde_json.specs.View.{view};
 ghost use Rattle.serde_json.specs.Written.{compact_text};
 ghost use Rattle.ocds_merge.specs.Merge.{merge_or_null};
-ghost use Rattle.ocds_merge.specs.Stored.{KeepsMerge, IsStorable};
+ghost use Rattle.ocds_merge.specs.Stored.{KeepsMerge, IsObjectText, IsStorable};
 ghost use Rattle.ocds_merge.specs.Inside.Step.{step};
 ghost use Rattle.ocds_merge.specs.Inside.Splice.{IsKept};
 ghost use Rattle.ocds_merge.specs.Inside.Readable.{Reads};
@@ -12,7 +12,7 @@ ghost use Rattle.ocds_merge.specs.declared.stored.StoredFault.TheVariants.{NoMem
 
 use crate::kept_value::is_kept;
 use crate::merging::{NoMemory, carried_on};
-use crate::readable::{is_plain_json, is_plain_object};
+use crate::readable::{is_plain_json, is_plain_object, is_space};
 use crate::splice::splice_value;
 use crate::unspliced::Unspliced;
 use serde_json::Value;
@@ -66,7 +66,7 @@ pub fn merge_from_text(alloc: Global, stored: &str) -> Result<Value, StoredFault
 
 /// Whether a text is a JSON object of at most 127 levels, so that it can be merged. No tree is made of it where its numbers are digits alone.
 pub fn is_object(alloc: Global, text: &str) -> Result<bool, NoMemory>
-    ensures { IfOk result (λ is. IsTrue is ↔ ((members : Members) × (read text.now ≡ Some (object members)))) }
+    ensures { IfOk result (λ is. IsTrue is ↔ IsObjectText text.now) }
 {
     if is_plain_object(text.as_bytes()) {
         return Ok(true);
@@ -76,6 +76,23 @@ pub fn is_object(alloc: Global, text: &str) -> Result<bool, NoMemory>
         Ok(_) | Err(StoredFault::Unreadable) => Ok(false),
         Err(StoredFault::NoMemory) => Err(NoMemory),
     }
+}
+
+/// Whether a text begins as an object does, perhaps behind spaces: what reads and begins so is one. Only its first bytes are looked at.
+pub fn begins_object(text: &str) -> bool
+    ensures { MatchBool result ((d : Data) → read text.now ≡ Some d → IsObjectText text.now) ⊤ }
+{
+    let mut left = text.as_bytes();
+    while let Some((first, rest)) = left.split_first() {
+        if *first == b'{' {
+            return true;
+        }
+        if !is_space(*first) {
+            return false;
+        }
+        left = rest;
+    }
+    false
 }
 
 /// The text that keeps the merge of some values, after one value more, whatever the form of the stored text that reads as their merge. A text

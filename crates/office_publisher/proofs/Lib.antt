@@ -1,3 +1,4 @@
 pub mod NextRelease
 pub mod Packaged
 pub mod Placed
+pub mod KeptObjects

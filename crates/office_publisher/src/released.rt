@@ -1,9 +1,10 @@
 //! A release that was made and isn't kept yet.
-ghost use Rattle.std.specs.Prelude.{IfOk, IfErr, ◌≡◌};
+ghost use Rattle.std.specs.Prelude.{IfOk, OnOk, IfErr, ◌≡◌};
 ghost use Rattle.serde_json.specs.View.{view};
 ghost use Rattle.ocds_merge.specs.Stored.{IsStorable};
 ghost use Rattle.office_base.specs.Shelves.{Looks};
 ghost use Rattle.office_publications.specs.Keeping.{KeepsReleases};
+ghost use Rattle.office_publications.specs.Merges.{HasMerge};
 ghost use Rattle.office_publisher.specs.Released.{IsKept};
 ghost use Rattle.office_values.specs.declared.refusal.Refusal.TheVariants.{Unavailable};
 
@@ -27,12 +28,14 @@ pub struct Released {
 }
 
 /// The release as it is kept, and the merge that it joins. Reads the merge of the notice's releases, or all of them where none is kept.
+/// `Unavailable` where the merge that is kept is no object.
 pub fn keep<H: Lookups>(
     alloc: Global,
     shelf: &mut H,
     released: Released,
 ) -> Result<Publication, Refusal>
     ensures looks { Looks H.meaning shelf.old shelf.new (λ s. IsStorable (view released.release) → KeepsReleases s → IfOk result (IsKept s released)) }
+    ensures goes_on { Looks H.meaning shelf.old shelf.new (λ s. OnOk result (HasMerge released.notice s)) }
     ensures none { IfErr result (λ why. why ≡ Unavailable) }
 {
     let kept = load_kept(shelf, &released.notice)?;

@@ -9,6 +9,7 @@ use Rattle.office_publications.specs.declared.merges.Kept.{Kept}
 use Rattle.office_publications.specs.declared.publication.Publication.{Publication}
 use Rattle.office_publisher.specs.Released.{IsKept, as_row}
 use Rattle.office_publisher.specs.declared.released.Released.{Released}
+use Rattle.office_publisher.proofs.KeptObjects.{has_merge_on}
 use Rattle.office_publisher.proofs.released.keep.Goals as goal
 
 -- what is kept of a release that can be stored, with the merge that it joins
@@ -27,4 +28,10 @@ returns-clause-looks g c = (
   λ honest s held storable keeps.
       is_kept c.args.released s _ c.keep_release.result storable (c.in_ok-kept.ensures.0.1 honest s held) keeps
       c.keep_release.ensures.release c.keep_release.ensures.merge c.keep_release.ensures.read,
+)
+
+pub returns-clause-goes_on : goal.returns-clause-goes_on
+returns-clause-goes_on g c = (
+  c.load_kept.ensures.0.0,
+  λ honest s held. has_merge_on c.args.released.notice s _ c.keep_release.result (c.in_ok-kept.ensures.0.1 honest s held) c.keep_release.ensures.goes_on,
 )
