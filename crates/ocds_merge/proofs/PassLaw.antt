@@ -74,7 +74,7 @@ name_passed text inside end after value name s e f plain is g h =
 pub in_turn : (later : Bool) (last k : List ℕ) (d : Data) (ms : Members) → (IsTrue later → bytes_cmp k last ≡ Greater) → AllAbove k ms → AllAfter later last (member k d ms)
 in_turn false last k d ms h above = tt
 in_turn true last k d ms h above =
-    let more = h tt in
+    let more = h refl in
     let less = below_from_above k last more in
     (less, more, above_after last k ms less above)
 

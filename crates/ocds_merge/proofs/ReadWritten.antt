@@ -1,8 +1,9 @@
 -- A text that was passed reads as the value that it is the text of.
 use Rattle.std.proofs.Common.{◌≡◌, ℕ, ◌≤◌, List, [], ◌∷◌, ◌++◌, Some, ap, ◌∙◌, arith, append-nil}
-use Rattle.serde_json.specs.Data.{Data, object, Members, depth}
+use Rattle.serde_json.specs.Data.{Data, object, depth}
 use Rattle.serde_json.specs.Read.{read, max_depth}
 use Rattle.serde_json.specs.Written.{compact_text}
+use Rattle.ocds_merge.specs.Stored.{IsObjectText}
 use Rattle.ocds_merge.specs.Inside.Splice.{IsKept}
 use Rattle.ocds_merge.specs.Inside.Readable.{Passed, PassedMembers, Reads}
 use Rattle.ocds_merge.proofs.ReadKept.{kept_reads}
@@ -15,6 +16,7 @@ whole text rest d kept shallow is none =
 pub passed_reads : (text rest : List ℕ) → Passed text rest max_depth → rest ≡ [] → Reads text
 passed_reads text rest p none = whole text rest p.value p.kept p.shallow p.is none
 
-pub object_reads : (text inside rest : List ℕ) → text ≡ 123 ∷ inside → PassedMembers inside rest 126 → rest ≡ [] → (ms : Members) × (read text ≡ Some (object ms))
+pub object_reads : (text inside rest : List ℕ) → text ≡ 123 ∷ inside → PassedMembers inside rest 126 → rest ≡ [] → IsObjectText text
+unfolding whole
 object_reads text inside rest is p none =
     (p.members, (whole text rest (object p.members) p.kept (omega (arith, p.shallow)) (is ∙ ap (λ (l : List ℕ). 123 ∷ l) p.is) none).reads)

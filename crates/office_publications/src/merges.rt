@@ -102,10 +102,11 @@ fn merge_in(alloc: Global, kept: &CompiledRow) -> Result<Value, Refusal>
     ensures object { OnOk result (IsObjectText kept.now.text) }
     ensures none { IfErr result (λ why. why ≡ Unavailable) }
 {
-    if !begins_object(kept.text.as_str()) {
+    let text = kept.text.as_str();
+    if !begins_object(text) {
         return Err(Refusal::Unavailable);
     }
-    match merge_from_text(alloc, kept.text.as_str()) {
+    match merge_from_text(alloc, text) {
         Ok(merge) => Ok(merge),
         Err(_) => Err(Refusal::Unavailable),
     }

@@ -64,14 +64,14 @@ measured extent rows rest none so_far =
 -- ---- releases that are there
 
 below_or_at : (k n : ℕ) → k < n + 1 → (k < n) ⊎ (k ≡ n)
-below_or_at k n low = elim cases_lt k n [
+below_or_at k n low = elim (cases_lt k n) [
   | inl below ↦ inl below
   | inr above ↦ inr (omega (arith, above, low))
 ]
 
 pub one_more_there : (notice : List ℕ) (place : ℕ) (s : Tables) (r : ReleaseRow) → AreAllThere notice place s → release_at (notice, place + 1) s ≡ Some r → ReadsAsObject r
     → AreAllThere notice (place + 1) s
-one_more_there notice place s r there found reads k low = elim below_or_at k place low [
+one_more_there notice place s r there found reads k low = elim (below_or_at k place low) [
   | inl below ↦ there k below
   | inr same ↦ subst (λ (n : ℕ). CanBeShown notice (n + 1) s) (sym same) (r, found, reads)
 ]

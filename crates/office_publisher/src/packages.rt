@@ -131,8 +131,8 @@ fn put_releases<H: Lookups>(
     looks_follow::<H>();
     let many = count.get();
     'places: for place in 0..many {
-        let release = load_release(shelf, notice, place)?;
-        put_release(text, &release)?;
+        let row = load_release(shelf, notice, place)?;
+        put_release(text, &row)?;
     }
     Ok(())
 }

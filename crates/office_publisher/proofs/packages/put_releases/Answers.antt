@@ -10,9 +10,9 @@ use Rattle.office_publisher.proofs.packages.put_releases.Goals as goal
 pub places-preserved : goal.places-preserved
 places-preserved g c =
     let before = c.places.invariant in
-    let step = c.in_ok-release.ensures.looks in
+    let step = c.in_ok-row.ensures.looks in
     let place = c.places.place in
-    let release = c.in_ok-release.release in (
+    let release = c.in_ok-row.row in (
       c.looks_follow.ensures _ _ _ before.0 step.0,
       λ honest s held row sequence.
           let mid = step.0.before honest in
