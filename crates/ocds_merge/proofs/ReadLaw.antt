@@ -69,3 +69,13 @@ read_past_carriage_return rest = refl
 pub read_past_tab : (rest : List ℕ) → read (9 ∷ rest) ≡ read rest
 unfolding serde_json_on_literals
 read_past_tab rest = refl
+
+-- ---- behind spaces, where a text reads as what is left of it
+
+pub past_space : (text left rest : List ℕ) (first : ℕ) → read text ≡ read left → left ≡ first ∷ rest → ((r : List ℕ) → read (first ∷ r) ≡ read r) → read text ≡ read rest
+past_space text left rest first same is space = same ∙ ap read is ∙ space rest
+
+pub begun_object : (text left rest : List ℕ) (first : ℕ) → read text ≡ read left → left ≡ first ∷ rest → first ≡ 123 → (d : Data) → read text ≡ Some d → IsObjectText text
+begun_object text left rest first same is byte d reads =
+    let found = object_read left rest d (is ∙ ap (λ (b : ℕ). b ∷ rest) byte) (sym same ∙ reads) in
+    (found.0, same ∙ found.1)

@@ -7,12 +7,12 @@ use Rattle.office_publications.specs.Publishing.{publishing}
 use Rattle.office_publications.specs.Standing.{Stands}
 
 -- these settings, with another key of the clerk
-abbrev pub with_key : List ℕ → Settings → Settings
-with_key key settings = record settings { clerk_key = key }
+abbrev pub with_clerk_key : List ℕ → Settings → Settings
+with_clerk_key key settings = record settings { clerk_key = key }
 
 -- settings that differ in the clerk's key alone
 abbrev pub SameButKey : Settings → Settings → Type 0
-SameButKey before after = after ≡ with_key after.clerk_key before
+SameButKey before after = after ≡ with_clerk_key after.clerk_key before
 
 -- who has another key publishes the same, and shows the same packages
 abbrev pub KeysTellNothing : Type 0

@@ -105,14 +105,14 @@ pub record DaysFollow : Type 0 where
       → StopsIn first settings (n + m) last
 
 -- the office that is held, under other settings
-abbrev pub under : Settings → Held → Held
-under settings h = record h { settings = settings }
+abbrev pub under_settings : Settings → Held → Held
+under_settings settings h = record h { settings = settings }
 
 -- two days lead on to files in which it stands: so many steps at most, and under other settings so many more
 abbrev pub LedOn : Settings → ℕ → ℕ → Image → Held → Type 0
 LedOn after n m last h =
     (steps : List Step) × (later : List Step) × (length steps ≤ n) × (length later ≤ m)
-    × StandsIn last (office_left office_answers (under after (office_left office_answers h steps)) later)
+    × StandsIn last (office_left office_answers (under_settings after (office_left office_answers h steps)) later)
 
 -- Where a day finds the files as another left them, and the clerk's key is another from then on, all else being the same, the office goes on under the new key
 -- from where the earlier day left it: with its rows and its releases, whichever of the days end by a stop.
