@@ -1,11 +1,13 @@
 -- Releases taken one after another by their places.
-use Rattle.std.specs.Prelude.{◌≡◌, ◌<◌, ◌-◌, ℕ, zero, suc, ◌+◌, List, [], ◌∷◌, Option, Some, None, IfSome, drop, length, map, get_or, slice_get}
-use Rattle.std.proofs.Common.{refl, sym, ap, ◌∙◌, subst, arith, add-one}
+use Rattle.std.specs.Prelude.{◌≡◌, ◌<◌, ◌-◌, ◌⊎◌, ℕ, zero, suc, ◌+◌, List, [], ◌∷◌, Option, Some, None, IfSome, drop, length, map, get_or, slice_get}
+use Rattle.std.proofs.Common.{refl, sym, ap, ◌∙◌, subst, arith, add-one, inl, inr}
 use Rattle.std.specs.List.{AllByRecursion}
+use Rattle.std.proofs.lemmas.Bool.{cases_lt}
 use Rattle.std.proofs.lemmas.List.Elements.{All-from_recursion}
 use Rattle.ocds_release.specs.Opened.{moment_of, moment_of_last}
 use Rattle.office_base.specs.declared.records.ReleaseRow.{ReleaseRow}
-use Rattle.office_publications.specs.Told.{IsInRange}
+use Rattle.office_base.specs.Tables.{Tables, release_at}
+use Rattle.office_publications.specs.Told.{AreAllThere, CanBeShown, IsInRange}
 use Rattle.office_desk.specs.Extent.{IsExtentOf, ReadsAsObject}
 use Rattle.office_desk.specs.declared.queries.packages.texts.Extent.{Extent}
 
@@ -16,12 +18,6 @@ from_place (q ∷ rows) (suc k) r is = from_place rows k r is
 
 pub next_is : (rows : List ReleaseRow) (k : ℕ) (r : ReleaseRow) → slice_get rows k ≡ Some r → drop k rows ≡ r ∷ drop (k + 1) rows
 next_is rows k r is = rw add-one (from_place rows k r is)
-
-pub none_left : (rows : List ReleaseRow) (k : ℕ) → slice_get rows k ≡ None → drop k rows ≡ []
-none_left [] zero is = refl
-none_left [] (suc k) is = refl
-none_left (q ∷ rows) zero is = absurd cc
-none_left (q ∷ rows) (suc k) is = none_left rows k is
 
 -- the moment of the last of these rows, behind others whose last is of this moment
 abbrev pub last_after : Option ℕ → List ReleaseRow → Option ℕ
@@ -64,3 +60,18 @@ measured extent rows rest none so_far =
       range = All-from_recursion IsInRange rows (all.range tt);
       read = All-from_recursion ReadsAsObject rows (all.read tt);
     }
+
+-- ---- releases that are there
+
+below_or_at : (k n : ℕ) → k < n + 1 → (k < n) ⊎ (k ≡ n)
+below_or_at k n low = elim (cases_lt k n) [
+  | inl below ↦ inl below
+  | inr above ↦ inr (omega (arith, above, low))
+]
+
+pub one_more_there : (notice : List ℕ) (place : ℕ) (s : Tables) (r : ReleaseRow) → AreAllThere notice place s → release_at (notice, place + 1) s ≡ Some r → ReadsAsObject r
+    → AreAllThere notice (place + 1) s
+one_more_there notice place s r there found reads k low = elim (below_or_at k place low) [
+  | inl below ↦ there k below
+  | inr same ↦ subst (λ (n : ℕ). CanBeShown notice (n + 1) s) (sym same) (r, found, reads)
+]

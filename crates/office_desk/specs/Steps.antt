@@ -14,9 +14,11 @@ use Rattle.office_machine.specs.Accounts.{AccountsHold}
 use Rattle.office_machine.specs.Fates.{TendersHaveFates, SecuritiesHaveFates, PerformancesHaveFates}
 use Rattle.office_machine.specs.Sights.{Packages, told}
 use Rattle.office_publications.specs.Keeping.{KeepsItsReleases, KeepsReleases, kept_next}
+use Rattle.office_publications.specs.Merges.{HasMerge}
 use Rattle.office_publications.specs.Packages.{packages}
 use Rattle.office_publications.specs.Publishing.{publishing}
 use Rattle.office_publications.specs.Standing.{Stands}
+use Rattle.office_publications.specs.Told.{HasReleases}
 use Rattle.office_plans.specs.Published.{accepted_reply}
 use Rattle.office_plans.specs.Replies.{reply_text, text_of}
 
@@ -56,6 +58,13 @@ Needs settings query s = Unit {0}
 abbrev pub IsSeen : Settings → Caller → Query → Tables → Result (List ℕ) Refusal → Type 0
 IsSeen settings caller query s result =
     Needs settings query s → (result ≡ text_of (told (packages settings) s caller query)) ⊎ (result ≡ Err Unavailable)
+
+-- what a package shows is there, be the office one that no commands lead to: each release that the notice's row counts, and for a record the merge
+-- that is kept, an object
+abbrev pub HasShown : Query → Tables → Type 0
+HasShown (queries.Releases notice) s = HasReleases notice s
+HasShown (queries.Record notice) s = HasReleases notice s × HasMerge notice s
+HasShown query s = Unit {0}
 
 -- what is seen where no packages are asked for
 abbrev pub no_packages : Packages

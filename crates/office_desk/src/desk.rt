@@ -1,5 +1,5 @@
 //! The desk.
-ghost use Rattle.std.specs.Prelude.{◌≡◌, ◌⊎◌, IfOk, IfErr, Some, None, Ok, Err, true, false, List, option_map, IsSome, IsNone};
+ghost use Rattle.std.specs.Prelude.{◌≡◌, ◌⊎◌, IfOk, OnOk, IfErr, Some, None, Ok, Err, true, false, List, option_map, IsSome, IsNone};
 ghost use Rattle.office_acts.specs.Commands as commands;
 ghost use Rattle.office_acts.specs.Queries as queries;
 ghost use Rattle.office_acts.specs.Rights.{may, may_look};
@@ -14,7 +14,7 @@ ghost use Rattle.office_plans.specs.Asking.{given};
 ghost use Rattle.stored_shelf.specs.Shutting.{TellsShut};
 ghost use Rattle.office_desk.specs.Callers.{caller_of, names_no_tenderer};
 ghost use Rattle.office_plans.specs.Published.{IsPlan, IsPlanned};
-ghost use Rattle.office_desk.specs.Steps.{Does, IsAnswered, IsSeen, Joins, read_text};
+ghost use Rattle.office_desk.specs.Steps.{Does, HasShown, IsAnswered, IsSeen, Joins, read_text};
 
 use crate::callers::{clerk_by, names_clerk, tenderer_named};
 use crate::queries::look_at;
@@ -196,9 +196,10 @@ impl<H: Shelf + Drop> Desk<H> {
         self.commit(planned)
     }
 
-    /// Answers a query. Nothing changes.
+    /// Answers a query. Nothing changes. A package is shown only where each release that its notice's row counts is there, and can be merged.
     pub fn look(&mut self, caller: &Caller, query: Query) -> Result<Vec<u8>, Refusal>
         ensures looks { Looks H.meaning self.old.shelf self.new.shelf (λ s. IsSeen self.old.settings caller.now query s (read_text result)) }
+        ensures shown { H.meaning.honest self.new.shelf → (s : Tables) → H.meaning.holds self.old.shelf s → OnOk result (HasShown query s) }
         ensures settings { self.new.settings ≡ self.old.settings }
         ensures forbidden { may_look caller.now (queries.kind_of query) ≡ false → result ≡ Err Refusal.Forbidden }
     {

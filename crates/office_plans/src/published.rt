@@ -1,9 +1,9 @@
 //! What a command publishes, planned: its release joins what it puts, and the merge of its notice's releases.
-ghost use Rattle.std.specs.Prelude.{◌≡◌, ◌+◌, ◌++◌, ◌-◌, ◌∷◌, [], None, Some, true, IfOk, IfErr, IfSome, IfNone};
+ghost use Rattle.std.specs.Prelude.{◌≡◌, ◌+◌, ◌++◌, ◌-◌, ◌∷◌, [], None, Some, true, IfOk, IfErr, IfSome, IfNone, OnOk};
 ghost use Rattle.serde_json.specs.View.{view};
 ghost use Rattle.ocds_merge.specs.Stored.{IsStorable};
 ghost use Rattle.office_base.specs.RuleParts.{has_all_releases};
-ghost use Rattle.office_base.specs.Shelves.{Looks};
+ghost use Rattle.office_base.specs.Shelves.{Looks, LooksUp};
 ghost use Rattle.office_base.specs.Tables.{notice_at};
 ghost use Rattle.office_base.specs.declared.puts.Put.TheVariants.{Compiled, Release};
 ghost use Rattle.office_machine.specs.Counted.{releases_in};
@@ -15,7 +15,7 @@ ghost use Rattle.office_plans.specs.Released.{IsKept, IsReleased};
 ghost use Rattle.office_plans.specs.Replies.{reply_text};
 ghost use Rattle.office_publications.specs.Events.{event_of};
 ghost use Rattle.office_publications.specs.Keeping.{KeepsReleasesOf, has_last_release};
-ghost use Rattle.office_publications.specs.Merges.{IsKeptOf};
+ghost use Rattle.office_publications.specs.Merges.{HasMerge};
 ghost use Rattle.office_values.specs.declared.refusal.Refusal.TheVariants.{Unavailable};
 ghost use Rattle.office_values.specs.declared.settings.Settings.{Settings as SettingsOf};
 
@@ -27,10 +27,9 @@ use office_base::counts::Sequence;
 use office_base::laws::looks_follow;
 use office_base::puts::Put;
 use office_base::records::NoticeRow;
-use office_base::rows::Rows;
-use office_base::shelf::Lookups;
+use office_base::shelf::{Lookups, ShelfFault};
 use office_publications::laws::keeping;
-use office_publications::merges::{Kept, load_kept};
+use office_publications::merges::load_kept;
 use office_publications::publication::{Publication, keep_release};
 use office_values::id::Id;
 use office_values::moment::Moment;
@@ -89,37 +88,39 @@ pub(crate) fn make_release<'a>(
     }
 }
 
-// What is kept of a notice's releases, where this is the number of one more. Of the first there is no merge yet, so none is asked for. Where
-// the last release is gone it is `Unavailable`: nothing is published behind a gap.
-fn load_before<H: Lookups>(shelf: &mut H, notice: &Id, seq: Sequence) -> Result<Kept, Refusal>
-    ensures kept { Looks H.meaning shelf.old shelf.new (λ s. IfOk result (IsKeptOf notice.now s)) }
-    ensures follows { Looks H.meaning shelf.old shelf.new (λ s. IfOk result (λ _. has_last_release notice.now (seq - 1) s ≡ true)) }
-    ensures none { IfErr result (λ why. why ≡ Unavailable) }
+// Whether the release in front of the one of this number is there; none is in front of the first.
+fn follows_another<H: Lookups>(
+    shelf: &mut H,
+    notice: &Id,
+    seq: Sequence,
+) -> Result<bool, ShelfFault>
+    ensures { LooksUp H.meaning shelf.old shelf.new result (λ s follows. follows ≡ has_last_release notice.now (seq - 1) s) }
 {
-    looks_follow::<H>();
-    let Some(last) = Sequence::read(seq.get() - 1) else {
-        let releases = shelf.list_releases_of_notice(notice)?;
-        return Ok(Kept::Releases(Rows::from_vec(releases)));
-    };
-    let found = shelf.get_release(notice, last)?;
-    if found.is_none() {
-        return Err(Refusal::Unavailable);
+    match Sequence::read(seq.get() - 1) {
+        Some(last) => Ok(shelf.get_release(notice, last)?.is_some()),
+        None => Ok(true),
     }
-    let kept = load_kept(shelf, notice)?;
-    Ok(kept)
 }
 
 // The release as it is kept, and the merge that it joins. Reads the merge of the notice's releases, or all of them where none is kept.
+// `Unavailable` where the release in front of it is gone, or the merge that is kept is no object: nothing is published behind a gap, nor over
+// what can't be gone on from.
 fn keep<H: Lookups>(
     alloc: Global,
     shelf: &mut H,
     released: Released,
 ) -> Result<Publication, Refusal>
     ensures kept { Looks H.meaning shelf.old shelf.new (λ s. IsStorable (view released.release) → KeepsReleasesOf released.notice s → IfOk result (IsKept s released)) }
-    ensures follows { Looks H.meaning shelf.old shelf.new (λ s. IfOk result (λ _. has_last_release released.notice (released.seq - 1) s ≡ true)) }
+    ensures follows { Looks H.meaning shelf.old shelf.new (λ s. OnOk result (has_last_release released.notice (released.seq - 1) s ≡ true)) }
+    ensures goes_on { Looks H.meaning shelf.old shelf.new (λ s. OnOk result (HasMerge released.notice s)) }
     ensures none { IfErr result (λ why. why ≡ Unavailable) }
 {
-    let kept = load_before(shelf, &released.notice, released.seq)?;
+    looks_follow::<H>();
+    let follows = follows_another(shelf, &released.notice, released.seq)?;
+    if !follows {
+        return Err(Refusal::Unavailable);
+    }
+    let kept = load_kept(shelf, &released.notice)?;
     keep_release(
         alloc,
         released.notice,

@@ -15,7 +15,7 @@ use Rattle.office_machine.specs.Counted.{releases_in}
 use Rattle.office_machine.specs.OfficeMeans.{office_readings}
 use Rattle.office_machine.specs.Publications.{published_for}
 use Rattle.office_publications.specs.Events.{event_of}
-use Rattle.office_publications.specs.Merges.{CanBeMerged, AreMerged, AreReleases, AreReleasesOf, IsMergedOf, bodies, body_in}
+use Rattle.office_publications.specs.Merges.{CanBeMerged, AreMerged, AreReleases, AreReleasesOf, HasMerge, IsMergedOf, bodies, body_in}
 use Rattle.office_publications.specs.Publishing.{publishing, text_by}
 
 -- the row that keeps the merge of a notice's releases and one more
@@ -52,10 +52,14 @@ KeepsItsReleases x = (notice : List ℕ) → published_for x.before x.command �
 abbrev pub has_last_release : List ℕ → ℕ → Tables → Bool
 has_last_release notice releases t = nat_eq releases 0 || is_some (release_at (notice, releases) t)
 
--- so is that of the notice of which a command publishes a release: what it publishes follows that one
+-- what is kept of a notice can be gone on from: its last release is there, and the merge, where one is kept, is an object
+pub record CanBeFollowed (notice : List ℕ) (t : Tables) : Type 0 where
+  pub last : has_last_release notice (releases_in (notice_at notice t)) t ≡ true
+  pub merge : HasMerge notice t
+
+-- so is what is kept of the notice of which a command publishes a release; of a command that publishes nothing, nothing is asked
 abbrev pub FollowsReleases : Given → Type 0
-FollowsReleases x = (notice : List ℕ) → published_for x.before x.command ≡ Some notice
-    → has_last_release notice (releases_in (notice_at notice x.before)) x.before ≡ true
+FollowsReleases x = (notice : List ℕ) → published_for x.before x.command ≡ Some notice → CanBeFollowed notice x.before
 
 -- a release can be read and merged, and so can the merge that it joins. It is said of what was made: the definitions have numbers of any size, and
 -- a number of more than 64 bits in a text is read as a float.

@@ -1,10 +1,10 @@
 -- The merge of a notice's releases, as it is kept beside them.
-use Rattle.std.specs.Prelude.{◌≡◌, ℕ, List, ◌∷◌, [], ◌++◌, map, filter, Some, unwrap_or, All, false}
+use Rattle.std.specs.Prelude.{◌≡◌, ℕ, List, ◌∷◌, [], ◌++◌, map, filter, Some, None, unwrap_or, All, false}
 use Rattle.serde_json.specs.Data.{Data, null}
 use Rattle.serde_json.specs.Read.{read}
 use Rattle.serde_json.specs.Written.{compact_text, has_float}
 use Rattle.ocds_merge.specs.Compile.{body_of}
-use Rattle.ocds_merge.specs.Stored.{KeepsMerge, IsStorable}
+use Rattle.ocds_merge.specs.Stored.{KeepsMerge, IsObjectText, IsStorable}
 use Rattle.office_values.specs.Ids.{same_id}
 use Rattle.office_base.specs.Tables.{Tables, compiled_at, put_compiled, releases_of_notice}
 use Rattle.office_base.specs.declared.records.CompiledRow.{CompiledRow}
@@ -56,7 +56,16 @@ pub record IsMerge (notice : List ℕ) (vs : List Data) (c : CompiledRow) : Type
 -- what was loaded of a notice's releases is their merge that is kept, or, where none is, they themselves
 abbrev pub IsKeptOf : List ℕ → Tables → Kept → Type 0
 IsKeptOf notice t (Merge c) = compiled_at notice t ≡ Some c
-IsKeptOf notice t (Releases rows) = rows ≡ releases_of_notice notice t
+IsKeptOf notice t (Releases rows) = (compiled_at notice t ≡ None) × (rows ≡ releases_of_notice notice t)
+
+-- what is kept can be gone on from: where it is a merge, this is an object, as the merge of releases is
+abbrev pub CanGoOn : Kept → Type 0
+CanGoOn (Merge c) = IsObjectText c.text
+CanGoOn (Releases rows) = Unit {0}
+
+-- so is what an office keeps of this notice
+abbrev pub HasMerge : List ℕ → Tables → Type 0
+HasMerge notice t = (c : CompiledRow) → compiled_at notice t ≡ Some c → IsObjectText c.text
 
 -- a release and the merge with it are put: the notice has one release more, other notices have theirs
 pub record IsPublished (s t : Tables) (r : ReleaseRow) (c : CompiledRow) : Type 0 where

@@ -1,6 +1,7 @@
-//! The texts of the packages of a notice's releases and of its record, from what is kept. Each release is looked up by its number, measured
-//! first and then put into the text, so that no list of them stands beside it. What can't be merged isn't shown.
-ghost use Rattle.std.specs.Prelude.{◌≡◌, ◌<◌, ◌∷◌, ◌++◌, [], All, IfOk, IfErr, OnOk, List, Some, slice_get, string_bytes};
+//! The texts of the packages of a notice's releases and of its record, from what is kept. Each release that the notice's row counts is looked up by
+//! its number, measured first and then put into the text, so that no list of them stands beside it. What isn't there or can't be merged isn't
+//! shown, and nothing in its place.
+ghost use Rattle.std.specs.Prelude.{◌≡◌, ◌<◌, ◌+◌, ◌∷◌, ◌++◌, [], IfOk, IfErr, OnOk, List, Some, string_bytes};
 ghost use Rattle.serde_json.specs.View.{view};
 ghost use Rattle.ocds_merge.specs.Compile.{with_head};
 ghost use Rattle.ocds_merge.specs.Merge.{merge_or_null};
@@ -8,22 +9,23 @@ ghost use Rattle.ocds_release.specs.Opened.{completed};
 ghost use Rattle.ocds_release.specs.Texts.{ocid_text};
 ghost use Rattle.office_acts.specs.declared.queries.Query.TheVariants as queries;
 ghost use Rattle.office_base.specs.Shelves.{Looks};
-ghost use Rattle.office_base.specs.Tables.{Tables, releases_of_notice};
+ghost use Rattle.office_base.specs.Tables.{Tables, notice_at, release_at, releases_of_notice};
 ghost use Rattle.office_base.specs.declared.records.ReleaseRow.{ReleaseRow as Row};
-ghost use Rattle.office_publications.specs.Merges.{bodies};
+ghost use Rattle.office_machine.specs.Counted.{releases_in};
+ghost use Rattle.office_publications.specs.Merges.{HasMerge, bodies};
 ghost use Rattle.office_publications.specs.Packages.{packages};
 ghost use Rattle.office_publications.specs.Standing.{Stands};
-ghost use Rattle.office_publications.specs.Told.{AreInSequence, IsInRange};
-ghost use Rattle.office_desk.specs.Extent.{IsExtentOf, ReadsAsObject};
+ghost use Rattle.office_publications.specs.Told.{AreAllThere, AreInSequence, IsInRange};
+ghost use Rattle.office_desk.specs.Extent.{IsExtentOf, IsMeasured, ReadsAsObject};
 ghost use Rattle.office_values.specs.Moments.{moment_text};
 ghost use Rattle.office_values.specs.declared.refusal.Refusal.TheVariants.{Unavailable};
 
 use ocds_merge::{is_object, with_compiled_head};
 use ocds_release::package_texts::{PackageText, open_record, open_releases};
-use office_base::counts::Sequence;
+use office_base::counts::{ReleaseCount, Sequence};
 use office_base::laws::looks_follow;
 use office_base::records::ReleaseRow;
-use office_base::shelf::{Lookups, ShelfFault};
+use office_base::shelf::Lookups;
 use office_publications::laws::told;
 use office_publications::merges::{load_kept, merge_kept};
 use office_values::id::Id;
@@ -32,9 +34,6 @@ use office_values::refusal::Refusal;
 use office_values::settings::Settings;
 use serde_json::Value;
 use std::alloc::{AllocError, Global};
-
-// As many releases as a notice ever has.
-const RELEASES: u64 = 9_999;
 
 /// What a notice's releases come to: the bytes of their texts and a comma each, and the moment of the last, if there is one.
 #[derive(Clone, Copy)]
@@ -69,25 +68,29 @@ fn with_readable(alloc: Global, extent: Extent, release: &ReleaseRow) -> Result<
     }
 }
 
-// The release that stands at this place in the sequence of a notice's releases.
-fn get_release<H: Lookups>(
-    shelf: &mut H,
-    notice: &Id,
-    place: u64,
-) -> Result<Option<ReleaseRow>, ShelfFault>
+// The release that stands at this place in the sequence of a notice's releases, where there is one.
+fn load_release<H: Lookups>(shelf: &mut H, notice: &Id, place: u64) -> Result<ReleaseRow, Refusal>
     requires { place < 9999 }
-    ensures { Looks H.meaning shelf.old shelf.new (λ s. IfOk result (λ row. AreInSequence notice.now s → row ≡ slice_get (releases_of_notice notice.now s) place)) }
+    ensures looks { Looks H.meaning shelf.old shelf.new (λ s. IfOk result (λ row. release_at (notice.now, place + 1) s ≡ Some row)) }
+    ensures none { IfErr result (λ why. why ≡ Unavailable) }
 {
-    looks_follow::<H>();
-    match Sequence::read(place + 1) {
-        Some(seq) => shelf.get_release(notice, seq),
-        None => Ok(None),
+    let Some(seq) = Sequence::read(place + 1) else {
+        return Err(Refusal::Unavailable);
+    };
+    match shelf.get_release(notice, seq)? {
+        Some(release) => Ok(release),
+        None => Err(Refusal::Unavailable),
     }
 }
 
-// What the releases of a notice come to, where each of their texts is a JSON object.
-fn measure<H: Lookups>(alloc: Global, shelf: &mut H, notice: &Id) -> Result<Extent, Refusal>
-    ensures looks { Looks H.meaning shelf.old shelf.new (λ s. IfOk result (λ extent. AreInSequence notice.now s → IsExtentOf extent (releases_of_notice notice.now s))) }
+// What the releases of a notice come to, which are so many, where each of their texts is a JSON object.
+fn measure<H: Lookups>(
+    alloc: Global,
+    shelf: &mut H,
+    notice: &Id,
+    count: ReleaseCount,
+) -> Result<Extent, Refusal>
+    ensures looks { Looks H.meaning shelf.old shelf.new (λ s. IfOk result (λ extent. IsMeasured notice.now count extent s)) }
     ensures none { IfErr result (λ why. why ≡ Unavailable) }
 {
     looks_follow::<H>();
@@ -95,11 +98,10 @@ fn measure<H: Lookups>(alloc: Global, shelf: &mut H, notice: &Id) -> Result<Exte
         bytes: 0,
         last: None,
     };
-    'places: for place in 0..RELEASES {
-        match get_release(shelf, notice, place)? {
-            Some(release) => extent = with_readable(alloc, extent, &release)?,
-            None => return Ok(extent),
-        }
+    let many = count.get();
+    'places: for place in 0..many {
+        let release = load_release(shelf, notice, place)?;
+        extent = with_readable(alloc, extent, &release)?;
     }
     Ok(extent)
 }
@@ -115,36 +117,39 @@ fn put_release(text: &mut PackageText, release: &ReleaseRow) -> Result<(), Refus
     }
 }
 
-// Puts the releases of a notice into the text of a package.
+// Puts the releases of a notice, which are so many, into the text of a package.
 fn put_releases<H: Lookups>(
     shelf: &mut H,
     notice: &Id,
+    count: ReleaseCount,
     text: &mut PackageText,
 ) -> Result<(), Refusal>
-    ensures looks { Looks H.meaning shelf.old shelf.new (λ s. IfOk result (λ _. AreInSequence notice.now s → completed text.new [] ≡ completed text.old (releases_of_notice notice.now s))) }
+    ensures looks { Looks H.meaning shelf.old shelf.new (λ s. IfOk result (λ _. releases_in (notice_at notice.now s) ≡ count → AreInSequence notice.now s
+        → completed text.new [] ≡ completed text.old (releases_of_notice notice.now s))) }
     ensures none { IfErr result (λ why. why ≡ Unavailable) }
 {
     looks_follow::<H>();
-    'places: for place in 0..RELEASES {
-        match get_release(shelf, notice, place)? {
-            Some(release) => put_release(text, &release)?,
-            None => return Ok(()),
-        }
+    let many = count.get();
+    'places: for place in 0..many {
+        let row = load_release(shelf, notice, place)?;
+        put_release(text, &row)?;
     }
     Ok(())
 }
 
-// The whole text of a package that was opened, with the releases of its notice.
+// The whole text of a package that was opened, with the releases of its notice, which are so many.
 fn whole_text<H: Lookups>(
     shelf: &mut H,
     notice: &Id,
+    count: ReleaseCount,
     opened: PackageText,
 ) -> Result<Vec<u8>, Refusal>
-    ensures looks { Looks H.meaning shelf.old shelf.new (λ s. IfOk result (λ text. AreInSequence notice.now s → text.items ≡ completed opened (releases_of_notice notice.now s))) }
+    ensures looks { Looks H.meaning shelf.old shelf.new (λ s. IfOk result (λ text. releases_in (notice_at notice.now s) ≡ count → AreInSequence notice.now s
+        → text.items ≡ completed opened (releases_of_notice notice.now s))) }
     ensures none { IfErr result (λ why. why ≡ Unavailable) }
 {
     let mut text = opened;
-    put_releases(shelf, notice, &mut text)?;
+    put_releases(shelf, notice, count, &mut text)?;
     match text.close() {
         Ok(text) => Ok(text),
         Err(_) => Err(Refusal::Unavailable),
@@ -172,25 +177,26 @@ fn releases_package(
     }
 }
 
-/// The package of a notice's releases, from their texts as they are kept: of none a tree is made, none is written again, and one of them is held
-/// at a time beside the text. `Unavailable` also where a text is no JSON object of at most 127 levels, so that it can't be merged, and where the
-/// notice has no release: none of this is so of an office that commands lead to.
+/// The package of a notice's releases, which its row counts, from their texts as they are kept: of none a tree is made, none is written again, and
+/// one of them is held at a time beside the text. `Unavailable` also where one of them isn't there, where a text is no JSON object of at most 127
+/// levels, so that it can't be merged, and where the notice has no release: none of this is so of an office that commands lead to.
 pub(super) fn releases_text<H: Lookups>(
     alloc: Global,
     shelf: &mut H,
     settings: &Settings,
     notice: &Id,
+    count: ReleaseCount,
 ) -> Result<Vec<u8>, Refusal>
-    ensures looks { Looks H.meaning shelf.old shelf.new (λ s. Stands settings.now s
+    ensures looks { Looks H.meaning shelf.old shelf.new (λ s. Stands settings.now s → releases_in (notice_at notice.now s) ≡ count
         → IfOk result (λ text. text.items ≡ packages settings.now (queries.Releases notice.now) s)) }
-    ensures read { Looks H.meaning shelf.old shelf.new (λ s. AreInSequence notice.now s → OnOk result (All ReadsAsObject (releases_of_notice notice.now s))) }
+    ensures there { Looks H.meaning shelf.old shelf.new (λ s. OnOk result (AreAllThere notice.now count s)) }
     ensures none { IfErr result (λ why. why ≡ Unavailable) }
 {
     told();
     looks_follow::<H>();
-    let extent = measure(alloc, shelf, notice)?;
+    let extent = measure(alloc, shelf, notice, count)?;
     let opened = releases_package(alloc, settings, notice, extent)?;
-    whole_text(shelf, notice, opened)
+    whole_text(shelf, notice, count, opened)
 }
 
 fn dashed(alloc: Global, first: &str, second: &str) -> Result<String, AllocError>
@@ -235,6 +241,7 @@ fn load_compiled<H: Lookups>(
 ) -> Result<Value, Refusal>
     ensures looks { Looks H.meaning shelf.old shelf.new (λ s. IfOk result (λ release. Stands settings.now s
         → view release ≡ with_head (ocid_text settings.now.prefix notice.now) (moment_text last) (merge_or_null (bodies notice.now s)))) }
+    ensures merge { Looks H.meaning shelf.old shelf.new (λ s. OnOk result (HasMerge notice.now s)) }
     ensures none { IfErr result (λ why. why ≡ Unavailable) }
 {
     let kept = load_kept(shelf, notice)?;
@@ -255,6 +262,7 @@ fn record_package<H: Lookups>(
 ) -> Result<PackageText, Refusal>
     ensures looks { Looks H.meaning shelf.old shelf.new (λ s. IfOk result (λ opened. Stands settings.now s → IsExtentOf extent (releases_of_notice notice.now s)
         → completed opened (releases_of_notice notice.now s) ≡ packages settings.now (queries.Record notice.now) s)) }
+    ensures merge { Looks H.meaning shelf.old shelf.new (λ s. OnOk result (HasMerge notice.now s)) }
     ensures none { IfErr result (λ why. why ≡ Unavailable) }
 {
     told();
@@ -268,22 +276,25 @@ fn record_package<H: Lookups>(
     }
 }
 
-/// The package of a notice's record: its releases, from their texts as they are kept, and what they compile to, from the merge that is
-/// kept. Where none is kept, it is made from all releases. The same holds of it as of `releases_text`.
+/// The package of a notice's record: its releases, which its row counts, from their texts as they are kept, and what they compile to, from the
+/// merge that is kept. Where none is kept, it is made from all releases. The same holds of it as of `releases_text`, and it is `Unavailable` also
+/// where the merge that is kept is no object.
 pub(super) fn record_text<H: Lookups>(
     alloc: Global,
     shelf: &mut H,
     settings: &Settings,
     notice: &Id,
+    count: ReleaseCount,
 ) -> Result<Vec<u8>, Refusal>
-    ensures looks { Looks H.meaning shelf.old shelf.new (λ s. Stands settings.now s
+    ensures looks { Looks H.meaning shelf.old shelf.new (λ s. Stands settings.now s → releases_in (notice_at notice.now s) ≡ count
         → IfOk result (λ text. text.items ≡ packages settings.now (queries.Record notice.now) s)) }
-    ensures read { Looks H.meaning shelf.old shelf.new (λ s. AreInSequence notice.now s → OnOk result (All ReadsAsObject (releases_of_notice notice.now s))) }
+    ensures there { Looks H.meaning shelf.old shelf.new (λ s. OnOk result (AreAllThere notice.now count s)) }
+    ensures merge { Looks H.meaning shelf.old shelf.new (λ s. OnOk result (HasMerge notice.now s)) }
     ensures none { IfErr result (λ why. why ≡ Unavailable) }
 {
     told();
     looks_follow::<H>();
-    let extent = measure(alloc, shelf, notice)?;
+    let extent = measure(alloc, shelf, notice, count)?;
     let opened = record_package(alloc, shelf, settings, notice, extent)?;
-    whole_text(shelf, notice, opened)
+    whole_text(shelf, notice, count, opened)
 }

@@ -9,6 +9,7 @@ use Rattle.office_publications.specs.declared.merges.Kept.{Kept}
 use Rattle.office_publications.specs.declared.publication.Publication.{Publication}
 use Rattle.office_plans.specs.Released.{IsKept, as_row}
 use Rattle.office_plans.specs.declared.published.Released.{Released}
+use Rattle.office_plans.proofs.KeptObjects.{has_merge_on}
 use Rattle.office_plans.proofs.published.keep.Goals as goal
 
 -- what is kept of a release that can be stored, with the merge that it joins
@@ -23,9 +24,21 @@ is_kept r s k (Err why) storable loaded keeps release merge reads = tt
 
 pub returns-clause-kept : goal.returns-clause-kept
 returns-clause-kept g c =
-    let loaded = c.in_ok-kept.ensures.kept in (
-      loaded.0,
+    let before = c.in_ok-follows.ensures.0 in
+    let loaded = c.in_ok-kept.ensures.0 in (
+      c.looks_follow.ensures _ _ _ before.0 loaded.0,
       λ honest s held storable keeps.
-          is_kept c.args.released s _ c.keep_release.result storable (loaded.1 honest s held) keeps c.keep_release.ensures.release c.keep_release.ensures.merge
+          let here = before.0.same (loaded.0.before honest) s held in
+          is_kept c.args.released s _ c.keep_release.result storable (loaded.1 honest s here) keeps c.keep_release.ensures.release c.keep_release.ensures.merge
           c.keep_release.ensures.read,
+    )
+
+pub returns-clause-goes_on : goal.returns-clause-goes_on
+returns-clause-goes_on g c =
+    let before = c.in_ok-follows.ensures.0 in
+    let loaded = c.in_ok-kept.ensures.0 in (
+      c.looks_follow.ensures _ _ _ before.0 loaded.0,
+      λ honest s held.
+          let here = before.0.same (loaded.0.before honest) s held in
+          has_merge_on c.args.released.notice s _ c.keep_release.result (loaded.1 honest s here) c.keep_release.ensures.goes_on,
     )
