@@ -7,7 +7,7 @@ ghost use Rattle.json.specs.Print.{quoted};
 ghost use Rattle.ocds_merge.specs.Inside.Step.{step};
 ghost use Rattle.ocds_merge.specs.Inside.Splice.{IsKept, EndsBefore};
 
-use crate::scan::after_value;
+use crate::scan::{after_value, span_before};
 use crate::step::merge_value;
 use serde_json::Value;
 use std::alloc::{AllocError, Global};
@@ -38,8 +38,7 @@ pub(crate) fn copy_span(
         → out.new.items ≡ out.old.items ++ (comma_if later ++ span)) }
 {
     write_comma(later, out)?;
-    let count = text.len().saturating_sub(rest.len());
-    Ok(out.extend_from_slice(&text[..count])?)
+    Ok(out.extend_from_slice(span_before(text, rest))?)
 }
 
 pub(crate) fn write_value(alloc: Global, value: &Value, out: &mut Vec<u8>) -> Result<(), AllocError>

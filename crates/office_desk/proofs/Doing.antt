@@ -9,10 +9,11 @@ use Rattle.office_values.specs.declared.settings.Settings.{Settings}
 use Rattle.office_base.specs.Tables.{Tables, after_puts}
 use Rattle.office_base.specs.Shelves.{Meaning, Alters, Keeps}
 use Rattle.office_base.specs.declared.puts.Put.{Put}
-use Rattle.office_publications.specs.Keeping.{KeepsReleases, kept_next}
+use Rattle.office_publications.specs.Keeping.{KeepsItsReleases, kept_next}
 use Rattle.office_plans.specs.Asking.{given}
 use Rattle.office_plans.specs.Plans.{Plan}
-use Rattle.office_desk.specs.Steps.{Does, IsPlan, IsWholeOf}
+use Rattle.office_plans.specs.Published.{IsPlan}
+use Rattle.office_desk.specs.Steps.{Does, IsWholeOf}
 
 module _ {S : Type 0} (M : Meaning S) (settings : Settings) (moment : ℕ) (caller : Caller) (command : Command) where
   -- it was refused
@@ -31,7 +32,7 @@ module _ {S : Type 0} (M : Meaning S) (settings : Settings) (moment : ℕ) (call
   -- it was planned, and then done or not
   module _ (old mid new : S) (planned : Plan) (kept : Keeps M old mid)
       (plan : M.honest mid → (t : Tables) → M.holds old t → IsPlan settings (given t moment caller command) planned) where
-    next_is : (t : Tables) → IsPlan settings (given t moment caller command) planned → KeepsReleases t
+    next_is : (t : Tables) → IsPlan settings (given t moment caller command) planned → KeepsItsReleases (given t moment caller command)
         → after_puts planned.puts t ≡ kept_next settings (given t moment caller command)
     next_is t is keeps = ap (λ (ps : List Put). after_puts ps t) (is.put keeps).puts
 

@@ -9,16 +9,17 @@ use Rattle.office_values.specs.declared.refusal.Refusal.TheVariants.{Unavailable
 use Rattle.office_values.specs.declared.settings.Settings.{Settings}
 use Rattle.office_base.specs.Tables.{Tables}
 use Rattle.office_base.specs.Shelves.{Meaning}
-use Rattle.office_machine.specs.Machine.{Given, IsCommand, refusal_of, Reaches}
+use Rattle.office_machine.specs.Machine.{Given, refusal_of, Reaches}
 use Rattle.office_machine.specs.Accounts.{AccountsHold}
 use Rattle.office_machine.specs.Fates.{TendersHaveFates, SecuritiesHaveFates, PerformancesHaveFates}
 use Rattle.office_machine.specs.Sights.{Packages, told}
-use Rattle.office_publications.specs.Keeping.{KeepsReleases, PublicationReadsBack, kept_next, kept_puts}
+use Rattle.office_publications.specs.Keeping.{KeepsItsReleases, KeepsReleases, kept_next}
+use Rattle.office_publications.specs.Merges.{HasMerge}
 use Rattle.office_publications.specs.Packages.{packages}
 use Rattle.office_publications.specs.Publishing.{publishing}
 use Rattle.office_publications.specs.Standing.{Stands}
-use Rattle.office_plans.specs.Effects.{accepted_reply}
-use Rattle.office_plans.specs.Plans.{Plan}
+use Rattle.office_publications.specs.Told.{HasReleases}
+use Rattle.office_plans.specs.Published.{accepted_reply}
 use Rattle.office_plans.specs.Replies.{reply_text, text_of}
 
 -- a text as the list of its bytes
@@ -26,39 +27,23 @@ abbrev pub read_text : Result (Vec ℕ Global) Refusal → Result (List ℕ) Ref
 read_text (Ok text) = Ok text.items
 read_text (Err why) = Err why
 
--- what is planned is what the machine puts, with the merge that the release joins; and what is published can be read again
-pub record IsPut (settings : Settings) (x : Given) (planned : Plan) : Type 0 where
-  pub puts : planned.puts ≡ kept_puts settings x
-  pub reads : PublicationReadsBack settings x
-
--- the command is one that can be given and isn't refused, and this is its reply, and, where the office keeps its releases, what it puts
-pub record IsPlan (settings : Settings) (x : Given) (planned : Plan) : Type 0 where
-  pub given : IsCommand x.command
-  pub allowed : refusal_of x ≡ None
-  pub put : KeepsReleases x.before → IsPut settings x planned
-  pub reply : planned.reply ≡ reply_text (accepted_reply x)
-
--- the plan, or the command's refusal, or Unavailable
-abbrev pub IsPlanned : Settings → Given → Result Plan Refusal → Type 0
-IsPlanned settings x (Ok planned) = IsPlan settings x planned
-IsPlanned settings x (Err why) = (refusal_of x ≡ Some why) ⊎ (why ≡ Unavailable)
-
 -- the reply, or the command's refusal, or Unavailable
 abbrev pub IsAnswered : Settings → Given → Result (List ℕ) Refusal → Type 0
 IsAnswered settings x (Ok reply) = (refusal_of x ≡ None) × (reply ≡ reply_text (accepted_reply x))
 IsAnswered settings x (Err why) = (refusal_of x ≡ Some why) ⊎ (why ≡ Unavailable)
 
--- these are the tables after the whole command, which isn't refused, of each office that was held with its releases
+-- these are the tables after the whole command, which isn't refused, of each office that was held where the notice that it publishes for keeps its
+-- releases
 abbrev pub IsWholeOf : {S : Type 0} → Meaning S → Settings → S → (Tables → Given) → Tables → Type 0
-IsWholeOf M settings old x u = (t : Tables) → M.holds old t → KeepsReleases t → (refusal_of (x t) ≡ None) × (u ≡ kept_next settings (x t))
+IsWholeOf M settings old x u = (t : Tables) → M.holds old t → KeepsItsReleases (x t) → (refusal_of (x t) ≡ None) × (u ≡ kept_next settings (x t))
 
--- a command that was asked for: it is done where the answer is Ok and the office keeps its releases, and else nothing is. A stop leaves the
--- one or the other whole: after a refusal what it could leave before, and the whole command perhaps where the answer is Unavailable
+-- a command that was asked for: it is done where the answer is Ok and the notice that it publishes for keeps its releases, and else nothing is. A stop
+-- leaves the one or the other whole: after a refusal what it could leave before, and the whole command perhaps where the answer is Unavailable
 pub record Does {S T : Type 0} (M : Meaning S) (settings : Settings) (old new : S) (result : Result T Refusal) (x : Tables → Given) : Type 0 where
   pub before : M.honest new → M.honest old
-  pub all : M.honest new → (t : Tables) → M.holds old t → KeepsReleases t → OnOk result (M.holds new (kept_next settings (x t)))
+  pub all : M.honest new → (t : Tables) → M.holds old t → KeepsItsReleases (x t) → OnOk result (M.holds new (kept_next settings (x t)))
   pub none : M.honest new → (t : Tables) → M.holds old t → OnErr result (M.holds new t)
-  pub stop_all : M.honest new → (t : Tables) → M.holds old t → KeepsReleases t
+  pub stop_all : M.honest new → (t : Tables) → M.holds old t → KeepsItsReleases (x t)
       → OnOk result ((u : Tables) → M.may_leave new u → u ≡ kept_next settings (x t))
   pub stop_none : M.honest new → IfErr result (λ why. (u : Tables) → M.may_leave new u → M.may_leave old u ⊎ ((why ≡ Unavailable) × IsWholeOf M settings old x u))
   pub sound : M.honest new → M.leaves_sound old → M.leaves_sound new
@@ -73,6 +58,13 @@ Needs settings query s = Unit {0}
 abbrev pub IsSeen : Settings → Caller → Query → Tables → Result (List ℕ) Refusal → Type 0
 IsSeen settings caller query s result =
     Needs settings query s → (result ≡ text_of (told (packages settings) s caller query)) ⊎ (result ≡ Err Unavailable)
+
+-- what a package shows is there, be the office one that no commands lead to: each release that the notice's row counts, and for a record the merge
+-- that is kept, an object
+abbrev pub HasShown : Query → Tables → Type 0
+HasShown (queries.Releases notice) s = HasReleases notice s
+HasShown (queries.Record notice) s = HasReleases notice s × HasMerge notice s
+HasShown query s = Unit {0}
 
 -- what is seen where no packages are asked for
 abbrev pub no_packages : Packages

@@ -1,5 +1,5 @@
 //! The desk.
-ghost use Rattle.std.specs.Prelude.{◌≡◌, ◌⊎◌, IfOk, IfErr, Some, None, Ok, Err, true, false, List, option_map, IsSome, IsNone};
+ghost use Rattle.std.specs.Prelude.{◌≡◌, ◌⊎◌, IfOk, OnOk, IfErr, Some, None, Ok, Err, true, false, List, option_map, IsSome, IsNone};
 ghost use Rattle.office_acts.specs.Commands as commands;
 ghost use Rattle.office_acts.specs.Queries as queries;
 ghost use Rattle.office_acts.specs.Rights.{may, may_look};
@@ -13,10 +13,10 @@ ghost use Rattle.office_values.specs.declared.settings.Settings.{Settings as Set
 ghost use Rattle.office_plans.specs.Asking.{given};
 ghost use Rattle.office_base.specs.Shutting.{TellsShut};
 ghost use Rattle.office_desk.specs.Callers.{caller_of, names_no_tenderer};
-ghost use Rattle.office_desk.specs.Steps.{Does, IsPlan, IsPlanned, IsAnswered, IsSeen, Joins, read_text};
+ghost use Rattle.office_plans.specs.Published.{IsPlan, IsPlanned};
+ghost use Rattle.office_desk.specs.Steps.{Does, HasShown, IsAnswered, IsSeen, Joins, read_text};
 
 use crate::callers::{clerk_by, names_clerk, tenderer_named};
-use crate::published::plan_command;
 use crate::queries::look_at;
 use office_acts::command::{Caller, may, may_look};
 use office_acts::commands::Command;
@@ -24,6 +24,7 @@ use office_acts::queries::Query;
 use office_base::shelf::{Lookups, Shelf, ShelfFault};
 use office_base::stored::StoredShelf;
 use office_machine::{fates, laws};
+use office_plans::commands::plan_command;
 use office_plans::planned::Planned;
 use office_publications::laws::keeping;
 use office_values::moment::Moment;
@@ -195,9 +196,10 @@ impl<H: Shelf + Drop> Desk<H> {
         self.commit(planned)
     }
 
-    /// Answers a query. Nothing changes.
+    /// Answers a query. Nothing changes. A package is shown only where each release that its notice's row counts is there, and can be merged.
     pub fn look(&mut self, caller: &Caller, query: Query) -> Result<Vec<u8>, Refusal>
         ensures looks { Looks H.meaning self.old.shelf self.new.shelf (λ s. IsSeen self.old.settings caller.now query s (read_text result)) }
+        ensures shown { H.meaning.honest self.new.shelf → (s : Tables) → H.meaning.holds self.old.shelf s → OnOk result (HasShown query s) }
         ensures settings { self.new.settings ≡ self.old.settings }
         ensures forbidden { may_look caller.now (queries.kind_of query) ≡ false → result ≡ Err Refusal.Forbidden }
     {

@@ -1,9 +1,10 @@
 //! Queries, answered over any shelf.
-ghost use Rattle.std.specs.Prelude.{◌≡◌, true};
+ghost use Rattle.std.specs.Prelude.{◌≡◌, true, OnOk};
 ghost use Rattle.office_acts.specs.Queries.{kind_of};
 ghost use Rattle.office_acts.specs.Rights.{may_look};
 ghost use Rattle.office_base.specs.Shelves.{Looks};
-ghost use Rattle.office_desk.specs.Steps.{IsSeen, read_text};
+ghost use Rattle.office_base.specs.Tables.{Tables};
+ghost use Rattle.office_desk.specs.Steps.{HasShown, IsSeen, read_text};
 
 mod ledger;
 mod line;
@@ -30,7 +31,8 @@ pub(crate) fn look_at<H: Lookups>(
     query: Query,
 ) -> Result<Vec<u8>, Refusal>
     requires { may_look caller.now (kind_of query) ≡ true }
-    ensures { Looks H.meaning shelf.old shelf.new (λ s. IsSeen settings.now caller.now query s (read_text result)) }
+    ensures looks { Looks H.meaning shelf.old shelf.new (λ s. IsSeen settings.now caller.now query s (read_text result)) }
+    ensures shown { H.meaning.honest shelf.new → (s : Tables) → H.meaning.holds shelf.old s → OnOk result (HasShown query s) }
 {
     match query {
         Query::Line { line } => line::look(alloc, shelf, caller, line),

@@ -15,14 +15,15 @@ use Rattle.office_base.specs.declared.puts.Put.{Put}
 use Rattle.office_machine.specs.Machine.{Given, IsRegistered, refusal_of}
 use Rattle.office_machine.specs.Requests.{reply_by}
 use Rattle.office_machine.specs.Sights.{told}
-use Rattle.office_publications.specs.Keeping.{KeptStepsReach, ReleasesStayKept, kept_next}
+use Rattle.office_publications.specs.Keeping.{KeepsItsReleases, KeepsReleases, KeptStepsReach, ReleasesStayKept, kept_next}
 use Rattle.office_publications.specs.Packages.{packages}
 use Rattle.office_publications.specs.Publishing.{publishing}
 use Rattle.office_publications.specs.Standing.{Stands, office_kept}
 use Rattle.office_plans.specs.Asking.{given}
 use Rattle.office_plans.specs.Plans.{Plan}
 use Rattle.office_plans.specs.Replies.{text_of}
-use Rattle.office_desk.specs.Steps.{IsPlan, IsPut, IsSeen, Needs}
+use Rattle.office_plans.specs.Published.{IsPlan, IsPut}
+use Rattle.office_desk.specs.Steps.{IsSeen, Needs}
 use Rattle.office_requests.specs.declared.route.Allow.{Allow}
 use Rattle.office_http.specs.Meaning.{Meant, Gives, Sees}
 use Rattle.office_http.specs.Answering.{IsWholeAfter, StopsAfter, is_accepted, told_as, seen_as, reply_to, tables_after, unavailable_text}
@@ -53,6 +54,10 @@ has_needed settings s stands (queries.Record notice) = stands
 has_needed settings s stands (queries.Tender receipt) = tt
 has_needed settings s stands (queries.Security security) = tt
 has_needed settings s stands (queries.Performance contract) = tt
+
+-- an office that keeps its releases keeps those of each command's notice
+its_own : (x : Given) → KeepsReleases x.before → KeepsItsReleases x
+its_own x keeps notice is = record { releases = keeps.releases notice; merged = keeps.merged notice }
 
 -- what a look of such an office says
 abbrev IsSaid : Settings → Caller → Query → Tables → Result (List ℕ) Refusal → Type 0
@@ -99,7 +104,7 @@ module _ {S : Type 0} (M : Meaning S) (settings : Settings) (old new : S) (s : T
       → after_puts planned.puts s ≡ tables_after settings s moment (Gives caller command)
   planned_after caller command planned plan stands =
       let x : Given = given s moment caller command in
-      ap (λ (ps : List Put). after_puts ps s) (plan.put stands.keeps).puts ∙ ap (λ (o : Option Refusal). office_kept o settings x) (sym plan.allowed)
+      ap (λ (ps : List Put). after_puts ps s) (plan.put (its_own x stands.keeps)).puts ∙ ap (λ (o : Option Refusal). office_kept o settings x) (sym plan.allowed)
 
   -- the office after a command that was planned: the command joins those that led to the office before it, and its release is kept
   stands_after : KeptStepsReach → ReleasesStayKept → (caller : Caller) (command : Command) (planned : Plan)
@@ -110,7 +115,7 @@ module _ {S : Type 0} (M : Meaning S) (settings : Settings) (old new : S) (s : T
       record {
         commands = x ∷ stands.commands;
         reaches = reach settings stands.commands x stands.reaches (plan.given, registered) plan.allowed;
-        keeps = stay settings stands.commands x stands.reaches (plan.given, registered) plan.allowed (plan.put stands.keeps).reads stands.keeps;
+        keeps = stay settings stands.commands x stands.reaches (plan.given, registered) plan.allowed (plan.put (its_own x stands.keeps)).reads stands.keeps;
       }
 
   -- and it is what a stop leaves of it
@@ -119,7 +124,7 @@ module _ {S : Type 0} (M : Meaning S) (settings : Settings) (old new : S) (s : T
       → (u : Tables) → u ≡ after_puts planned.puts s → IsWholeAfter settings s moment (Gives caller command) u
   whole_after reach stay caller command planned plan registered stands u is =
       let x : Given = given s moment caller command in
-      let same : u ≡ kept_next settings x = is ∙ ap (λ (ps : List Put). after_puts ps s) (plan.put stands.keeps).puts in (
+      let same : u ≡ kept_next settings x = is ∙ ap (λ (ps : List Put). after_puts ps s) (plan.put (its_own x stands.keeps)).puts in (
         is ∙ planned_after caller command planned plan stands,
         subst (Stands settings) (sym same) (stands_after reach stay caller command planned plan registered stands),
       )
@@ -131,7 +136,7 @@ module _ {S : Type 0} (M : Meaning S) (settings : Settings) (old new : S) (s : T
       → Answered M settings old new s moment (Gives caller command) text
   command_done reach stay caller command planned plan registered stands is held leaves =
       let x : Given = given s moment caller command in
-      let put : IsPut settings x planned = plan.put stands.keeps in
+      let put : IsPut settings x planned = plan.put (its_own x stands.keeps) in
       let after : HoldsStanding M settings new (kept_next settings x) = (
         subst (λ (ps : List Put). M.holds new (after_puts ps s)) put.puts held,
         stands_after reach stay caller command planned plan registered stands,

@@ -13,8 +13,8 @@ use Rattle.office_requests.specs.declared.asked.Asked.{Asked}
 use Rattle.office_requests.specs.declared.route.Allow.{Allow}
 use Rattle.office_requests.specs.declared.route.Route.{Route}
 use Rattle.office_http.specs.Credentials.{credentials_of}
-use Rattle.office_http.specs.Meaning.{Meant, meant, meant_at, meant_by, meant_asked, who}
-use Rattle.office_http.specs.Answering.{is_accepted, reply_to, tables_after}
+use Rattle.office_http.specs.Meaning.{Meant, Refuses, Gives, Sees, meant, meant_at, meant_by, meant_asked, who}
+use Rattle.office_http.specs.Answering.{IsRefusedText, ShowsMeant, is_accepted, reply_to, tables_after}
 use Rattle.office_http.specs.Inside.Meant.{Answered, CanBeMeant, HoldsStanding}
 use Rattle.office_http.proofs.AnswerSteps.{TellsRefusal, is_refused, is_unavailable, tells_unavailable}
 use Rattle.office_http.proofs.AskedCommands.{IsAsked, IsKnown, IsRead, asked_is, why_read, who_known}
@@ -94,3 +94,33 @@ module _ {S : Type 0} (M : Meaning S) (settings : Settings) (old new : S) (s : T
   asked_answered route caller read at (inr never) is answered = absurd (cc)
   asked_answered route caller read at (inl by) is answered =
       read_answered route caller read at by is (answered (asked_can s caller read (caller_known caller by) (read_can route caller read is)))
+
+-- ---- what is shown
+
+-- what tells a refusal shows nothing, whatever was meant
+pub refused_shows : (m : Meant) (s : Tables) (text : List ℕ) → IsRefusedText text → ShowsMeant m s text
+refused_shows (Refuses why method) s text refused = refused
+refused_shows (Gives caller command) s text refused = tt
+refused_shows (Sees caller query) s text refused = inr refused
+
+pub tells_some : (why : Refusal) (method : Option Allow) (text : List ℕ) → TellsRefusal why method text → IsRefusedText text
+tells_some why method text (inl is) = (why, method, is)
+tells_some why method text (inr is) = (Unavailable, None, is)
+
+module _ (settings : Settings) (s : Tables) (text : List ℕ) (request : RequestView) (route : Route) (caller : Caller) (read : Result Asked Refusal) where
+  read_shown : routed request.head.method request.head.target ≡ Ok route → Ok caller ≡ who settings s (credentials_of request.head.fields)
+      → (read ≡ asked caller route request) ⊎ (read ≡ Err Unavailable) → ShowsMeant (meant_asked caller read) s text → ShowsMeant (meant settings request s) s text
+  read_shown at by (inl is) shown =
+      subst (λ (m : Meant). ShowsMeant m s text)
+      (ap (λ (r : Result Asked Refusal). meant_asked caller r) is
+      ∙ sym (ap (λ (r : Result Route (Refusal × Option Allow)). meant_at settings request s r) at ∙ ap (λ (c : Result Caller Refusal). meant_by route request c) (sym by)))
+      shown
+  read_shown at by (inr is) shown =
+      refused_shows (meant settings request s) s text (subst (λ (r : Result Asked Refusal). ShowsMeant (meant_asked caller r) s text) is shown)
+
+  -- what is asked is shown
+  pub asked_shown : routed request.head.method request.head.target ≡ Ok route
+      → (Ok caller ≡ who settings s (credentials_of request.head.fields)) ⊎ (let none : Result Caller Refusal = Err Unavailable in Ok caller ≡ none)
+      → (read ≡ asked caller route request) ⊎ (read ≡ Err Unavailable) → ShowsMeant (meant_asked caller read) s text → ShowsMeant (meant settings request s) s text
+  asked_shown at (inl by) is shown = read_shown at by is shown
+  asked_shown at (inr never) is shown = absurd (cc)

@@ -32,7 +32,7 @@ use Rattle.office_machine.specs.Replies.{Security, PerformanceSeen, Registry, Mi
 use Rattle.office_machine.specs.OfficeMeans.{office_readings}
 use Rattle.office_machine.specs.Readings.{Readings}
 use Rattle.office_machine.specs.Sights.{Packages, is_read_envelope, line_told, minuted, minutes_told, package_told, register_told, security_told, performance_told, shown, tender_told, told}
-use Rattle.office_plans.specs.Effects.{accepted_reply}
+use Rattle.office_plans.specs.Published.{accepted_reply}
 use Rattle.office_plans.specs.Replies.{reply_text, text_of}
 use Rattle.office_http.specs.Answering.{told_as, seen_as}
 use Rattle.office_http.specs.declared.reply.Reply as replies

@@ -1,5 +1,5 @@
 -- How an office answers what is meant: the reply, its bytes, and the office after it.
-use Rattle.std.specs.Prelude.{◌≡◌, ℕ, ◌⊎◌, Bool, true, false, List, None, is_none, if◌then◌else◌}
+use Rattle.std.specs.Prelude.{◌≡◌, ℕ, ◌⊎◌, Bool, true, false, List, Option, None, is_none, if◌then◌else◌}
 use Rattle.office_acts.specs.declared.command.QueryKind.{QueryKind}
 use Rattle.office_acts.specs.declared.command.QueryKind.TheVariants as kinds
 use Rattle.office_values.specs.declared.refusal.Refusal.{Refusal}
@@ -16,7 +16,9 @@ use Rattle.office_publications.specs.Publishing.{publishing}
 use Rattle.office_publications.specs.Standing.{Stands, office_kept}
 use Rattle.office_plans.specs.Asking.{given}
 use Rattle.office_desk.specs.Desks.{DeskOf}
+use Rattle.office_desk.specs.Steps.{HasShown}
 use Rattle.office_plans.specs.Replies.{reply_text}
+use Rattle.office_requests.specs.declared.route.Allow.{Allow}
 use Rattle.office_wire.specs.Blocks.{Block}
 use Rattle.office_wire.specs.Request.{RequestView, IsRequest, IsRefused}
 use Rattle.office_wire.specs.Runs.{Answers}
@@ -142,6 +144,20 @@ abbrev pub ChangesOnlyAccepting : {S : Type 0} → Meaning S → S → S → Lis
 ChangesOnlyAccepting M old new text =
     M.honest new → (s : Tables) → M.holds old s → M.holds new s ⊎ ((reply : List ℕ) × (text ≡ response_of (Json reply)))
 
+-- the response to a refusal
+abbrev pub IsRefusedText : List ℕ → Type 0
+IsRefusedText text = (why : Refusal) × (method : Option Allow) × (text ≡ response_of (Refused why method))
+
+-- a package is shown only where what it shows is there, and what is refused is told as refused
+abbrev pub ShowsMeant : Meant → Tables → List ℕ → Type 0
+ShowsMeant (Refuses why method) s text = IsRefusedText text
+ShowsMeant (Gives caller command) s text = Unit {0}
+ShowsMeant (Sees caller query) s text = HasShown query s ⊎ IsRefusedText text
+
+-- so it is whatever the shelf held
+abbrev pub ShowsOnlyWhole : {S : Type 0} → Meaning S → S → S → (Tables → Meant) → List ℕ → Type 0
+ShowsOnlyWhole M old new m text = M.honest new → (s : Tables) → M.holds old s → ShowsMeant (m s) s text
+
 -- the request at the front of the bytes was answered
 pub record AnswersRequest {S : Type 0} (M : Meaning S) (settings : Settings) (old new : S) (moment : ℕ) (input text : List ℕ) : Type 0 where
   pub request : RequestView
@@ -149,6 +165,7 @@ pub record AnswersRequest {S : Type 0} (M : Meaning S) (settings : Settings) (ol
   pub stands : IsRequest input request rest
   pub answered : IsAnswered M settings old new moment (meant settings request) text
   pub changes : ChangesOnlyAccepting M old new text
+  pub shown : ShowsOnlyWhole M old new (meant settings request) text
 
 -- the bytes were refused, perhaps for want of memory, which may be so of any bytes; and nothing changed
 pub record RefusesBytes {S : Type 0} (M : Meaning S) (old new : S) (input text : List ℕ) : Type 0 where

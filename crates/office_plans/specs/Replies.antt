@@ -17,9 +17,6 @@ use Rattle.tender_papers.specs.Register.{state_word}
 use Rattle.tender_papers.specs.declared.minutes.OpenedTender.{OpenedTender}
 use Rattle.office_machine.specs.Replies.{Reply, Winning, Registered, Minuted, Refused, Imported, Enrolled, OfNotice, OpenedAll, Received, Withdrew}
 use Rattle.office_machine.specs.Replies.{Examined, Awarded, Failed, Signed, OfContract, LineSeen, LedgerSeen, Tender, Security, PerformanceSeen, Registry, Minutes, Package}
-use Rattle.office_plans.specs.declared.reply.Reply as replies
-use Rattle.office_plans.specs.declared.reply.Reply.TheVariants as variants
-use Rattle.office_plans.specs.declared.reply.Winner.{Winner}
 use Rattle.office_plans.specs.Json.{Entry, text_entry, number_entry, count_entry, object_text}
 
 -- where a security is
@@ -108,24 +105,6 @@ reply_text (Registry notice rows) = registry_text notice rows
 reply_text (Minutes notice lots rows) = minutes_text notice (unwrap_or notice.opened 0) lots (map opened_tender rows)
 reply_text (Package text) = text
 reply_text reply = object_text (reply_entries reply)
-
--- the reply that plain values say
-abbrev pub winning : Winner → Winning
-winning w = record { award = w.award; price = w.price; tender = w.tender }
-
-abbrev pub said : replies.Reply → Reply
-said (variants.Refused why) = Refused why
-said (variants.Imported batch rows moment) = Imported batch rows moment
-said (variants.Enrolled tenderer moment) = Enrolled tenderer moment
-said (variants.OfNotice notice release moment) = OfNotice notice release moment
-said (variants.OpenedAll notice count release moment) = OpenedAll notice count release moment
-said (variants.Received digest receipt security state moment) = Received digest receipt security state moment
-said (variants.Withdrew receipt state moment) = Withdrew receipt state moment
-said (variants.Examined receipt responsive moment) = Examined receipt responsive moment
-said (variants.Awarded lot best release moment) = Awarded lot (option_map winning best) release moment
-said (variants.Failed award release moment) = Failed award release moment
-said (variants.Signed contract release moment) = Signed contract release moment
-said (variants.OfContract contract left release moment) = OfContract contract left release moment
 
 -- the refusal, or the text
 abbrev pub text_of : Reply → Result (List ℕ) Refusal

@@ -126,5 +126,6 @@ module _ (notice : List ℕ) where
     pub in_sequence : count ≤ release_limit → AreInSequence notice s
     in_sequence few = record {
       place = λ k. at_place count 1 rows are k ∙ at_number (1 + k) ∙ ap (λ n. release_at (notice, n) s) (omega arith);
+      counted = sym (as_many count 1 rows are);
       within = let many = as_many count 1 rows are in omega (arith, many, few);
     }

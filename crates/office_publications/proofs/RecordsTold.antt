@@ -146,5 +146,5 @@ module _ (order : TextsKeepOrder) (in_time : ReleasesAreInTime)
             subst HasText (sym is)
             (headed ocid (moment_text (moment_of_last rows)) (merge_or_null (bodies notice s))
             (merge_object (bodies notice s) (some_bodies rows some) (bodies_objects rows objects))
-            (merge_storable (bodies notice s) (bodies_storable notice s stands.keeps)));
+            (merge_storable (bodies notice s) (bodies_storable notice s (stands.keeps.releases notice))));
       }

@@ -15,6 +15,7 @@ use Rattle.office_values.specs.declared.settings.Settings.{Settings}
 use Rattle.office_base.specs.Shelves.{Meaning}
 use Rattle.office_base.specs.Tables.{Tables, IsSorted, no_tables}
 use Rattle.office_machine.specs.Machine.{Given, Reaches}
+use Rattle.office_publications.specs.Keys.{SameButKey}
 use Rattle.office_publications.specs.Publishing.{publishing}
 use Rattle.office_publications.specs.Standing.{Stands}
 use Rattle.office_desk.specs.Desks.{DeskOf}
@@ -102,3 +103,21 @@ pub record DaysFollow : Type 0 where
       → GoesOnIn first settings (n + m) last
   pub stopped : (settings : Settings) (first mid last : Image) (n m : ℕ) → DayIn first settings n mid → DayIn mid settings m last
       → StopsIn first settings (n + m) last
+
+-- the office that is held, under other settings
+abbrev pub under_settings : Settings → Held → Held
+under_settings settings h = record h { settings = settings }
+
+-- two days lead on to files in which it stands: so many steps at most, and under other settings so many more
+abbrev pub LedOn : Settings → ℕ → ℕ → Image → Held → Type 0
+LedOn after n m last h =
+    (steps : List Step) × (later : List Step) × (length steps ≤ n) × (length later ≤ m)
+    × StandsIn last (office_left office_answers (under_settings after (office_left office_answers h steps)) later)
+
+-- Where a day finds the files as another left them, and the clerk's key is another from then on, all else being the same, the office goes on under the new key
+-- from where the earlier day left it: with its rows and its releases, whichever of the days end by a stop.
+pub record KeysFollow : Type 0 where
+  pub closed : (before after : Settings) (first mid last : Image) (n m : ℕ) → SameButKey before after → GoesOnIn first before n mid → GoesOnIn mid after m last
+      → (h : Held) → h.settings ≡ before → StandsIn first h → LedOn after n m last h
+  pub stopped : (before after : Settings) (first mid last : Image) (n m : ℕ) → SameButKey before after → DayIn first before n mid → DayIn mid after m last
+      → (h : Held) → h.settings ≡ before → StandsIn first h → ∥ LedOn after n m last h ∥₁

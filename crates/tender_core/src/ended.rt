@@ -128,8 +128,8 @@ pub fn push_lots(made: &mut Vec<Put>, lots: &[LotRow]) -> Result<(), Refusal>
     Ok(())
 }
 
-// Whether it is an active award of a lot that ends.
-fn is_ended_award(lots: &[LotRow], award: &AwardRow) -> bool
+/// Whether it is an active award of a lot that ends.
+pub fn is_ended_award(lots: &[LotRow], award: &AwardRow) -> bool
     ensures { result ≡ is_ended_award lots.now award.now }
 {
     award.state == AwardState::Active && ends(lots, &award.notice, &award.lot)

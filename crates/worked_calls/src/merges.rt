@@ -1,7 +1,7 @@
 //! Merges of releases, and compiled releases.
 use ocds_merge::{
-    StoredFault, compile, is_object, merge_all, merge_from_text, merge_into, merge_into_text,
-    merge_to_text, with_compiled_head, without_head,
+    StoredFault, begins_object, compile, is_object, merge_all, merge_from_text, merge_into,
+    merge_into_text, merge_to_text, with_compiled_head, without_head,
 };
 use serde_json::Value;
 use std::alloc::Global;
@@ -329,6 +329,47 @@ fn tells_objects_from_other_values(rt: HostRuntime) {
     for text in ["null", "1", "[{}]", r#""{}""#] {
         assert!(rt; matches!(is_object(rt.alloc(), text), Ok(false)));
     }
+}
+
+/// Texts that keep a merge in another form than the office's, each with what a value more makes of it: names in no order, twice the same, or with an escape;
+/// spaces; a fraction.
+const OTHER_FORMS: [(&str, &str); 6] = [
+    (r#"{"b":1,"a":2}"#, r#"{"a":3,"b":1}"#),
+    (
+        r#"{"c":{"e":1,"d":2},"a":2}"#,
+        r#"{"a":3,"c":{"d":2,"e":1}}"#,
+    ),
+    (r#"{"a":2,"a":1}"#, r#"{"a":3}"#),
+    (r#"{"\u0061":2}"#, r#"{"a":3}"#),
+    (" { \"b\" : 1 }\n", r#"{"a":3,"b":1}"#),
+    (r#"{"b":0.5}"#, r#"{"a":3,"b":0.5}"#),
+];
+
+fn becomes(alloc: Global, stored: &str, value: &Value, want: &str) -> bool {
+    match merge_into_text(alloc, stored, value) {
+        Ok(text) => begins_object(stored) && text.as_str() == want,
+        Err(_) => false,
+    }
+}
+
+// At a second try where the first isn't right: one allocation of a test may be refused.
+fn become_so(alloc: Global, value: &Value) -> bool {
+    for (stored, want) in &OTHER_FORMS {
+        if !becomes(alloc, stored, value, want) && !becomes(alloc, stored, value, want) {
+            return false;
+        }
+    }
+    true
+}
+
+#[test]
+fn carries_on_merges_in_any_form(rt: HostRuntime) -> Result<(), Fail> {
+    let value = Value::from_str(rt.alloc(), r#"{"a":3}"#)?;
+    assert!(rt; become_so(rt.alloc(), &value));
+    for text in ["", " 5", "[{}]", "null", r#""{}""#] {
+        assert!(rt; !begins_object(text));
+    }
+    Ok(())
 }
 
 /// Texts that are no JSON, some of them in parts that the value doesn't touch.

@@ -1,52 +1,14 @@
 //! An office that keeps no merge of a notice's releases: its record is the same, and the next publication keeps a merge.
-use office_base::puts::Put;
+use crate::copies::{LeftOut, copy_but};
 use office_base::shelf::Shelf;
 use office_in_sql::office::in_sql;
 use office_memory::memory::MemoryShelf;
 use office_values::id::Id;
-use office_values::refusal::Refusal;
 use std::alloc::Global;
 use std::test::Fail;
 use transcripts::published::{AMENDED, PUBLISHED};
 use transcripts::session::{Wrong, played};
 use transcripts::setup::{MONEY, NOTICE, TENDERERS};
-
-// The budget line, the notice, its lots and releases, and the clock: all of a publication but the merge of its releases.
-fn rows_without_merge<H: Shelf>(
-    alloc: Global,
-    shelf: &mut H,
-    line: &Id,
-    notice: &Id,
-) -> Result<Vec<Put>, Refusal> {
-    let mut puts = Vec::new(alloc);
-    if let Some(row) = shelf.get_line(line)? {
-        puts.push(Put::Line(row))?;
-    }
-    if let Some(row) = shelf.get_notice(notice)? {
-        puts.push(Put::Notice(row))?;
-    }
-    for row in shelf.list_lots_of_notice(notice)? {
-        puts.push(Put::Lot(row))?;
-    }
-    for row in shelf.list_releases_of_notice(notice)? {
-        puts.push(Put::Release(row))?;
-    }
-    puts.push(Put::Clock(shelf.get_clock()?))?;
-    Ok(puts)
-}
-
-// Puts them into another office.
-fn copy_without_merge<H: Shelf>(
-    alloc: Global,
-    from: &mut H,
-    to: &mut H,
-    line: &Id,
-    notice: &Id,
-) -> Result<(), Refusal> {
-    let puts = rows_without_merge(alloc, from, line, notice)?;
-    to.apply(puts)?;
-    Ok(())
-}
 
 fn keeps_merge<H: Shelf>(shelf: &mut H, notice: &Id) -> Result<bool, Wrong> {
     match shelf.get_compiled(notice) {
@@ -63,7 +25,7 @@ fn merges_kept<H: Shelf + Drop>(alloc: Global, one: H, other: H) -> Result<[bool
     };
     let mut one = played(alloc, one, 0, &[MONEY, TENDERERS, NOTICE])?;
     let mut other = played(alloc, other, 0, &[TENDERERS])?;
-    if copy_without_merge(alloc, &mut one, &mut other, &line, &notice).is_err() {
+    if copy_but(alloc, &mut one, &mut other, &line, &notice, LeftOut::Merge).is_err() {
         return Err(Wrong::NoMemory);
     }
     let in_one = keeps_merge(&mut one, &notice)?;

@@ -11,8 +11,8 @@ use std::alloc::Global;
 use transcripts::session::{Wrong, played};
 use transcripts::setup::{MONEY, NOTICE, TENDERERS};
 
-// Neither package of the notice is shown.
-static NOT_SHOWN: &str = r#"
+/// Neither package of the notice is shown.
+pub(crate) static NOT_SHOWN: &str = r#"
 at 2026-02-01T09:00:00Z public GET /notices/N1/releases
 = 503 {"name":"Unavailable","refusal":32}
 

@@ -13,7 +13,7 @@ use office_acts::command::Caller;
 use office_base::records::SecurityRow;
 use office_base::shelf::Lookups;
 use office_plans::objects::{Plain, object_text};
-use office_plans::reply::security_word;
+use office_plans::words::security_word;
 use office_values::given::AskedNumber;
 use office_values::id::Id;
 use office_values::refusal::{Refusal, Thing};

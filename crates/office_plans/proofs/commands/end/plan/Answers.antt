@@ -1,20 +1,36 @@
-use Rattle.std.specs.Prelude.{◌≡◌, ℕ, max}
-use Rattle.std.proofs.Common.{◌∙◌, ap}
+use Rattle.std.specs.Option.{option_copied}
+use Rattle.std.specs.Prelude.{◌≡◌, ℕ, None, max}
+use Rattle.std.proofs.Common.{◌∙◌, ap, inl, refl, sym}
 use Rattle.office_acts.specs.declared.commands.Command.TheVariants.{End}
-use Rattle.award_core.specs.Rules.End.{end_lacks, end_rows, end_tests, end_puts}
+use Rattle.award_core.specs.Rules.End.{end_puts, end_rows, end_tests}
 use Rattle.award_core.specs.declared.end.EndRows.{EndRows}
-use Rattle.office_machine.specs.Machine.{time_of}
+use Rattle.office_machine.specs.Machine.{Given, refusal_of, time_of}
 use Rattle.office_plans.specs.Asking.{given_by}
-use Rattle.office_plans.proofs.OnContracts.{decides_at}
+use Rattle.office_plans.proofs.Publishing.{puts_on, refused_on, two_looks}
 use Rattle.office_plans.proofs.commands.end.plan.Goals as goal
 
-pub returns : goal.returns
-returns g c = (
+pub returns-in-Some : goal.returns-in-Some
+returns-in-Some g c = (
   c.in_ok-rows.ensures.0.0,
   λ honest s held.
-      let x = given_by c.args.asking.now s (End c.args.contract c.args.how) in
-      let are : c.in_ok-rows.rows ≡ end_rows s c.args.contract = c.in_ok-rows.ensures.0.1 honest s held in
-      let time : c.time-t.result ≡ time_of x = c.time-t.ensures ∙ ap (λ (rows : EndRows). max c.args.asking.now.moment rows.clock.moment) are in
-      let puts = λ (rows : EndRows) (t : ℕ). end_puts rows t c.args.how in
-      c.planned.ensures x _ tt c.requires (decides_at end_tests end_lacks puts _ _ _ _ _ are time c.decide_end-decided.ensures) (c.in_ok-reply.ensures.said s c.args.how are),
+      let a = c.args in
+      let x : Given = given_by a.asking.now s (End a.contract a.how) in
+      let are : c.in_ok-rows.rows ≡ end_rows s a.contract = c.in_ok-rows.ensures.0.1 honest s held in
+      let time : c.time-t.result ≡ time_of x = c.time-t.ensures ∙ ap (λ (rows : EndRows). max a.asking.now.moment rows.clock.moment) are in
+      let tests = λ (rows : EndRows) (t : ℕ). end_tests rows in
+      inl (refused_on x _ _ are _ time c.requires tests refl _ c.refusal.ensures ∙ c.in-Some.is),
 )
+
+pub returns : goal.returns
+returns g c =
+    two_looks _ c.looks_follow.ensures _ _ _ _ _ _ c.in_ok-rows.ensures.0 c.published.ensures
+    (λ s are joined.
+    let a = c.args in
+    let x : Given = given_by a.asking.now s (End a.contract a.how) in
+    let time : c.time-t.result ≡ time_of x = c.time-t.ensures ∙ ap (λ (rows : EndRows). max a.asking.now.moment rows.clock.moment) are in
+    let tests = λ (rows : EndRows) (t : ℕ). end_tests rows in
+    let puts = λ (rows : EndRows) (t : ℕ). end_puts rows t a.how in
+    let allowed : refusal_of x ≡ None = refused_on x _ _ are _ time c.requires tests refl _ c.refusal.ensures ∙ c.in_default.is in
+    let row = sym c.as_ref.ensures.value ∙ ap option_copied c.unwrap-row.ensures in
+    joined a.settings.now x refl tt allowed (puts_on x _ _ are _ time puts refl _ c.in_ok-puts.ensures.puts) (c.in_ok-text.ensures.told s a.how are allowed)
+    (c.in_ok-release.ensures.release s a.contract a.how are row))

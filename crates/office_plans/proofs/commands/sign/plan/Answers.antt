@@ -1,0 +1,36 @@
+use Rattle.std.specs.Option.{option_copied}
+use Rattle.std.specs.Prelude.{◌≡◌, ℕ, None, max}
+use Rattle.std.proofs.Common.{◌∙◌, ap, inl, refl, sym}
+use Rattle.office_acts.specs.declared.commands.Command.TheVariants.{Sign}
+use Rattle.award_core.specs.Rules.Sign.{sign_puts, sign_rows, sign_tests}
+use Rattle.award_core.specs.declared.sign.SignRows.{SignRows}
+use Rattle.office_machine.specs.Machine.{Given, refusal_of, time_of}
+use Rattle.office_plans.specs.Asking.{given_by}
+use Rattle.office_plans.proofs.Publishing.{puts_on, refused_on, three_looks}
+use Rattle.office_plans.proofs.commands.sign.plan.Goals as goal
+
+pub returns-in-Some : goal.returns-in-Some
+returns-in-Some g c = (
+  c.in_ok-rows.ensures.0.0,
+  λ honest s held.
+      let a = c.args in
+      let x : Given = given_by a.asking.now s (Sign a.award a.security) in
+      let are : c.in_ok-rows.rows ≡ sign_rows s a.award = c.in_ok-rows.ensures.0.1 honest s held in
+      let time : c.time-t.result ≡ time_of x = c.time-t.ensures ∙ ap (λ (rows : SignRows). max a.asking.now.moment rows.clock.moment) are in
+      let tests = λ (rows : SignRows) (t : ℕ). sign_tests rows t a.security in
+      inl (refused_on x _ _ are _ time c.requires tests refl _ c.refusal.ensures ∙ c.in-Some.is),
+)
+
+pub returns : goal.returns
+returns g c =
+    three_looks _ c.looks_follow.ensures _ _ _ _ _ _ _ _ c.in_ok-rows.ensures.0 c.in_ok-release.ensures.looks c.published.ensures
+    (λ s are released joined.
+    let a = c.args in
+    let x : Given = given_by a.asking.now s (Sign a.award a.security) in
+    let time : c.time-t.result ≡ time_of x = c.time-t.ensures ∙ ap (λ (rows : SignRows). max a.asking.now.moment rows.clock.moment) are in
+    let tests = λ (rows : SignRows) (t : ℕ). sign_tests rows t a.security in
+    let puts = λ (rows : SignRows) (t : ℕ). sign_puts rows t a.security in
+    let allowed : refusal_of x ≡ None = refused_on x _ _ are _ time c.requires tests refl _ c.refusal.ensures ∙ c.in_default.is in
+    let row = sym c.as_ref.ensures.value ∙ ap option_copied c.unwrap-row.ensures in
+    joined a.settings.now x refl tt allowed (puts_on x _ _ are _ time puts refl _ c.in_ok-puts.ensures.puts) (c.in_ok-text.ensures s a.security are)
+    (released a.award a.security are row))
