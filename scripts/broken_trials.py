@@ -9,8 +9,9 @@ from typing import Any
 from audit_life import Life, offer, part
 from client import budget, text_of
 
-# A trial in which the command may be accepted, since it doesn't go on from what is gone.
-MAY = "may be accepted"
+# A trial in which the command may be accepted: it doesn't go on from what is gone, and `tools/audit` finds that; or nothing is lost, since a merge that isn't kept
+# is made anew of all releases.
+MAY, ANEW = "may be accepted", "is made anew"
 DAY = 86_400
 
 
@@ -151,23 +152,20 @@ def merge_gone(name: str) -> str:
     return f"DELETE FROM compiled WHERE notice = '{name}';"
 
 
-# What is published goes on from the number of the notice's releases and from their merge. That is made anew of all of them where it isn't kept.
-LAST, FIRST = " AND seq = (SELECT max(seq) FROM releases WHERE notice = '{}')", " AND seq = 1"
-
-
 def of_releases(name: str, is_long: bool) -> list[tuple[str, ...]]:
-    """Of a notice's releases: with more than two of them, also one in the middle."""
-    last = LAST.format(name)
+    """Of a notice's releases: with more than two of them, also of some. What is published goes on from their number and from their merge, and from all of them
+    where that isn't kept."""
+    second, last = " AND seq = 2", f" AND seq = (SELECT max(seq) FROM releases WHERE notice = '{name}')"
     found = [("all releases", releases_gone(name)), ("all releases and the merge", releases_gone(name) + merge_gone(name)),
-             ("the merge", merge_gone(name), MAY), ("the last release and the merge", releases_gone(name, last) + merge_gone(name)),
-             ("the merge that isn't JSON", f"UPDATE compiled SET text = '{{{{' WHERE notice = '{name}';")]
+             ("the merge", merge_gone(name), ANEW), ("the merge that isn't JSON", f"UPDATE compiled SET text = '{{{{' WHERE notice = '{name}';")]
     if is_long:
-        found += [("a release in the middle", releases_gone(name, " AND seq = 2"), MAY),
-                  ("a release in the middle and the merge", releases_gone(name, " AND seq = 2") + merge_gone(name))]
+        found += [("a release in the middle", releases_gone(name, second), MAY), ("the last release", releases_gone(name, last), MAY),
+                  ("a release in the middle and the merge", releases_gone(name, second) + merge_gone(name)),
+                  ("the last release and the merge", releases_gone(name, last) + merge_gone(name))]
     return found
 
 
-# Of each command: what is gone or out of range, the change, and the refusal that says so, or MAY.
+# Of each command: what is gone or out of range, the change, and the refusal that says so, MAY or ANEW.
 TRIALS: dict[str, list[tuple[str, ...]]] = {
     "import": [
         ("its line", line_gone("1000"), "NoSuch line"),
@@ -222,8 +220,8 @@ TRIALS: dict[str, list[tuple[str, ...]]] = {
         ("its tender's security", security_gone("W1")), *of_releases("W", True),
     ],
     "raise": [
-        ("its contract", CONTRACT_GONE, "NoSuch contract"), ("its notice", notice_gone("C")), ("its lot", lot_gone("C")), ("its lot's line", line_gone("1000")),
-        ("more paid than signed", OVERPAID), *of_releases("C", True),
+        ("its contract", CONTRACT_GONE, "NoSuch contract"), ("its notice", notice_gone("C")), ("its lot", lot_gone("C"), "InsufficientFunds"),
+        ("its lot's line", line_gone("1000"), "InsufficientFunds"), ("more paid than signed", OVERPAID), *of_releases("C", True),
     ],
     "cut": [
         ("its lot's line", line_gone("1000")), ("more paid than signed", OVERPAID, "MoreThanOutstanding"), ("all of its line free", ALL_IS_FREE),
