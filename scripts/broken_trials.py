@@ -9,8 +9,8 @@ from typing import Any
 from audit_life import Life, offer, part
 from client import budget, text_of
 
-# A trial in which the command may be accepted: it doesn't go on from what is gone, and `tools/audit` finds that; or nothing is lost, since a merge that isn't kept
-# is made anew of all releases.
+# A trial in which the command may be accepted: it doesn't go on from what is gone, and `tools/audit` finds that; or nothing is lost, since a merge that isn't
+# kept is made anew of all releases.
 MAY, ANEW = "may be accepted", "is made anew"
 DAY = 86_400
 
@@ -217,11 +217,11 @@ TRIALS: dict[str, list[tuple[str, ...]]] = {
     ],
     "sign": [
         ("its award", AWARD_GONE, "NoSuch award"), ("its notice", notice_gone("W")), ("its lot", lot_gone("W")), ("its tender", tender_gone("W1")),
-        ("its tender's security", security_gone("W1")), *of_releases("W", True),
+        ("its tender's security", security_gone("W1")), *of_releases("W", False),
     ],
     "raise": [
         ("its contract", CONTRACT_GONE, "NoSuch contract"), ("its notice", notice_gone("C")), ("its lot", lot_gone("C"), "InsufficientFunds"),
-        ("its lot's line", line_gone("1000"), "InsufficientFunds"), ("more paid than signed", OVERPAID), *of_releases("C", True),
+        ("its lot's line", line_gone("1000"), "InsufficientFunds"), ("more paid than signed", OVERPAID), *of_releases("C", False),
     ],
     "cut": [
         ("its lot's line", line_gone("1000")), ("more paid than signed", OVERPAID, "MoreThanOutstanding"), ("all of its line free", ALL_IS_FREE),
@@ -232,7 +232,7 @@ TRIALS: dict[str, list[tuple[str, ...]]] = {
     ],
     "end": [
         ("its contract", CONTRACT_GONE, "NoSuch contract"), ("its notice", notice_gone("C")), ("its lot", lot_gone("C")), ("its lot's line", line_gone("1000")),
-        ("its performance security", PERFORMANCE_GONE), ("more paid than signed", OVERPAID), ("all of its line free", ALL_IS_FREE), *of_releases("C", True),
+        ("its performance security", PERFORMANCE_GONE), ("more paid than signed", OVERPAID), ("all of its line free", ALL_IS_FREE), *of_releases("C", False),
     ],
 }
 
