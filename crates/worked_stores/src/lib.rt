@@ -16,6 +16,8 @@ mod forms;
 #[cfg(test)]
 mod life;
 #[cfg(test)]
+mod lost_rows;
+#[cfg(test)]
 mod no_offices;
 #[cfg(test)]
 mod shut;
