@@ -1,5 +1,6 @@
 -- The rows that a row speaks of.
 pub mod ParentsPut
 pub mod ParentsThere
+pub mod PerformancesAsked
 pub mod RowsHave
 pub mod SpokenOf

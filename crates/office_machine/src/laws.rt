@@ -4,7 +4,7 @@ ghost use Rattle.office_machine.specs.Fits.{SumsFit};
 ghost use Rattle.office_machine.specs.MergesApart.{FatesReadNoMerges, LooksReadNoMerges, NextReadsNoMerges, PutsReadNoMerges, RefusalsReadNoMerges, RepliesReadNoMerges};
 ghost use Rattle.office_machine.specs.Order.{LeastIsAnswered, NumbersNeverFall};
 ghost use Rattle.office_machine.specs.Outstanding.{LeftIsBooked, LeftIsKnown};
-ghost use Rattle.office_machine.specs.Parents.{ParentsAreThere};
+ghost use Rattle.office_machine.specs.Parents.{ParentsAreThere, PerformancesAreThere};
 ghost use Rattle.office_machine.specs.Releases.{ReleasesAreCounted, ReleasesAreInTime, ReleasesAreNumbered, ReleasesArePublished};
 ghost use Rattle.office_machine.specs.Requests.{RunsReach, StepsReach};
 ghost use Rattle.office_machine.specs.Worlds.{StepsStayAlike};
@@ -52,9 +52,11 @@ pub fn outstanding()
     ensures booked { LeftIsBooked }
 {}
 
-/// Of each row that accepted commands lead to, the rows that it speaks of are there.
+/// Of each row that accepted commands lead to, the rows that it speaks of are there; and a contract whose notice asks for a performance
+/// security has one.
 pub fn parents()
-    ensures { ParentsAreThere }
+    ensures there { ParentsAreThere }
+    ensures performances { PerformancesAreThere }
 {}
 
 /// The row of a notice counts the commands that published a release of it, at most as many as there are numbers for; a release of each

@@ -38,8 +38,8 @@ use Rattle.office_machine.proofs.Rows.Keyed as keyed
 module _ (s : Tables) (now : ℕ) (notice lot : List ℕ) (n : NoticeRow) (l : LotRow) (w : LineRow) (is : notice_at notice s ≡ Some n)
     (full : has_all_releases (notice_at notice s) ≡ false) where
   decided : (o : Option EnvelopeRow) → HasTail s now (Awards ∷ Lots ∷ Lines ∷ Securities ∷ []) (Some notice) None (decision_puts s.clock now n l w o (securities_of_lot notice lot s))
-  decided None = front (puts.Lot _ ∷ puts.Line _ ∷ []) (refl, (refl, tt)) (loud notice n (released n) _ _ is full refl refl (returned_own (Awards ∷ Lots ∷ Lines ∷ Securities ∷ []) refl (securities_of_lot notice lot s)) refl (omega arith))
-  decided (Some e) = front (puts.Award _ ∷ puts.Lot _ ∷ puts.Line _ ∷ []) (refl, (refl, (refl, tt))) (loud notice n (released n) _ [] is full refl refl tt refl (omega arith))
+  decided None = front (puts.Lot _ ∷ puts.Line _ ∷ []) (refl, (refl, tt)) (loud notice n (released n) _ _ is full refl refl refl (returned_own (Awards ∷ Lots ∷ Lines ∷ Securities ∷ []) refl (securities_of_lot notice lot s)) refl (omega arith))
+  decided (Some e) = front (puts.Award _ ∷ puts.Lot _ ∷ puts.Line _ ∷ []) (refl, (refl, (refl, tt))) (loud notice n (released n) _ [] is full refl refl refl tt refl (omega arith))
 
 module _ (s u : Tables) (have : HaveParents s s) (g : Grows s u) (order : IsSorted s) where
   -- the best tender is one of the office's

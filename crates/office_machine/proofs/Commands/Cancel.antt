@@ -47,7 +47,7 @@ tail_of s t notice n is full =
     (front_map envelope_put gone (λ _. refl)
     (front_map drop_put gone (λ _. refl)
     (front_map security_returned securities (λ _. refl)
-    (loud notice n (cancelled_notice n) _ [] is full refl refl tt refl (omega arith)))))))
+    (loud notice n (cancelled_notice n) _ [] is full refl refl refl tt refl (omega arith)))))))
 
 module _ (s u : Tables) (have : HaveParents s s) (g : Grows s u) (order : IsSorted s) where
   -- of all rows of a table

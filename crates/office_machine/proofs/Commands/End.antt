@@ -198,11 +198,11 @@ fates_kept readings contract how xs t m caller kept own allowed =
 
 module _ (s u : Tables) (have : HaveParents s s) (g : Grows s u) where
   -- what its rows speak of is there
-  parents_of : (clock : ClockRow) (t : ℕ) (how : How) (contract : ℕ) (c : Option ContractRow) (entries : List EntryRow) (n : Option NoticeRow) (w : Option LineRow) (p : Option PerformanceRow) → contract_at contract s ≡ c → AllParents u (end_puts (record { contract = c; entries = entries; notice = n; line = w; performance = p; clock = clock }) t how)
-  parents_of clock t how contract (Some c) entries (Some n) (Some w) p is = let h = contract_still s u g c (have.contracts contract c is) in (record { notice = h.notice; lot = h.lot; tenderer = h.tenderer }, (tt, (tt, (tt, parents-if u (performance_settled (ended_state how)) p (λ _ _. tt)))))
-  parents_of clock t how contract None entries n w p is = tt
-  parents_of clock t how contract (Some c) entries None w p is = tt
-  parents_of clock t how contract (Some c) entries (Some n) None p is = tt
+  parents_of : (clock : ClockRow) (t : ℕ) (how : How) (contract : ℕ) (c : Option ContractRow) (entries : List EntryRow) (n : Option NoticeRow) (w : Option LineRow) (p : Option PerformanceRow) → contract_at contract s ≡ c → performance_at contract s ≡ p → AllParents u (end_puts (record { contract = c; entries = entries; notice = n; line = w; performance = p; clock = clock }) t how)
+  parents_of clock t how contract (Some c) entries (Some n) (Some w) p is bond = let h = contract_still s u g c (have.contracts contract c is) in (record { notice = h.notice; lot = h.lot; tenderer = h.tenderer }, (tt, (tt, (tt, parents-if u (performance_settled (ended_state how)) p (λ v found. record { contract = g.contracts v.contract (have.performances contract v (bond ∙ found)).contract })))))
+  parents_of clock t how contract None entries n w p is bond = tt
+  parents_of clock t how contract (Some c) entries None w p is bond = tt
+  parents_of clock t how contract (Some c) entries (Some n) None p is bond = tt
 
 -- it puts the same in both worlds
 plain : (clock : ClockRow) (t : ℕ) (how : How) (c : Option ContractRow) (es : List EntryRow) (n : Option NoticeRow) (w : Option LineRow) (p : Option PerformanceRow) → AllByRecursion IsPlain (end_puts (record { contract = c; entries = es; notice = n; line = w; performance = p; clock = clock }) t how)
@@ -222,7 +222,7 @@ end_contract contract how = record {
       moved refl (λ i. end_puts (record { contract = of.is i; entries = entries_of_contract contract s; notice = of.notice i; line = of.line i; performance = performance_at contract s; clock = s.clock }) (max moment s.clock.moment) how)
       (bonded (settled_performance (ended_state how)) (performance_at contract s)
       (front (puts.Contract _ ∷ puts.Line _ ∷ []) (refl, (refl, tt)) (on_contract contract of tests.1.1.0)));
-  parents = λ readings s moment caller order have registered may allowed u grown later. parents_of s u have grown s.clock _ how contract (contract_at contract s) (entries_of_contract contract s) (notice_of_contract (contract_at contract s) s) (line_of_lot (lot_of_contract (contract_at contract s) s) s) (performance_at contract s) refl;
+  parents = λ readings s moment caller order have registered may allowed u grown later. parents_of s u have grown s.clock _ how contract (contract_at contract s) (entries_of_contract contract s) (notice_of_contract (contract_at contract s) s) (line_of_lot (lot_of_contract (contract_at contract s) s) s) (performance_at contract s) refl refl;
   alike = λ th W s es' ss' all seals readings t caller quiet.
       plain_pairs th W (end_puts (record { contract = contract_at contract s; entries = entries_of_contract contract s; notice = (notice_of_contract (contract_at contract s) s); line = (line_of_lot (lot_of_contract (contract_at contract s) s) s); performance = performance_at contract s; clock = s.clock }) t how)
       (plain s.clock t how (contract_at contract s) (entries_of_contract contract s) (notice_of_contract (contract_at contract s) s) (line_of_lot (lot_of_contract (contract_at contract s) s) s) (performance_at contract s));

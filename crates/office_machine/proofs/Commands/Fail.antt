@@ -100,7 +100,7 @@ fail award = record {
       let security = security_of_envelope envelope s in
       moved (ap (option_map (λ (a : AwardRow). a.notice)) of.is) (λ i. fail_puts (record { award = of.is i; notice = of.notice i; lot = of.lot i; envelope = envelope; security = security; clock = s.clock }) now)
       (front (puts.Award _ ∷ puts.Lot _ ∷ []) (refl, (refl, tt))
-      (loud of.w.notice of.n (released of.n) _ _ of.notice_is (ap has_all_releases (of.notice_is ∙ sym of.notice) ∙ tests.1.1.1.1.0) refl refl
+      (loud of.w.notice of.n (released of.n) _ _ of.notice_is (ap has_all_releases (of.notice_is ∙ sym of.notice) ∙ tests.1.1.1.1.0) refl refl refl
       (on-append own _ _ (on-if own (λ e. puts.Envelope (passed_over e)) envelope (λ _. refl)) (on-if own (security_settled Forfeited) security (λ _. refl))) refl (omega arith)));
   parents = λ readings s moment caller order have registered may allowed u grown later. parents_of s u have grown s.clock _ award (award_at award s) (notice_of_award (award_at award s) s) (lot_of_award (award_at award s) s) refl refl;
   alike = λ th W s es' ss' all seals readings t caller quiet.

@@ -18,7 +18,7 @@ use Rattle.office_base.specs.declared.puts.Put.TheVariants as puts
 use Rattle.tender_core.specs.Rules.Publish.{publish_tests, publish_rows, publish_parts, late_puts, line_put, lot_put, notice_row, publish_puts}
 use Rattle.office_machine.specs.Machine.{command_tests, time_of}
 use Rattle.office_machine.specs.Counted.{releases_in}
-use Rattle.office_machine.proofs.Commands.Tail.{HasTail, is_own, front, back, counted}
+use Rattle.office_machine.proofs.Commands.Tail.{AsksAsBefore, HasTail, is_own, front, back, counted}
 use Rattle.office_machine.proofs.Parents.ParentsPut.{Grows, Parents, AllParents, parents-append, parents-map, parents-all}
 use Rattle.office_machine.proofs.Worlds.WorldsPut.{plain-map, plain-append, IsPlain, plain_pairs}
 use Rattle.office_machine.proofs.Accounts.Aside.{after-append}
@@ -47,7 +47,7 @@ tail_of s t notice content new =
     back (late_puts notice content.late_withdrawal) (late_own notice content.late_withdrawal)
     (front (map (line_put s.lines content.lots) content.lots ++ map (lot_put notice) content.lots)
     (on-append own (map (line_put s.lines content.lots) content.lots) (map (lot_put notice) content.lots) (on-map own (line_put s.lines content.lots) content.lots (λ _. refl)) (on-map own (lot_put notice) content.lots (λ _. refl)))
-    (counted notice (notice_row t notice content) _ [] refl (omega (arith, old)) (omega arith) tt refl (omega arith)))
+    (counted notice (notice_row t notice content) _ [] refl (omega (arith, old)) (omega arith) (subst (λ o. AsksAsBefore o (notice_row t notice content)) (sym (absent (notice_at notice s) new)) tt) tt refl (omega arith)))
 
 module _ (s u : Tables) (g : Grows s u) where
   published_lots : (notice : List ℕ) → IsSome (notice_at notice u) → (lots : List NewLot) → OnLines s.lines lots → AllByRecursion (λ (l : NewLot). Parents u (lot_put notice l)) lots
@@ -67,7 +67,7 @@ module _ (s u : Tables) (g : Grows s u) where
     where
       late_parents : (late : LateWithdrawal) → AllParents u (late_puts notice late)
       late_parents Refused = tt
-      late_parents Forfeits = (tt, tt)
+      late_parents Forfeits = (record { notice = there }, tt)
 
 -- what a publication puts has the notice
 notice_put_there : (front : List Put) (row : NoticeRow) (clock : ClockRow) (s : Tables) → IsSome (notice_at row.notice (after_puts (front ++ (puts.Notice row ∷ puts.Clock clock ∷ [])) s))
