@@ -4,3 +4,4 @@ pub mod ParentsThere
 pub mod PerformancesAsked
 pub mod RowsHave
 pub mod SpokenOf
+pub mod Whole

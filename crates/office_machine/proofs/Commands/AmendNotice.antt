@@ -47,5 +47,6 @@ amend_notice notice deadline rationale = record {
       moved refl (λ i. amend_notice_puts (record { notice = n.1 i; clock = s.clock }) now deadline)
       (loud notice n.0 (amended deadline n.0) _ [] n.1 (neither _ (has_all_releases (notice_at notice s)) tests.1.1.1.1.0).1 refl refl refl tt refl (omega arith));
   parents = λ readings s moment caller order have registered may allowed u grown later. parents_of u s.clock _ (notice_at notice s) deadline;
+  lacks = λ xs s moment caller whole allowed. refl;
   alike = λ th W s es' ss' all seals readings t caller quiet. plain_pairs th W (amend_notice_puts (record { notice = notice_at notice s; clock = s.clock }) t deadline) (plain s.clock t (notice_at notice s) deadline);
 }

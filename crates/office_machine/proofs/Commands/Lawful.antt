@@ -8,12 +8,14 @@ use Rattle.office_machine.specs.Readings.{Readings}
 use Rattle.office_machine.specs.Machine.{Given, IsCommand, IsRegistered, may_give, tests_for, puts_for}
 use Rattle.office_machine.specs.Parents.{HaveParents}
 use Rattle.office_machine.specs.Publications.{published_for}
+use Rattle.office_machine.specs.Rules.{rule_of}
 use Rattle.office_machine.proofs.Accounts.Aside.{IsIdle}
 use Rattle.office_machine.proofs.Commands.Footprint.{TableName}
 use Rattle.office_machine.proofs.Accounts.Idle.{touches_books}
 use Rattle.office_machine.proofs.Accounts.Kept.{IsKept}
 use Rattle.office_machine.proofs.FateLaws.FatesHold.{Keeps}
 use Rattle.office_machine.proofs.Parents.ParentsPut.{Grows, AllParents}
+use Rattle.office_machine.proofs.Parents.Whole.{IsWhole}
 use Rattle.office_machine.proofs.Commands.Tail.{HasTail, bond_for}
 use Rattle.office_machine.proofs.Worlds.WorldsStep.{PutsAlike}
 
@@ -42,5 +44,8 @@ pub record Lawful (command : Command) : Type 0 where
   pub parents : (readings : Readings) (s : Tables) (moment : ℕ) (caller : Caller) → IsSorted s → HaveParents s s → IsRegistered caller s.tenderers → may_give caller command ≡ true
       → first_of (tests_for s (max moment s.clock.moment) caller command) ≡ None → (u : Tables) → Grows s u
       → Grows (after_puts (puts_for readings s (max moment s.clock.moment) caller command) s) u → AllParents u (puts_for readings s (max moment s.clock.moment) caller command)
+  -- in an office that commands reach nothing is lacking to it
+  pub lacks : (xs : List Given) (s : Tables) (moment : ℕ) (caller : Caller) → IsWhole xs s → first_of (tests_for s (max moment s.clock.moment) caller command) ≡ None
+      → (rule_of command).lacks s ≡ false
   -- two offices that differ in what a tenderer seals stay alike
   pub alike : PutsAlike command

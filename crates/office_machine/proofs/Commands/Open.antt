@@ -84,5 +84,6 @@ open_tenders notice = record {
       (front_map (opened_put readings.read) (sealed_tenders notice s) (λ _. refl)
       (loud notice n.0 (opened_notice now n.0) _ [] n.1 tests.1.1.1.1.0 refl refl refl tt refl (omega arith)));
   parents = λ readings s moment caller order have registered may allowed u grown later. parents_of s u have grown order readings.read s.clock _ notice (notice_at notice s);
+  lacks = λ xs s moment caller whole allowed. refl;
   alike = λ th W s es' ss' all seals readings t caller quiet. pairs th W s es' ss' all readings.read s.clock t notice (notice_at notice s) quiet;
 }

@@ -108,5 +108,6 @@ present notice lot security bytes = record {
       let lot_there = not_false (is_some (lot_at (notice, lot) s)) passes.1.0 in
       parents_of s u grown readings.digest s.clock _ caller notice lot security bytes _ there lot_there (presenter caller s may registered)
       (λ named. later.securities (s.clock.receipts + 1) (security_put_there readings.digest s.clock _ caller notice lot security bytes _ s named));
+  lacks = λ xs s moment caller whole allowed. refl;
   alike = λ th W s es' ss' all seals readings t caller quiet. absurd quiet;
 }

@@ -105,5 +105,6 @@ publish notice content = record {
       (later.notices notice
       (subst (λ u. IsSome (notice_at notice u)) (sym (after-append (publish_parts s.clock (time_of (given s moment caller (Publish notice content))) notice s.lines content) (late_puts notice content.late_withdrawal) s))
       (late_leaves content.late_withdrawal notice notice _ (notice_put_there (map (line_put s.lines content.lots) content.lots ++ map (lot_put notice) content.lots) _ _ s))));
+  lacks = λ xs s moment caller whole allowed. refl;
   alike = λ th W s es' ss' all seals readings t caller quiet. plain_pairs th W (publish_puts (record { notice = None; lines = s.lines; clock = s.clock }) t notice content) (plain s t notice content);
 }

@@ -2,7 +2,7 @@
 pub mod Accounts
 pub mod Fates
 use Rattle.std.specs.Prelude.{max, ℕ, Option, option_and_then, IsSome}
-use Rattle.std.proofs.Common.{[], ◌∷◌, refl, ◌≡◌, Bool, true, false, List, ◌++◌, map, filter, Some, None, is_some, option_map, sym, ◌∙◌, ap, arith, subst}
+use Rattle.std.proofs.Common.{[], ◌∷◌, refl, ◌≡◌, Bool, true, false, List, ◌++◌, map, filter, Some, None, is_some, option_map, sym, ◌∙◌, ap, arith, subst, not, ◌||◌}
 use Rattle.std.specs.List.{AllByRecursion}
 use Rattle.office_acts.specs.declared.commands.Command.TheVariants.{Sign}
 use Rattle.office_acts.specs.declared.tender.NamedSecurity.{NamedSecurity}
@@ -17,7 +17,7 @@ use Rattle.office_base.specs.declared.records.AwardRow.{AwardRow}
 use Rattle.office_base.specs.declared.records.ClockRow.{ClockRow}
 use Rattle.office_base.specs.declared.puts.Put.{Put}
 use Rattle.office_base.specs.declared.puts.Put.TheVariants as puts
-use Rattle.award_core.specs.Rules.Sign.{sign_tests, sign_rows, sign_puts, sign_parts, performance_row, tenderer_in, performance_put, signed_award, contracted_lot, contract_row}
+use Rattle.award_core.specs.Rules.Sign.{sign_tests, sign_rows, sign_puts, sign_parts, performance_row, tenderer_in, performance_put, signed_award, contracted_lot, contract_row, sign_lacks}
 use Rattle.office_machine.specs.Worlds.{Theirs, Pairs}
 use Rattle.office_machine.specs.Parents.{HaveParents}
 use Rattle.office_machine.proofs.Worlds.WorldsPut.{Alike, plain-map, plain-append, plain-if, IsPlain, PutPair, blind-option, plain_pairs}
@@ -88,6 +88,12 @@ module _ (th : Theirs) (W : ℕ → Bool) (s : Tables) (es' : List EnvelopeRow) 
       (sym (same_signer s.clock t a (notice_of_award a s) (lot_of_award a s) o o' (securities_of_award a s) named (blind-option th W tenderer_in (λ _ _. refl) o o' (awarded_pair th W s es' all a))))
       (plain_pairs th W (sign_puts (sign_rows s award) t named) (plain s.clock t a (notice_of_award a s) (lot_of_award a s) o (securities_of_award a s) named))
 
+-- its notice, its lot and its tender are there
+none_lacking : (s : Tables) → HaveParents s s → (award : ℕ) (o : Option AwardRow) → award_at award s ≡ o
+    → sign_lacks (record { award = o; notice = notice_of_award o s; lot = lot_of_award o s; envelope = envelope_of_award o s; securities = []; clock = s.clock }) ≡ false
+none_lacking s have award None is = refl
+none_lacking s have award (Some a) is = let h = have.awards award a is in λ i. ap not h.notice i || ap not h.lot i || ap not h.envelope i
+
 pub sign : (award : ℕ) (named : Option NamedSecurity) → Lawful (Sign award named)
 sign award named = record {
   touches = Awards ∷ Lots ∷ Contracts ∷ Securities ∷ [];
@@ -105,5 +111,6 @@ sign award named = record {
       (front (puts.Award _ ∷ puts.Lot _ ∷ puts.Contract _ ∷ []) (refl, (refl, (refl, tt)))
       (loud of.w.notice of.n (released of.n) _ _ of.notice_is (ap has_all_releases (of.notice_is ∙ sym of.notice) ∙ tests.1.1.1.1.1.1.1.0) refl refl refl (returned_own (Awards ∷ Lots ∷ Contracts ∷ Securities ∷ []) refl securities) refl (omega arith)))));
   parents = λ readings s moment caller order have registered may allowed u grown later. parents_of s u have grown order s.clock _ award named (award_at award s) (notice_of_award (award_at award s) s) (lot_of_award (award_at award s) s) refl refl later;
+  lacks = λ xs s moment caller whole allowed. none_lacking s whole.parents award (award_at award s) refl;
   alike = λ th W s es' ss' all seals readings t caller quiet. alike th W s es' all t award named;
 }

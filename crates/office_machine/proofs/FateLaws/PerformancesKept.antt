@@ -380,17 +380,12 @@ module _ (means : Means) (xs : List Given) (s : Tables) (moment : ℕ) (caller :
 
   idle : (command : Command) → IsOther command → first_of (command_tests (given command)) ≡ None → AreKept (given command ∷ xs) (after_puts (effect means.readings (given command)) s)
   idle command other allowed =
-      idle_kept (given command) xs ps kept
-      (performances_after command allowed ∙ ap (λ b. with_performance b s.performances) (none_put s command other))
-      (λ k c n is notice more.
-      of_old ps tail have kept.asked k c c n (ap (λ rows. find_contract rows k) (sym ((leaves (is_touched (lawful command).touches) ps s tail.touched).contracts (none_signed command other))) ∙ is) refl notice more)
+      let ps : List Put = effect means.readings (given command) in
+      let tail = tail_of command allowed in
+      let same = (leaves (is_touched (lawful command).touches) ps s tail.touched).contracts (none_signed command other) in
+      idle_kept (given command) xs ps kept (tail.writes.performances s ∙ ap (λ b. with_performance b s.performances) (none_put s command other))
+      (λ k c n is notice more. of_old ps tail have kept.asked k c c n (ap (λ rows. find_contract rows k) (sym same) ∙ is) refl notice more)
       (none_named command other) (none_decided command other)
-    where
-      abbrev ps : List Put
-      ps = effect means.readings (given command)
-
-      tail : HasTail s (max moment s.clock.moment) (lawful command).touches (published_for s command) (bond_for s command) ps
-      tail = tail_of command allowed
 
   one_kept : (command : Command) → first_of (command_tests (given command)) ≡ None → AreKept (given command ∷ xs) (after_puts (effect means.readings (given command)) s)
   one_kept (Sign award named) allowed = sign_kept award named allowed
