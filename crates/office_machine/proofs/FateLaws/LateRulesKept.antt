@@ -108,7 +108,7 @@ module _ (means : Means) (xs : List Given) (s : Tables) (moment : ℕ) (caller :
       ∙ row_by content.late_withdrawal notice s.late_rules q (same_id notice q) refl
       ∙ ap (cond (same_id notice q && is_forfeiting content.late_withdrawal) (Some (late_row q))) (kept q)
       ∙ either (same_id notice q && is_forfeiting content.late_withdrawal) (was_let_late xs q) (Some (late_row q))
-  one_kept command allowed = other command tt allowed
+  one_kept command allowed q = other command tt allowed q
 
 -- a release says nothing of it
 published_kept : (xs : List Given) (t : Tables) (p : Option ReleaseRow) → AreKept xs t → AreKept xs (after_puts (publication_puts p) t)

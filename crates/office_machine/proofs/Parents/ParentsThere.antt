@@ -1,5 +1,5 @@
 -- The rows that a row speaks of are there, wherever accepted commands lead.
-use Rattle.std.proofs.Common.{◌≡◌, ℕ, true, List, Option, Some, None, is_some, sym, ◌∙◌, ap, subst}
+use Rattle.std.proofs.Common.{◌≡◌, ℕ, true, List, Option, Some, None, is_some, refl, sym, ◌∙◌, ap, subst}
 use Rattle.std.specs.Prelude.{IsSome, option_and_then, option_map}
 use Rattle.office_base.specs.Rows.{row_at}
 use Rattle.office_acts.specs.declared.command.Caller.{Caller}

@@ -1,5 +1,5 @@
 -- In two worlds a command is refused alike, and leaves them alike.
-use Rattle.std.proofs.Common.{◌≡◌, ℕ, ◌+◌, Bool, false, List, filter, Option, refl}
+use Rattle.std.proofs.Common.{◌≡◌, ℕ, ◌+◌, Bool, false, List, filter, Option, refl, [], None}
 use Rattle.std.specs.List.{AllByRecursion}
 use Rattle.office_acts.specs.declared.command.Caller.{Caller}
 use Rattle.office_acts.specs.declared.commands.Command.{Command}
