@@ -1,7 +1,8 @@
 -- What the laws of the office need of one command.
-use Rattle.std.specs.Prelude.{◌≡◌, ℕ, true, false, max, List, ◌∷◌, None}
+use Rattle.std.specs.Prelude.{◌≡◌, ℕ, Bool, true, false, max, List, ◌∷◌, None}
 use Rattle.office_acts.specs.declared.command.Caller.{Caller}
 use Rattle.office_acts.specs.declared.commands.Command.{Command}
+use Rattle.office_acts.specs.declared.commands.Command.TheVariants.{Publish, Sign, End}
 use Rattle.office_base.specs.Rules.{first_of}
 use Rattle.office_base.specs.Tables.{Tables, IsSorted, after_puts}
 use Rattle.office_machine.specs.Readings.{Readings}
@@ -10,7 +11,7 @@ use Rattle.office_machine.specs.Parents.{HaveParents}
 use Rattle.office_machine.specs.Publications.{published_for}
 use Rattle.office_machine.specs.Rules.{rule_of}
 use Rattle.office_machine.proofs.Accounts.Aside.{IsIdle}
-use Rattle.office_machine.proofs.Commands.Footprint.{TableName}
+use Rattle.office_machine.proofs.Commands.Footprint.{TableName, Contracts, LateRules, is_in}
 use Rattle.office_machine.proofs.Accounts.Idle.{touches_books}
 use Rattle.office_machine.proofs.Accounts.Kept.{IsKept}
 use Rattle.office_machine.proofs.FateLaws.FatesHold.{Keeps}
@@ -29,9 +30,20 @@ pub data KeepsBooks (command : Command) (touches : List TableName) : Type 0 wher
       → first_of (tests_for s (max moment s.clock.moment) caller command) ≡ None
       → IsKept (given s moment caller command ∷ xs) (after_puts (puts_for readings s (max moment s.clock.moment) caller command) s)) → KeepsBooks command touches
 
+abbrev pub puts_contracts : Command → Bool
+puts_contracts (Sign award named) = true
+puts_contracts (End contract how) = true
+puts_contracts _ = false
+
+abbrev pub puts_late_rules : Command → Bool
+puts_late_rules (Publish notice content) = true
+puts_late_rules _ = false
+
 pub record Lawful (command : Command) : Type 0 where
   -- the tables of its own rows
   pub touches : List TableName
+  -- a signing and an end alone put contracts, a publication alone says something of late withdrawals
+  pub alone : (is_in touches Contracts ≡ puts_contracts command) × (is_in touches LateRules ≡ puts_late_rules command)
   -- the books stay balanced
   pub accounts : KeepsBooks command touches
   -- tenders and securities go on as told

@@ -23,6 +23,7 @@ use Rattle.office_machine.specs.Machine.{Given, Means, Reaches, command_tests, e
 use Rattle.office_machine.proofs.Accounts.Aside.{after-append}
 use Rattle.office_machine.proofs.Commands.AllLawful.{lawful}
 use Rattle.office_machine.proofs.Commands.Footprint.{TableName, LateRules, AreOn, leaves, on-append, on-map}
+use Rattle.office_machine.proofs.Commands.Lawful.{puts_late_rules}
 use Rattle.office_machine.proofs.Commands.Tail.{is_touched}
 use Rattle.office_machine.proofs.Parents.ParentsThere.{parents_there}
 use Rattle.office_machine.proofs.Passed.{allowed_by}
@@ -30,18 +31,10 @@ use Rattle.office_machine.proofs.Rows.Keyed.{elsewhere, found_put}
 use Rattle.office_machine.proofs.Runs.{along}
 use Rattle.office_machine.proofs.Rows.Keyed as keyed
 
--- a command that is no publication says nothing of it, and touches no row of it
-abbrev IsOther : Command → Type 0
-IsOther (Publish notice content) = ⊥
-IsOther command = Unit {0}
-
-none_let : (notice : List ℕ) (command : Command) → IsOther command → lets_late notice command ≡ false
-none_let notice (Publish name content) other = absurd other
+-- a command that is no publication says nothing of it
+none_let : (notice : List ℕ) (command : Command) → puts_late_rules command ≡ false → lets_late notice command ≡ false
+none_let notice (Publish name content) other = absurd (let no : true ≡ false = other in cc)
 none_let notice _ other = refl
-
-none_touched : (command : Command) → IsOther command → is_touched (lawful command).touches LateRules ≡ false
-none_touched (Publish notice content) other = absurd other
-none_touched _ other = refl
 
 -- what a publication says is put behind rows of other tables
 abbrev isnt_late : TableName → Bool
@@ -95,10 +88,10 @@ module _ (means : Means) (xs : List Given) (s : Tables) (moment : ℕ) (caller :
   abbrev Keeps : Command → Type 0
   Keeps command = AreKept (given command ∷ xs) (after_puts (effect means.readings (given command)) s)
 
-  other : (command : Command) → IsOther command → first_of (command_tests (given command)) ≡ None → Keeps command
+  other : (command : Command) → puts_late_rules command ≡ false → first_of (command_tests (given command)) ≡ None → Keeps command
   other command is allowed q =
       let tail = (lawful command).tail means.readings s moment caller (parents_there means xs s reached) allowed in
-      ap (λ rows. find_late rows q) ((leaves (is_touched (lawful command).touches) (effect means.readings (given command)) s tail.touched).late_rules (none_touched command is))
+      ap (λ rows. find_late rows q) ((leaves (is_touched (lawful command).touches) (effect means.readings (given command)) s tail.touched).late_rules ((lawful command).alone.1 ∙ is))
       ∙ kept q
       ∙ ap (λ b. cond (b || was_let_late xs q) (Some (late_row q)) None) (sym (none_let q command is))
 
@@ -108,7 +101,7 @@ module _ (means : Means) (xs : List Given) (s : Tables) (moment : ℕ) (caller :
       ∙ row_by content.late_withdrawal notice s.late_rules q (same_id notice q) refl
       ∙ ap (cond (same_id notice q && is_forfeiting content.late_withdrawal) (Some (late_row q))) (kept q)
       ∙ either (same_id notice q && is_forfeiting content.late_withdrawal) (was_let_late xs q) (Some (late_row q))
-  one_kept command allowed q = other command tt allowed q
+  one_kept command allowed q = other command refl allowed q
 
 -- a release says nothing of it
 published_kept : (xs : List Given) (t : Tables) (p : Option ReleaseRow) → AreKept xs t → AreKept xs (after_puts (publication_puts p) t)

@@ -38,8 +38,9 @@ use Rattle.office_machine.specs.Fates.{PerformancesHaveFates, PerformancesAreKep
 use Rattle.office_machine.specs.Parents.{HaveParents, HavePerformances, PerformancesAreThere}
 use Rattle.office_machine.specs.Publications.{published_for}
 use Rattle.office_machine.proofs.Commands.AllLawful.{lawful}
+use Rattle.office_machine.proofs.Commands.Lawful.{puts_contracts}
 use Rattle.office_machine.proofs.Runs.{along}
-use Rattle.office_machine.proofs.Commands.Footprint.{TableName, Contracts, Securities, leaves, on-append, on-if, on-map}
+use Rattle.office_machine.proofs.Commands.Footprint.{TableName, Securities, leaves, on-append, on-if, on-map}
 use Rattle.office_machine.proofs.Commands.Tail.{HasTail, bond_for, is_bond, is_touched, with_performance}
 use Rattle.office_machine.proofs.Accounts.Aside.{after-append}
 use Rattle.office_machine.proofs.FateLaws.Added.{equal_numbers}
@@ -135,7 +136,7 @@ none_decided (End contract how) other c = absurd other
 none_decided _ other c = refl
 
 -- it signs no contract, and ends none
-none_signed : (command : Command) → IsOther command → is_touched (lawful command).touches Contracts ≡ false
+none_signed : (command : Command) → IsOther command → puts_contracts command ≡ false
 none_signed (Sign award named) other = absurd other
 none_signed (End contract how) other = absurd other
 none_signed _ other = refl
@@ -382,7 +383,7 @@ module _ (means : Means) (xs : List Given) (s : Tables) (moment : ℕ) (caller :
   idle command other allowed =
       let ps : List Put = effect means.readings (given command) in
       let tail = tail_of command allowed in
-      let same = (leaves (is_touched (lawful command).touches) ps s tail.touched).contracts (none_signed command other) in
+      let same = (leaves (is_touched (lawful command).touches) ps s tail.touched).contracts ((lawful command).alone.0 ∙ none_signed command other) in
       idle_kept (given command) xs ps kept (tail.writes.performances s ∙ ap (λ b. with_performance b s.performances) (none_put s command other))
       (λ k c n is notice more. of_old ps tail have kept.asked k c c n (ap (λ rows. find_contract rows k) (sym same) ∙ is) refl notice more)
       (none_named command other) (none_decided command other)
