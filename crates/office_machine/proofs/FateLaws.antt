@@ -4,6 +4,7 @@ pub mod Decisions
 pub mod FatesChanged
 pub mod FatesHold
 pub mod FatesKept
+pub mod LateRulesKept
 pub mod LotClosed
 pub mod Matched
 pub mod NextReceipt

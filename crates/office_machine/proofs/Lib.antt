@@ -4,6 +4,7 @@ pub mod Runs
 pub mod Accounts
 pub mod Commands
 pub mod FateLaws
+pub mod Lacking
 pub mod Parents
 pub mod Releases
 pub mod Rows

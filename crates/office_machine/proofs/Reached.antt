@@ -4,20 +4,26 @@ use Rattle.office_base.specs.Tables.{Tables}
 use Rattle.office_values.specs.declared.refusal.Refusal.{Refusal}
 use Rattle.office_machine.specs.Machine.{Means, Given, CanBeGiven, Reaches, refusal_of, puts_of, next}
 use Rattle.office_machine.specs.Requests.{Demand, Asks, Looks, Request, asked, office_by, joined_by, demand_office, demand_joined, office_after, joined, IsDemand, RunsReach, StepsReach}
+use Rattle.office_machine.proofs.Parents.ParentsThere.{parents_kept, parents_there}
+use Rattle.office_machine.proofs.Passed.{allowed_by, may_by}
 use Rattle.office_machine.proofs.Rows.SortedTables.{sorted}
 use Rattle.office_base.proofs.SortedTables.{sorted-puts}
 use Rattle.std.specs.Prelude.{cond}
 
 -- an accepted command leads to the office after it
 pub steps_reach : StepsReach
-steps_reach means xs x reached own allowed = record {
-  reached = reached;
-  given = own;
-  allowed = allowed;
-  trees = (next means x).compiled;
-  in_order = (sorted-puts (puts_of means x) x.before (sorted means xs x.before reached)).compiled;
-  is = refl;
-}
+steps_reach means xs x reached own allowed =
+    let order = sorted means xs x.before reached in
+    let have = parents_kept means x.before x.moment x.caller order (parents_there means xs x.before reached) own.1 x.command (may_by x allowed) (allowed_by x allowed) in
+    record {
+      reached = reached;
+      given = own;
+      allowed = allowed;
+      trees = (next means x).compiled;
+      in_order = (sorted-puts (puts_of means x) x.before order).compiled;
+      of_notices = λ key r found. (have.merges key r found).notice;
+      is = refl;
+    }
 
 one : (means : Means) (xs : List Given) (x : Given) → Reaches means xs x.before → CanBeGiven x → (o : Option Refusal) → refusal_of x ≡ o → Reaches means (joined_by o x xs) (office_by o means x)
 one means xs x reached own None e = steps_reach means xs x reached own e

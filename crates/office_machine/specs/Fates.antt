@@ -25,12 +25,13 @@ use Rattle.office_acts.specs.declared.contract.How.TheVariants as hows
 use Rattle.office_base.specs.declared.records.PerformanceRow.{PerformanceRow}
 use Rattle.office_machine.specs.Machine.{Given, Means, Reaches, time_of}
 
--- what came in with a receipt: for which lot, from whom, its bytes, whether in time, the security that was named with it, and the
--- number of the security that it carries
+-- what came in with a receipt: for which lot, from whom, at which moment, its bytes, whether in time, the security that was named with it,
+-- and the number of the security that it carries
 pub record Reception : Type 0 where
   pub notice : List ℕ
   pub lot : List ℕ
   pub tenderer : List ℕ
+  pub moment : ℕ
   pub bytes : List ℕ
   pub in_time : Bool
   pub named : Option NamedSecurity
@@ -42,6 +43,7 @@ presented x notice lot security bytes = record {
   notice = notice;
   lot = lot;
   tenderer = tenderer_of x.caller;
+  moment = time_of x;
   bytes = bytes;
   in_time = holds_of (is_in_time (time_of x)) (notice_at notice x.before);
   named = security;
@@ -49,13 +51,13 @@ presented x notice lot security bytes = record {
 }
 
 -- one that replaces another carries what that one carried
-abbrev pub replacing : List ℕ → Reception → Reception
-replacing bytes old = record old { bytes = bytes; in_time = true; named = None }
+abbrev pub replacing : Given → List ℕ → Reception → Reception
+replacing x bytes old = record old { moment = time_of x; bytes = bytes; in_time = true; named = None }
 
 -- what a command takes in, after what came in before
 abbrev pub brought : Command → Given → (ℕ → Option Reception) → Option Reception
 brought (Present notice lot security bytes) x earlier = Some (presented x notice lot security bytes)
-brought (Modify receipt bytes) x earlier = option_map (replacing bytes) (earlier receipt)
+brought (Modify receipt bytes) x earlier = option_map (replacing x bytes) (earlier receipt)
 brought _ x earlier = None
 
 -- what came in with a receipt stays
@@ -211,11 +213,13 @@ is_kept envelope_states.Withdrawn = false
 is_kept envelope_states.Returned = false
 is_kept envelope_states.Opened = true
 
--- an envelope is what came in with its receipt, in the state of its fate; and its seal has the bytes, while they are kept
+-- an envelope is what came in with its receipt, at the moment of the command that brought it (Model Law, article 40), in the state of its
+-- fate; and its seal has the bytes, while they are kept
 pub record EnvelopeIs (digest : List ℕ → List ℕ) (r : ℕ) (c : Reception) (fate : Option EnvelopeState) (e : EnvelopeRow) (seal : Option SealRow) : Type 0 where
   pub of_notice : e.notice ≡ c.notice
   pub of_lot : e.lot ≡ c.lot
   pub of_tenderer : e.tenderer ≡ c.tenderer
+  pub moment_is : e.moment ≡ c.moment
   pub security_is : e.security ≡ c.security
   pub length_is : e.length ≡ length c.bytes
   pub digest_is : e.digest ≡ digest c.bytes

@@ -15,7 +15,7 @@ use Rattle.office_base.specs.declared.records.ReleaseRow.{ReleaseRow}
 use Rattle.office_base.specs.declared.records.CompiledRow.{CompiledRow}
 use Rattle.office_base.specs.Rows.{IsInOrder}
 use Rattle.office_values.specs.Ids.{id_cmp}
-use Rattle.office_base.specs.Tables.{Tables, no_tables, compiled_key, find_tenderer, notice_at, after_puts}
+use Rattle.office_base.specs.Tables.{Tables, no_tables, compiled_key, find_compiled, find_tenderer, notice_at, after_puts}
 use Rattle.office_base.specs.declared.puts.Put.TheVariants as puts
 use Rattle.office_base.specs.declared.puts.Put.{Put}
 use Rattle.office_base.specs.Rules.{first_of}
@@ -112,14 +112,19 @@ CanBeGiven x = IsCommand x.command × IsRegistered x.caller x.before.tenderers
 abbrev pub with_trees : List CompiledRow → Tables → Tables
 with_trees trees s = record s { compiled = trees }
 
+-- each of them is of a notice that is there
+abbrev pub AreOfNotices : List CompiledRow → Tables → Type 0
+AreOfNotices trees s = (key : List ℕ) (r : CompiledRow) → find_compiled trees key ≡ Some r → IsSome (notice_at r.notice s)
+
 -- one accepted command: the office before it was reached, it can be given, it is allowed, and this is the office after it, whatever merges of
--- releases stand beside it
+-- releases of its notices stand beside it
 pub record Steps (means : Means) (Reached : Tables → Type 0) (x : Given) (s : Tables) : Type 0 where
   pub reached : Reached x.before
   pub given : CanBeGiven x
   pub allowed : refusal_of x ≡ None
   pub trees : List CompiledRow
   pub in_order : IsInOrder id_cmp compiled_key trees
+  pub of_notices : AreOfNotices trees (next means x)
   pub is : s ≡ with_trees trees (next means x)
 
 -- accepted commands, the last one first, lead from the empty office to this one

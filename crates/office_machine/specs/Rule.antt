@@ -35,10 +35,12 @@ notice_of (UnderNotice notice) awards contracts = Some notice
 notice_of (UnderAward award) awards contracts = option_map notice_in_award (find_award awards award)
 notice_of (UnderContract contract) awards contracts = option_map notice_in_contract (find_contract contracts contract)
 
--- when a command is refused, what it puts, of which notice it publishes a release, and the reply to it
+-- when a command is refused, what may be lacking to it, what it puts, of which notice it publishes a release, and the reply to it
 pub record Rule : Type 0 where
   -- the conditions of its refusals, in their order
   pub tests : Tables → ℕ → Caller → List (Bool × Refusal)
+  -- whether rows are lacking where it isn't refused: none are in an office that accepted commands reach
+  pub lacks : Tables → Bool
   -- what it puts where it is accepted, but for its publication
   pub puts : Readings → Tables → ℕ → Caller → List Put
   pub publishes : Source

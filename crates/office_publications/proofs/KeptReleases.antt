@@ -1,36 +1,31 @@
 -- What is kept of releases stays kept.
-use Rattle.std.specs.Prelude.{◌≡◌, ℕ, Bool, true, false, cond, List, [], ◌∷◌, ◌++◌, map, filter, Option, Some, None, option_to_list, All}
-use Rattle.std.proofs.Common.{refl, sym, ◌∙◌, ap, subst}
+use Rattle.std.specs.Prelude.{◌≡◌, ℕ, Bool, true, false, cond, List, [], ◌∷◌, ◌++◌, map, filter, Option, Some, None, IsSome, option_to_list, All}
+use Rattle.std.proofs.Common.{refl, sym, ◌∙◌, ap, subst, inl, inr}
 use Rattle.std.proofs.lemmas.List.{append-nil}
 use Rattle.std.proofs.lemmas.List.Elements.{All-append, All-nil, All-cons}
 use Rattle.ocds_merge.specs.Stored.{KeepsMerge}
 use Rattle.office_values.specs.Ids.{same_id}
 use Rattle.office_values.specs.declared.settings.Settings.{Settings}
 use Rattle.office_base.specs.Rows.{row_at}
-use Rattle.office_base.specs.Tables.{Tables, ChangesKeepOrder, after_puts, find_compiled, put_compiled, releases_of_notice}
+use Rattle.office_base.specs.Tables.{Tables, ChangesKeepOrder, after_puts, find_compiled, notice_at, put_compiled, release_at, releases_of_notice}
 use Rattle.office_base.specs.declared.records.CompiledRow.{CompiledRow}
 use Rattle.office_base.specs.declared.records.ReleaseRow.{ReleaseRow}
 use Rattle.office_machine.specs.Accounts.{TablesAreInOrder}
-use Rattle.office_machine.specs.Machine.{Given, Means, next, publication, puts_of}
+use Rattle.office_machine.specs.Machine.{AreOfNotices, Given, Means, effect, next, publication, publication_puts, puts_of}
+use Rattle.office_machine.specs.OfficeMeans.{office_readings}
+use Rattle.office_machine.specs.Parents.{HaveParents, ParentsAreThere}
 use Rattle.office_machine.specs.Releases.{ReleasesArePublished, published_of}
+use Rattle.office_machine.specs.Requests.{StepsReach}
 use Rattle.office_machine.proofs.Accounts.Aside.{after-append}
 use Rattle.office_machine.proofs.Releases.NextIs.{next_is}
 use Rattle.office_machine.proofs.Parents.ParentsThere.{parents_there}
+use Rattle.office_machine.proofs.Rows.Keyed.{found, found_put}
+use Rattle.office_machine.proofs.Rows.Keyed as keyed
 use Rattle.office_publications.specs.Keeping.{KeepsReleases, PublicationReadsBack, kept_puts, kept_next, merge_puts, merged_row, KeptStepsReach, ReleasesStayKept, NothingIsKeptAtFirst}
 use Rattle.office_publications.specs.Merges.{AreMerged, CanBeMerged, body_in}
 use Rattle.office_publications.specs.Publishing.{publishing}
 use Rattle.office_publications.proofs.KeptPuts.{merges_stand_beside}
 use Rattle.office_publications.proofs.MergesKept.{merges_stay}
-
-pub reaches : ChangesKeepOrder → TablesAreInOrder → KeptStepsReach
-reaches keep sorted settings xs x reached given allowed = record {
-  reached = reached;
-  given = given;
-  allowed = allowed;
-  trees = (kept_next settings x).compiled;
-  in_order = (keep (kept_puts settings x) x.before (sorted (publishing settings) xs x.before reached)).compiled;
-  is = merges_stand_beside settings x;
-}
 
 -- the merges, where this is published
 abbrev with_merge : Tables → Option ReleaseRow → List CompiledRow → List CompiledRow
@@ -40,6 +35,44 @@ with_merge s (Some r) rows = put_compiled rows (merged_row s r)
 put_beside : (s : Tables) (p : Option ReleaseRow) (u : Tables) → (after_puts (merge_puts s p) u).compiled ≡ with_merge s p u.compiled
 put_beside s None u = refl
 put_beside s (Some r) u = refl
+
+-- the merges beside the office after a command are of its notices
+module _ (settings : Settings) (x : Given) (have : HaveParents (next (publishing settings) x) (next (publishing settings) x)) where
+  abbrev after : Tables
+  after = next (publishing settings) x
+
+  published_there : (r : ReleaseRow) → publication (publishing settings) x ≡ Some r → IsSome (notice_at r.notice after)
+  published_there r one =
+      let done : Tables = after_puts (effect office_readings x) x.before in
+      let last : after ≡ after_puts (publication_puts (Some r)) done =
+      after-append (effect office_readings x) (publication_puts (publication (publishing settings) x)) x.before ∙ ap (λ p. after_puts (publication_puts p) done) one in
+      (have.releases (r.notice, r.seq) r (ap (release_at (r.notice, r.seq)) last ∙ found_put keyed.releases done.releases r)).notice
+
+  merges_of : (p : Option ReleaseRow) → publication (publishing settings) x ≡ p → AreOfNotices (with_merge x.before p after.compiled) after
+  merges_of None none key c is = (have.merges key c is).notice
+  merges_of (Some r) one key c is =
+      elim (found keyed.compiled after.compiled (merged_row x.before r) key c is) as (λ _. IsSome (notice_at c.notice after)) [
+        | inl p ↦ subst (λ (c : CompiledRow). IsSome (notice_at c.notice after)) (sym p.1) (published_there r one)
+        | inr p ↦ (have.merges key c p.1).notice
+      ]
+
+  of_notices : AreOfNotices (kept_next settings x).compiled after
+  of_notices =
+      subst (λ trees. AreOfNotices trees after)
+      (sym (ap (λ (u : Tables). u.compiled) (after-append (puts_of (publishing settings) x) (merge_puts x.before (publication (publishing settings) x)) x.before)
+      ∙ put_beside x.before (publication (publishing settings) x) after))
+      (merges_of (publication (publishing settings) x) refl)
+
+pub reaches : ChangesKeepOrder → TablesAreInOrder → ParentsAreThere → StepsReach → KeptStepsReach
+reaches keep sorted parents steps settings xs x reached given allowed = record {
+  reached = reached;
+  given = given;
+  allowed = allowed;
+  trees = (kept_next settings x).compiled;
+  in_order = (keep (kept_puts settings x) x.before (sorted (publishing settings) xs x.before reached)).compiled;
+  of_notices = of_notices settings x (parents (publishing settings) (x ∷ xs) (next (publishing settings) x) (steps (publishing settings) xs x reached given allowed));
+  is = merges_stand_beside settings x;
+}
 
 -- where the machine puts no merge itself
 module _ (settings : Settings) (x : Given) (no_merge : (next (publishing settings) x).compiled ≡ x.before.compiled) where

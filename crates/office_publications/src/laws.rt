@@ -47,6 +47,8 @@ pub fn keeping()
 {
     changes_keep_order();
     office_machine::laws::order();
+    office_machine::laws::parents();
+    office_machine::laws::runs();
     office_machine::laws::releases();
 }
 

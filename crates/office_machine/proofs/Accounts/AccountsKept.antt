@@ -55,7 +55,7 @@ keeps readings xs s moment caller command kept order have own allowed = by (lawf
     by (Moving moves) = moves readings xs s moment caller kept order own allowed
 
 pub all_kept : (means : Means) (xs : List Given) (s : Tables) → Reaches means xs s → IsKept xs s
-all_kept means = along means IsKept start (λ trees in_order. kept_beside trees)
+all_kept means = along means IsKept start (λ trees in_order xs s of_notices. kept_beside trees xs s)
     (λ xs x accepted kept. kept_published means x xs
     (keeps means.readings xs x.before x.moment x.caller x.command kept (sorted means xs x.before accepted.reached) (parents_there means xs x.before accepted.reached) accepted.given.0 (allowed_by x accepted.allowed)))
 

@@ -1,6 +1,6 @@
 -- The amendment of a contract keeps the laws of the office.
 use Rattle.std.specs.Prelude.{max, IsSome, Option}
-use Rattle.std.proofs.Common.{◌≡◌, ℕ, ◌+◌, ◌-◌, ◌≤◌, Bool, true, false, cond, not, ◌&&◌, List, [], ◌∷◌, Some, None, is_some, refl, sym, ◌∙◌, ap, subst, arith}
+use Rattle.std.proofs.Common.{◌≡◌, ℕ, ◌+◌, ◌-◌, ◌≤◌, Bool, true, false, cond, not, ◌&&◌, List, [], ◌∷◌, Some, None, is_some, refl, sym, ◌∙◌, ap, subst, arith, ◌||◌}
 use Rattle.std.specs.List.{AllByRecursion}
 use Rattle.office_values.specs.Ids.{same_id}
 use Rattle.office_values.specs.declared.refusal.Refusal.{Refusal}
@@ -23,7 +23,7 @@ use Rattle.office_base.specs.Parents.{notice_of_contract, lot_of_contract, line_
 use Rattle.office_base.specs.EntryKinds.{is_raise, is_less, is_payment}
 use Rattle.office_base.specs.declared.records.ClockRow.{ClockRow}
 use Rattle.office_base.specs.declared.puts.Put.TheVariants as puts
-use Rattle.award_core.specs.Rules.AmendContract.{amend_contract_tests, amend_contract_rows, is_running, is_beyond, has_ended, is_raising, entry_kind, line_after, change_row, amend_contract_puts}
+use Rattle.award_core.specs.Rules.AmendContract.{amend_contract_tests, amend_contract_rows, is_running, is_beyond, has_ended, is_raising, entry_kind, line_after, change_row, amend_contract_puts, amend_contract_lacks}
 use Rattle.office_machine.specs.Parents.{HaveParents}
 use Rattle.office_machine.specs.Machine.{Given, time_of, command_tests, effect}
 use Rattle.office_machine.specs.Readings.{Readings}
@@ -46,6 +46,7 @@ use Rattle.office_machine.proofs.FateLaws.Seen.{seen, IsQuiet}
 use Rattle.office_machine.proofs.FateLaws.FatesHold.{Keeps, given}
 use Rattle.office_machine.proofs.Worlds.WorldsPut.{IsPlain, plain_pairs}
 use Rattle.office_machine.proofs.Parents.SpokenOf.{of_contract}
+use Rattle.office_machine.proofs.Parents.Whole.{IsWhole, line_there, not_overdrawn}
 use Rattle.office_machine.proofs.Rows.Keyed as keyed
 
 -- the accounts
@@ -239,9 +240,19 @@ plain clock t None n w entry kind amount rationale = tt
 plain clock t (Some c) None w entry kind amount rationale = tt
 plain clock t (Some c) (Some n) None entry kind amount rationale = tt
 
+-- its notice and its lot's line are there, and no more went from it than came
+none_lacking : (xs : List Given) (s : Tables) → IsWhole xs s → (contract : ℕ) (o : Option ContractRow) → contract_at contract s ≡ o
+    → amend_contract_lacks (record { contract = o; entries = entries_of_contract contract s; notice = notice_of_contract o s; line = line_of_lot (lot_of_contract o s) s; clock = s.clock }) ≡ false
+none_lacking xs s whole contract None is = refl
+none_lacking xs s whole contract (Some c) is =
+    let h = whole.parents.contracts contract c is in
+    let line = line_there s whole.parents (c.notice, c.lot) (lot_at (c.notice, c.lot) s) refl h.lot in
+    λ i. ap not h.notice i || ap not line i || not_overdrawn xs s whole.accounts contract c is i
+
 pub amend_contract : (contract : ℕ) (entry : List ℕ) (kind : ChangeKind) (amount : ℕ) (rationale : List ℕ) → Lawful (AmendContract contract entry kind amount rationale)
 amend_contract contract entry kind amount rationale = record {
   touches = Entries ∷ Lines ∷ [];
+  alone = (refl, refl);
   accounts = Moving (λ readings xs s moment caller kept order own allowed. amend_contract_keeps readings xs s moment caller contract entry kind amount rationale kept order allowed);
   fates = λ readings. fates_kept readings contract entry kind amount rationale;
   tail = λ readings s moment caller have allowed.
@@ -250,6 +261,7 @@ amend_contract contract entry kind amount rationale = record {
       moved refl (λ i. amend_contract_puts (record { contract = of.is i; entries = []; notice = of.notice i; line = of.line i; clock = s.clock }) (max moment s.clock.moment) entry kind amount rationale)
       (front (puts.Entry _ ∷ puts.Line _ ∷ []) (refl, (refl, tt)) (on_contract contract of (neither _ (has_all_releases (notice_of_contract (contract_at contract s) s)) tests.1.1.1.1.1.0).1));
   parents = λ readings s moment caller order have registered may allowed u grown later. parents_of s u have grown s.clock _ contract (contract_at contract s) (notice_of_contract (contract_at contract s) s) (line_of_lot (lot_of_contract (contract_at contract s) s) s) entry kind amount rationale refl;
+  lacks = λ xs s moment caller whole allowed. none_lacking xs s whole contract (contract_at contract s) refl;
   alike = λ th W s es' ss' all seals readings t caller quiet.
       plain_pairs th W (amend_contract_puts (record { contract = contract_at contract s; entries = []; notice = (notice_of_contract (contract_at contract s) s); line = (line_of_lot (lot_of_contract (contract_at contract s) s) s); clock = s.clock }) t entry kind amount rationale)
       (plain s.clock t (contract_at contract s) (notice_of_contract (contract_at contract s) s) (line_of_lot (lot_of_contract (contract_at contract s) s) s) entry kind amount rationale);

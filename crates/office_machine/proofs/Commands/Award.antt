@@ -3,7 +3,7 @@ pub mod Accounts
 pub mod Fates
 pub mod Winners
 use Rattle.std.specs.Prelude.{max, IsSome}
-use Rattle.std.proofs.Common.{arith, ◌≡◌, ℕ, false, List, [], ◌∷◌, Option, Some, None, refl, ◌∙◌, ap, Bool, filter, is_some, subst, sym}
+use Rattle.std.proofs.Common.{arith, ◌≡◌, ℕ, false, List, [], ◌∷◌, Option, Some, None, refl, ◌∙◌, ap, Bool, filter, is_some, subst, sym, not}
 use Rattle.std.specs.List.{AllByRecursion}
 use Rattle.office_acts.specs.declared.commands.Command.TheVariants.{Award}
 use Rattle.office_base.specs.declared.records.EnvelopeRow.{EnvelopeRow}
@@ -18,7 +18,7 @@ use Rattle.office_base.specs.declared.records.ClockRow.{ClockRow}
 use Rattle.office_base.specs.declared.puts.Put.TheVariants as puts
 use Rattle.award_core.specs.Best.{IsBest, IsAnswer}
 use Rattle.award_core.proofs.BestFound.{of_one, best_is_found}
-use Rattle.award_core.specs.Rules.Award.{winner, decision_puts, award_rows, award_tests, best_of, award_puts}
+use Rattle.award_core.specs.Rules.Award.{winner, decision_puts, award_rows, award_tests, best_of, award_puts, award_lacks}
 use Rattle.office_machine.specs.Worlds.{Theirs, Pairs}
 use Rattle.office_machine.specs.Parents.{HaveParents}
 use Rattle.office_machine.proofs.Worlds.WorldsPut.{Alike, AlikeOptions, plain-map, IsPlain, PutPair, blind-option, plain_pairs}
@@ -38,8 +38,8 @@ use Rattle.office_machine.proofs.Rows.Keyed as keyed
 module _ (s : Tables) (now : ℕ) (notice lot : List ℕ) (n : NoticeRow) (l : LotRow) (w : LineRow) (is : notice_at notice s ≡ Some n)
     (full : has_all_releases (notice_at notice s) ≡ false) where
   decided : (o : Option EnvelopeRow) → HasTail s now (Awards ∷ Lots ∷ Lines ∷ Securities ∷ []) (Some notice) None (decision_puts s.clock now n l w o (securities_of_lot notice lot s))
-  decided None = front (puts.Lot _ ∷ puts.Line _ ∷ []) (refl, (refl, tt)) (loud notice n (released n) _ _ is full refl refl (returned_own (Awards ∷ Lots ∷ Lines ∷ Securities ∷ []) refl (securities_of_lot notice lot s)) refl (omega arith))
-  decided (Some e) = front (puts.Award _ ∷ puts.Lot _ ∷ puts.Line _ ∷ []) (refl, (refl, (refl, tt))) (loud notice n (released n) _ [] is full refl refl tt refl (omega arith))
+  decided None = front (puts.Lot _ ∷ puts.Line _ ∷ []) (refl, (refl, tt)) (loud notice n (released n) _ _ is full refl refl refl (returned_own (Awards ∷ Lots ∷ Lines ∷ Securities ∷ []) refl (securities_of_lot notice lot s)) refl (omega arith))
+  decided (Some e) = front (puts.Award _ ∷ puts.Lot _ ∷ puts.Line _ ∷ []) (refl, (refl, (refl, tt))) (loud notice n (released n) _ [] is full refl refl refl tt refl (omega arith))
 
 module _ (s u : Tables) (have : HaveParents s s) (g : Grows s u) (order : IsSorted s) where
   -- the best tender is one of the office's
@@ -89,9 +89,16 @@ module _ (th : Theirs) (W : ℕ → Bool) where
   pairs clock t (Some n) None w es es' securities all = tt
   pairs clock t (Some n) (Some l) None es es' securities all = tt
 
+-- its lot's line is there
+none_lacking : (s : Tables) → HaveParents s s → (notice lot : List ℕ) (o : Option LotRow) → lot_at (notice, lot) s ≡ o
+    → award_lacks (record { notice = None; lot = o; line = line_of_lot o s; envelopes = []; securities = []; clock = s.clock }) ≡ false
+none_lacking s have notice lot None is = refl
+none_lacking s have notice lot (Some l) is = ap not (have.lots (notice, lot) l is).line
+
 pub award : (notice lot : List ℕ) → Lawful (Award notice lot)
 award notice lot = record {
   touches = Awards ∷ Lots ∷ Lines ∷ Securities ∷ [];
+  alone = (refl, refl);
   accounts = Moving (λ readings xs s moment caller kept order own allowed. award_keeps readings xs s moment caller notice lot kept allowed);
   fates = λ readings. award_fates.award_keeps readings notice lot;
   tail = λ readings s moment caller have allowed.
@@ -104,6 +111,7 @@ award notice lot = record {
       moved refl (λ i. award_puts (record { notice = n.1 i; lot = l.1 i; line = line i; envelopes = envelopes_of_lot notice lot s; securities = securities_of_lot notice lot s; clock = s.clock }) now)
       (decided s now notice lot n.0 l.0 w.0 n.1 tests.1.1.1.1.1.1.1.0 (winner (Some n.0) (envelopes_of_lot notice lot s)));
   parents = λ readings s moment caller order have registered may allowed u grown later. parents_of s u have grown order s.clock _ notice lot (notice_at notice s) (lot_at (notice, lot) s) (line_of_lot (lot_at (notice, lot) s) s) refl;
+  lacks = λ xs s moment caller whole allowed. none_lacking s whole.parents notice lot (lot_at (notice, lot) s) refl;
   alike = λ th W s es' ss' all seals readings t caller quiet.
       pairs th W s.clock t (notice_at notice s) (lot_at (notice, lot) s) (line_of_lot (lot_at (notice, lot) s) s) (envelopes_of_lot notice lot s) (envelopes_of_lot notice lot (record s { envelopes = es' })) (securities_of_lot notice lot s) (lot_pairs th W s es' all notice lot);
 }

@@ -1,12 +1,12 @@
 -- The cancellation of a notice keeps the laws of the office.
 pub mod Accounts
 pub mod Fates
-use Rattle.std.specs.Prelude.{max, ℕ, List}
-use Rattle.std.proofs.Common.{[], ◌∷◌, ◌≡◌, Bool, false, ◌++◌, map, filter, Option, Some, None, refl, ap, sym, arith}
-use Rattle.std.specs.List.{AllByRecursion}
+use Rattle.std.specs.Prelude.{max, ℕ, List, IsSome}
+use Rattle.std.proofs.Common.{[], ◌∷◌, ◌≡◌, Bool, false, ◌++◌, map, filter, Option, Some, None, refl, ap, sym, arith, not, ◌||◌}
+use Rattle.std.specs.List.{AllByRecursion, list_any}
 use Rattle.office_acts.specs.declared.commands.Command.TheVariants.{Cancel}
 use Rattle.office_base.specs.declared.records.EnvelopeRow.{EnvelopeRow}
-use Rattle.office_base.specs.Tables.{IsSorted, notice_at, Tables, lots_of_notice, awards_of_notice, envelopes_of_notice, securities_of_notice, of_notice}
+use Rattle.office_base.specs.Tables.{IsSorted, notice_at, Tables, lots_of_notice, awards_of_notice, envelopes_of_notice, securities_of_notice, of_notice, line_at}
 use Rattle.office_base.specs.declared.records.LineRow.{LineRow}
 use Rattle.office_base.specs.declared.records.NoticeRow.{NoticeRow}
 use Rattle.office_base.specs.declared.records.LotRow.{LotRow}
@@ -16,7 +16,7 @@ use Rattle.office_base.specs.declared.records.ClockRow.{ClockRow}
 use Rattle.office_base.specs.declared.puts.Put.{Put}
 use Rattle.office_base.specs.RuleParts.{security_returned, has_all_releases, clock_put}
 use Rattle.office_base.specs.declared.puts.Put.TheVariants as puts
-use Rattle.tender_core.specs.Rules.Cancel.{line_put as cancel_line, lot_put as cancel_lot, cancel_tests, cancel_rows, is_open_lot, is_ended_award, award_put, is_ended_envelope, envelope_put, drop_put, is_ended_security, cancelled_notice, returned_envelope, cancel_puts}
+use Rattle.tender_core.specs.Rules.Cancel.{line_put as cancel_line, lot_put as cancel_lot, cancel_tests, cancel_rows, is_open_lot, is_ended_award, award_put, is_ended_envelope, envelope_put, drop_put, is_ended_security, cancelled_notice, returned_envelope, cancel_puts, cancel_lacks, lacks_line}
 use Rattle.office_machine.specs.Worlds.{Theirs, Pairs}
 use Rattle.office_machine.specs.Parents.{HaveParents, LotHas, EnvelopeHas, AwardHas}
 use Rattle.office_machine.proofs.Commands.Tail.{HasTail, moved, front_map, loud}
@@ -47,7 +47,7 @@ tail_of s t notice n is full =
     (front_map envelope_put gone (λ _. refl)
     (front_map drop_put gone (λ _. refl)
     (front_map security_returned securities (λ _. refl)
-    (loud notice n (cancelled_notice n) _ [] is full refl refl tt refl (omega arith)))))))
+    (loud notice n (cancelled_notice n) _ [] is full refl refl refl tt refl (omega arith)))))))
 
 module _ (s u : Tables) (have : HaveParents s s) (g : Grows s u) (order : IsSorted s) where
   -- of all rows of a table
@@ -97,9 +97,22 @@ module _ (th : Theirs) (W : ℕ → Bool) where
       (plain_pairs th W (map security_returned (filter (is_ended_security lots) securities) ++ (puts.Notice (cancelled_notice n) ∷ clock_put clock t ∷ []))
       (plain-append (map security_returned (filter (is_ended_security lots) securities)) _ (plain-map security_returned (filter (is_ended_security lots) securities) (λ _. tt)) (tt, (tt, tt))))))))
 
+-- the lines of its lots are there
+module _ (s : Tables) (have : HaveParents s s) (order : IsSorted s) where
+  lines_there : (lots : List LotRow) → AllByRecursion (λ (l : LotRow). IsSome (line_at l.line s)) lots → list_any (lacks_line s.lines) lots ≡ false
+  lines_there [] h = refl
+  lines_there (l ∷ lots) h = λ i. ap not h.0 i || lines_there lots h.1 i
+
+  none_lacking : (notice : List ℕ) (o : Option NoticeRow) → cancel_lacks (record { notice = o; lines = s.lines; lots = lots_of_notice notice s; awards = []; envelopes = []; securities = []; clock = s.clock }) ≡ false
+  none_lacking notice None = refl
+  none_lacking notice (Some n) =
+      lines_there (filter is_open_lot (lots_of_notice notice s))
+      (all-filter _ is_open_lot (lots_of_notice notice s) (all-filter _ (of_notice notice) s.lots (all-table keyed.lots (λ (l : LotRow). IsSome (line_at l.line s)) s.lots order.lots (λ k l is. (have.lots k l is).line))))
+
 pub cancel : (notice rationale : List ℕ) → Lawful (Cancel notice rationale)
 cancel notice rationale = record {
   touches = Lines ∷ Lots ∷ Awards ∷ Envelopes ∷ Seals ∷ Securities ∷ [];
+  alone = (refl, refl);
   accounts = Moving (λ readings xs s moment caller kept order own allowed. cancel_keeps readings xs s moment caller notice rationale kept order allowed);
   fates = λ readings. cancel_fates.cancel_keeps readings notice rationale;
   tail = λ readings s moment caller have allowed.
@@ -109,6 +122,7 @@ cancel notice rationale = record {
       moved refl (λ i. cancel_puts (record { notice = n.1 i; lines = s.lines; lots = lots_of_notice notice s; awards = awards_of_notice notice s; envelopes = envelopes_of_notice notice s; securities = securities_of_notice notice s; clock = s.clock }) now)
       (tail_of s now notice n.0 n.1 tests.1.1.0);
   parents = λ readings s moment caller order have registered may allowed u grown later. parents_of s u have grown order s.clock _ notice (notice_at notice s);
+  lacks = λ xs s moment caller whole allowed. none_lacking s whole.parents whole.order notice (notice_at notice s);
   alike = λ th W s es' ss' all seals readings t caller quiet.
       pairs th W s.clock t s.lines (notice_at notice s) (lots_of_notice notice s) (awards_of_notice notice s) (envelopes_of_notice notice s) (envelopes_of_notice notice (record s { envelopes = es' })) (securities_of_notice notice s) (notice_pairs th W s es' all notice);
 }

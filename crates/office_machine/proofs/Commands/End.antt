@@ -1,6 +1,6 @@
 -- The end of a contract keeps the laws of the office.
-use Rattle.std.specs.Prelude.{max, Option}
-use Rattle.std.proofs.Common.{◌≡◌, ℕ, ◌+◌, Bool, true, false, cond, List, ◌∷◌, Some, None, is_some, refl, sym, ◌∙◌, ap, subst, ◌⊎◌, inl, inr, arith, []}
+use Rattle.std.specs.Prelude.{max, Option, nat_lt}
+use Rattle.std.proofs.Common.{◌≡◌, ℕ, ◌+◌, Bool, true, false, cond, List, ◌∷◌, Some, None, is_some, refl, sym, ◌∙◌, ap, subst, ◌⊎◌, inl, inr, arith, [], not, ◌||◌, ◌&&◌}
 use Rattle.std.specs.FinMap.{nat_cmp-IsAntisymmetric}
 use Rattle.std.specs.Cmp.{nat_cmp_total}
 use Rattle.std.specs.List.{AllByRecursion}
@@ -13,6 +13,7 @@ use Rattle.office_acts.specs.declared.commands.Command.TheVariants.{End}
 use Rattle.office_acts.specs.declared.commands.Command.TheVariants as commands
 use Rattle.office_base.specs.Tables.{IsSorted, same_number, Tables, line_at, notice_at, lot_at, contract_at, find_line, put_line, find_contract, put_contract, entries_of_contract, after_puts, performance_at, of_notice}
 use Rattle.office_base.specs.Rules.{first_of}
+use Rattle.office_base.specs.Rows.{holds_of}
 use Rattle.office_base.specs.RuleParts.{released, clock_put, performance_settled, put_if, settled_performance}
 use Rattle.office_base.specs.declared.records.LineRow.{LineRow}
 use Rattle.office_base.specs.declared.records.NoticeRow.{NoticeRow}
@@ -25,13 +26,14 @@ use Rattle.office_base.specs.declared.records.EntryRow.{EntryRow}
 use Rattle.office_base.specs.declared.records.ClockRow.{ClockRow}
 use Rattle.office_base.specs.declared.puts.Put.TheVariants as puts
 use Rattle.office_base.proofs.ExactKeys.{other_keys}
-use Rattle.award_core.specs.Rules.End.{end_tests, end_rows, ended_contract, ended_state, end_puts}
+use Rattle.award_core.specs.Rules.End.{end_tests, end_rows, ended_contract, ended_state, end_puts, end_lacks, lacks_performance}
 use Rattle.award_core.specs.Rules.AmendContract.{has_ended}
 use Rattle.office_machine.specs.Parents.{HaveParents}
 use Rattle.office_machine.specs.Machine.{Given, time_of, command_tests, effect}
 use Rattle.office_machine.specs.Readings.{Readings}
 use Rattle.office_machine.specs.Moves.{moves, brought, taken, owed, line_in}
 use Rattle.office_machine.proofs.Parents.SpokenOf.{of_contract, of_award}
+use Rattle.office_machine.proofs.Parents.Whole.{IsWhole, less, line_there, not_overdrawn}
 use Rattle.office_machine.proofs.Parents.ParentsPut.{Grows, AllParents, contract_still, parents-if}
 use Rattle.office_machine.proofs.Worlds.WorldsPut.{plain-if, IsPlain, plain_pairs}
 use Rattle.office_machine.proofs.Commands.Tail.{on_contract, moved, bonded, front}
@@ -198,11 +200,11 @@ fates_kept readings contract how xs t m caller kept own allowed =
 
 module _ (s u : Tables) (have : HaveParents s s) (g : Grows s u) where
   -- what its rows speak of is there
-  parents_of : (clock : ClockRow) (t : ℕ) (how : How) (contract : ℕ) (c : Option ContractRow) (entries : List EntryRow) (n : Option NoticeRow) (w : Option LineRow) (p : Option PerformanceRow) → contract_at contract s ≡ c → AllParents u (end_puts (record { contract = c; entries = entries; notice = n; line = w; performance = p; clock = clock }) t how)
-  parents_of clock t how contract (Some c) entries (Some n) (Some w) p is = let h = contract_still s u g c (have.contracts contract c is) in (record { notice = h.notice; lot = h.lot; tenderer = h.tenderer }, (tt, (tt, (tt, parents-if u (performance_settled (ended_state how)) p (λ _ _. tt)))))
-  parents_of clock t how contract None entries n w p is = tt
-  parents_of clock t how contract (Some c) entries None w p is = tt
-  parents_of clock t how contract (Some c) entries (Some n) None p is = tt
+  parents_of : (clock : ClockRow) (t : ℕ) (how : How) (contract : ℕ) (c : Option ContractRow) (entries : List EntryRow) (n : Option NoticeRow) (w : Option LineRow) (p : Option PerformanceRow) → contract_at contract s ≡ c → performance_at contract s ≡ p → AllParents u (end_puts (record { contract = c; entries = entries; notice = n; line = w; performance = p; clock = clock }) t how)
+  parents_of clock t how contract (Some c) entries (Some n) (Some w) p is bond = let h = contract_still s u g c (have.contracts contract c is) in (record { notice = h.notice; lot = h.lot; tenderer = h.tenderer }, (tt, (tt, (tt, parents-if u (performance_settled (ended_state how)) p (λ v found. record { contract = g.contracts v.contract (have.performances contract v (bond ∙ found)).contract })))))
+  parents_of clock t how contract None entries n w p is bond = tt
+  parents_of clock t how contract (Some c) entries None w p is bond = tt
+  parents_of clock t how contract (Some c) entries (Some n) None p is bond = tt
 
 -- it puts the same in both worlds
 plain : (clock : ClockRow) (t : ℕ) (how : How) (c : Option ContractRow) (es : List EntryRow) (n : Option NoticeRow) (w : Option LineRow) (p : Option PerformanceRow) → AllByRecursion IsPlain (end_puts (record { contract = c; entries = es; notice = n; line = w; performance = p; clock = clock }) t how)
@@ -211,9 +213,28 @@ plain clock t how None es n w p = tt
 plain clock t how (Some c) es None w p = tt
 plain clock t how (Some c) es (Some n) None p = tt
 
+-- its notice, its lot's line and the performance security that its notice asks for are there, and no more went from it than came
+module _ (xs : List Given) (s : Tables) (whole : IsWhole xs s) (contract : ℕ) where
+  performance_there : (c : ContractRow) → contract_at contract s ≡ Some c → (o : Option NoticeRow) → notice_at c.notice s ≡ o → holds_of (λ (n : NoticeRow). lacks_performance n (performance_at contract s)) o ≡ false
+  performance_there c is None at = refl
+  performance_there c is (Some n) at = by (nat_lt 0 n.performance) refl
+    where
+      by : (b : Bool) → nat_lt 0 n.performance ≡ b → (b && not (is_some (performance_at contract s))) ≡ false
+      by true e = ap not (whole.performances contract c n is at (less 0 n.performance e))
+      by false e = refl
+
+  none_lacking : (o : Option ContractRow) → contract_at contract s ≡ o
+      → end_lacks (record { contract = o; entries = entries_of_contract contract s; notice = notice_of_contract o s; line = line_of_lot (lot_of_contract o s) s; performance = performance_at contract s; clock = s.clock }) ≡ false
+  none_lacking None is = refl
+  none_lacking (Some c) is =
+      let h = whole.parents.contracts contract c is in
+      let line = line_there s whole.parents (c.notice, c.lot) (lot_at (c.notice, c.lot) s) refl h.lot in
+      λ i. ap not h.notice i || ap not line i || performance_there c is (notice_at c.notice s) refl i || not_overdrawn xs s whole.accounts contract c is i
+
 pub end_contract : (contract : ℕ) (how : How) → Lawful (End contract how)
 end_contract contract how = record {
   touches = Contracts ∷ Lines ∷ [];
+  alone = (refl, refl);
   accounts = Moving (λ readings xs s moment caller kept order own allowed. end_keeps readings xs s moment caller contract how kept order allowed);
   fates = λ readings. fates_kept readings contract how;
   tail = λ readings s moment caller have allowed.
@@ -222,7 +243,8 @@ end_contract contract how = record {
       moved refl (λ i. end_puts (record { contract = of.is i; entries = entries_of_contract contract s; notice = of.notice i; line = of.line i; performance = performance_at contract s; clock = s.clock }) (max moment s.clock.moment) how)
       (bonded (settled_performance (ended_state how)) (performance_at contract s)
       (front (puts.Contract _ ∷ puts.Line _ ∷ []) (refl, (refl, tt)) (on_contract contract of tests.1.1.0)));
-  parents = λ readings s moment caller order have registered may allowed u grown later. parents_of s u have grown s.clock _ how contract (contract_at contract s) (entries_of_contract contract s) (notice_of_contract (contract_at contract s) s) (line_of_lot (lot_of_contract (contract_at contract s) s) s) (performance_at contract s) refl;
+  parents = λ readings s moment caller order have registered may allowed u grown later. parents_of s u have grown s.clock _ how contract (contract_at contract s) (entries_of_contract contract s) (notice_of_contract (contract_at contract s) s) (line_of_lot (lot_of_contract (contract_at contract s) s) s) (performance_at contract s) refl refl;
+  lacks = λ xs s moment caller whole allowed. none_lacking xs s whole contract (contract_at contract s) refl;
   alike = λ th W s es' ss' all seals readings t caller quiet.
       plain_pairs th W (end_puts (record { contract = contract_at contract s; entries = entries_of_contract contract s; notice = (notice_of_contract (contract_at contract s) s); line = (line_of_lot (lot_of_contract (contract_at contract s) s) s); performance = performance_at contract s; clock = s.clock }) t how)
       (plain s.clock t how (contract_at contract s) (entries_of_contract contract s) (notice_of_contract (contract_at contract s) s) (line_of_lot (lot_of_contract (contract_at contract s) s) s) (performance_at contract s));

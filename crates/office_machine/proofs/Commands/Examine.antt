@@ -1,17 +1,18 @@
 -- The examination of a tender keeps the laws of the office.
 use Rattle.std.specs.Prelude.{max, cond, List}
-use Rattle.std.proofs.Common.{arith, ◌≡◌, ℕ, Bool, [], ◌∷◌, Option, Some, None, refl, sym, ap, ◌∙◌}
+use Rattle.std.proofs.Common.{arith, ◌≡◌, ℕ, Bool, [], ◌∷◌, Option, Some, None, refl, sym, ap, ◌∙◌, false, not, ◌||◌}
 use Rattle.std.specs.Cmp.{nat_cmp_total}
 use Rattle.std.specs.FinMap.{nat_cmp-IsAntisymmetric}
 use Rattle.std.specs.Ordering.{nat_cmp, eq_by_cmp}
 use Rattle.office_acts.specs.declared.commands.Command.TheVariants.{Examine}
 use Rattle.office_acts.specs.declared.command.Caller.{Caller}
 use Rattle.office_base.specs.Tables.{find_envelope, Tables, envelope_at, envelope_key, after_puts}
+use Rattle.office_base.specs.Parents.{notice_of_envelope, lot_of_envelope}
 use Rattle.office_base.specs.declared.records.EnvelopeRow.{EnvelopeRow}
 use Rattle.office_base.specs.declared.records.ClockRow.{ClockRow}
 use Rattle.office_base.specs.RuleParts.{clock_put}
 use Rattle.office_base.specs.declared.puts.Put.TheVariants as puts
-use Rattle.award_core.specs.Rules.Examine.{examine_rows, examine_tests, examined, examine_puts}
+use Rattle.award_core.specs.Rules.Examine.{examine_rows, examine_tests, examined, examine_puts, examine_lacks}
 use Rattle.office_machine.specs.Worlds.{Theirs, Pairs}
 use Rattle.office_machine.specs.Parents.{HaveParents}
 use Rattle.office_machine.specs.Machine.{Given}
@@ -66,6 +67,7 @@ module _ (readings : Readings) (receipt : ℕ) (responsive : Bool) (quality : Op
             lot = λ r d. cond_keeps (λ (e : EnvelopeRow). e.lot) (eq_by_cmp nat_cmp r receipt) (examined responsive quality d) d refl;
             tenderer = λ r d. cond_keeps (λ (e : EnvelopeRow). e.tenderer) (eq_by_cmp nat_cmp r receipt) (examined responsive quality d) d refl;
             security = λ r d. cond_keeps (λ (e : EnvelopeRow). e.security) (eq_by_cmp nat_cmp r receipt) (examined responsive quality d) d refl;
+            moment = λ r d. cond_keeps (λ (e : EnvelopeRow). e.moment) (eq_by_cmp nat_cmp r receipt) (examined responsive quality d) d refl;
             len = λ r d. cond_keeps (λ (e : EnvelopeRow). e.length) (eq_by_cmp nat_cmp r receipt) (examined responsive quality d) d refl;
             digest = λ r d. cond_keeps (λ (e : EnvelopeRow). e.digest) (eq_by_cmp nat_cmp r receipt) (examined responsive quality d) d refl;
           };
@@ -109,9 +111,15 @@ module _ (th : Theirs) (W : ℕ → Bool) where
     (Plain tt refl, tt),
   )
 
+-- its notice and its lot are there
+none_lacking : (s : Tables) → HaveParents s s → (receipt : ℕ) (o : Option EnvelopeRow) → envelope_at receipt s ≡ o → examine_lacks (record { envelope = o; notice = notice_of_envelope o s; lot = lot_of_envelope o s; clock = s.clock }) ≡ false
+none_lacking s have receipt None is = refl
+none_lacking s have receipt (Some e) is = let h = have.envelopes receipt e is in λ i. ap not h.notice i || ap not h.lot i
+
 pub examine : (receipt : ℕ) (responsive : Bool) (quality : Option ℕ) → Lawful (Examine receipt responsive quality)
 examine receipt responsive quality = record {
   touches = Envelopes ∷ [];
+  alone = (refl, refl);
   accounts = Idle refl (λ s moment caller xs. record { moves_none = refl; held = λ _. refl; none_brought = λ _. refl; none_taken = λ _. refl });
   fates = λ readings. fates_kept readings receipt responsive quality;
   tail = λ readings s moment caller have allowed.
@@ -119,5 +127,6 @@ examine receipt responsive quality = record {
       let e = witness (envelope_at receipt s) (not_false _ tests.1.0) in
       moved refl (λ i. examine_puts (record { envelope = e.1 i; notice = None; lot = None; clock = s.clock }) (max moment s.clock.moment) responsive quality) (front (puts.Envelope _ ∷ []) (refl, tt) (quiet _ [] tt refl (omega arith)));
   parents = λ readings s moment caller order have registered may allowed u grown later. parents_of s u have grown s.clock _ receipt responsive quality (envelope_at receipt s) refl;
+  lacks = λ xs s moment caller whole allowed. none_lacking s whole.parents receipt (envelope_at receipt s) refl;
   alike = λ th W s es' ss' all seals readings t caller quiet. pairs th W s.clock t responsive quality (envelope_at receipt s) (find_envelope es' receipt) (envelope_pair th W s es' all receipt);
 }

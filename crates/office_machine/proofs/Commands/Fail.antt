@@ -2,12 +2,13 @@
 pub mod Accounts
 pub mod Fates
 use Rattle.std.specs.Prelude.{max, ℕ}
-use Rattle.std.proofs.Common.{[], ◌∷◌, refl, ◌≡◌, Bool, Option, Some, None, option_map, sym, ◌∙◌, ap, arith, subst}
+use Rattle.std.proofs.Common.{[], ◌∷◌, refl, ◌≡◌, Bool, Option, Some, None, option_map, sym, ◌∙◌, ap, arith, subst, false, not, ◌||◌}
 use Rattle.office_acts.specs.declared.commands.Command.TheVariants.{Fail}
 use Rattle.office_base.specs.declared.records.EnvelopeRow.{EnvelopeRow}
 use Rattle.office_base.specs.Parents.{notice_of_award, lot_of_award, envelope_of_award, security_of_envelope}
-use Rattle.office_base.specs.Tables.{award_at, Tables}
-use Rattle.office_base.specs.RuleParts.{released, has_all_releases, security_settled, passed_over, put_if}
+use Rattle.office_base.specs.Tables.{award_at, Tables, envelope_at}
+use Rattle.office_base.specs.Rows.{holds_of}
+use Rattle.office_base.specs.RuleParts.{released, has_all_releases, security_settled, passed_over, put_if, lacks_security}
 use Rattle.office_base.specs.declared.records.NoticeRow.{NoticeRow}
 use Rattle.office_base.specs.declared.records.LotRow.{LotRow}
 use Rattle.office_base.specs.declared.records.SecurityRow.{SecurityRow}
@@ -15,7 +16,7 @@ use Rattle.office_base.specs.declared.records.AwardRow.{AwardRow}
 use Rattle.office_base.specs.declared.records.SecurityState.TheVariants.{Forfeited}
 use Rattle.office_base.specs.declared.records.ClockRow.{ClockRow}
 use Rattle.office_base.specs.declared.puts.Put.TheVariants as puts
-use Rattle.award_core.specs.Rules.Fail.{fail_tests, fail_rows, fail_puts}
+use Rattle.award_core.specs.Rules.Fail.{fail_tests, fail_rows, fail_puts, fail_lacks}
 use Rattle.office_machine.specs.Worlds.{Theirs, Pairs}
 use Rattle.office_machine.specs.Parents.{HaveParents, EnvelopeHas}
 use Rattle.office_machine.proofs.Commands.Footprint.{Envelopes, Awards, Lots, Securities, TableName, on-append, on-if}
@@ -23,6 +24,7 @@ use Rattle.office_machine.proofs.Worlds.WorldsPut.{TwoEnvelopes, AlikeOptions, p
 use Rattle.office_machine.proofs.Parents.ParentsPut.{Grows, AllParents, envelope_still, award_still, parents-append, parents-if}
 use Rattle.office_machine.proofs.Worlds.WorldsRows.{awarded_pair}
 use Rattle.office_machine.proofs.Parents.RowsHave.{security_found, lot_of}
+use Rattle.office_machine.proofs.Parents.Whole.{security_there}
 use Rattle.office_machine.proofs.Commands.Fail.Accounts.{fail_keeps}
 use Rattle.office_machine.proofs.Commands.Lawful.{Lawful, Moving}
 use Rattle.office_machine.proofs.Passed.{none_holds, not_false}
@@ -86,9 +88,23 @@ module _ (th : Theirs) (W : ℕ → Bool) where
       by (Some e) None a = absurd a
       by (Some e) (Some e') a = (TwoEnvelopes (passed_over e) (passed_over e') refl refl (alike-set th W passed_over (λ _ _. refl) (λ _. refl) (λ _. refl) (λ _. refl) e e' a), tt)
 
+-- its notice, its lot, its tender and the security that this names are there
+module _ (s : Tables) (have : HaveParents s s) where
+  tender_lacks_none : (receipt : ℕ) (o : Option EnvelopeRow) → envelope_at receipt s ≡ o → holds_of (λ (e : EnvelopeRow). lacks_security e (security_of_envelope o s)) o ≡ false
+  tender_lacks_none receipt None is = refl
+  tender_lacks_none receipt (Some e) is = security_there s have e (have.envelopes receipt e is)
+
+  none_lacking : (award : ℕ) (o : Option AwardRow) → award_at award s ≡ o
+      → fail_lacks (record { award = o; notice = notice_of_award o s; lot = lot_of_award o s; envelope = envelope_of_award o s; security = security_of_envelope (envelope_of_award o s) s; clock = s.clock }) ≡ false
+  none_lacking award None is = refl
+  none_lacking award (Some a) is =
+      let h = have.awards award a is in
+      λ i. ap not h.notice i || ap not h.lot i || ap not h.envelope i || tender_lacks_none a.receipt (envelope_at a.receipt s) refl i
+
 pub fail : (award : ℕ) → Lawful (Fail award)
 fail award = record {
   touches = Awards ∷ Lots ∷ Envelopes ∷ Securities ∷ [];
+  alone = (refl, refl);
   accounts = Moving (λ readings xs s moment caller kept order own allowed. fail_keeps readings xs s moment caller award kept allowed);
   fates = λ readings. fail_fates.fail_keeps readings award;
   tail = λ readings s moment caller have allowed.
@@ -100,9 +116,10 @@ fail award = record {
       let security = security_of_envelope envelope s in
       moved (ap (option_map (λ (a : AwardRow). a.notice)) of.is) (λ i. fail_puts (record { award = of.is i; notice = of.notice i; lot = of.lot i; envelope = envelope; security = security; clock = s.clock }) now)
       (front (puts.Award _ ∷ puts.Lot _ ∷ []) (refl, (refl, tt))
-      (loud of.w.notice of.n (released of.n) _ _ of.notice_is (ap has_all_releases (of.notice_is ∙ sym of.notice) ∙ tests.1.1.1.1.0) refl refl
+      (loud of.w.notice of.n (released of.n) _ _ of.notice_is (ap has_all_releases (of.notice_is ∙ sym of.notice) ∙ tests.1.1.1.1.0) refl refl refl
       (on-append own _ _ (on-if own (λ e. puts.Envelope (passed_over e)) envelope (λ _. refl)) (on-if own (security_settled Forfeited) security (λ _. refl))) refl (omega arith)));
   parents = λ readings s moment caller order have registered may allowed u grown later. parents_of s u have grown s.clock _ award (award_at award s) (notice_of_award (award_at award s) s) (lot_of_award (award_at award s) s) refl refl;
+  lacks = λ xs s moment caller whole allowed. none_lacking s whole.parents award (award_at award s) refl;
   alike = λ th W s es' ss' all seals readings t caller quiet.
       let o = envelope_of_award (award_at award s) s in
       let o' = envelope_of_award (award_at award s) (record s { envelopes = es' }) in

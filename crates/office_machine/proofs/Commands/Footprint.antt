@@ -100,6 +100,7 @@ pub record Leaves (test : TableName → Bool) (t u : Tables) : Type 0 where
   pub entries : test Entries ≡ false → u.entries ≡ t.entries
   pub releases : test Releases ≡ false → u.releases ≡ t.releases
   pub compiled : test Merges ≡ false → u.compiled ≡ t.compiled
+  pub late_rules : test LateRules ≡ false → u.late_rules ≡ t.late_rules
   pub performances : test Performances ≡ false → u.performances ≡ t.performances
   pub clock : test Clock ≡ false → u.clock ≡ t.clock
 
@@ -107,26 +108,26 @@ clash : {A : Type 0} {b : Bool} → b ≡ true → b ≡ false → A
 clash is isnt = absurd (let both : true ≡ false = sym is ∙ isnt in cc)
 
 one_leaves : (test : TableName → Bool) (p : Put) (t : Tables) → IsOn test p → Leaves test t (after_put p t)
-one_leaves test (puts.Line r) t on = record { lines = λ off. clash on off; notices = λ _. refl; lots = λ _. refl; awards = λ _. refl; contracts = λ _. refl; entries = λ _. refl; releases = λ _. refl; compiled = λ _. refl; performances = λ _. refl; clock = λ _. refl }
-one_leaves test (puts.Batch r) t on = record { lines = λ _. refl; notices = λ _. refl; lots = λ _. refl; awards = λ _. refl; contracts = λ _. refl; entries = λ _. refl; releases = λ _. refl; compiled = λ _. refl; performances = λ _. refl; clock = λ _. refl }
-one_leaves test (puts.Tenderer r) t on = record { lines = λ _. refl; notices = λ _. refl; lots = λ _. refl; awards = λ _. refl; contracts = λ _. refl; entries = λ _. refl; releases = λ _. refl; compiled = λ _. refl; performances = λ _. refl; clock = λ _. refl }
-one_leaves test (puts.Notice r) t on = record { lines = λ _. refl; notices = λ off. clash on off; lots = λ _. refl; awards = λ _. refl; contracts = λ _. refl; entries = λ _. refl; releases = λ _. refl; compiled = λ _. refl; performances = λ _. refl; clock = λ _. refl }
-one_leaves test (puts.Lot r) t on = record { lines = λ _. refl; notices = λ _. refl; lots = λ off. clash on off; awards = λ _. refl; contracts = λ _. refl; entries = λ _. refl; releases = λ _. refl; compiled = λ _. refl; performances = λ _. refl; clock = λ _. refl }
-one_leaves test (puts.Envelope r) t on = record { lines = λ _. refl; notices = λ _. refl; lots = λ _. refl; awards = λ _. refl; contracts = λ _. refl; entries = λ _. refl; releases = λ _. refl; compiled = λ _. refl; performances = λ _. refl; clock = λ _. refl }
-one_leaves test (puts.Seal r) t on = record { lines = λ _. refl; notices = λ _. refl; lots = λ _. refl; awards = λ _. refl; contracts = λ _. refl; entries = λ _. refl; releases = λ _. refl; compiled = λ _. refl; performances = λ _. refl; clock = λ _. refl }
-one_leaves test (puts.DropSeal n) t on = record { lines = λ _. refl; notices = λ _. refl; lots = λ _. refl; awards = λ _. refl; contracts = λ _. refl; entries = λ _. refl; releases = λ _. refl; compiled = λ _. refl; performances = λ _. refl; clock = λ _. refl }
-one_leaves test (puts.Security r) t on = record { lines = λ _. refl; notices = λ _. refl; lots = λ _. refl; awards = λ _. refl; contracts = λ _. refl; entries = λ _. refl; releases = λ _. refl; compiled = λ _. refl; performances = λ _. refl; clock = λ _. refl }
-one_leaves test (puts.Award r) t on = record { lines = λ _. refl; notices = λ _. refl; lots = λ _. refl; awards = λ off. clash on off; contracts = λ _. refl; entries = λ _. refl; releases = λ _. refl; compiled = λ _. refl; performances = λ _. refl; clock = λ _. refl }
-one_leaves test (puts.Contract r) t on = record { lines = λ _. refl; notices = λ _. refl; lots = λ _. refl; awards = λ _. refl; contracts = λ off. clash on off; entries = λ _. refl; releases = λ _. refl; compiled = λ _. refl; performances = λ _. refl; clock = λ _. refl }
-one_leaves test (puts.Entry r) t on = record { lines = λ _. refl; notices = λ _. refl; lots = λ _. refl; awards = λ _. refl; contracts = λ _. refl; entries = λ off. clash on off; releases = λ _. refl; compiled = λ _. refl; performances = λ _. refl; clock = λ _. refl }
-one_leaves test (puts.Release r) t on = record { lines = λ _. refl; notices = λ _. refl; lots = λ _. refl; awards = λ _. refl; contracts = λ _. refl; entries = λ _. refl; releases = λ off. clash on off; compiled = λ _. refl; performances = λ _. refl; clock = λ _. refl }
-one_leaves test (puts.Compiled r) t on = record { lines = λ _. refl; notices = λ _. refl; lots = λ _. refl; awards = λ _. refl; contracts = λ _. refl; entries = λ _. refl; releases = λ _. refl; compiled = λ off. clash on off; performances = λ _. refl; clock = λ _. refl }
-one_leaves test (puts.Late r) t on = record { lines = λ _. refl; notices = λ _. refl; lots = λ _. refl; awards = λ _. refl; contracts = λ _. refl; entries = λ _. refl; releases = λ _. refl; compiled = λ _. refl; performances = λ _. refl; clock = λ _. refl }
-one_leaves test (puts.Performance r) t on = record { lines = λ _. refl; notices = λ _. refl; lots = λ _. refl; awards = λ _. refl; contracts = λ _. refl; entries = λ _. refl; releases = λ _. refl; compiled = λ _. refl; performances = λ off. clash on off; clock = λ _. refl }
-one_leaves test (puts.Clock r) t on = record { lines = λ _. refl; notices = λ _. refl; lots = λ _. refl; awards = λ _. refl; contracts = λ _. refl; entries = λ _. refl; releases = λ _. refl; compiled = λ _. refl; performances = λ _. refl; clock = λ off. clash on off }
+one_leaves test (puts.Line r) t on = record { lines = λ off. clash on off; notices = λ _. refl; lots = λ _. refl; awards = λ _. refl; contracts = λ _. refl; entries = λ _. refl; releases = λ _. refl; compiled = λ _. refl; late_rules = λ _. refl; performances = λ _. refl; clock = λ _. refl }
+one_leaves test (puts.Batch r) t on = record { lines = λ _. refl; notices = λ _. refl; lots = λ _. refl; awards = λ _. refl; contracts = λ _. refl; entries = λ _. refl; releases = λ _. refl; compiled = λ _. refl; late_rules = λ _. refl; performances = λ _. refl; clock = λ _. refl }
+one_leaves test (puts.Tenderer r) t on = record { lines = λ _. refl; notices = λ _. refl; lots = λ _. refl; awards = λ _. refl; contracts = λ _. refl; entries = λ _. refl; releases = λ _. refl; compiled = λ _. refl; late_rules = λ _. refl; performances = λ _. refl; clock = λ _. refl }
+one_leaves test (puts.Notice r) t on = record { lines = λ _. refl; notices = λ off. clash on off; lots = λ _. refl; awards = λ _. refl; contracts = λ _. refl; entries = λ _. refl; releases = λ _. refl; compiled = λ _. refl; late_rules = λ _. refl; performances = λ _. refl; clock = λ _. refl }
+one_leaves test (puts.Lot r) t on = record { lines = λ _. refl; notices = λ _. refl; lots = λ off. clash on off; awards = λ _. refl; contracts = λ _. refl; entries = λ _. refl; releases = λ _. refl; compiled = λ _. refl; late_rules = λ _. refl; performances = λ _. refl; clock = λ _. refl }
+one_leaves test (puts.Envelope r) t on = record { lines = λ _. refl; notices = λ _. refl; lots = λ _. refl; awards = λ _. refl; contracts = λ _. refl; entries = λ _. refl; releases = λ _. refl; compiled = λ _. refl; late_rules = λ _. refl; performances = λ _. refl; clock = λ _. refl }
+one_leaves test (puts.Seal r) t on = record { lines = λ _. refl; notices = λ _. refl; lots = λ _. refl; awards = λ _. refl; contracts = λ _. refl; entries = λ _. refl; releases = λ _. refl; compiled = λ _. refl; late_rules = λ _. refl; performances = λ _. refl; clock = λ _. refl }
+one_leaves test (puts.DropSeal n) t on = record { lines = λ _. refl; notices = λ _. refl; lots = λ _. refl; awards = λ _. refl; contracts = λ _. refl; entries = λ _. refl; releases = λ _. refl; compiled = λ _. refl; late_rules = λ _. refl; performances = λ _. refl; clock = λ _. refl }
+one_leaves test (puts.Security r) t on = record { lines = λ _. refl; notices = λ _. refl; lots = λ _. refl; awards = λ _. refl; contracts = λ _. refl; entries = λ _. refl; releases = λ _. refl; compiled = λ _. refl; late_rules = λ _. refl; performances = λ _. refl; clock = λ _. refl }
+one_leaves test (puts.Award r) t on = record { lines = λ _. refl; notices = λ _. refl; lots = λ _. refl; awards = λ off. clash on off; contracts = λ _. refl; entries = λ _. refl; releases = λ _. refl; compiled = λ _. refl; late_rules = λ _. refl; performances = λ _. refl; clock = λ _. refl }
+one_leaves test (puts.Contract r) t on = record { lines = λ _. refl; notices = λ _. refl; lots = λ _. refl; awards = λ _. refl; contracts = λ off. clash on off; entries = λ _. refl; releases = λ _. refl; compiled = λ _. refl; late_rules = λ _. refl; performances = λ _. refl; clock = λ _. refl }
+one_leaves test (puts.Entry r) t on = record { lines = λ _. refl; notices = λ _. refl; lots = λ _. refl; awards = λ _. refl; contracts = λ _. refl; entries = λ off. clash on off; releases = λ _. refl; compiled = λ _. refl; late_rules = λ _. refl; performances = λ _. refl; clock = λ _. refl }
+one_leaves test (puts.Release r) t on = record { lines = λ _. refl; notices = λ _. refl; lots = λ _. refl; awards = λ _. refl; contracts = λ _. refl; entries = λ _. refl; releases = λ off. clash on off; compiled = λ _. refl; late_rules = λ _. refl; performances = λ _. refl; clock = λ _. refl }
+one_leaves test (puts.Compiled r) t on = record { lines = λ _. refl; notices = λ _. refl; lots = λ _. refl; awards = λ _. refl; contracts = λ _. refl; entries = λ _. refl; releases = λ _. refl; compiled = λ off. clash on off; late_rules = λ _. refl; performances = λ _. refl; clock = λ _. refl }
+one_leaves test (puts.Late r) t on = record { lines = λ _. refl; notices = λ _. refl; lots = λ _. refl; awards = λ _. refl; contracts = λ _. refl; entries = λ _. refl; releases = λ _. refl; compiled = λ _. refl; late_rules = λ off. clash on off; performances = λ _. refl; clock = λ _. refl }
+one_leaves test (puts.Performance r) t on = record { lines = λ _. refl; notices = λ _. refl; lots = λ _. refl; awards = λ _. refl; contracts = λ _. refl; entries = λ _. refl; releases = λ _. refl; compiled = λ _. refl; late_rules = λ _. refl; performances = λ off. clash on off; clock = λ _. refl }
+one_leaves test (puts.Clock r) t on = record { lines = λ _. refl; notices = λ _. refl; lots = λ _. refl; awards = λ _. refl; contracts = λ _. refl; entries = λ _. refl; releases = λ _. refl; compiled = λ _. refl; late_rules = λ _. refl; performances = λ _. refl; clock = λ off. clash on off }
 
 pub leaves : (test : TableName → Bool) (ps : List Put) (t : Tables) → AreOn test ps → Leaves test t (after_puts ps t)
-leaves test [] t a = record { lines = λ _. refl; notices = λ _. refl; lots = λ _. refl; awards = λ _. refl; contracts = λ _. refl; entries = λ _. refl; releases = λ _. refl; compiled = λ _. refl; performances = λ _. refl; clock = λ _. refl }
+leaves test [] t a = record { lines = λ _. refl; notices = λ _. refl; lots = λ _. refl; awards = λ _. refl; contracts = λ _. refl; entries = λ _. refl; releases = λ _. refl; compiled = λ _. refl; late_rules = λ _. refl; performances = λ _. refl; clock = λ _. refl }
 leaves test (p ∷ ps) t a =
     let one = one_leaves test p t a.0 in
     let more = leaves test ps (after_put p t) a.1 in
@@ -139,6 +140,7 @@ leaves test (p ∷ ps) t a =
       entries = λ off. more.entries off ∙ one.entries off;
       releases = λ off. more.releases off ∙ one.releases off;
       compiled = λ off. more.compiled off ∙ one.compiled off;
+      late_rules = λ off. more.late_rules off ∙ one.late_rules off;
       performances = λ off. more.performances off ∙ one.performances off;
       clock = λ off. more.clock off ∙ one.clock off;
     }

@@ -7,16 +7,18 @@ use Rattle.office_acts.specs.declared.commands.Command.TheVariants.{Import}
 use Rattle.office_acts.specs.declared.budget.BudgetRow.{BudgetRow}
 use Rattle.office_base.specs.Standings.{standings}
 use Rattle.office_base.specs.declared.puts.Put.TheVariants as puts
-use Rattle.tender_core.specs.Rules.Import.{line_put, import_puts, import_rows, after_rows}
+use Rattle.tender_core.specs.Rules.Import.{line_put, import_puts, import_rows, after_rows, import_tests}
 use Rattle.office_machine.specs.Readings.{Readings}
 use Rattle.office_machine.proofs.Commands.Lawful.{given, Lawful, Moving}
 use Rattle.office_machine.proofs.Worlds.WorldsPut.{plain-map, plain-append, plain_pairs}
-use Rattle.office_machine.proofs.Commands.Import.Accounts.{import_keeps}
+use Rattle.office_machine.proofs.Commands.Import.Accounts.{import_keeps, covered}
+use Rattle.office_machine.proofs.Commands.Import.Columns.{none_below}
 use Rattle.office_machine.proofs.Commands.Footprint.{Lines, Batches}
 use Rattle.office_machine.proofs.FateLaws.QuietFates.{kept_after, one_more, all_append, all_of_map}
 use Rattle.office_machine.proofs.FateLaws.Seen.{seen, IsQuiet}
 use Rattle.office_machine.proofs.FateLaws.FatesHold.{Keeps}
 use Rattle.office_machine.proofs.Parents.ParentsPut.{parents-append, parents-map}
+use Rattle.office_machine.proofs.Passed.{none_holds}
 use Rattle.office_machine.proofs.Commands.Tail.{front, front_map, quiet}
 
 -- the lines of its rows, the batch and the clock touch no tender and no security
@@ -29,12 +31,14 @@ fates_kept readings batch rows xs t m caller kept own allowed =
 pub import_budget : (batch : List ℕ) (rows : List BudgetRow) → Lawful (Import batch rows)
 import_budget batch rows = record {
   touches = Lines ∷ Batches ∷ [];
+  alone = (refl, refl);
   accounts = Moving (λ readings xs s moment caller kept order own allowed. import_keeps readings xs s moment caller batch rows kept order allowed);
   fates = λ readings. fates_kept readings batch rows;
   tail = λ readings s moment caller have allowed.
       front_map (line_put (after_rows (standings s) rows)) rows (λ _. refl) (front (puts.Batch _ ∷ []) (refl, tt) (quiet _ [] tt refl (omega arith)));
   parents = λ readings s moment caller order have registered may allowed u grown later.
       parents-append u (map (line_put (after_rows (standings s) rows)) rows) _ (parents-map u (line_put (after_rows (standings s) rows)) rows (λ _. tt)) (tt, (tt, tt));
+  lacks = λ xs s moment caller whole allowed. none_below (standings s) rows (covered xs s whole.accounts whole.order) (none_holds (import_tests (import_rows s batch rows)) allowed).1.1.0;
   alike = λ th W s es' ss' all seals readings t caller quiet.
       plain_pairs th W (import_puts (import_rows s batch rows) t batch)
       (plain-append (map (line_put (after_rows (standings s) rows)) rows) _ (plain-map (line_put (after_rows (standings s) rows)) rows (λ _. tt)) (tt, (tt, tt)));

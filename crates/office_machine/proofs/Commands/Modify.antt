@@ -1,15 +1,16 @@
 -- The replacement of a tender keeps the laws of the office.
 pub mod Fates
 use Rattle.std.specs.Prelude.{max, ℕ, List}
-use Rattle.std.proofs.Common.{[], ◌∷◌, refl, ◌≡◌, Bool, false, Option, Some, None, sym, ◌∙◌, ap, arith, ◌+◌, length}
+use Rattle.std.proofs.Common.{[], ◌∷◌, refl, ◌≡◌, Bool, false, Option, Some, None, sym, ◌∙◌, ap, arith, ◌+◌, length, not}
 use Rattle.office_acts.specs.declared.commands.Command.TheVariants.{Modify}
 use Rattle.office_base.specs.declared.records.EnvelopeRow.{EnvelopeRow}
 use Rattle.office_base.specs.Tables.{envelope_at, Tables}
+use Rattle.office_base.specs.Parents.{notice_of_envelope}
 use Rattle.office_base.specs.Rows.{holds_of}
 use Rattle.office_base.specs.declared.records.ClockRow.{ClockRow}
 use Rattle.office_base.specs.declared.puts.Put.TheVariants as puts
 use Rattle.office_base.specs.declared.records.EnvelopeState.TheVariants as envelope_states
-use Rattle.tender_core.specs.Rules.Modify.{modify_tests, modify_rows, withdrawn, replacing, modify_puts}
+use Rattle.tender_core.specs.Rules.Modify.{modify_tests, modify_rows, withdrawn, replacing, modify_puts, modify_lacks}
 use Rattle.office_machine.specs.Worlds.{Theirs, Pairs, is_theirs}
 use Rattle.office_machine.specs.Parents.{HaveParents}
 use Rattle.office_machine.proofs.Commands.Footprint.{Envelopes, Seals}
@@ -56,9 +57,15 @@ module _ (th : Theirs) (W : ℕ → Bool) (digest : List ℕ → List ℕ) (cloc
     ),
   )
 
+-- its notice is there
+none_lacking : (s : Tables) → HaveParents s s → (receipt : ℕ) (o : Option EnvelopeRow) → envelope_at receipt s ≡ o → modify_lacks (record { envelope = o; notice = notice_of_envelope o s; clock = s.clock }) ≡ false
+none_lacking s have receipt None is = refl
+none_lacking s have receipt (Some e) is = ap not (have.envelopes receipt e is).notice
+
 pub modify : (receipt : ℕ) (bytes : List ℕ) → Lawful (Modify receipt bytes)
 modify receipt bytes = record {
   touches = Envelopes ∷ Seals ∷ [];
+  alone = (refl, refl);
   accounts = Idle refl (λ s moment caller xs. record { moves_none = refl; held = λ _. refl; none_brought = λ _. refl; none_taken = λ _. refl });
   fates = λ readings. modify_fates.modify_keeps readings receipt bytes;
   tail = λ readings s moment caller have allowed.
@@ -67,5 +74,6 @@ modify receipt bytes = record {
       moved refl (λ i. modify_puts readings.digest (record { envelope = e.1 i; notice = None; clock = s.clock }) now bytes)
       (front (puts.Envelope _ ∷ puts.DropSeal _ ∷ puts.Envelope _ ∷ puts.Seal _ ∷ []) (refl, (refl, (refl, (refl, tt)))) (quiet _ [] tt refl (omega arith)));
   parents = λ readings s moment caller order have registered may allowed u grown later. parents_of s u have grown readings.digest s.clock _ receipt bytes (envelope_at receipt s) refl;
+  lacks = λ xs s moment caller whole allowed. none_lacking s whole.parents receipt (envelope_at receipt s) refl;
   alike = λ th W s es' ss' all seals readings t caller quiet. absurd quiet;
 }

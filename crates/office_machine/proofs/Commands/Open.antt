@@ -74,6 +74,7 @@ module _ (th : Theirs) (W : ℕ → Bool) (s : Tables) (es' : List EnvelopeRow) 
 pub open_tenders : (notice : List ℕ) → Lawful (Open notice)
 open_tenders notice = record {
   touches = Envelopes ∷ [];
+  alone = (refl, refl);
   accounts = Idle refl (λ s moment caller xs. record { moves_none = refl; held = λ _. refl; none_brought = λ _. refl; none_taken = λ _. refl });
   fates = λ readings. open_fates.open_keeps readings notice;
   tail = λ readings s moment caller have allowed.
@@ -82,7 +83,8 @@ open_tenders notice = record {
       let n = witness (notice_at notice s) (not_false _ tests.0) in
       moved refl (λ i. open_puts readings.read (record { notice = n.1 i; clock = s.clock }) now (sealed_tenders notice s))
       (front_map (opened_put readings.read) (sealed_tenders notice s) (λ _. refl)
-      (loud notice n.0 (opened_notice now n.0) _ [] n.1 tests.1.1.1.1.0 refl refl tt refl (omega arith)));
+      (loud notice n.0 (opened_notice now n.0) _ [] n.1 tests.1.1.1.1.0 refl refl refl tt refl (omega arith)));
   parents = λ readings s moment caller order have registered may allowed u grown later. parents_of s u have grown order readings.read s.clock _ notice (notice_at notice s);
+  lacks = λ xs s moment caller whole allowed. refl;
   alike = λ th W s es' ss' all seals readings t caller quiet. pairs th W s es' ss' all readings.read s.clock t notice (notice_at notice s) quiet;
 }

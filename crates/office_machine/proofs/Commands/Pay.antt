@@ -1,6 +1,6 @@
 -- A payment keeps the laws of the office.
 use Rattle.std.specs.Prelude.{max, Option}
-use Rattle.std.proofs.Common.{◌≡◌, ℕ, ◌+◌, ◌≤◌, Bool, true, false, cond, List, [], ◌∷◌, Some, None, is_some, refl, sym, ◌∙◌, ap, subst, arith}
+use Rattle.std.proofs.Common.{◌≡◌, ℕ, ◌+◌, ◌≤◌, Bool, true, false, cond, List, [], ◌∷◌, Some, None, is_some, refl, sym, ◌∙◌, ap, subst, arith, not}
 use Rattle.std.specs.List.{AllByRecursion}
 use Rattle.office_values.specs.Ids.{same_id}
 use Rattle.office_values.specs.declared.refusal.Refusal.{Refusal}
@@ -19,7 +19,7 @@ use Rattle.office_base.specs.Parents.{notice_of_contract, lot_of_contract}
 use Rattle.office_base.specs.declared.records.ClockRow.{ClockRow}
 use Rattle.office_base.specs.declared.puts.Put.TheVariants as puts
 use Rattle.award_core.specs.Rules.AmendContract.{is_beyond, has_ended}
-use Rattle.award_core.specs.Rules.Pay.{payment_row, pay_rows, pay_tests, pay_puts}
+use Rattle.award_core.specs.Rules.Pay.{payment_row, pay_rows, pay_tests, pay_puts, pay_lacks}
 use Rattle.office_machine.specs.Parents.{HaveParents}
 use Rattle.office_machine.specs.Machine.{Given, time_of, command_tests, effect}
 use Rattle.office_machine.specs.Readings.{Readings}
@@ -156,9 +156,15 @@ plain clock t (Some c) (Some n) entry amount = (tt, (tt, (tt, tt)))
 plain clock t None n entry amount = tt
 plain clock t (Some c) None entry amount = tt
 
+-- its contract's notice is there
+none_lacking : (s : Tables) → HaveParents s s → (contract : ℕ) (o : Option ContractRow) → contract_at contract s ≡ o → pay_lacks (record { contract = o; entries = []; notice = notice_of_contract o s; clock = s.clock }) ≡ false
+none_lacking s have contract None is = refl
+none_lacking s have contract (Some c) is = ap not (have.contracts contract c is).notice
+
 pub pay : (contract : ℕ) (entry : List ℕ) (amount : ℕ) → Lawful (Pay contract entry amount)
 pay contract entry amount = record {
   touches = Entries ∷ [];
+  alone = (refl, refl);
   accounts = Moving (λ readings xs s moment caller kept order own allowed. pay_keeps readings xs s moment caller contract entry amount kept order allowed);
   fates = λ readings. fates_kept readings contract entry amount;
   tail = λ readings s moment caller have allowed.
@@ -168,6 +174,7 @@ pay contract entry amount = record {
       (front (puts.Entry _ ∷ []) (refl, tt)
       (on_contract contract of (neither _ (has_all_releases (notice_of_contract (contract_at contract s) s)) tests.1.1.1.1.0).1));
   parents = λ readings s moment caller order have registered may allowed u grown later. parents_of s u have grown s.clock _ contract (contract_at contract s) (notice_of_contract (contract_at contract s) s) entry amount refl;
+  lacks = λ xs s moment caller whole allowed. none_lacking s whole.parents contract (contract_at contract s) refl;
   alike = λ th W s es' ss' all seals readings t caller quiet.
       plain_pairs th W (pay_puts (record { contract = contract_at contract s; entries = []; notice = (notice_of_contract (contract_at contract s) s); clock = s.clock }) t entry amount) (plain s.clock t (contract_at contract s) (notice_of_contract (contract_at contract s) s) entry amount);
 }

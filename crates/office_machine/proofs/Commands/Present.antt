@@ -97,6 +97,7 @@ module _ (th : Theirs) (W : ℕ → Bool) (digest : List ℕ → List ℕ) (cloc
 pub present : (notice lot : List ℕ) (security : Option NamedSecurity) (bytes : List ℕ) → Lawful (Present notice lot security bytes)
 present notice lot security bytes = record {
   touches = Envelopes ∷ Seals ∷ Securities ∷ [];
+  alone = (refl, refl);
   accounts = Idle refl (λ s moment caller xs. record { moves_none = refl; held = λ _. refl; none_brought = λ _. refl; none_taken = λ _. refl });
   fates = λ readings. present_fates.present_keeps readings notice lot security bytes;
   tail = λ readings s moment caller have allowed.
@@ -108,5 +109,6 @@ present notice lot security bytes = record {
       let lot_there = not_false (is_some (lot_at (notice, lot) s)) passes.1.0 in
       parents_of s u grown readings.digest s.clock _ caller notice lot security bytes _ there lot_there (presenter caller s may registered)
       (λ named. later.securities (s.clock.receipts + 1) (security_put_there readings.digest s.clock _ caller notice lot security bytes _ s named));
+  lacks = λ xs s moment caller whole allowed. refl;
   alike = λ th W s es' ss' all seals readings t caller quiet. absurd quiet;
 }

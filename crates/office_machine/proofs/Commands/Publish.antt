@@ -18,7 +18,7 @@ use Rattle.office_base.specs.declared.puts.Put.TheVariants as puts
 use Rattle.tender_core.specs.Rules.Publish.{publish_tests, publish_rows, publish_parts, late_puts, line_put, lot_put, notice_row, publish_puts}
 use Rattle.office_machine.specs.Machine.{command_tests, time_of}
 use Rattle.office_machine.specs.Counted.{releases_in}
-use Rattle.office_machine.proofs.Commands.Tail.{HasTail, is_own, front, back, counted}
+use Rattle.office_machine.proofs.Commands.Tail.{AsksAsBefore, HasTail, is_own, front, back, counted}
 use Rattle.office_machine.proofs.Parents.ParentsPut.{Grows, Parents, AllParents, parents-append, parents-map, parents-all}
 use Rattle.office_machine.proofs.Worlds.WorldsPut.{plain-map, plain-append, IsPlain, plain_pairs}
 use Rattle.office_machine.proofs.Accounts.Aside.{after-append}
@@ -47,7 +47,7 @@ tail_of s t notice content new =
     back (late_puts notice content.late_withdrawal) (late_own notice content.late_withdrawal)
     (front (map (line_put s.lines content.lots) content.lots ++ map (lot_put notice) content.lots)
     (on-append own (map (line_put s.lines content.lots) content.lots) (map (lot_put notice) content.lots) (on-map own (line_put s.lines content.lots) content.lots (λ _. refl)) (on-map own (lot_put notice) content.lots (λ _. refl)))
-    (counted notice (notice_row t notice content) _ [] refl (omega (arith, old)) (omega arith) tt refl (omega arith)))
+    (counted notice (notice_row t notice content) _ [] refl (omega (arith, old)) (omega arith) (subst (λ o. AsksAsBefore o (notice_row t notice content)) (sym (absent (notice_at notice s) new)) tt) tt refl (omega arith)))
 
 module _ (s u : Tables) (g : Grows s u) where
   published_lots : (notice : List ℕ) → IsSome (notice_at notice u) → (lots : List NewLot) → OnLines s.lines lots → AllByRecursion (λ (l : NewLot). Parents u (lot_put notice l)) lots
@@ -67,7 +67,7 @@ module _ (s u : Tables) (g : Grows s u) where
     where
       late_parents : (late : LateWithdrawal) → AllParents u (late_puts notice late)
       late_parents Refused = tt
-      late_parents Forfeits = (tt, tt)
+      late_parents Forfeits = (record { notice = there }, tt)
 
 -- what a publication puts has the notice
 notice_put_there : (front : List Put) (row : NoticeRow) (clock : ClockRow) (s : Tables) → IsSome (notice_at row.notice (after_puts (front ++ (puts.Notice row ∷ puts.Clock clock ∷ [])) s))
@@ -94,6 +94,7 @@ plain s t notice content =
 pub publish : (notice : List ℕ) (content : NewNotice) → Lawful (Publish notice content)
 publish notice content = record {
   touches = Lines ∷ Lots ∷ LateRules ∷ [];
+  alone = (refl, refl);
   accounts = Moving (λ readings xs s moment caller kept order own allowed. publish_keeps readings xs s moment caller notice content kept order own allowed);
   fates = λ readings. publish_fates.publish_keeps readings notice content;
   tail = λ readings s moment caller have allowed.
@@ -105,5 +106,6 @@ publish notice content = record {
       (later.notices notice
       (subst (λ u. IsSome (notice_at notice u)) (sym (after-append (publish_parts s.clock (time_of (given s moment caller (Publish notice content))) notice s.lines content) (late_puts notice content.late_withdrawal) s))
       (late_leaves content.late_withdrawal notice notice _ (notice_put_there (map (line_put s.lines content.lots) content.lots ++ map (lot_put notice) content.lots) _ _ s))));
+  lacks = λ xs s moment caller whole allowed. refl;
   alike = λ th W s es' ss' all seals readings t caller quiet. plain_pairs th W (publish_puts (record { notice = None; lines = s.lines; clock = s.clock }) t notice content) (plain s t notice content);
 }

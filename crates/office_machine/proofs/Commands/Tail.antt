@@ -66,10 +66,16 @@ pub record Writes (ps : List Put) (notice : Option NoticeRow) (clock : ClockRow)
   pub clock_is : (u : Tables) → (after_puts ps u).clock ≡ clock
   pub performances : (u : Tables) → (after_puts ps u).performances ≡ with_performance bond u.performances
 
--- a command that publishes changes its notice, which then counts one release more, within the limit; another changes none
+-- a notice that was there asks for the performance security that it asked for
+abbrev pub AsksAsBefore : Option NoticeRow → NoticeRow → Type 0
+AsksAsBefore None row = Unit {0}
+AsksAsBefore (Some n) row = row.performance ≡ n.performance
+
+-- a command that publishes changes its notice, which then counts one release more, within the limit, and asks for no other performance security;
+-- another changes none
 abbrev pub CountsNext : Tables → Option (List ℕ) → Option NoticeRow → Type 0
 CountsNext s None None = Unit {0}
-CountsNext s (Some key) (Some row) = (row.notice ≡ key) × (row.releases ≡ releases_in (notice_at key s) + 1) × (row.releases ≤ release_limit)
+CountsNext s (Some key) (Some row) = (row.notice ≡ key) × (row.releases ≡ releases_in (notice_at key s) + 1) × (row.releases ≤ release_limit) × AsksAsBefore (notice_at key s) row
 CountsNext s key notice = ⊥
 
 -- the performance security that a command puts
@@ -131,7 +137,7 @@ back {names = names} {ps = ps} rest own h = record {
 }
 
 -- a performance security behind
-abbrev is_bond : TableName → Bool
+abbrev pub is_bond : TableName → Bool
 is_bond Performances = true
 is_bond name = false
 
@@ -171,9 +177,9 @@ quiet {names = names} clock rest own moment drawn = record { notice = None; cloc
 
 -- before them the notice, counted
 pub counted : {s : Tables} {t : ℕ} {names : List TableName} (key : List ℕ) (row : NoticeRow) (clock : ClockRow) (rest : List Put) → row.notice ≡ key
-    → row.releases ≡ releases_in (notice_at key s) + 1 → row.releases ≤ release_limit → AreOn (is_own names) rest → clock.moment ≡ t → s.clock.awards ≤ clock.awards
+    → row.releases ≡ releases_in (notice_at key s) + 1 → row.releases ≤ release_limit → AsksAsBefore (notice_at key s) row → AreOn (is_own names) rest → clock.moment ≡ t → s.clock.awards ≤ clock.awards
     → HasTail s t names (Some key) None (puts.Notice row ∷ puts.Clock clock ∷ rest)
-counted {names = names} key row clock rest at more few own moment drawn =
+counted {names = names} key row clock rest at more few asked own moment drawn =
     let tail = ending names clock rest own in
     record {
       notice = Some row;
@@ -184,20 +190,20 @@ counted {names = names} key row clock rest at more few own moment drawn =
         performances = λ u. tail.performances (after_put (puts.Notice row) u);
       };
       moment = moment;
-      counts = (at, more, few);
+      counts = (at, more, few, asked);
       drawn = drawn;
       touched = (refl, (refl, on_touched names rest own));
     }
 
 -- a notice that was there
 pub loud : {s : Tables} {t : ℕ} {names : List TableName} (key : List ℕ) (n row : NoticeRow) (clock : ClockRow) (rest : List Put) → notice_at key s ≡ Some n
-    → has_all_releases (notice_at key s) ≡ false → row.notice ≡ n.notice → row.releases ≡ n.releases + 1 → AreOn (is_own names) rest → clock.moment ≡ t → s.clock.awards ≤ clock.awards
+    → has_all_releases (notice_at key s) ≡ false → row.notice ≡ n.notice → row.releases ≡ n.releases + 1 → row.performance ≡ n.performance → AreOn (is_own names) rest → clock.moment ≡ t → s.clock.awards ≤ clock.awards
     → HasTail s t names (Some key) None (puts.Notice row ∷ puts.Clock clock ∷ rest)
-loud {s = s} key n row clock rest is full same more own moment drawn =
+loud {s = s} key n row clock rest is full same more asked own moment drawn =
     let few : nat_le release_limit n.releases ≡ false = sym (ap has_all_releases is) ∙ full in
     let under : n.releases < release_limit = grind (arith, nat_tests) in
     let old = ap releases_in is in
-    counted key row clock rest (same ∙ found_key keyed.notices s.notices key n is) (omega (arith, more, old)) (omega (arith, more, under)) own moment drawn
+    counted key row clock rest (same ∙ found_key keyed.notices s.notices key n is) (omega (arith, more, old)) (omega (arith, more, under)) (subst (λ o. AsksAsBefore o row) (sym is) asked) own moment drawn
 
 pub returned_own : (names : List TableName) → is_own names Securities ≡ true → (rows : List SecurityRow) → AreOn (is_own names) (securities_returned rows)
 returned_own names own rows = on-map (is_own names) security_returned (filter is_held_security rows) (λ _. own)
@@ -207,4 +213,4 @@ pub on_contract : {s : Tables} {t : ℕ} {names : List TableName} (contract : �
     → HasTail s t names (option_map (λ (c : ContractRow). c.notice) (contract_at contract s)) None (puts.Notice (released of.n) ∷ puts.Clock (record s.clock { moment = t }) ∷ [])
 on_contract {s = s} contract of full =
     moved (ap (option_map (λ (c : ContractRow). c.notice)) of.is) refl
-    (loud of.c.notice of.n (released of.n) _ [] of.notice_is (ap has_all_releases (of.notice_is ∙ sym of.notice) ∙ full) refl refl tt refl (omega arith))
+    (loud of.c.notice of.n (released of.n) _ [] of.notice_is (ap has_all_releases (of.notice_is ∙ sym of.notice) ∙ full) refl refl refl tt refl (omega arith))

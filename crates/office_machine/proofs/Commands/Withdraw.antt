@@ -1,11 +1,11 @@
 -- The withdrawal of a tender keeps the laws of the office.
 pub mod Fates
 use Rattle.std.specs.Prelude.{max}
-use Rattle.std.proofs.Common.{arith, ℕ, Bool, true, false, [], ◌∷◌, Option, None, refl, ◌≡◌, List, Some, ap, subst, sym}
+use Rattle.std.proofs.Common.{arith, ℕ, Bool, true, false, [], ◌∷◌, Option, None, refl, ◌≡◌, List, Some, ap, subst, sym, not, ◌||◌}
 use Rattle.office_acts.specs.declared.commands.Command.TheVariants.{Withdraw}
 use Rattle.office_base.specs.Tables.{find_envelope, Tables, envelope_at}
 use Rattle.office_base.specs.declared.records.EnvelopeRow.{EnvelopeRow}
-use Rattle.office_base.specs.Parents.{notice_of_envelope, late_of_envelope, security_of_envelope}
+use Rattle.office_base.specs.Parents.{notice_of_envelope, late_of_envelope, security_of_envelope, lot_of_envelope}
 use Rattle.office_base.specs.declared.records.SecurityRow.{SecurityRow}
 use Rattle.office_base.specs.declared.records.SecurityState.TheVariants.{Returned, Forfeited}
 use Rattle.office_base.specs.RuleParts.{is_late, security_settled, put_if, settled, passed_over}
@@ -14,7 +14,7 @@ use Rattle.office_base.specs.declared.records.LateRow.{LateRow}
 use Rattle.office_base.specs.declared.records.NoticeRow.{NoticeRow}
 use Rattle.office_base.specs.declared.records.ClockRow.{ClockRow}
 use Rattle.office_base.specs.declared.puts.Put.TheVariants as puts
-use Rattle.tender_core.specs.Rules.Withdraw.{withdraw_puts, withdraw_rows, withdraw_tests, taken_back_puts}
+use Rattle.tender_core.specs.Rules.Withdraw.{withdraw_puts, withdraw_rows, withdraw_tests, taken_back_puts, withdraw_lacks}
 use Rattle.tender_core.specs.Rules.Modify.{withdrawn}
 use Rattle.office_machine.specs.Worlds.{Theirs, Pairs}
 use Rattle.office_machine.specs.Parents.{HaveParents, SecurityHas}
@@ -23,6 +23,7 @@ use Rattle.office_machine.proofs.Worlds.WorldsPut.{TwoEnvelopes, Alike, AlikeOpt
 use Rattle.office_machine.proofs.Parents.ParentsPut.{Grows, AllParents, envelope_still, parents-if}
 use Rattle.office_machine.proofs.Worlds.WorldsRows.{envelope_pair}
 use Rattle.office_machine.proofs.Parents.RowsHave.{security_found}
+use Rattle.office_machine.proofs.Parents.Whole.{security_there}
 use Rattle.office_machine.proofs.Commands.Lawful.{Lawful, Idle}
 use Rattle.office_machine.proofs.Passed.{none_holds, not_false, witness}
 use Rattle.office_machine.proofs.Commands.Tail.{HasTail, is_own, moved, front, quiet}
@@ -84,9 +85,16 @@ module _ (th : Theirs) (W : ℕ → Bool) (s : Tables) (es' : List EnvelopeRow) 
       (λ i. withdraw_puts (record { envelope = o'; notice = notice i; lot = None; late = late i; security = security_of_envelope o' s; clock = s.clock }) t)
       (withdraw_pairs th W s.clock t o o' (notice_of_envelope o s) (late_of_envelope o s) (security_of_envelope o s) (security_of_envelope o' s) pair (blind-option th W (λ o. security_of_envelope o s) (λ _ _. refl) o o' pair))
 
+-- its notice, its lot and the security that it names are there
+none_lacking : (s : Tables) → HaveParents s s → (receipt : ℕ) (o : Option EnvelopeRow) → envelope_at receipt s ≡ o
+    → withdraw_lacks (record { envelope = o; notice = notice_of_envelope o s; lot = lot_of_envelope o s; late = None; security = security_of_envelope o s; clock = s.clock }) ≡ false
+none_lacking s have receipt None is = refl
+none_lacking s have receipt (Some e) is = let h = have.envelopes receipt e is in λ i. ap not h.notice i || ap not h.lot i || security_there s have e h i
+
 pub withdraw : (receipt : ℕ) → Lawful (Withdraw receipt)
 withdraw receipt = record {
   touches = Envelopes ∷ Seals ∷ Securities ∷ [];
+  alone = (refl, refl);
   accounts = Idle refl (λ s moment caller xs. record { moves_none = refl; held = λ _. refl; none_brought = λ _. refl; none_taken = λ _. refl });
   fates = λ readings. withdraw_fates.withdraw_keeps readings receipt;
   tail = λ readings s moment caller have allowed.
@@ -96,5 +104,6 @@ withdraw receipt = record {
       let e = witness (envelope_at receipt s) (not_false _ tests.0) in
       moved refl (λ i. withdraw_puts (record { envelope = e.1 i; notice = rows.notice; lot = None; late = rows.late; security = rows.security; clock = s.clock }) t) (tail_of s t e.0 rows.security (is_late rows.late t rows.notice));
   parents = λ readings s moment caller order have registered may allowed u grown later. parents_of s u have grown s.clock _ receipt (envelope_at receipt s) (notice_of_envelope (envelope_at receipt s) s) (late_of_envelope (envelope_at receipt s) s) refl;
+  lacks = λ xs s moment caller whole allowed. none_lacking s whole.parents receipt (envelope_at receipt s) refl;
   alike = λ th W s es' ss' all seals readings t caller quiet. alike th W s es' all t receipt;
 }

@@ -151,6 +151,7 @@ all_keep digest = record {
   lot = λ r e. refl;
   tenderer = λ r e. refl;
   security = λ r e. refl;
+  moment = λ r e. refl;
   len = λ r e. refl;
   digest = λ r e. refl;
 }

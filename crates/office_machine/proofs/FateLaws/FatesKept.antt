@@ -52,7 +52,7 @@ kept_beside : (means : Means) (trees : List CompiledRow) (xs : List Given) (t : 
 kept_beside means trees xs t k = record { sound = k.sound; tenders = k.tenders; named = k.named; lines = k.lines; order = k.order }
 
 pub all_kept : (means : Means) (xs : List Given) (t : Tables) → Reaches means xs t → IsKept means.readings xs t
-all_kept means = along means (IsKept means.readings) (start means) (λ trees in_order. kept_beside means trees)
+all_kept means = along means (IsKept means.readings) (start means) (λ trees in_order xs t of_notices. kept_beside means trees xs t)
     (λ xs x accepted kept. subst (IsKept means.readings (x ∷ xs))
     (sym (after-append (effect means.readings x) (publication_puts (publication means x)) x.before))
     (publication_keeps means.readings (x ∷ xs) (after_puts (effect means.readings x) x.before) (publication means x)

@@ -38,6 +38,7 @@ module _ (digest_of : List ℕ → List ℕ) where
     pub lot : (r : ℕ) (e : EnvelopeRow) → (f r e).lot ≡ e.lot
     pub tenderer : (r : ℕ) (e : EnvelopeRow) → (f r e).tenderer ≡ e.tenderer
     pub security : (r : ℕ) (e : EnvelopeRow) → (f r e).security ≡ e.security
+    pub moment : (r : ℕ) (e : EnvelopeRow) → (f r e).moment ≡ e.moment
     pub len : (r : ℕ) (e : EnvelopeRow) → (f r e).length ≡ e.length
     pub digest : (r : ℕ) (e : EnvelopeRow) → (f r e).digest ≡ e.digest
 
@@ -67,6 +68,7 @@ module _ (digest_of : List ℕ → List ℕ) where
             of_lot = keeps.lot r e ∙ is.of_lot;
             of_tenderer = keeps.tenderer r e ∙ is.of_tenderer;
             security_is = keeps.security r e ∙ is.security_is;
+            moment_is = keeps.moment r e ∙ is.moment_is;
             length_is = keeps.len r e ∙ is.length_is;
             digest_is = keeps.digest r e ∙ is.digest_is;
             fate_is = now.fate_is;

@@ -1,6 +1,7 @@
 -- The performance securities are those named at accepted signings, each in the state of its fate.
-use Rattle.std.specs.Prelude.{◌≡◌, ℕ, Bool, true, false, cond, List, [], ◌∷◌, ◌++◌, Option, Some, None, is_some, IsSome, option_map, option_and_then}
-use Rattle.std.proofs.Common.{refl, sym, ap, ◌∙◌, subst}
+use Rattle.std.specs.Prelude.{◌≡◌, ℕ, ◌<◌, Bool, true, false, cond, not, List, [], ◌∷◌, ◌++◌, filter, Option, Some, None, is_some, IsSome, nat_lt, max, option_map, option_and_then}
+use Rattle.std.proofs.Common.{refl, sym, ap, ◌∙◌, subst, inl, inr, arith}
+use Rattle.std.proofs.lemmas.Bool.Decides.{nat_tests}
 use Rattle.std.specs.List.{AllByRecursion}
 use Rattle.std.specs.Cmp.{nat_cmp_total}
 use Rattle.std.specs.FinMap.{nat_cmp-IsAntisymmetric}
@@ -13,36 +14,44 @@ use Rattle.office_acts.specs.declared.commands.Command.{Command}
 use Rattle.office_acts.specs.declared.commands.Command.TheVariants.{Sign, End}
 use Rattle.office_values.specs.declared.refusal.Refusal.{Refusal}
 use Rattle.office_base.specs.declared.records.AwardRow.{AwardRow}
+use Rattle.office_base.specs.declared.records.NoticeRow.{NoticeRow}
+use Rattle.office_base.specs.declared.records.ContractRow.{ContractRow}
+use Rattle.office_base.specs.declared.records.SecurityRow.{SecurityRow}
 use Rattle.office_base.specs.declared.records.PerformanceRow.{PerformanceRow}
 use Rattle.office_base.specs.declared.records.SecurityState.{SecurityState}
 use Rattle.office_base.specs.declared.records.SecurityState.TheVariants as security
 use Rattle.office_base.specs.States.{is_held}
-use Rattle.office_base.specs.Tables.{Tables, performance_key, performance_at, contract_at, find_performance}
+use Rattle.office_base.specs.Tables.{Tables, performance_key, performance_at, contract_at, notice_at, find_contract, find_performance, put_contract}
 use Rattle.office_machine.specs.Fates.{named_for, named_after, performance_named, performance_decided, performance_after, fate_of_performance, ended_fate, HasPerformance}
 use Rattle.office_base.specs.Rules.{first_of}
-use Rattle.office_base.specs.Parents.{envelope_of_award, securities_of_award}
-use Rattle.office_base.specs.RuleParts.{put_if, performance_settled, settled_performance}
+use Rattle.office_base.specs.Parents.{notice_of_award, envelope_of_award, securities_of_award}
+use Rattle.office_base.specs.RuleParts.{put_if, performance_settled, settled_performance, is_held_security, security_returned, securities_returned}
 use Rattle.office_base.specs.declared.records.ReleaseRow.{ReleaseRow}
 use Rattle.office_base.specs.declared.records.CompiledRow.{CompiledRow}
 use Rattle.office_base.specs.Tables.{award_at, entries_of_contract, after_puts}
-use Rattle.award_core.specs.Rules.Sign.{sign_parts, performance_put, performance_row, sign_puts}
-use Rattle.award_core.specs.Rules.End.{end_parts, ended_state, end_puts}
+use Rattle.award_core.specs.Rules.Sign.{contract_row, is_missing, sign_parts, performance_put, performance_row, sign_puts, tenderer_in}
+use Rattle.award_core.specs.Rules.End.{end_parts, ended_contract, ended_state, end_puts}
 use Rattle.award_core.specs.Rules.Fail.{isnt_active}
 use Rattle.office_base.specs.States.{is_active}
 use Rattle.office_machine.specs.Machine.{Given, Means, Reaches, time_of, effect, publication, publication_puts, command_tests, with_trees}
 use Rattle.office_machine.specs.Fates.{PerformancesHaveFates, PerformancesAreKept}
+use Rattle.office_machine.specs.Parents.{HaveParents, HavePerformances, PerformancesAreThere}
+use Rattle.office_machine.specs.Publications.{published_for}
 use Rattle.office_machine.proofs.Commands.AllLawful.{lawful}
+use Rattle.office_machine.proofs.Commands.Lawful.{puts_contracts}
 use Rattle.office_machine.proofs.Runs.{along}
-use Rattle.office_machine.proofs.Commands.Tail.{bond_for, with_performance}
+use Rattle.office_machine.proofs.Commands.Footprint.{TableName, Securities, leaves, on-append, on-if, on-map}
+use Rattle.office_machine.proofs.Commands.Tail.{HasTail, bond_for, is_bond, is_touched, with_performance}
 use Rattle.office_machine.proofs.Accounts.Aside.{after-append}
 use Rattle.office_machine.proofs.FateLaws.Added.{equal_numbers}
 use Rattle.office_machine.proofs.Accounts.Kept.{IsKept}
 use Rattle.office_machine.proofs.Accounts.AccountsKept.{all_kept}
 use Rattle.office_machine.proofs.Parents.ParentsThere.{parents_there}
-use Rattle.office_machine.proofs.Parents.ParentsPut.{grows-puts}
+use Rattle.office_machine.proofs.Parents.PerformancesAsked.{asks_as_before, of_old}
 use Rattle.office_machine.proofs.Parents.SpokenOf.{OfAward, OfContract, of_award, of_contract}
-use Rattle.office_machine.proofs.Passed.{none_holds, allowed_by, not_false, test_of, witness}
-use Rattle.office_machine.proofs.Rows.Keyed.{found_put}
+use Rattle.office_machine.proofs.Passed.{none_holds, allowed_by, not_and, not_false, test_of, witness}
+use Rattle.office_machine.proofs.Rows.Keyed.{found}
+use Rattle.office_machine.proofs.FateLaws.Matched.{same_itself}
 use Rattle.office_base.specs.declared.puts.Put.{Put}
 use Rattle.office_machine.proofs.Rows.Keyed as keyed
 use Rattle.office_machine.proofs.Rows.RowsChanged.{row_at-changed_put}
@@ -102,10 +111,10 @@ one_idle c x xs row none undecided h =
 
 -- ---- command by command
 
--- what is held of performance securities, and that each has its contract
+-- what is held of performance securities, and that each contract has the one that its notice asks for
 record AreKept (xs : List Given) (t : Tables) : Type 0 where
   pub fates : PerformancesHaveFates xs t
-  pub signed : (c : ℕ) → IsSome (performance_at c t) → IsSome (contract_at c t)
+  pub asked : HavePerformances t
 
 -- a command that is neither a signing nor an end
 abbrev IsOther : Command → Type 0
@@ -126,8 +135,14 @@ none_decided : (command : Command) → IsOther command → (c : ℕ) → perform
 none_decided (End contract how) other c = absurd other
 none_decided _ other c = refl
 
--- the same performance securities, and no contract fewer
-module _ (x : Given) (xs : List Given) (ps : List Put) (kept : AreKept xs x.before) (same : (after_puts ps x.before).performances ≡ x.before.performances) where
+-- it signs no contract, and ends none
+none_signed : (command : Command) → IsOther command → puts_contracts command ≡ false
+none_signed (Sign award named) other = absurd other
+none_signed (End contract how) other = absurd other
+none_signed _ other = refl
+
+-- the same performance securities, and the same contracts
+module _ (x : Given) (xs : List Given) (ps : List Put) (kept : AreKept xs x.before) (same : (after_puts ps x.before).performances ≡ x.before.performances) (asked : HavePerformances (after_puts ps x.before)) where
   left_as : (c : ℕ) → performance_at c (after_puts ps x.before) ≡ performance_at c x.before
   left_as c = ap (λ rows. find_performance rows c) same
 
@@ -135,7 +150,7 @@ module _ (x : Given) (xs : List Given) (ps : List Put) (kept : AreKept xs x.befo
   idle_kept none undecided = record {
     fates = λ c.
         subst (HasPerformance c (performance_named (x ∷ xs) c) (fate_of_performance (x ∷ xs) c)) (sym (left_as c)) (one_idle c x xs (performance_at c x.before) (none c) (undecided c) (kept.fates c));
-    signed = λ c there. (grows-puts ps x.before).contracts c (kept.signed c (subst IsSome (left_as c) there));
+    asked = asked;
   }
 
 -- the row that a signing puts, or the one that is there
@@ -161,10 +176,17 @@ module _ (means : Means) (xs : List Given) (s : Tables) (moment : ℕ) (caller :
   abbrev given : Command → Given
   given command = record { before = s; moment = moment; caller = caller; command = command }
 
+  have : HaveParents s s
+  have = parents_there means xs s reached
+
+  tail_of : (command : Command) → first_of (command_tests (given command)) ≡ None
+      → HasTail s (max moment s.clock.moment) (lawful command).touches (published_for s command) (bond_for s command) (effect means.readings (given command))
+  tail_of command allowed = (lawful command).tail means.readings s moment caller have allowed
+
   -- the performance securities after an accepted command
   performances_after : (command : Command) → first_of (command_tests (given command)) ≡ None
       → (after_puts (effect means.readings (given command)) s).performances ≡ with_performance (bond_for s command) s.performances
-  performances_after command allowed = ((lawful command).tail means.readings s moment caller (parents_there means xs s reached) allowed).writes.performances s
+  performances_after command allowed = (tail_of command allowed).writes.performances s
 
   -- a signing
   module _ (award : ℕ) (named : Option NamedSecurity) (allowed : first_of (command_tests (given (Sign award named))) ≡ None) where
@@ -175,13 +197,13 @@ module _ (means : Means) (xs : List Given) (s : Tables) (moment : ℕ) (caller :
     passes = none_holds (command_tests x) allowed
 
     of : OfAward s award
-    of = of_award s (parents_there means xs s reached) award (not_false _ passes.0)
+    of = of_award s have award (not_false _ passes.0)
 
     -- an active award has no contract, so no performance security
     none_by : (o : Option PerformanceRow) → performance_at award s ≡ o → o ≡ None
     none_by None at = refl
     none_by (Some w) at =
-        let r = witness (contract_at award s) (kept.signed award (ap is_some at)) in
+        let r = witness (contract_at award s) (subst (λ k. IsSome (contract_at k s)) (found_key keyed.performances s.performances award w at) (have.performances award w at).contract) in
         let its = (accounts.contracts award r.0 r.1).of_award in
         let active : is_active of.w.state ≡ true = not_false _ (test_of isnt_active (award_at award s) of.w of.is false passes.1.1.1.1.0) in
         let one : Some of.w ≡ Some its.0 = sym of.is ∙ its.1 in
@@ -226,18 +248,48 @@ module _ (means : Means) (xs : List Given) (s : Tables) (moment : ℕ) (caller :
         (subst (λ m. HasPerformance c (named_after (performance_named xs c) m) (performance_after (fate_of_performance xs c) (named_after (performance_named xs c) m) security.Held) (Some (record { contract = c; reference = n.reference; amount = n.amount; state = security.Held }))) (sym it)
         (begins c (performance_named xs c) (fate_of_performance xs c) security.Held n (subst (HasPerformance c (performance_named xs c) (fate_of_performance xs c)) here (kept.fates c))))
 
-    there_by : (c : ℕ) (b : Bool) → eq_by_cmp nat_cmp c of.w.award ≡ b → IsSome (cond b (named_row of.w named (performance_at c s)) (performance_at c s)) → IsSome (contract_at c (after_puts ps s))
-    there_by c false other there = (grows-puts ps s).contracts c (kept.signed c there)
-    there_by c true one there =
-        subst (λ u. IsSome (contract_at c u)) (sym (after-append parts (put_if (performance_put of.w) named) s))
-        ((grows-puts (put_if (performance_put of.w) named) first).contracts c
-        (subst (λ k. IsSome (contract_at k first)) (sym (equal_numbers c of.w.award one))
-        (contract_made (securities_of_award (award_at award s) s))))
-      where
-        contract_made : (rows : List Rattle.office_base.specs.declared.records.SecurityRow.SecurityRow) → IsSome (contract_at of.w.award (after_puts (sign_parts s.clock (time_of x) of.w of.n of.l (envelope_of_award (award_at award s) s) rows) s))
-        contract_made rows =
-            (grows-puts (Rattle.office_base.specs.RuleParts.securities_returned rows) (after_puts (sign_parts s.clock (time_of x) of.w of.n of.l (envelope_of_award (award_at award s) s) []) s)).contracts of.w.award
-            (ap is_some (found_put keyed.contracts s.contracts (Rattle.award_core.specs.Rules.Sign.contract_row (time_of x) of.w (Rattle.award_core.specs.Rules.Sign.tenderer_in (envelope_of_award (award_at award s) s)))))
+    -- what it puts behind its contract puts no contract
+    abbrev signed_row : ContractRow
+    signed_row = contract_row (time_of x) of.w (tenderer_in (envelope_of_award (award_at award s) s))
+
+    contracts_after : (after_puts ps s).contracts ≡ put_contract s.contracts signed_row
+    contracts_after =
+        let test : TableName → Bool = is_touched (Securities ∷ []) in
+        let back : List SecurityRow = securities_of_award (award_at award s) s in
+        (leaves test (securities_returned back ++ put_if (performance_put of.w) named) (after_puts (sign_parts s.clock (time_of x) of.w of.n of.l (envelope_of_award (award_at award s) s) []) s)
+        (on-append test (securities_returned back) (put_if (performance_put of.w) named) (on-map test security_returned (filter is_held_security back) (λ _. refl)) (on-if test (performance_put of.w) named (λ _. refl)))).contracts refl
+
+    at : (c : ℕ) → performance_at c (after_puts ps s) ≡ cond (eq_by_cmp nat_cmp c of.w.award) (named_row of.w named (performance_at c s)) (performance_at c s)
+    at c =
+        ap (λ ps. find_performance (after_puts ps s).performances c) (sym effect_is)
+        ∙ ap (λ rows. find_performance rows c) (performances_after (Sign award named) allowed ∙ ap (λ o. with_performance (option_and_then (λ w. option_map (performance_row w) named) o) s.performances) of.is)
+        ∙ rows_after named c
+
+    tail : HasTail s (max moment s.clock.moment) (lawful (Sign award named)).touches (published_for s (Sign award named)) (bond_for s (Sign award named)) ps
+    tail = subst (λ ps. HasTail s (max moment s.clock.moment) (lawful (Sign award named)).touches (published_for s (Sign award named)) (bond_for s (Sign award named)) ps) effect_is (tail_of (Sign award named) allowed)
+
+    row_named : (o : Option NamedSecurity) → is_some o ≡ true → (before : Option PerformanceRow) → IsSome (named_row of.w o before)
+    row_named None there before = cc
+    row_named (Some n) there before = refl
+
+    -- where the notice asks for one, one is named
+    asked_named : 0 < of.n.performance → is_some named ≡ true
+    asked_named more =
+        let asks : nat_lt 0 of.n.performance ≡ true = grind (arith, nat_tests, more) in
+        not_false _ (not_and (nat_lt 0 of.n.performance) (not (is_some named)) (test_of (is_missing named) (notice_of_award (award_at award s) s) of.n of.notice false passes.1.0) asks)
+
+    asked_own : (c : ContractRow) (n : NoticeRow) → c ≡ signed_row → notice_at c.notice (after_puts ps s) ≡ Some n → 0 < n.performance → IsSome (performance_at of.w.award (after_puts ps s))
+    asked_own c n same found more =
+        let as_before = asks_as_before ps tail of.w.notice n of.n (ap (λ (c : ContractRow). notice_at c.notice (after_puts ps s)) (sym same) ∙ found) of.notice_is in
+        subst IsSome (sym (at of.w.award ∙ ap (λ b. cond b (named_row of.w named (performance_at of.w.award s)) (performance_at of.w.award s)) (same_itself of.w.award)))
+        (row_named named (asked_named (omega (arith, as_before, more))) (performance_at of.w.award s))
+
+    asked_after : HavePerformances (after_puts ps s)
+    asked_after k c n is notice more =
+        elim (found keyed.contracts s.contracts signed_row k c (ap (λ rows. find_contract rows k) (sym contracts_after) ∙ is)) as (λ _. IsSome (performance_at k (after_puts ps s))) [
+          | inl p ↦ subst (λ k. IsSome (performance_at k (after_puts ps s))) (sym p.0) (asked_own c n p.1 notice more)
+          | inr p ↦ of_old ps tail have kept.asked k c c n p.1 refl notice more
+        ]
 
     sign_kept : AreKept (x ∷ xs) (after_puts (effect means.readings x) s)
     sign_kept =
@@ -246,14 +298,8 @@ module _ (means : Means) (xs : List Given) (s : Tables) (moment : ℕ) (caller :
           fates = λ c.
               subst (HasPerformance c (performance_named (x ∷ xs) c) (fate_of_performance (x ∷ xs) c)) (sym (at c))
               (subst (λ k. HasPerformance c (performance_named (x ∷ xs) c) (fate_of_performance (x ∷ xs) c) (cond (eq_by_cmp nat_cmp c k) (named_row of.w named (performance_at c s)) (performance_at c s))) (sym number) (fates_by named refl c (eq_by_cmp nat_cmp c award) refl));
-          signed = λ c there. there_by c (eq_by_cmp nat_cmp c of.w.award) refl (subst IsSome (at c) there);
+          asked = asked_after;
         })
-      where
-        at : (c : ℕ) → performance_at c (after_puts ps s) ≡ cond (eq_by_cmp nat_cmp c of.w.award) (named_row of.w named (performance_at c s)) (performance_at c s)
-        at c =
-            ap (λ ps. find_performance (after_puts ps s).performances c) (sym effect_is)
-            ∙ ap (λ rows. find_performance rows c) (performances_after (Sign award named) allowed ∙ ap (λ o. with_performance (option_and_then (λ w. option_map (performance_row w) named) o) s.performances) of.is)
-            ∙ rows_after named c
 
   -- an end
   module _ (contract : ℕ) (how : How) (allowed : first_of (command_tests (given (End contract how))) ≡ None) where
@@ -261,7 +307,7 @@ module _ (means : Means) (xs : List Given) (s : Tables) (moment : ℕ) (caller :
     y = given (End contract how)
 
     ends_of : OfContract s contract
-    ends_of = of_contract s (parents_there means xs s reached) contract (not_false _ (none_holds (command_tests y) allowed).0)
+    ends_of = of_contract s have contract (not_false _ (none_holds (command_tests y) allowed).0)
 
     abbrev ending : List Put
     ending = end_parts s.clock (time_of y) how ends_of.c (entries_of_contract contract s) ends_of.n ends_of.w
@@ -299,28 +345,48 @@ module _ (means : Means) (xs : List Given) (s : Tables) (moment : ℕ) (caller :
         (sym (ap (λ b. cond b (ended_fate how) security.Held) one ∙ same_end how))
         (goes_on c (performance_named xs c) (fate_of_performance xs c) (ended_state how) (performance_at c s) (kept.fates c))
 
+    end_tail : HasTail s (max moment s.clock.moment) (lawful (End contract how)).touches (published_for s (End contract how)) (bond_for s (End contract how)) qs
+    end_tail = subst (λ ps. HasTail s (max moment s.clock.moment) (lawful (End contract how)).touches (published_for s (End contract how)) (bond_for s (End contract how)) ps) end_is (tail_of (End contract how) allowed)
+
+    abbrev ended_row : ContractRow
+    ended_row = ended_contract (time_of y) how (entries_of_contract contract s) ends_of.c
+
+    ended_after : (after_puts qs s).contracts ≡ put_contract s.contracts ended_row
+    ended_after =
+        (leaves is_bond (put_if (performance_settled (ended_state how)) (performance_at contract s)) (after_puts ending s)
+        (on-if is_bond (performance_settled (ended_state how)) (performance_at contract s) (λ _. refl))).contracts refl
+
+    asked_ended : HavePerformances (after_puts qs s)
+    asked_ended k c n is notice more =
+        elim (found keyed.contracts s.contracts ended_row k c (ap (λ rows. find_contract rows k) (sym ended_after) ∙ is)) as (λ _. IsSome (performance_at k (after_puts qs s))) [
+          | inl p ↦
+              let here : contract_at k s ≡ Some ends_of.c = ap (λ k. contract_at k s) (p.0 ∙ found_key keyed.contracts s.contracts contract ends_of.c ends_of.is) ∙ ends_of.is in
+              of_old qs end_tail have kept.asked k c ends_of.c n here (sym (ap (λ (c : ContractRow). c.notice) p.1)) notice more
+          | inr p ↦ of_old qs end_tail have kept.asked k c c n p.1 refl notice more
+        ]
+
     end_kept : AreKept (y ∷ xs) (after_puts (effect means.readings y) s)
     end_kept =
         subst (λ ps. AreKept (y ∷ xs) (after_puts ps s)) (sym end_is)
         (record {
-          fates = λ c. subst (HasPerformance c (performance_named (y ∷ xs) c) (fate_of_performance (y ∷ xs) c)) (sym (at c)) (ended_by c (eq_by_cmp nat_cmp c contract) refl);
-          signed = λ c there. (grows-puts qs s).contracts c (kept.signed c (was c (performance_at c s) (subst IsSome (at c) there)));
+          fates = λ c. subst (HasPerformance c (performance_named (y ∷ xs) c) (fate_of_performance (y ∷ xs) c)) (sym (end_at c)) (ended_by c (eq_by_cmp nat_cmp c contract) refl);
+          asked = asked_ended;
         })
       where
-        at : (c : ℕ) → performance_at c (after_puts qs s) ≡ option_map (λ w. cond (eq_by_cmp nat_cmp c contract) (settled w) w) (performance_at c s)
-        at c =
+        end_at : (c : ℕ) → performance_at c (after_puts qs s) ≡ option_map (λ w. cond (eq_by_cmp nat_cmp c contract) (settled w) w) (performance_at c s)
+        end_at c =
             ap (λ ps. find_performance (after_puts ps s).performances c) (sym end_is)
             ∙ ap (λ rows. find_performance rows c) (performances_after (End contract how) allowed)
             ∙ settled_after (performance_at contract s) refl c
 
-        was : (c : ℕ) (o : Option PerformanceRow) → IsSome (option_map (λ w. cond (eq_by_cmp nat_cmp c contract) (settled w) w) o) → IsSome o
-        was c None there = there
-        was c (Some w) there = refl
-
   idle : (command : Command) → IsOther command → first_of (command_tests (given command)) ≡ None → AreKept (given command ∷ xs) (after_puts (effect means.readings (given command)) s)
   idle command other allowed =
-      idle_kept (given command) xs (effect means.readings (given command)) kept
-      (performances_after command allowed ∙ ap (λ b. with_performance b s.performances) (none_put s command other)) (none_named command other) (none_decided command other)
+      let ps : List Put = effect means.readings (given command) in
+      let tail = tail_of command allowed in
+      let same = (leaves (is_touched (lawful command).touches) ps s tail.touched).contracts ((lawful command).alone.0 ∙ none_signed command other) in
+      idle_kept (given command) xs ps kept (tail.writes.performances s ∙ ap (λ b. with_performance b s.performances) (none_put s command other))
+      (λ k c n is notice more. of_old ps tail have kept.asked k c c n (ap (λ rows. find_contract rows k) (sym same) ∙ is) refl notice more)
+      (none_named command other) (none_decided command other)
 
   one_kept : (command : Command) → first_of (command_tests (given command)) ≡ None → AreKept (given command ∷ xs) (after_puts (effect means.readings (given command)) s)
   one_kept (Sign award named) allowed = sign_kept award named allowed
@@ -329,16 +395,16 @@ module _ (means : Means) (xs : List Given) (s : Tables) (moment : ℕ) (caller :
 
 published_kept : (means : Means) (xs : List Given) (t : Tables) (p : Option ReleaseRow) → AreKept xs t → AreKept xs (after_puts (publication_puts p) t)
 published_kept means xs t None kept = kept
-published_kept means xs t (Some p) kept = record { fates = kept.fates; signed = kept.signed }
+published_kept means xs t (Some p) kept = record { fates = kept.fates; asked = kept.asked }
 
 beside : (trees : List CompiledRow) (xs : List Given) (t : Tables) → AreKept xs t → AreKept xs (with_trees trees t)
-beside trees xs t kept = record { fates = kept.fates; signed = kept.signed }
+beside trees xs t kept = record { fates = kept.fates; asked = kept.asked }
 
 kept_along : (means : Means) (xs : List Given) (t : Tables) → Reaches means xs t → AreKept xs t
 unfolding Rattle.office_base.specs.Rows.row_at
 kept_along means =
-    along means AreKept (record { fates = λ c. refl; signed = λ c there. absurd (let no : false ≡ true = there in cc) })
-    (λ trees in_order. beside trees)
+    along means AreKept (record { fates = λ c. refl; asked = λ k c n found. absurd (let no : None ≡ Some c = found in cc) })
+    (λ trees in_order xs t of_notices. beside trees xs t)
     (λ xs x accepted kept.
     subst (AreKept (x ∷ xs)) (sym (after-append (effect means.readings x) (publication_puts (publication means x)) x.before))
     (published_kept means (x ∷ xs) (after_puts (effect means.readings x) x.before) (publication means x)
@@ -346,3 +412,6 @@ kept_along means =
 
 pub performances_kept : PerformancesAreKept
 performances_kept means xs t reached = (kept_along means xs t reached).fates
+
+pub performances_there : PerformancesAreThere
+performances_there means xs t reached = (kept_along means xs t reached).asked

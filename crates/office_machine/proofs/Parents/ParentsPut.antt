@@ -13,7 +13,7 @@ use Rattle.office_base.specs.Tables.{Tables, line_at, tenderer_at, notice_at, lo
 use Rattle.office_base.specs.declared.puts.Put.{Put}
 use Rattle.office_base.specs.declared.puts.Put.TheVariants as puts
 use Rattle.office_base.specs.RuleParts.{put_if}
-use Rattle.office_machine.specs.Parents.{LotHas, EnvelopeHas, SecurityHas, AwardHas, ContractHas, EntryHas, HaveParents}
+use Rattle.office_machine.specs.Parents.{LotHas, EnvelopeHas, SecurityHas, AwardHas, ContractHas, EntryHas, PerformanceHas, ReleaseHas, MergeHas, LateHas, HaveParents}
 use Rattle.office_machine.proofs.Rows.Keyed.{found, still_there}
 use Rattle.office_base.proofs.RowLaws.Keyed.{IsKeyed}
 use Rattle.office_machine.proofs.Rows.Keyed as keyed
@@ -79,10 +79,10 @@ Parents u (puts.Security r) = SecurityHas u r
 Parents u (puts.Award r) = AwardHas u r
 Parents u (puts.Contract r) = ContractHas u r
 Parents u (puts.Entry r) = EntryHas u r
-Parents u (puts.Release r) = Unit {0}
-Parents u (puts.Compiled r) = Unit {0}
-Parents u (puts.Late r) = Unit {0}
-Parents u (puts.Performance r) = Unit {0}
+Parents u (puts.Release r) = ReleaseHas u r
+Parents u (puts.Compiled r) = MergeHas u r
+Parents u (puts.Late r) = LateHas u r
+Parents u (puts.Performance r) = PerformanceHas u r
 Parents u (puts.Clock r) = Unit {0}
 
 abbrev pub AllParents : Tables → List Put → Type 0
@@ -98,23 +98,23 @@ row_has {R = R} {key = key} t P xs r own old k x h =
     ]
 
 put_has : (u : Tables) (p : Put) (t : Tables) → Parents u p → HaveParents u t → HaveParents u (after_put p t)
-put_has u (puts.Line r) t own h = record { lots = h.lots; envelopes = h.envelopes; securities = h.securities; awards = h.awards; contracts = h.contracts; entries = h.entries }
-put_has u (puts.Batch r) t own h = record { lots = h.lots; envelopes = h.envelopes; securities = h.securities; awards = h.awards; contracts = h.contracts; entries = h.entries }
-put_has u (puts.Tenderer r) t own h = record { lots = h.lots; envelopes = h.envelopes; securities = h.securities; awards = h.awards; contracts = h.contracts; entries = h.entries }
-put_has u (puts.Notice r) t own h = record { lots = h.lots; envelopes = h.envelopes; securities = h.securities; awards = h.awards; contracts = h.contracts; entries = h.entries }
-put_has u (puts.Lot r) t own h = record { lots = row_has keyed.lots (LotHas u) t.lots r own h.lots; envelopes = h.envelopes; securities = h.securities; awards = h.awards; contracts = h.contracts; entries = h.entries }
-put_has u (puts.Envelope r) t own h = record { lots = h.lots; envelopes = row_has keyed.envelopes (EnvelopeHas u) t.envelopes r own h.envelopes; securities = h.securities; awards = h.awards; contracts = h.contracts; entries = h.entries }
-put_has u (puts.Seal r) t own h = record { lots = h.lots; envelopes = h.envelopes; securities = h.securities; awards = h.awards; contracts = h.contracts; entries = h.entries }
-put_has u (puts.DropSeal n) t own h = record { lots = h.lots; envelopes = h.envelopes; securities = h.securities; awards = h.awards; contracts = h.contracts; entries = h.entries }
-put_has u (puts.Security r) t own h = record { lots = h.lots; envelopes = h.envelopes; securities = row_has keyed.securities (SecurityHas u) t.securities r own h.securities; awards = h.awards; contracts = h.contracts; entries = h.entries }
-put_has u (puts.Award r) t own h = record { lots = h.lots; envelopes = h.envelopes; securities = h.securities; awards = row_has keyed.awards (AwardHas u) t.awards r own h.awards; contracts = h.contracts; entries = h.entries }
-put_has u (puts.Contract r) t own h = record { lots = h.lots; envelopes = h.envelopes; securities = h.securities; awards = h.awards; contracts = row_has keyed.contracts (ContractHas u) t.contracts r own h.contracts; entries = h.entries }
-put_has u (puts.Entry r) t own h = record { lots = h.lots; envelopes = h.envelopes; securities = h.securities; awards = h.awards; contracts = h.contracts; entries = row_has keyed.entries (EntryHas u) t.entries r own h.entries }
-put_has u (puts.Release r) t own h = record { lots = h.lots; envelopes = h.envelopes; securities = h.securities; awards = h.awards; contracts = h.contracts; entries = h.entries }
-put_has u (puts.Compiled r) t own h = record { lots = h.lots; envelopes = h.envelopes; securities = h.securities; awards = h.awards; contracts = h.contracts; entries = h.entries }
-put_has u (puts.Late r) t own h = record { lots = h.lots; envelopes = h.envelopes; securities = h.securities; awards = h.awards; contracts = h.contracts; entries = h.entries }
-put_has u (puts.Performance r) t own h = record { lots = h.lots; envelopes = h.envelopes; securities = h.securities; awards = h.awards; contracts = h.contracts; entries = h.entries }
-put_has u (puts.Clock r) t own h = record { lots = h.lots; envelopes = h.envelopes; securities = h.securities; awards = h.awards; contracts = h.contracts; entries = h.entries }
+put_has u (puts.Line r) t own h = record { lots = h.lots; envelopes = h.envelopes; securities = h.securities; awards = h.awards; contracts = h.contracts; entries = h.entries; performances = h.performances; releases = h.releases; merges = h.merges; late_rules = h.late_rules }
+put_has u (puts.Batch r) t own h = record { lots = h.lots; envelopes = h.envelopes; securities = h.securities; awards = h.awards; contracts = h.contracts; entries = h.entries; performances = h.performances; releases = h.releases; merges = h.merges; late_rules = h.late_rules }
+put_has u (puts.Tenderer r) t own h = record { lots = h.lots; envelopes = h.envelopes; securities = h.securities; awards = h.awards; contracts = h.contracts; entries = h.entries; performances = h.performances; releases = h.releases; merges = h.merges; late_rules = h.late_rules }
+put_has u (puts.Notice r) t own h = record { lots = h.lots; envelopes = h.envelopes; securities = h.securities; awards = h.awards; contracts = h.contracts; entries = h.entries; performances = h.performances; releases = h.releases; merges = h.merges; late_rules = h.late_rules }
+put_has u (puts.Lot r) t own h = record { lots = row_has keyed.lots (LotHas u) t.lots r own h.lots; envelopes = h.envelopes; securities = h.securities; awards = h.awards; contracts = h.contracts; entries = h.entries; performances = h.performances; releases = h.releases; merges = h.merges; late_rules = h.late_rules }
+put_has u (puts.Envelope r) t own h = record { lots = h.lots; envelopes = row_has keyed.envelopes (EnvelopeHas u) t.envelopes r own h.envelopes; securities = h.securities; awards = h.awards; contracts = h.contracts; entries = h.entries; performances = h.performances; releases = h.releases; merges = h.merges; late_rules = h.late_rules }
+put_has u (puts.Seal r) t own h = record { lots = h.lots; envelopes = h.envelopes; securities = h.securities; awards = h.awards; contracts = h.contracts; entries = h.entries; performances = h.performances; releases = h.releases; merges = h.merges; late_rules = h.late_rules }
+put_has u (puts.DropSeal n) t own h = record { lots = h.lots; envelopes = h.envelopes; securities = h.securities; awards = h.awards; contracts = h.contracts; entries = h.entries; performances = h.performances; releases = h.releases; merges = h.merges; late_rules = h.late_rules }
+put_has u (puts.Security r) t own h = record { lots = h.lots; envelopes = h.envelopes; securities = row_has keyed.securities (SecurityHas u) t.securities r own h.securities; awards = h.awards; contracts = h.contracts; entries = h.entries; performances = h.performances; releases = h.releases; merges = h.merges; late_rules = h.late_rules }
+put_has u (puts.Award r) t own h = record { lots = h.lots; envelopes = h.envelopes; securities = h.securities; awards = row_has keyed.awards (AwardHas u) t.awards r own h.awards; contracts = h.contracts; entries = h.entries; performances = h.performances; releases = h.releases; merges = h.merges; late_rules = h.late_rules }
+put_has u (puts.Contract r) t own h = record { lots = h.lots; envelopes = h.envelopes; securities = h.securities; awards = h.awards; contracts = row_has keyed.contracts (ContractHas u) t.contracts r own h.contracts; entries = h.entries; performances = h.performances; releases = h.releases; merges = h.merges; late_rules = h.late_rules }
+put_has u (puts.Entry r) t own h = record { lots = h.lots; envelopes = h.envelopes; securities = h.securities; awards = h.awards; contracts = h.contracts; entries = row_has keyed.entries (EntryHas u) t.entries r own h.entries; performances = h.performances; releases = h.releases; merges = h.merges; late_rules = h.late_rules }
+put_has u (puts.Release r) t own h = record { lots = h.lots; envelopes = h.envelopes; securities = h.securities; awards = h.awards; contracts = h.contracts; entries = h.entries; performances = h.performances; releases = row_has keyed.releases (ReleaseHas u) t.releases r own h.releases; merges = h.merges; late_rules = h.late_rules }
+put_has u (puts.Compiled r) t own h = record { lots = h.lots; envelopes = h.envelopes; securities = h.securities; awards = h.awards; contracts = h.contracts; entries = h.entries; performances = h.performances; releases = h.releases; merges = row_has keyed.compiled (MergeHas u) t.compiled r own h.merges; late_rules = h.late_rules }
+put_has u (puts.Late r) t own h = record { lots = h.lots; envelopes = h.envelopes; securities = h.securities; awards = h.awards; contracts = h.contracts; entries = h.entries; performances = h.performances; releases = h.releases; merges = h.merges; late_rules = row_has keyed.late_rules (LateHas u) t.late_rules r own h.late_rules }
+put_has u (puts.Performance r) t own h = record { lots = h.lots; envelopes = h.envelopes; securities = h.securities; awards = h.awards; contracts = h.contracts; entries = h.entries; performances = row_has keyed.performances (PerformanceHas u) t.performances r own h.performances; releases = h.releases; merges = h.merges; late_rules = h.late_rules }
+put_has u (puts.Clock r) t own h = record { lots = h.lots; envelopes = h.envelopes; securities = h.securities; awards = h.awards; contracts = h.contracts; entries = h.entries; performances = h.performances; releases = h.releases; merges = h.merges; late_rules = h.late_rules }
 
 puts_have : (u : Tables) (ps : List Put) (t : Tables) → AllParents u ps → HaveParents u t → HaveParents u (after_puts ps t)
 puts_have u [] t own h = h
@@ -144,6 +144,10 @@ have_still t u g h = record {
   awards = λ k a is. award_still t u g a (h.awards k a is);
   contracts = λ k c is. contract_still t u g c (h.contracts k c is);
   entries = λ k e is. record { contract = g.contracts e.contract (h.entries k e is).contract };
+  performances = λ k w is. record { contract = g.contracts w.contract (h.performances k w is).contract };
+  releases = λ k r is. record { notice = g.notices r.notice (h.releases k r is).notice };
+  merges = λ k r is. record { notice = g.notices r.notice (h.merges k r is).notice };
+  late_rules = λ k r is. record { notice = g.notices r.notice (h.late_rules k r is).notice };
 }
 
 -- after puts all of whose rows have theirs

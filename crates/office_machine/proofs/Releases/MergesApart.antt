@@ -61,6 +61,7 @@ puts_beside (p ∷ ps) trees s =
 abbrev pub past_merges : List CompiledRow → List CompiledRow → Rule → Rule
 past_merges before after rule = record {
   tests = λ s. rule.tests (with_trees before s);
+  lacks = λ s. rule.lacks (with_trees before s);
   puts = λ readings s. rule.puts readings (with_trees before s);
   publishes = rule.publishes;
   reply = λ readings s u. rule.reply readings (with_trees before s) (with_trees after u);

@@ -1,5 +1,5 @@
 -- The signing of a contract.
-use Rattle.award_core.specs.Rules.Sign.{sign_rows, sign_tests, sign_puts}
+use Rattle.award_core.specs.Rules.Sign.{sign_rows, sign_lacks, sign_tests, sign_puts}
 use Rattle.office_base.specs.Tables.{award_at}
 use Rattle.office_machine.specs.Replies.{Signed, award_release}
 use Rattle.office_machine.specs.Rule.{Rule, UnderAward}
@@ -9,6 +9,7 @@ use Rattle.std.specs.Prelude.{ℕ, Option}
 abbrev pub sign : ℕ → Option NamedSecurity → Rule
 sign award named = record {
   tests = λ s t caller. sign_tests (sign_rows s award) t named;
+  lacks = λ s. sign_lacks (sign_rows s award);
   puts = λ readings s t caller. sign_puts (sign_rows s award) t named;
   publishes = UnderAward award;
   reply = λ readings s u t caller. Signed award (award_release (award_at award s) s.notices) t;

@@ -309,6 +309,7 @@ module _ (readings : Readings) (name : List ℕ) (rationale : List ℕ) (xs : Li
           lot = λ r d. cond_keeps (λ (e : EnvelopeRow). e.lot) (is_sealed d.state && E d.notice d.lot) (returned_envelope d) d refl;
           tenderer = λ r d. cond_keeps (λ (e : EnvelopeRow). e.tenderer) (is_sealed d.state && E d.notice d.lot) (returned_envelope d) d refl;
           security = λ r d. cond_keeps (λ (e : EnvelopeRow). e.security) (is_sealed d.state && E d.notice d.lot) (returned_envelope d) d refl;
+          moment = λ r d. cond_keeps (λ (e : EnvelopeRow). e.moment) (is_sealed d.state && E d.notice d.lot) (returned_envelope d) d refl;
           len = λ r d. cond_keeps (λ (e : EnvelopeRow). e.length) (is_sealed d.state && E d.notice d.lot) (returned_envelope d) d refl;
           digest = λ r d. cond_keeps (λ (e : EnvelopeRow). e.digest) (is_sealed d.state && E d.notice d.lot) (returned_envelope d) d refl;
         };

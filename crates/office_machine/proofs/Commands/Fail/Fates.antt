@@ -131,6 +131,7 @@ module _ (readings : Readings) (number : ℕ) (xs : List Given) (t : Tables) (m 
               lot = λ r d. cond_keeps (λ (e : EnvelopeRow). e.lot) (eq_by_cmp nat_cmp r w.receipt) (passed_over d) d refl;
               tenderer = λ r d. cond_keeps (λ (e : EnvelopeRow). e.tenderer) (eq_by_cmp nat_cmp r w.receipt) (passed_over d) d refl;
               security = λ r d. cond_keeps (λ (e : EnvelopeRow). e.security) (eq_by_cmp nat_cmp r w.receipt) (passed_over d) d refl;
+              moment = λ r d. cond_keeps (λ (e : EnvelopeRow). e.moment) (eq_by_cmp nat_cmp r w.receipt) (passed_over d) d refl;
               len = λ r d. cond_keeps (λ (e : EnvelopeRow). e.length) (eq_by_cmp nat_cmp r w.receipt) (passed_over d) d refl;
               digest = λ r d. cond_keeps (λ (e : EnvelopeRow). e.digest) (eq_by_cmp nat_cmp r w.receipt) (passed_over d) d refl;
             };

@@ -104,6 +104,12 @@ rows_within m (row ∷ rows) within h q =
     let passes = neither _ _ h in
     rows_within (after_row m row) rows (row_within m row within passes.0) passes.1 q
 
+-- no more is free than was appropriated
+pub covered : (xs : List Given) (s : Tables) → IsKept xs s → IsSorted s → (q : List ℕ) → IsCovered (columns_at (standings s) q)
+covered xs s kept order q =
+    let stand = columns_stand s q in
+    omega (arith, add_up xs s kept order q, stand.appropriation_is, stand.free_is)
+
 module _ (readings : Readings) (xs : List Given) (s : Tables) (moment : ℕ) (caller : Caller) (batch : List ℕ) (rows : List BudgetRow) (kept : IsKept xs s) (order : IsSorted s) where
   abbrev x : Given
   x = record { before = s; moment = moment; caller = caller; command = commands.Import batch rows }
@@ -124,16 +130,11 @@ module _ (readings : Readings) (xs : List Given) (s : Tables) (moment : ℕ) (ca
     imported_is : after_puts (effect readings x) s ≡ imported
     imported_is = after_lines (line_row (after_rows (standings s) rows)) rows _ s
 
-    covered : (q : List ℕ) → IsCovered (columns_at (standings s) q)
-    covered q =
-        let stand = columns_stand s q in
-        omega (arith, add_up xs s kept order q, stand.appropriation_is, stand.free_is)
-
     passes : AllByRecursion (λ (test : Bool × Refusal). test.0 ≡ false) (command_tests x)
     passes = none_holds (command_tests x) allowed
 
     changed : (q : List ℕ) → Changed (columns_at (standings s) q) (columns_at (after_rows (standings s) rows) q) (sum_over (adds q) rows) (sum_over (cuts q) rows)
-    changed q = rows_change (standings s) rows q covered passes.1.1.0
+    changed q = rows_change (standings s) rows q (covered xs s kept order) passes.1.1.0
 
     pots : (q : List ℕ) → PotsAre (moves (x ∷ xs)) imported q
     pots q =

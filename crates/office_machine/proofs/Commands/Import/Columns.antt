@@ -1,5 +1,5 @@
 -- The columns of a line after the rows of a file.
-use Rattle.std.specs.Prelude.{◌≡◌, ℕ, ◌+◌, ◌-◌, ◌≤◌, Bool, true, false, cond, ◌&&◌, List, [], ◌∷◌, map, Option, Some, None, option_map, nat_lt}
+use Rattle.std.specs.Prelude.{◌≡◌, ℕ, ◌+◌, ◌-◌, ◌≤◌, Bool, true, false, cond, ◌&&◌, List, [], ◌∷◌, map, Option, Some, None, option_map, nat_lt, ◌||◌}
 use Rattle.std.proofs.Common.{refl, sym, ap, ◌∙◌, subst, arith}
 use Rattle.std.specs.List.{AllByRecursion}
 use Rattle.std.specs.Cmp.Lexicographic.{nat_list_cmp_total}
@@ -9,7 +9,7 @@ use Rattle.office_acts.specs.declared.budget.BudgetRow.{BudgetRow}
 use Rattle.office_base.specs.Sums.{sum_over}
 use Rattle.office_base.specs.Tables.{Tables, line_key, find_line, line_at}
 use Rattle.office_base.specs.Standings.{columns_at, columns_of_row, standings}
-use Rattle.tender_core.specs.Rules.Import.{is_cut, appropriation_of, free_of, columns_after, after_row, after_rows, some_row, cuts_too_much, line_row}
+use Rattle.tender_core.specs.Rules.Import.{is_cut, appropriation_of, free_of, columns_after, after_row, after_rows, some_row, cuts_too_much, line_row, cuts_below_zero}
 use Rattle.office_base.specs.Joined.{appropriation_in, free_in}
 use Rattle.office_base.specs.declared.records.LineRow.{LineRow}
 use Rattle.office_base.specs.declared.standing.Columns.{Columns}
@@ -17,6 +17,7 @@ use Rattle.office_base.specs.declared.standing.Standing.{Standing}
 use Rattle.tender_core.proofs.ImportsAgree.{columns_at-after_row, columns_at-standings}
 use Rattle.office_base.proofs.ExactKeys.{ids_exact, equal_keys, equal_ids, same_id_is}
 use Rattle.office_machine.proofs.Passed.{neither, at_least}
+use Rattle.office_machine.proofs.Parents.Whole.{not_less}
 use Rattle.office_machine.proofs.Rows.RowsPut.{some_has, lines_put, found_after}
 
 -- the columns of this row, where there is one, are these
@@ -124,6 +125,21 @@ rows_change m (row ∷ rows) q covered h =
       appropriation_is = omega (arith, here.appropriation_is, more.appropriation_is);
       free_is = omega (arith, here.free_is, more.free_is);
     }
+
+-- where none of them takes more than is free, none takes more than was appropriated
+below_by : (b : Bool) (a f n : ℕ) → f ≤ a → (b && nat_lt f n) ≡ false → (b && nat_lt a n) ≡ false
+below_by true a f n within h = let enough : n ≤ f = at_least f n h in not_less a n (omega (arith, within, enough))
+below_by false a f n within h = refl
+
+pub none_below : (m : List Standing) (rows : List BudgetRow) → ((p : List ℕ) → IsCovered (columns_at m p)) → some_row cuts_too_much m rows ≡ false → some_row cuts_below_zero m rows ≡ false
+none_below m [] covered h = refl
+none_below m (row ∷ rows) covered h =
+    let passes = neither _ _ h in
+    let held : Option Columns = columns_at m row.line in
+    let first : cuts_below_zero held row ≡ false = below_by (is_cut row.kind) (appropriation_of held) (free_of held) row.amount (covered row.line) passes.0 in
+    let rest = none_below (after_row m row) rows
+    (λ p. covered_after (columns_at m p) (columns_at (after_row m row) p) (adds p row) (cuts p row) (covered p) (row_changes m row p (covered row.line) passes.0)) passes.1 in
+    λ i. first i || rest i
 
 pub columns_stand : (t : Tables) (q : List ℕ) → StandsAt (line_at q t) (columns_at (standings t) q)
 columns_stand t q = subst (StandsAt (line_at q t)) (sym (columns_at-standings t q)) (stands_itself (line_at q t))

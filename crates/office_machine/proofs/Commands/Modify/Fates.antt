@@ -121,6 +121,7 @@ module _ (readings : Readings) (receipt : ℕ) (bytes : List ℕ) (xs : List Giv
       lot = λ r d. cond_keeps (λ (e : EnvelopeRow). e.lot) (eq_by_cmp nat_cmp r receipt) (withdrawn d) d refl;
       tenderer = λ r d. cond_keeps (λ (e : EnvelopeRow). e.tenderer) (eq_by_cmp nat_cmp r receipt) (withdrawn d) d refl;
       security = λ r d. cond_keeps (λ (e : EnvelopeRow). e.security) (eq_by_cmp nat_cmp r receipt) (withdrawn d) d refl;
+      moment = λ r d. cond_keeps (λ (e : EnvelopeRow). e.moment) (eq_by_cmp nat_cmp r receipt) (withdrawn d) d refl;
       len = λ r d. cond_keeps (λ (e : EnvelopeRow). e.length) (eq_by_cmp nat_cmp r receipt) (withdrawn d) d refl;
       digest = λ r d. cond_keeps (λ (e : EnvelopeRow). e.digest) (eq_by_cmp nat_cmp r receipt) (withdrawn d) d refl;
     }
@@ -150,20 +151,21 @@ module _ (readings : Readings) (receipt : ℕ) (bytes : List ℕ) (xs : List Giv
     none_cond true o e = refl
     none_cond false o e = e
 
-    came_new : came (x ∷ xs) k ≡ Some (fates.replacing bytes stands.came)
+    came_new : came (x ∷ xs) k ≡ Some (fates.replacing x bytes stands.came)
     came_new =
-        came_here (came xs k) (option_map (fates.replacing bytes) (came xs receipt)) (same_number k k) (nothing_yet readings xs t kept).no_reception (same_itself k)
-        ∙ ap (option_map (fates.replacing bytes)) stands.came_is
+        came_here (came xs k) (option_map (fates.replacing x bytes) (came xs receipt)) (same_number k k) (nothing_yet readings xs t kept).no_reception (same_itself k)
+        ∙ ap (option_map (fates.replacing x bytes)) stands.came_is
 
     new_stands : EnvelopeStands readings.digest k (came (x ∷ xs) k) (fate_of_tender (x ∷ xs) k) new (seal_at k after)
     new_stands = record {
-      came = fates.replacing bytes stands.came;
+      came = fates.replacing x bytes stands.came;
       came_is = came_new;
       stands = record {
         of_notice = stands.stands.of_notice;
         of_lot = stands.stands.of_lot;
         of_tenderer = stands.stands.of_tenderer;
         security_is = stands.stands.security_is;
+        moment_is = refl;
         length_is = refl;
         digest_is = refl;
         fate_is =
@@ -193,7 +195,7 @@ module _ (readings : Readings) (receipt : ℕ) (bytes : List ℕ) (xs : List Giv
         })
         new_stands
 
-    unnamed : (o : Option Reception) → named_in (option_map (fates.replacing bytes) o) ≡ None
+    unnamed : (o : Option Reception) → named_in (option_map (fates.replacing x bytes) o) ≡ None
     unnamed None = refl
     unnamed (Some a) = refl
 

@@ -126,6 +126,7 @@ module _ (readings : Readings) (name : List ℕ) (xs : List Given) (t : Tables) 
             lot = λ r d. cond_keeps (λ (e : EnvelopeRow). e.lot) (test d) (open_row d) d refl;
             tenderer = λ r d. cond_keeps (λ (e : EnvelopeRow). e.tenderer) (test d) (open_row d) d refl;
             security = λ r d. cond_keeps (λ (e : EnvelopeRow). e.security) (test d) (open_row d) d refl;
+            moment = λ r d. cond_keeps (λ (e : EnvelopeRow). e.moment) (test d) (open_row d) d refl;
             len = λ r d. cond_keeps (λ (e : EnvelopeRow). e.length) (test d) (open_row d) d refl;
             digest = λ r d. cond_keeps (λ (e : EnvelopeRow). e.digest) (test d) (open_row d) d refl;
           };

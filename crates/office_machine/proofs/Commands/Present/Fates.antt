@@ -154,6 +154,7 @@ module _ (readings : Readings) (name lot_name : List ℕ) (bytes : List ℕ) (xs
         of_lot = refl;
         of_tenderer = refl;
         security_is = refl;
+        moment_is = refl;
         length_is = refl;
         digest_is = refl;
         fate_is =

@@ -44,13 +44,14 @@ use Rattle.office_machine.proofs.Rows.Keyed as keyed
 module _ (digest : List ℕ → List ℕ) (receipt : ℕ) (change : EnvelopeRow → EnvelopeRow)
     (notice : (e : EnvelopeRow) → (change e).notice ≡ e.notice) (lot : (e : EnvelopeRow) → (change e).lot ≡ e.lot)
     (tenderer : (e : EnvelopeRow) → (change e).tenderer ≡ e.tenderer) (carried : (e : EnvelopeRow) → (change e).security ≡ e.security)
-    (len : (e : EnvelopeRow) → (change e).length ≡ e.length) (hash : (e : EnvelopeRow) → (change e).digest ≡ e.digest) where
+    (at : (e : EnvelopeRow) → (change e).moment ≡ e.moment) (len : (e : EnvelopeRow) → (change e).length ≡ e.length) (hash : (e : EnvelopeRow) → (change e).digest ≡ e.digest) where
   tenders_keep : EnvelopeKeeps digest (λ r e. cond (eq_by_cmp nat_cmp r receipt) (change e) e)
   tenders_keep = record {
     notice = λ r d. cond_keeps (λ (e : EnvelopeRow). e.notice) (eq_by_cmp nat_cmp r receipt) (change d) d (notice d);
     lot = λ r d. cond_keeps (λ (e : EnvelopeRow). e.lot) (eq_by_cmp nat_cmp r receipt) (change d) d (lot d);
     tenderer = λ r d. cond_keeps (λ (e : EnvelopeRow). e.tenderer) (eq_by_cmp nat_cmp r receipt) (change d) d (tenderer d);
     security = λ r d. cond_keeps (λ (e : EnvelopeRow). e.security) (eq_by_cmp nat_cmp r receipt) (change d) d (carried d);
+    moment = λ r d. cond_keeps (λ (e : EnvelopeRow). e.moment) (eq_by_cmp nat_cmp r receipt) (change d) d (at d);
     len = λ r d. cond_keeps (λ (e : EnvelopeRow). e.length) (eq_by_cmp nat_cmp r receipt) (change d) d (len d);
     digest = λ r d. cond_keeps (λ (e : EnvelopeRow). e.digest) (eq_by_cmp nat_cmp r receipt) (change d) d (hash d);
   }
@@ -191,7 +192,7 @@ module _ (readings : Readings) (receipt : ℕ) (xs : List Given) (t : Tables) (m
       early_kept : IsKept readings (x ∷ xs) (after false withdrawn security.Returned (option_and_then (λ n. security_at n t) e.security))
       early_kept =
           by_security false withdrawn security.Returned refl
-          (tenders_keep readings.digest receipt withdrawn (λ e. refl) (λ e. refl) (λ e. refl) (λ e. refl) (λ e. refl) (λ e. refl))
+          (tenders_keep readings.digest receipt withdrawn (λ e. refl) (λ e. refl) (λ e. refl) (λ e. refl) (λ e. refl) (λ e. refl) (λ e. refl))
           (fair_withdrawal (seen t) receipt e found sealed security.Returned e.security)
           (ap (λ b. cond b security.Returned security.Forfeited) in_time)
           tender_goes
@@ -223,7 +224,7 @@ module _ (readings : Readings) (receipt : ℕ) (xs : List Given) (t : Tables) (m
       late_kept : IsKept readings (x ∷ xs) (after true passed_over security.Forfeited (option_and_then (λ n. security_at n t) e.security))
       late_kept =
           by_security true passed_over security.Forfeited refl
-          (tenders_keep readings.digest receipt passed_over (λ e. refl) (λ e. refl) (λ e. refl) (λ e. refl) (λ e. refl) (λ e. refl))
+          (tenders_keep readings.digest receipt passed_over (λ e. refl) (λ e. refl) (λ e. refl) (λ e. refl) (λ e. refl) (λ e. refl) (λ e. refl))
           (fair_taking_back (seen t) receipt passed_over security.Forfeited e.security (λ e. refl) (λ e. refl) (λ e. refl) (λ e h. h) (λ e at h. h))
           (ap (λ b. cond b security.Returned security.Forfeited) too_late)
           (λ r d at. same_state r d ∙ stays r d)
