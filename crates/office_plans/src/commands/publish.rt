@@ -17,7 +17,7 @@ use crate::published::{Released, make_release, published};
 use crate::replies::notice_reply;
 use keyed_table::table::Table;
 use ocds_release::borrowed::{BorrowedLine, PublishedLots};
-use ocds_release::event::{Event, Published};
+use ocds_release::event::{Event, Published as PublishedNotice};
 use office_acts::lot::NewLot;
 use office_acts::notice::NewNotice;
 use office_base::laws::{looks_follow, rows_are_kept};
@@ -80,7 +80,7 @@ fn release(
         return Err(Refusal::Unavailable);
     };
     let title = BorrowedLine::of(&content.title);
-    let event = Event::Publish(Published {
+    let event = Event::Publish(PublishedNotice {
         notice,
         title,
         deadline: content.deadline,

@@ -21,7 +21,7 @@ returns c =
     if_ok c.awarded_text.result c.awarded_text.ensures
     (λ text is s notice are best.
     let told : AwardRows → Option Winning = λ r. option_map (replies.winning r.clock) (winner r.notice r.envelopes) in
-    let won : option_map (replies.winning rows.clock) (option_map (λ e. e.now) c.args.best.entry) ≡ told (award_rows s notice c.args.lot) =
+    let won : option_map (replies.winning rows.clock) (option_map (λ e. e.now) c.args.best) ≡ told (award_rows s notice c.args.lot) =
     ap (λ (e : Option EnvelopeRow). option_map (replies.winning rows.clock) e) best ∙ ap told are in
     let release = c.next_release-release.ensures ∙ ap (λ (r : AwardRows). releases_in r.notice + 1) are in
     let time = c.time-t.ensures ∙ ap (λ (r : AwardRows). max c.args.asking.now.moment r.clock.moment) are in

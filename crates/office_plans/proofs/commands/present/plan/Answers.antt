@@ -1,49 +1,45 @@
-use Rattle.std.specs.Prelude.{◌≡◌, ℕ, None, max}
-use Rattle.std.proofs.Common.{◌∙◌, ap, inl, refl, sym}
-use Rattle.sha2.specs.Sha256.{sha256}
-use Rattle.office_base.specs.RuleParts.{is_in_time}
-use Rattle.office_base.specs.Rows.{holds_of}
-use Rattle.office_machine.specs.Replies.{received_reply}
-use Rattle.office_plans.specs.OwnTenders.{own_rows}
-use Rattle.office_plans.proofs.OwnTenders.{own_tests}
-use Rattle.tender_core.specs.Rules.Present.{present_puts, present_tests, received}
-use Rattle.tender_core.specs.declared.present.PresentRows.{PresentRows}
+use Rattle.std.specs.Prelude.{◌≡◌, List, Option, ℕ}
+use Rattle.std.proofs.Common.{◌∙◌, refl, sym}
 use Rattle.office_acts.specs.declared.commands.Command.TheVariants.{Present}
-use Rattle.office_machine.specs.Machine.{Given, refusal_of, time_of}
-use Rattle.office_plans.specs.Asking.{given_by}
-use Rattle.office_plans.specs.Replies.{reply_text}
-use Rattle.office_plans.proofs.Publishing.{puts_on, refused_on}
+use Rattle.office_acts.specs.declared.tender.NamedSecurity.{NamedSecurity}
+use Rattle.office_base.specs.Rows.{holds_of}
+use Rattle.office_base.specs.RuleParts.{is_in_time}
+use Rattle.office_base.specs.Tables.{Tables}
+use Rattle.office_machine.specs.Machine.{time_of}
+use Rattle.office_machine.specs.Replies.{received_reply}
+use Rattle.office_plans.proofs.OwnTenders.{own_tests}
+use Rattle.office_plans.proofs.Publishing.{IsTested, not_planned, on_rows, puts_on, refused_on}
 use Rattle.office_plans.proofs.commands.present.plan.Goals as goal
+use Rattle.office_plans.specs.Asking.{given_by}
+use Rattle.office_plans.specs.OwnTenders.{own_rows}
+use Rattle.office_plans.specs.Replies.{reply_text}
+use Rattle.sha2.specs.Sha256.{sha256}
+use Rattle.tender_core.specs.Rules.Present.{present_puts, present_tests, received}
+use Rattle.tender_core.specs.declared.asking.Asking.{Asking}
+use Rattle.tender_core.specs.declared.present.PresentRows.{PresentRows}
+
+-- its tests are those of the rows that it loads
+rule : (asking : Asking) (notice : List ℕ) (lot : List ℕ) (security : Option NamedSecurity) (sealed : List ℕ) → IsTested asking (Present notice lot security sealed) (λ (s : Tables). own_rows asking.caller.now s notice lot) (λ (rows : PresentRows). rows.clock)
+    (λ (rows : PresentRows) (t : ℕ). present_tests rows t asking.caller.now security)
+rule asking notice lot security sealed = record { clock = λ s. refl; tested = λ s. sym (own_tests asking.caller.now notice lot s (time_of (given_by asking s (Present notice lot security sealed))) security) }
 
 pub returns-in-Some : goal.returns-in-Some
-returns-in-Some g c settings = (
-  c.in_ok-rows.ensures.0.0,
-  λ honest s held.
-      let a = c.args in
-      let x : Given = given_by a.asking.now s (Present a.notice a.lot a.security a.sealed) in
-      let are : c.in_ok-rows.rows ≡ own_rows a.asking.now.caller.now s a.notice a.lot = c.in_ok-rows.ensures.0.1 honest s held in
-      let time : c.time-t.result ≡ time_of x = c.time-t.ensures ∙ ap (λ (rows : PresentRows). max a.asking.now.moment rows.clock.moment) are in
-      let tests = λ (rows : PresentRows) (t : ℕ). present_tests rows t a.asking.now.caller.now a.security in
-      let own = sym (own_tests a.asking.now.caller.now a.notice a.lot s (time_of x) a.security) in
-      inl (refused_on x _ _ are _ time c.requires tests own _ c.refusal.ensures ∙ c.in-Some.is),
-)
+returns-in-Some g c settings =
+    let a = c.args in
+    not_planned (rule a.asking.now a.notice a.lot a.security a.sealed) _ _ c.time-t.ensures _ settings _ _ _ _ c.in_ok-rows.ensures.0 c.requires c.refusal.ensures c.in-Some.is
 
 pub returns : goal.returns
-returns g c settings = (
-  c.in_ok-rows.ensures.0.0,
-  λ honest s held.
-      let a = c.args in
-      let x : Given = given_by a.asking.now s (Present a.notice a.lot a.security a.sealed) in
-      let are : c.in_ok-rows.rows ≡ own_rows a.asking.now.caller.now s a.notice a.lot = c.in_ok-rows.ensures.0.1 honest s held in
-      let time : c.time-t.result ≡ time_of x = c.time-t.ensures ∙ ap (λ (rows : PresentRows). max a.asking.now.moment rows.clock.moment) are in
-      let tests = λ (rows : PresentRows) (t : ℕ). present_tests rows t a.asking.now.caller.now a.security in
-      let puts = λ (rows : PresentRows) (t : ℕ). present_puts sha256 rows t a.asking.now.caller.now a.notice a.lot a.security a.sealed in
-      let own = sym (own_tests a.asking.now.caller.now a.notice a.lot s (time_of x) a.security) in
-      let reply = λ (rows : PresentRows) (t : ℕ).
-      reply_text (received_reply (received sha256 rows.clock t a.asking.now.caller.now a.notice a.lot a.security a.sealed (holds_of (is_in_time t) rows.notice))) in
-      let told =
-      c.in_ok-text.ensures a.asking.now.caller.now a.notice a.lot ∙ ap (λ (rows : PresentRows). reply rows c.time-t.result) are
-      ∙ ap (reply (own_rows a.asking.now.caller.now s a.notice a.lot)) time in
-      let allowed : refusal_of x ≡ None = refused_on x _ _ are _ time c.requires tests own _ c.refusal.ensures ∙ c.in_default.is in
-      c.silent.ensures settings x tt allowed refl refl (puts_on x _ _ are _ time puts refl _ c.in_ok-puts.ensures.puts) told,
-)
+returns g c settings =
+    let a = c.args in
+    let ruled = rule a.asking.now a.notice a.lot a.security a.sealed in
+    let moment = c.time-t.ensures in (
+      c.in_ok-rows.ensures.0.0,
+      λ honest s held.
+          let are = c.in_ok-rows.ensures.0.1 honest s held in
+          let allowed = refused_on ruled _ _ moment _ c.requires c.refusal.ensures s are ∙ c.in_default.is in
+          let puts = puts_on ruled _ _ moment (λ (rows : PresentRows) (t : ℕ). present_puts sha256 rows t a.asking.now.caller.now a.notice a.lot a.security a.sealed) _ c.in_ok-puts.ensures.puts s are refl in
+          let reply = λ (rows : PresentRows) (t : ℕ).
+          reply_text (received_reply (received sha256 rows.clock t a.asking.now.caller.now a.notice a.lot a.security a.sealed (holds_of (is_in_time t) rows.notice))) in
+          let told = c.in_ok-text.ensures a.asking.now.caller.now a.notice a.lot ∙ on_rows ruled _ _ moment reply s are in
+          c.silent.ensures settings (given_by a.asking.now s (Present a.notice a.lot a.security a.sealed)) tt allowed refl refl puts told,
+    )

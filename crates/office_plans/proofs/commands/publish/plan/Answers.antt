@@ -1,46 +1,45 @@
-use Rattle.std.specs.Prelude.{◌≡◌, ℕ, None, map, max}
-use Rattle.std.proofs.Common.{◌∙◌, ap, inl, refl, sym}
+use Rattle.std.specs.Prelude.{◌≡◌, List, map, ℕ}
+use Rattle.std.proofs.Common.{◌∙◌, ap, refl, sym}
 use Rattle.office_acts.specs.declared.commands.Command.TheVariants.{Publish}
-use Rattle.office_machine.specs.Machine.{Given, refusal_of, time_of}
+use Rattle.office_acts.specs.declared.notice.NewNotice.{NewNotice}
+use Rattle.office_base.specs.RowLaws.{RowsAreKept}
+use Rattle.office_base.specs.Tables.{Tables, line_key}
+use Rattle.office_machine.specs.Machine.{time_of}
+use Rattle.office_plans.proofs.NamedLines.{lines_agree}
+use Rattle.office_plans.proofs.Publishing.{IsTested, not_planned, puts_on, refused_on, two_looks}
+use Rattle.office_plans.proofs.commands.publish.plan.Goals as goal
 use Rattle.office_plans.specs.Asking.{given_by}
 use Rattle.office_plans.specs.Named.{line_of_new, lines_named, publish_named}
-use Rattle.office_plans.proofs.NamedLines.{lines_agree}
-use Rattle.office_plans.proofs.Publishing.{puts_on, refused_on, two_looks}
-use Rattle.office_plans.proofs.commands.publish.plan.Goals as goal
+use Rattle.office_values.specs.Ids.{id_cmp}
+use Rattle.tender_core.specs.Agreeing.{PublishesAgree}
 use Rattle.tender_core.specs.Rules.Publish.{publish_puts, publish_rows, publish_tests}
+use Rattle.tender_core.specs.declared.asking.Asking.{Asking}
 use Rattle.tender_core.specs.declared.publish.PublishRows.{PublishRows}
 
+-- its tests are those of the rows that it loads
+rule : RowsAreKept id_cmp line_key → PublishesAgree → (asking : Asking) (notice : List ℕ) (content : NewNotice) → IsTested asking (Publish notice content) (λ (s : Tables). publish_named s notice content.lots) (λ (rows : PublishRows). rows.clock)
+    (λ (rows : PublishRows) (t : ℕ). publish_tests rows t content)
+rule kept laws asking notice content = record {
+  clock = λ s. refl;
+  tested = λ s. sym
+      (laws.tests (lines_named s (map line_of_new content.lots)) s.lines (publish_rows s notice) (time_of (given_by asking s (Publish notice content))) content
+      (lines_agree kept s line_of_new content.lots));
+}
+
 pub returns-in-Some : goal.returns-in-Some
-returns-in-Some g c = (
-  c.in_ok-rows.ensures.0,
-  λ honest s held.
-      let a = c.args in
-      let n = a.notice in
-      let x : Given = given_by a.asking.now s (Publish n a.content) in
-      let are : c.in_ok-rows.rows ≡ publish_named s n a.content.lots = c.in_ok-rows.ensures.1 honest s held in
-      let time : c.time-t.result ≡ time_of x = c.time-t.ensures ∙ ap (λ (rows : PublishRows). max a.asking.now.moment rows.clock.moment) are in
-      let tests = λ (rows : PublishRows) (t : ℕ). publish_tests rows t a.content in
-      let lines = lines_named s (map line_of_new a.content.lots) in
-      let agree = lines_agree c.rows_are_kept.ensures s line_of_new a.content.lots in
-      let own = sym (c.publishes_agree.ensures.tests lines s.lines (publish_rows s n) (time_of x) a.content agree) in
-      inl (refused_on x _ _ are _ time c.requires tests own _ c.refusal.ensures ∙ c.in-Some.is),
-)
+returns-in-Some g c =
+    let a = c.args in
+    not_planned (rule c.rows_are_kept.ensures c.publishes_agree.ensures a.asking.now a.notice a.content) _ _ c.time-t.ensures _ a.settings.now _ _ _ _ c.in_ok-rows.ensures c.requires c.refusal.ensures c.in-Some.is
 
 pub returns : goal.returns
 returns g c =
+    let a = c.args in
+    let ruled = rule c.rows_are_kept.ensures c.publishes_agree.ensures a.asking.now a.notice a.content in
+    let moment = c.time-t.ensures in
     two_looks _ c.looks_follow.ensures _ _ _ _ _ _ c.in_ok-rows.ensures c.published.ensures
     (λ s are joined.
-    let a = c.args in
-    let n = a.notice in
-    let x : Given = given_by a.asking.now s (Publish n a.content) in
-    let time : c.time-t.result ≡ time_of x = c.time-t.ensures ∙ ap (λ (rows : PublishRows). max a.asking.now.moment rows.clock.moment) are in
-    let tests = λ (rows : PublishRows) (t : ℕ). publish_tests rows t a.content in
-    let puts = λ (rows : PublishRows) (t : ℕ). publish_puts rows t n a.content in
-    let lines = lines_named s (map line_of_new a.content.lots) in
-    let agree = lines_agree c.rows_are_kept.ensures s line_of_new a.content.lots in
-    let own = sym (c.publishes_agree.ensures.tests lines s.lines (publish_rows s n) (time_of x) a.content agree) in
-    let own_puts = sym (c.publishes_agree.ensures.puts lines s.lines (publish_rows s n) (time_of x) n a.content agree) in
-    let allowed : refusal_of x ≡ None = refused_on x _ _ are _ time c.requires tests own _ c.refusal.ensures ∙ c.in_default.is in
-    let told = c.in_ok-text.ensures s (ap (λ (rows : PublishRows). rows.notice) are) (ap (λ (rows : PublishRows). rows.clock) are) in
-    joined a.settings.now x refl c.as_slice.ensures.differ allowed (puts_on x _ _ are _ time puts own_puts _ c.in_ok-puts.ensures.puts) told
-    (c.in_ok-release.ensures.release s are))
+    let allowed = refused_on ruled _ _ moment _ c.requires c.refusal.ensures s are ∙ c.in_default.is in
+    let puts = puts_on ruled _ _ moment (λ (rows : PublishRows) (t : ℕ). publish_puts rows t a.notice a.content) _ c.in_ok-puts.ensures.puts s are
+    (sym (c.publishes_agree.ensures.puts (lines_named s (map line_of_new a.content.lots)) s.lines (publish_rows s a.notice)
+    (time_of (given_by a.asking.now s (Publish a.notice a.content))) a.notice a.content (lines_agree c.rows_are_kept.ensures s line_of_new a.content.lots))) in
+    joined a.settings.now (given_by a.asking.now s (Publish a.notice a.content)) refl c.as_slice.ensures.differ allowed puts (c.in_ok-text.ensures s (ap (λ (rows : PublishRows). rows.notice) are) (ap (λ (rows : PublishRows). rows.clock) are)) (c.in_ok-release.ensures.release s are))
