@@ -15,3 +15,7 @@ has_merge notice s (Releases rows) kept goes c found = let none : compiled_at no
 pub has_merge_on : {T E : Type 0} (notice : List ℕ) (s : Tables) (k : Kept) (result : Result T E) → IsKeptOf notice s k → OnOk result (CanGoOn k) → OnOk result (HasMerge notice s)
 has_merge_on notice s k (Ok made) kept goes = has_merge notice s k kept goes
 has_merge_on notice s k (Err why) kept goes = tt
+
+pub has_merge_any : {T E : Type 0} (notice : List ℕ) (s : Tables) (k : Kept) (result : Result T E) → IsKeptOf notice s k → CanGoOn k → OnOk result (HasMerge notice s)
+has_merge_any notice s k (Ok made) kept goes = has_merge notice s k kept goes
+has_merge_any notice s k (Err why) kept goes = tt
