@@ -7,7 +7,7 @@ use Rattle.office_memory.specs.Inside.Adding.{HasRoom}
 use Rattle.office_memory.proofs.sums.sums_of.Given as goal
 
 -- the entries that are left lead where all lead, and there is room for them
-abbrev pub invariant-loop-entry : goal.invariant-loop-entry
-invariant-loop-entry l =
-    (sums_with_entries l.sums (values_of l.entry-iterator) ≡ sums_with_entries (bare_sums l.contract) (filter (λ (e : EntryRow). same_number e.contract l.contract.contract) l.entries))
-    × HasRoom (length l.entry-iterator) l.sums
+abbrev pub invariant-loop-kept : goal.invariant-loop-kept
+invariant-loop-kept l =
+    (sums_with_entries l.sums (values_of l.kept-iterator) ≡ sums_with_entries (bare_sums l.contract) (filter (λ (e : EntryRow). same_number e.contract l.contract.contract) l.entries))
+    × HasRoom (length l.kept-iterator) l.sums
