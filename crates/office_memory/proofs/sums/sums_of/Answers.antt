@@ -1,4 +1,4 @@
-use Rattle.std.proofs.Common.{◌≡◌, ◌∷◌, [], length, sym, ap, ◌∙◌, subst, arith, ℕ}
+use Rattle.std.proofs.Common.{◌≡◌, ◌+◌, ◌∷◌, [], length, sym, ap, ◌∙◌, subst, arith, ℕ}
 use Rattle.std.specs.Map.{values_of}
 use Rattle.office_base.specs.EntrySums.{sums_with_entry, sums_with_entries}
 use Rattle.office_base.specs.declared.records.EntryRow.{EntryRow}
@@ -17,20 +17,26 @@ loop-kept-preserved c =
       entry_room c.get-entry.result.now.kind c.get-entry.result.now.amount c.loop-kept.sums c.with_entry-sums.result c.with_entry-sums.ensures.sums c.with_entry-sums.ensures.bound (length c.next.new.self) (subst room (omega (arith, ap length taken)) c.loop-kept.invariant.1),
     )
 
--- there is room for the entry that is taken
-room_for : (c : goal.After-get-entry) → HasRoom (length c.next.new.self + 1) c.loop-kept.sums
-room_for c =
-    let taken : c.loop-kept.kept-iterator ≡ (c.in-Some.field-0-0.now, c.in-Some.kept.now) ∷ c.next.new.self = c.in-Some.ensures.steps in
-    subst (λ n. HasRoom n c.loop-kept.sums) (omega (arith, ap length taken)) c.loop-kept.invariant.1
-
 pub with_entry-sums-requires-clause-gained : goal.with_entry-sums-requires-clause-gained
-with_entry-sums-requires-clause-gained c = omega (arith, (room_for c).gained)
+with_entry-sums-requires-clause-gained c =
+    let taken : c.loop-kept.kept-iterator ≡ (c.in-Some.field-0-0.now, c.in-Some.kept.now) ∷ c.next.new.self = c.in-Some.ensures.steps in
+    let room : ℕ → Type 0 = λ n. HasRoom n c.loop-kept.sums in
+    let has : HasRoom (length c.next.new.self + 1) c.loop-kept.sums = subst room (omega (arith, ap length taken)) c.loop-kept.invariant.1 in
+    omega (arith, has.gained)
 
 pub with_entry-sums-requires-clause-lost : goal.with_entry-sums-requires-clause-lost
-with_entry-sums-requires-clause-lost c = omega (arith, (room_for c).lost)
+with_entry-sums-requires-clause-lost c =
+    let taken : c.loop-kept.kept-iterator ≡ (c.in-Some.field-0-0.now, c.in-Some.kept.now) ∷ c.next.new.self = c.in-Some.ensures.steps in
+    let room : ℕ → Type 0 = λ n. HasRoom n c.loop-kept.sums in
+    let has : HasRoom (length c.next.new.self + 1) c.loop-kept.sums = subst room (omega (arith, ap length taken)) c.loop-kept.invariant.1 in
+    omega (arith, has.lost)
 
 pub with_entry-sums-requires-clause-paid : goal.with_entry-sums-requires-clause-paid
-with_entry-sums-requires-clause-paid c = omega (arith, (room_for c).paid)
+with_entry-sums-requires-clause-paid c =
+    let taken : c.loop-kept.kept-iterator ≡ (c.in-Some.field-0-0.now, c.in-Some.kept.now) ∷ c.next.new.self = c.in-Some.ensures.steps in
+    let room : ℕ → Type 0 = λ n. HasRoom n c.loop-kept.sums in
+    let has : HasRoom (length c.next.new.self + 1) c.loop-kept.sums = subst room (omega (arith, ap length taken)) c.loop-kept.invariant.1 in
+    omega (arith, has.paid)
 
 pub returns : goal.returns
 returns c =
