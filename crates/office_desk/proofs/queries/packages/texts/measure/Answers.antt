@@ -1,5 +1,5 @@
-use Rattle.std.proofs.Common.{◌≡◌, ◌+◌, ◌≤◌, Some, drop, sym, ◌∙◌, subst, arith}
-use Rattle.std.specs.Prelude.{Option, ℕ, length, slice_get}
+use Rattle.std.proofs.Common.{◌≡◌, ◌+◌, Some, drop, sym, ◌∙◌, subst, arith}
+use Rattle.std.specs.Prelude.{Option, ℕ, slice_get}
 use Rattle.std.proofs.lemmas.List.{drop_all}
 use Rattle.office_base.specs.Tables.{releases_of_notice}
 use Rattle.office_desk.proofs.Placed.{Measures, measures_next, measured, one_more_there}
