@@ -20,5 +20,5 @@ pub record IsExtentOf (extent : Extent) (rows : List ReleaseRow) : Type 0 where
 
 -- so many releases come to this, where the notice's row counts so many, and they stand in their sequence; and each of them is there
 pub record IsMeasured (notice : List ℕ) (count : ℕ) (extent : Extent) (s : Tables) : Type 0 where
-  pub extent : releases_in (notice_at notice s) ≡ count → AreInSequence notice s → IsExtentOf extent (releases_of_notice notice s)
+  pub is : releases_in (notice_at notice s) ≡ count → AreInSequence notice s → IsExtentOf extent (releases_of_notice notice s)
   pub there : AreAllThere notice count s

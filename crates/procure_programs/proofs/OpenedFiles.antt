@@ -113,7 +113,7 @@ days_follow = record { closed = days_closed; stopped = days_stopped }
 -- an office stands in the files under another key too
 stands_under : KeysMayChange → (before after : Settings) (image : Image) (h : Held) → SameButKey before after → h.settings ≡ before → StandsIn image h → StandsIn image (under_settings after h)
 stands_under changes before after image h same are stands =
-    (stands.0, stands.1, changes h.settings after h.tables (subst (λ settings. SameButKey settings after) (sym are) same) stands.2)
+    (stands.0, stands.1, changes h.settings after h.tables (subst (λ (u : Settings). SameButKey u after) (sym are) same) stands.2)
 
 -- what the office is at the end of the first day, under the key of the second
 second_day : KeysMayChange → (before after : Settings) (mid : Image) (h : Held) (xs : List Step) → SameButKey before after → h.settings ≡ before

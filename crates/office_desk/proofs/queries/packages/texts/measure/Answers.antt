@@ -1,5 +1,5 @@
-use Rattle.std.proofs.Common.{◌≡◌, ◌+◌, ◌≤◌, Some, drop, sym, ◌∙◌, subst, arith}
-use Rattle.std.specs.Prelude.{Option, ℕ, length, slice_get}
+use Rattle.std.proofs.Common.{◌≡◌, ◌+◌, Some, drop, sym, ◌∙◌, subst, arith}
+use Rattle.std.specs.Prelude.{Option, ℕ, slice_get}
 use Rattle.std.proofs.lemmas.List.{drop_all}
 use Rattle.office_base.specs.Tables.{releases_of_notice}
 use Rattle.office_desk.proofs.Placed.{Measures, measures_next, measured, one_more_there}
@@ -35,7 +35,7 @@ returns-clause-looks g c =
       λ honest s held.
           let so_far = c.places.invariant.1 honest s held in
           let rows = releases_of_notice c.args.notice.now s in record {
-            extent = λ row sequence.
+            is = λ row sequence.
                 let counted = sequence.counted in
                 measured c.places.extent rows (drop place rows) (drop_all place rows (omega (arith, end, many, row, counted))) (so_far.0 row sequence);
             there = λ k low. so_far.1 k (omega (arith, end, many, low));

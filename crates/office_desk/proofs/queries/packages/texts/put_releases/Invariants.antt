@@ -9,5 +9,5 @@ use Rattle.office_desk.proofs.queries.packages.texts.put_releases.Given as goal
 abbrev pub invariant-places : goal.invariant-places
 invariant-places g l =
     Looks g.H.Lookups.meaning l.fn.shelf l.shelf
-    (λ s. releases_in (notice_at l.notice s) ≡ l.count → AreInSequence l.notice s
+    (λ s. releases_in (notice_at l.notice s) ≡ l.fn.count → AreInSequence l.notice s
     → completed l.text (drop l.place (releases_of_notice l.notice s)) ≡ completed l.fn.text (releases_of_notice l.notice s))
