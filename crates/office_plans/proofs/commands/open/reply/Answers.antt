@@ -21,8 +21,8 @@ returns c =
     let n = c.args.notice in
     if_ok c.opened_text.result c.opened_text.ensures
     (λ text is s are read.
-    let count : c.len-count.result ≡ length (sealed_of_notice n s) =
-    c.len-count.ensures ∙ ap (λ (tenders : List OpenedTender). length tenders) read ∙ length-map (sealed_of_notice n s) (tender_read s) in
+    let count : length c.args.tenders.now ≡ length (sealed_of_notice n s) =
+    ap (λ (tenders : List OpenedTender). length tenders) read ∙ length-map (sealed_of_notice n s) (tender_read s) in
     let release = c.next_release-release.ensures ∙ ap (λ (rows : OpenRows). releases_in rows.notice + 1) are in
     let time = c.time-t.ensures ∙ ap (λ (rows : OpenRows). max c.args.asking.now.moment rows.clock.moment) are in
     is ∙ ap reply_text (told_alike n _ _ _ _ _ _ count release time))

@@ -1,8 +1,10 @@
 use Rattle.std.specs.Prelude.{◌≡◌, List, map, ℕ}
-use Rattle.std.proofs.Common.{◌∙◌, ap, refl, sym}
+use Rattle.std.proofs.Common.{◌∙◌, ap, refl, subst, sym}
 use Rattle.office_acts.specs.declared.commands.Command.TheVariants.{Publish}
+use Rattle.office_acts.specs.declared.lot.NewLot.{NewLot}
 use Rattle.office_acts.specs.declared.notice.NewNotice.{NewNotice}
 use Rattle.office_base.specs.RowLaws.{RowsAreKept}
+use Rattle.office_base.specs.Shelves.{Looks}
 use Rattle.office_base.specs.Tables.{Tables, line_key}
 use Rattle.office_machine.specs.Machine.{time_of}
 use Rattle.office_plans.proofs.NamedLines.{lines_agree}
@@ -29,14 +31,20 @@ rule kept laws asking notice content = record {
 pub returns-in-Some : goal.returns-in-Some
 returns-in-Some g c =
     let a = c.args in
-    not_planned (rule c.rows_are_kept.ensures c.publishes_agree.ensures a.asking.now a.notice a.content) _ _ c.time-t.ensures _ a.settings.now _ _ _ _ c.in_ok-rows.ensures c.requires c.refusal.ensures c.in-Some.is
+    let looked =
+    subst (λ (lots : List NewLot). Looks g.H.Lookups.meaning a.shelf.now c.load.new.shelf (λ (s : Tables). c.in_ok-rows.rows ≡ publish_named s a.notice lots))
+    c.as_slice.ensures.value c.in_ok-rows.ensures in
+    not_planned (rule c.rows_are_kept.ensures c.publishes_agree.ensures a.asking.now a.notice a.content) _ _ c.time-t.ensures _ a.settings.now _ _ _ _ looked c.requires c.refusal.ensures c.in-Some.is
 
 pub returns : goal.returns
 returns g c =
     let a = c.args in
     let ruled = rule c.rows_are_kept.ensures c.publishes_agree.ensures a.asking.now a.notice a.content in
     let moment = c.time-t.ensures in
-    two_looks _ c.looks_follow.ensures _ _ _ _ _ _ c.in_ok-rows.ensures c.published.ensures
+    let looked =
+    subst (λ (lots : List NewLot). Looks g.H.Lookups.meaning a.shelf.now c.load.new.shelf (λ (s : Tables). c.in_ok-rows.rows ≡ publish_named s a.notice lots))
+    c.as_slice.ensures.value c.in_ok-rows.ensures in
+    two_looks _ c.looks_follow.ensures _ _ _ _ _ _ looked c.published.ensures
     (λ s are joined.
     let allowed = refused_on ruled _ _ moment _ c.requires c.refusal.ensures s are ∙ c.in_default.is in
     let puts = puts_on ruled _ _ moment (λ (rows : PublishRows) (t : ℕ). publish_puts rows t a.notice a.content) _ c.in_ok-puts.ensures.puts s are
