@@ -1,7 +1,6 @@
-use Rattle.std.specs.Prelude.{◌≡◌, ℕ, ◌+◌, List, filter, length, map, max}
+use Rattle.std.specs.Prelude.{◌≡◌, ℕ, ◌+◌, List, length, max}
 use Rattle.std.proofs.Common.{◌∙◌, ap}
 use Rattle.std.proofs.lemmas.List.{length-map}
-use Rattle.office_base.specs.Tables.{envelopes_of_notice}
 use Rattle.office_machine.specs.Counted.{releases_in}
 use Rattle.office_machine.specs.Replies.{OpenedAll}
 use Rattle.office_plans.specs.Opening.{sealed_of_notice, tender_read}
