@@ -4,7 +4,7 @@ use Rattle.office_acts.specs.declared.commands.Command.TheVariants.{Publish}
 use Rattle.office_acts.specs.declared.lot.NewLot.{NewLot}
 use Rattle.office_acts.specs.declared.notice.NewNotice.{NewNotice}
 use Rattle.office_base.specs.RowLaws.{RowsAreKept}
-use Rattle.office_base.specs.Shelves.{Looks}
+use Rattle.office_base.specs.Shelves.{Looks, Meaning}
 use Rattle.office_base.specs.Tables.{Tables, line_key}
 use Rattle.office_machine.specs.Machine.{time_of}
 use Rattle.office_plans.proofs.NamedLines.{lines_agree}
@@ -28,12 +28,15 @@ rule kept laws asking notice content = record {
       (lines_agree kept s line_of_new content.lots));
 }
 
+-- rows that were loaded by the lots of a content are those of its lots
+loaded : {S : Type 0} (M : Meaning S) (a b : S) (rows : PublishRows) (notice : List ℕ) (borrowed lots : List NewLot) → borrowed ≡ lots
+    → Looks M a b (λ (s : Tables). rows ≡ publish_named s notice borrowed) → Looks M a b (λ (s : Tables). rows ≡ publish_named s notice lots)
+loaded M a b rows notice borrowed lots same looked = subst (λ (ls : List NewLot). Looks M a b (λ (s : Tables). rows ≡ publish_named s notice ls)) same looked
+
 pub returns-in-Some : goal.returns-in-Some
 returns-in-Some g c =
     let a = c.args in
-    let looked =
-    subst (λ (lots : List NewLot). Looks g.H.Lookups.meaning a.shelf.now c.load.new.shelf (λ (s : Tables). c.in_ok-rows.rows ≡ publish_named s a.notice lots))
-    c.as_slice.ensures.value c.in_ok-rows.ensures in
+    let looked = loaded _ _ _ _ a.notice _ a.content.lots c.as_slice.ensures.value c.in_ok-rows.ensures in
     not_planned (rule c.rows_are_kept.ensures c.publishes_agree.ensures a.asking.now a.notice a.content) _ _ c.time-t.ensures _ a.settings.now _ _ _ _ looked c.requires c.refusal.ensures c.in-Some.is
 
 pub returns : goal.returns
@@ -41,9 +44,7 @@ returns g c =
     let a = c.args in
     let ruled = rule c.rows_are_kept.ensures c.publishes_agree.ensures a.asking.now a.notice a.content in
     let moment = c.time-t.ensures in
-    let looked =
-    subst (λ (lots : List NewLot). Looks g.H.Lookups.meaning a.shelf.now c.load.new.shelf (λ (s : Tables). c.in_ok-rows.rows ≡ publish_named s a.notice lots))
-    c.as_slice.ensures.value c.in_ok-rows.ensures in
+    let looked = loaded _ _ _ _ a.notice _ a.content.lots c.as_slice.ensures.value c.in_ok-rows.ensures in
     two_looks _ c.looks_follow.ensures _ _ _ _ _ _ looked c.published.ensures
     (λ s are joined.
     let allowed = refused_on ruled _ _ moment _ c.requires c.refusal.ensures s are ∙ c.in_default.is in
