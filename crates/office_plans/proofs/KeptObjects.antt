@@ -1,5 +1,5 @@
 -- What can be gone on from is the merge that is kept, an object.
-use Rattle.std.proofs.Common.{◌≡◌, ℕ, List, None, Some, Result, Ok, Err, subst}
+use Rattle.std.proofs.Common.{◌≡◌, ℕ, List, None, Result, Ok, Err, subst}
 use Rattle.std.specs.Prelude.{OnOk}
 use Rattle.ocds_merge.specs.Stored.{IsObjectText}
 use Rattle.office_base.specs.Tables.{Tables, compiled_at}

@@ -1,5 +1,5 @@
 -- A command that is decided on rows that were looked up: the decision is the machine's, and what is looked up leaves the shelf as it was.
-use Rattle.std.specs.Prelude.{◌≡◌, ℕ, Bool, true, not, cond, List, Option, Some, None, Err, max}
+use Rattle.std.specs.Prelude.{◌≡◌, ℕ, Bool, true, not, cond, List, Option, Some, Err, max}
 use Rattle.std.proofs.Common.{◌∙◌, ap, inl, sym}
 use Rattle.office_values.specs.declared.refusal.Refusal.{Refusal}
 use Rattle.office_values.specs.declared.refusal.Refusal.TheVariants.{Forbidden}

@@ -17,7 +17,7 @@ use Rattle.office_publications.specs.Merges.{HasMerge}
 use Rattle.office_publications.specs.Publishing.{publishing}
 use Rattle.office_publications.specs.declared.publication.Publication.{Publication}
 use Rattle.office_plans.specs.Plans.{Plan}
-use Rattle.office_plans.specs.Published.{IsPlan, IsPlanned, accepted_reply}
+use Rattle.office_plans.specs.Published.{IsPlanned, accepted_reply}
 use Rattle.office_plans.specs.Released.{IsKept, IsReleased, as_row}
 use Rattle.office_plans.specs.Replies.{reply_text}
 use Rattle.office_plans.specs.declared.published.Released.{Released}

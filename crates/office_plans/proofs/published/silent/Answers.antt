@@ -1,4 +1,3 @@
-use Rattle.std.specs.Prelude.{◌≡◌, Option, Some, None}
 use Rattle.std.proofs.Common.{◌∙◌, sym}
 use Rattle.office_plans.proofs.Silent.{nothing_published}
 use Rattle.office_plans.proofs.published.silent.Goals as goal

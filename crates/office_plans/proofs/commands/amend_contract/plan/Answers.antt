@@ -1,4 +1,4 @@
-use Rattle.std.specs.Prelude.{◌≡◌, List, ℕ}
+use Rattle.std.specs.Prelude.{List, ℕ}
 use Rattle.std.proofs.Common.{◌∙◌, ap, refl, sym}
 use Rattle.award_core.specs.Rules.AmendContract.{amend_contract_puts, amend_contract_rows, amend_contract_tests}
 use Rattle.award_core.specs.declared.amend_contract.AmendContractRows.{AmendContractRows}

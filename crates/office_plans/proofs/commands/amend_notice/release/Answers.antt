@@ -1,10 +1,9 @@
-use Rattle.std.specs.Prelude.{◌≡◌, ℕ, List, Option, Some, max}
+use Rattle.std.specs.Prelude.{◌≡◌, ℕ, List, Some, max}
 use Rattle.std.proofs.Common.{◌∙◌, ap, refl, sym}
 use Rattle.office_acts.specs.declared.commands.Command.TheVariants.{AmendNotice}
 use Rattle.ocds_release.specs.declared.event.Event.{Event}
 use Rattle.ocds_release.specs.declared.event.Event.TheVariants as events
 use Rattle.office_base.specs.Tables.{notice_at}
-use Rattle.office_base.specs.declared.records.NoticeRow.{NoticeRow}
 use Rattle.office_publications.specs.NoticeEvents.{deadline_in}
 use Rattle.office_plans.specs.Asking.{given_by}
 use Rattle.office_plans.proofs.Maybe.{if_ok}

@@ -1,4 +1,4 @@
-use Rattle.std.specs.Prelude.{◌≡◌, ℕ, List, None, Option, Some, map, max, refl}
+use Rattle.std.specs.Prelude.{◌≡◌, List, None, Option, Some, map, max, refl}
 use Rattle.std.proofs.Common.{◌∙◌, ap, sym}
 use Rattle.office_acts.specs.declared.commands.Command.TheVariants.{Award}
 use Rattle.award_core.specs.Rules.Award.{award_rows, winner}

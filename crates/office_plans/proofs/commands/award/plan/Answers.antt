@@ -1,4 +1,4 @@
-use Rattle.std.specs.Prelude.{◌≡◌, List, ℕ}
+use Rattle.std.specs.Prelude.{List, ℕ}
 use Rattle.std.proofs.Common.{◌∙◌, refl}
 use Rattle.award_core.specs.Rules.Award.{award_puts, award_rows, award_tests}
 use Rattle.award_core.specs.declared.award.AwardRows.{AwardRows}

@@ -1,5 +1,5 @@
 use Rattle.std.specs.Prelude.{◌≡◌, ℕ, ◌+◌, Option, Some, max, refl}
-use Rattle.std.proofs.Common.{◌∙◌, ap, ap₂, sym}
+use Rattle.std.proofs.Common.{◌∙◌, ap, sym}
 use Rattle.office_acts.specs.declared.commands.Command.TheVariants.{Award}
 use Rattle.award_core.specs.Rules.Award.{award_rows, price_of, winner}
 use Rattle.award_core.specs.declared.award.AwardRows.{AwardRows}

@@ -1,4 +1,4 @@
-use Rattle.std.specs.Prelude.{◌≡◌, List, filter, map, ℕ}
+use Rattle.std.specs.Prelude.{List, filter, map, ℕ}
 use Rattle.std.proofs.Common.{◌∙◌, ap, refl, sym}
 use Rattle.office_acts.specs.declared.commands.Command.TheVariants.{Cancel}
 use Rattle.office_base.specs.Tables.{Tables, lots_of_notice}

@@ -8,7 +8,6 @@ use Rattle.ocds_release.specs.declared.tender_status.TenderStatus.{TenderStatus}
 use Rattle.office_base.specs.Tables.{award_key}
 use Rattle.office_base.specs.declared.records.AwardRow.{AwardRow}
 use Rattle.office_base.specs.declared.records.LotRow.{LotRow}
-use Rattle.office_base.specs.declared.records.LotState.{LotState}
 use Rattle.office_publications.specs.NoticeEvents.{cancelled, lot_of}
 use Rattle.office_plans.specs.Asking.{given_by}
 use Rattle.office_plans.proofs.Maybe.{if_ok}

@@ -1,4 +1,4 @@
-use Rattle.std.specs.Prelude.{◌≡◌, List, ℕ}
+use Rattle.std.specs.Prelude.{ℕ}
 use Rattle.std.proofs.Common.{◌∙◌, ap, refl, sym}
 use Rattle.award_core.specs.Rules.End.{end_puts, end_rows, end_tests}
 use Rattle.award_core.specs.declared.end.EndRows.{EndRows}

@@ -1,4 +1,4 @@
-use Rattle.std.specs.Prelude.{◌≡◌, Bool, List, Option, ℕ}
+use Rattle.std.specs.Prelude.{Bool, Option, ℕ}
 use Rattle.std.proofs.Common.{◌∙◌, ap, refl}
 use Rattle.award_core.specs.Rules.Examine.{examine_puts, examine_rows, examine_tests}
 use Rattle.award_core.specs.declared.examine.ExamineRows.{ExamineRows}

@@ -1,4 +1,4 @@
-use Rattle.std.specs.Prelude.{◌≡◌, List, ℕ}
+use Rattle.std.specs.Prelude.{ℕ}
 use Rattle.std.proofs.Common.{◌∙◌, ap, refl, sym}
 use Rattle.award_core.specs.Rules.Fail.{fail_puts, fail_rows, fail_tests}
 use Rattle.award_core.specs.declared.fail.FailRows.{FailRows}

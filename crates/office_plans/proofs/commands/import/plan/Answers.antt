@@ -54,7 +54,7 @@ returns g c settings =
           sym (laws.puts (standings_named s (map line_of_row a.rows)) (standings s) (import_rows s a.batch a.rows) time a.batch
           (standings_agree c.rows_are_kept.ensures laws s a.rows)) in
           let puts = puts_on ruled _ _ moment (λ (loaded : ImportRows) (t : ℕ). import_puts loaded t a.batch) _ (makes _ _ _ _ c.in_ok-puts.ensures) s are own in
-          let count : c.len-count.result ≡ length a.rows = c.len-count.ensures ∙ ap length c.as_slice.ensures.value in
+          let count : length c.as_slice.result.now ≡ length a.rows = ap length c.as_slice.ensures in
           let told =
           c.in_ok-text.ensures ∙ ap (λ n. reply_text (Imported a.batch n c.time-t.result)) count
           ∙ ap (λ t. reply_text (Imported a.batch (length a.rows) t)) (time_is ruled _ _ moment s are) in

@@ -1,4 +1,4 @@
-use Rattle.std.specs.Prelude.{◌≡◌, List, ℕ}
+use Rattle.std.specs.Prelude.{List, ℕ}
 use Rattle.std.proofs.Common.{◌∙◌, ap, refl, sym}
 use Rattle.office_acts.specs.declared.commands.Command.TheVariants.{Open}
 use Rattle.office_base.specs.Tables.{Tables, notice_at}
@@ -35,6 +35,6 @@ returns g c =
     let time = time_of (given_by a.asking.now s (Open a.notice)) in
     let puts =
     puts_on ruled _ _ moment (λ (rows : OpenRows) (t : ℕ). opened_with rows.clock t rows.notice c.in_ok-tenders.tenders) _ c.in_ok-puts.ensures.puts s are
-    (c.readings_are_put.ensures office_readings.read s.clock time (notice_at a.notice s) (sealed_tenders a.notice s)
+    (c.readings_are_put.ensures office_readings.read (open_rows s a.notice) time (sealed_tenders a.notice s)
     ∙ ap (λ (ts : List OpenedTender). opened_with s.clock time (notice_at a.notice s) ts) (sym (read ∙ tenders_are a.notice s))) in
     joined a.settings.now (given_by a.asking.now s (Open a.notice)) refl tt allowed puts (c.in_ok-text.ensures s are (c.as_slice.ensures ∙ read)) (released are (c.as_slice-2.ensures ∙ read)))

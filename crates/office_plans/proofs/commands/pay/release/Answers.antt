@@ -1,4 +1,4 @@
-use Rattle.std.specs.Prelude.{◌≡◌, List, ℕ, Option, Some, option_map, max}
+use Rattle.std.specs.Prelude.{◌≡◌, Option, Some, option_map, max}
 use Rattle.std.proofs.Common.{◌∙◌, ap, sym}
 use Rattle.office_acts.specs.declared.commands.Command.TheVariants.{Pay}
 use Rattle.office_base.specs.Parents.{notice_of_contract}

@@ -1,4 +1,4 @@
-use Rattle.std.specs.Prelude.{◌≡◌, List, Option, ℕ}
+use Rattle.std.specs.Prelude.{List, Option, ℕ}
 use Rattle.std.proofs.Common.{◌∙◌, refl, sym}
 use Rattle.office_acts.specs.declared.commands.Command.TheVariants.{Present}
 use Rattle.office_acts.specs.declared.tender.NamedSecurity.{NamedSecurity}

@@ -1,8 +1,10 @@
 use Rattle.std.specs.Prelude.{◌≡◌, List, map, ℕ}
-use Rattle.std.proofs.Common.{◌∙◌, ap, refl, sym}
+use Rattle.std.proofs.Common.{◌∙◌, ap, refl, subst, sym}
 use Rattle.office_acts.specs.declared.commands.Command.TheVariants.{Publish}
+use Rattle.office_acts.specs.declared.lot.NewLot.{NewLot}
 use Rattle.office_acts.specs.declared.notice.NewNotice.{NewNotice}
 use Rattle.office_base.specs.RowLaws.{RowsAreKept}
+use Rattle.office_base.specs.Shelves.{Looks, Meaning}
 use Rattle.office_base.specs.Tables.{Tables, line_key}
 use Rattle.office_machine.specs.Machine.{time_of}
 use Rattle.office_plans.proofs.NamedLines.{lines_agree}
@@ -26,17 +28,24 @@ rule kept laws asking notice content = record {
       (lines_agree kept s line_of_new content.lots));
 }
 
+-- rows that were loaded by the lots of a content are those of its lots
+loaded : {S : Type 0} (M : Meaning S) (a b : S) (rows : PublishRows) (notice : List ℕ) (borrowed lots : List NewLot) → borrowed ≡ lots
+    → Looks M a b (λ (s : Tables). rows ≡ publish_named s notice borrowed) → Looks M a b (λ (s : Tables). rows ≡ publish_named s notice lots)
+loaded M a b rows notice borrowed lots same looked = subst (λ (ls : List NewLot). Looks M a b (λ (s : Tables). rows ≡ publish_named s notice ls)) same looked
+
 pub returns-in-Some : goal.returns-in-Some
 returns-in-Some g c =
     let a = c.args in
-    not_planned (rule c.rows_are_kept.ensures c.publishes_agree.ensures a.asking.now a.notice a.content) _ _ c.time-t.ensures _ a.settings.now _ _ _ _ c.in_ok-rows.ensures c.requires c.refusal.ensures c.in-Some.is
+    let looked = loaded _ _ _ _ a.notice _ a.content.lots c.as_slice.ensures.value c.in_ok-rows.ensures in
+    not_planned (rule c.rows_are_kept.ensures c.publishes_agree.ensures a.asking.now a.notice a.content) _ _ c.time-t.ensures _ a.settings.now _ _ _ _ looked c.requires c.refusal.ensures c.in-Some.is
 
 pub returns : goal.returns
 returns g c =
     let a = c.args in
     let ruled = rule c.rows_are_kept.ensures c.publishes_agree.ensures a.asking.now a.notice a.content in
     let moment = c.time-t.ensures in
-    two_looks _ c.looks_follow.ensures _ _ _ _ _ _ c.in_ok-rows.ensures c.published.ensures
+    let looked = loaded _ _ _ _ a.notice _ a.content.lots c.as_slice.ensures.value c.in_ok-rows.ensures in
+    two_looks _ c.looks_follow.ensures _ _ _ _ _ _ looked c.published.ensures
     (λ s are joined.
     let allowed = refused_on ruled _ _ moment _ c.requires c.refusal.ensures s are ∙ c.in_default.is in
     let puts = puts_on ruled _ _ moment (λ (rows : PublishRows) (t : ℕ). publish_puts rows t a.notice a.content) _ c.in_ok-puts.ensures.puts s are

@@ -1,4 +1,4 @@
-use Rattle.std.specs.Prelude.{◌≡◌, List, ℕ}
+use Rattle.std.specs.Prelude.{List, ℕ}
 use Rattle.std.proofs.Common.{◌∙◌, ap, refl}
 use Rattle.office_acts.specs.declared.commands.Command.TheVariants.{Register}
 use Rattle.office_base.specs.Tables.{Tables}

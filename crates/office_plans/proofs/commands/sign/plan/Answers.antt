@@ -1,4 +1,4 @@
-use Rattle.std.specs.Prelude.{◌≡◌, List, Option, ℕ}
+use Rattle.std.specs.Prelude.{Option, ℕ}
 use Rattle.std.proofs.Common.{◌∙◌, ap, refl, sym}
 use Rattle.award_core.specs.Rules.Sign.{sign_puts, sign_rows, sign_tests}
 use Rattle.award_core.specs.declared.sign.SignRows.{SignRows}

@@ -1,4 +1,4 @@
-use Rattle.std.specs.Prelude.{◌≡◌, List, ℕ}
+use Rattle.std.specs.Prelude.{ℕ}
 use Rattle.std.proofs.Common.{◌∙◌, refl}
 use Rattle.office_acts.specs.declared.commands.Command.TheVariants.{Withdraw}
 use Rattle.office_base.specs.RuleParts.{is_late}
