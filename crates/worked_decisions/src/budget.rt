@@ -161,25 +161,30 @@ fn lines_come_to_be_held_by_a_file(rt: HostRuntime) {
     assert!(rt; are_decided(rt.alloc(), &COME_TO_BE_HELD));
 }
 
-// A cut of so much of a line of which 100 is appropriated and 900 free, as of none that commands lead to.
-fn cut(units: u64) -> Import {
-    Import {
+// A cut of all of a line of which 100 is appropriated and 900 free, as of none that commands lead to.
+static CUT_TO_NOTHING: [(Case, Wanted); 1] = [(
+    Case::Import(Import {
         held: Some([100, 900]),
-        first: (BudgetKind::Cut, units),
+        first: (BudgetKind::Cut, 100),
         second: (BudgetKind::Add, 1),
-    }
-}
-
-#[test]
-fn cuts_want_what_is_appropriated(rt: HostRuntime) {
-    let made = Wanted::Puts(&[
+    }),
+    Wanted::Puts(&[
         Made::Line([1, 801]),
         Made::Line([1, 801]),
         Made::Batch,
         Made::Clock([8, 1, 0]),
-    ]);
-    assert!(rt; are_decided(rt.alloc(), &[(Case::Import(cut(100)), made)]));
-    let lacking = match cut(101).decide(rt.alloc()) {
+    ]),
+)];
+
+#[test]
+fn cuts_want_what_is_appropriated(rt: HostRuntime) {
+    assert!(rt; are_decided(rt.alloc(), &CUT_TO_NOTHING));
+    let more = Import {
+        held: Some([100, 900]),
+        first: (BudgetKind::Cut, 101),
+        second: (BudgetKind::Add, 1),
+    };
+    let lacking = match more.decide(rt.alloc()) {
         Some((_, Err(Refusal::Unavailable))) => true,
         _ => false,
     };
