@@ -758,7 +758,7 @@ def rename_modules(paths, files):
                         rules += [(r"`((?:src/)?)%s\.rt`" % place, r"`\g<1>" + place_new + ".rt`")]
                 if path.startswith(f"edits/{crate}/"):
                     rules += [(r"(?m)^(file: src/)%s\.rt" % place, r"\g<1>" + place_new + ".rt")]
-                # Several names of a crate in one use: `use office_base::{parts, rows}`.
+                # Several names of a crate in one use: `use office_base::{transitions, rows}`.
                 rules += [(r"(\buse %s::\{(?:[^;{}]*(?:\{[^{}]*\})?)*?)(?<!:)\b%s(?=::|,|\})" % ("crate" if here else crate, rust), r"\g<1>" + rust_new)]
             else:
                 rules = [(r"(Rattle\.%s\.%s\.)%s\b" % (crate, part, re.escape(old)), r"\g<1>" + new), (r"\b%s/%s/%s\.antt" % (crate, part, place), f"{crate}/{part}/{place_new}.antt")]

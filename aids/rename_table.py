@@ -3,20 +3,20 @@ import re
 
 # ---- Crates: everywhere as a whole word, with their folders; those of PLAIN_CRATES are words of English too, and hold where a pattern says.
 CRATES = [
-    ("office_acts", "office_commands"),
-    ("worked_calls", "tests_of_calls"),
-    ("worked_settings", "tests_of_settings"),
-    ("worked_joins", "tests_of_joins"),
-    ("worked_tables", "tests_of_tables"),
-    ("worked_decisions", "tests_of_decisions"),
-    ("worked_runs", "tests_of_runs"),
-    ("worked_stores", "tests_of_stores"),
-    ("worked_faults", "tests_of_faults"),
-    ("worked_looks", "tests_of_looks"),
+    ("office_commands", "office_commands"),
+    ("tests_of_calls", "tests_of_calls"),
+    ("tests_of_settings", "tests_of_settings"),
+    ("tests_of_joins", "tests_of_joins"),
+    ("tests_of_tables", "tests_of_tables"),
+    ("tests_of_decisions", "tests_of_decisions"),
+    ("tests_of_runs", "tests_of_runs"),
+    ("tests_of_stores", "tests_of_stores"),
+    ("tests_of_faults", "tests_of_faults"),
+    ("tests_of_looks", "tests_of_looks"),
     ("transcripts", "tests_transcripts"),
-    ("office_in_sql", "tests_sql_office"),
-    ("office_on_disks", "tests_disks"),
-    ("broken_shelf", "tests_broken_shelf"),
+    ("tests_sql_office", "tests_sql_office"),
+    ("tests_disks", "tests_disks"),
+    ("tests_broken_shelf", "tests_broken_shelf"),
 ]
 PLAIN_CRATES = {
     "transcripts": [
@@ -34,7 +34,7 @@ PLAIN_CRATES = {
 }
 # The names of crates in ARCHITECTURE's table, which leave out a first word: file, what a row begins with, words of its third column.
 SHORT = [("docs/ARCHITECTURE.md", r"\| `\w+` \| ", {"acts": "commands", "in_sql": "tests_sql_office", "on_disks": "tests_disks", "transcripts": "tests_transcripts",
-                                                   "broken_shelf": "tests_broken_shelf"})]
+                                                   "tests_broken_shelf": "tests_broken_shelf"})]
 
 # ---- Modules: crate, part, old, new.
 MODULES = [
@@ -157,7 +157,7 @@ NAMES = [
     ("line_in", "text_line_in", "office_requests", "Fields"),
     ("number_in", "number_in_path", "office_requests", "Routing"),
     ("asked", "asked_by_route", "office_requests", "Asking"),
-    ("kind_of", "query_kind_of", "office_acts", "Queries"),
+    ("kind_of", "query_kind_of", "office_commands", "Queries"),
     ("kind_of", "budget_kind_of", "tender_papers", "Budget"),
     ("row_with", "budget_row_with", "tender_papers", "Budget"),
     ("item_of", "item_record_of", "tender_papers", "Tender"),
@@ -260,7 +260,7 @@ PLAIN_IN_README = set()
 # ---- Words of named files: where, old (a pattern), new.
 WORDS = [
     (r"^(crates|edits)/office_ledger/.*\.(rt|antt|edit)$", r"\bComingContract\b", "CurrentContract"),
-    (r"^crates/(worked_runs|tests_of_runs)/src/", r'"worked_runs\.office', '"tests_of_runs.office'),
+    (r"^crates/(tests_of_runs|tests_of_runs)/src/", r'"tests_of_runs\.office', '"tests_of_runs.office'),
     (r"^bench/ledger/run\.sh$", r"office_\(values\|acts\|", "office_(values|commands|"),
     (r"^crates/office_joins/README\.md$", r"`Means\.antt`", "`StatementMeans.antt`"),
     (r"^tools/soak$", r'startswith\("worked_"\)', 'startswith("tests_of_")'),

@@ -9,12 +9,12 @@ ghost use Rattle.award_core.specs.Rules.AmendContract.{is_running, is_raising, e
 
 use crate::entries::{has_all_entries, has_entry, is_beyond, is_overdrawn};
 use crate::lines::{free_on, with_free};
-use office_acts::amounts::EntryAmount;
-use office_acts::contract::ChangeKind;
-use office_base::parts::{at_moment, has_all_releases, released};
 use office_base::puts::Put;
 use office_base::records::{ClockRow, ContractRow, EntryKind, EntryRow, LineRow, NoticeRow};
 use office_base::rows::Rows;
+use office_base::transitions::{at_moment, has_all_releases, with_next_release};
+use office_commands::amounts::EntryAmount;
+use office_commands::contract::ChangeKind;
 use office_values::id::Id;
 use office_values::moment::Moment;
 use office_values::refusal::{Refusal, Thing};
@@ -117,7 +117,7 @@ pub fn puts(
     if is_overdrawn(rows.entries.as_slice(), &contract) {
         return Err(Refusal::Unavailable);
     }
-    let notice = released(notice).ok_or(Refusal::Unavailable)?;
+    let notice = with_next_release(notice).ok_or(Refusal::Unavailable)?;
     let line = line_after(kind, amount, line).ok_or(Refusal::Unavailable)?;
     let mut made = Vec::with_capacity(alloc, 4)?;
     made.push(Put::Entry(EntryRow {

@@ -12,14 +12,14 @@ ghost use Rattle.award_core.specs.Rules.Award.{is_admissible, price_of, isnt_exa
 use crate::best::{best_row, is_admissible, is_priced, price_of};
 use crate::lines::{free_on, with_free};
 use crate::securities::push_returned;
-use office_acts::notice::Weight;
-use office_base::parts::{at_moment, has_all_releases, is_expired, released};
 use office_base::puts::Put;
 use office_base::records::{
     AwardRow, AwardState, ClockRow, EnvelopeRow, LineRow, LotRow, LotState, NoticeRow, NoticeState,
     SecurityRow,
 };
 use office_base::rows::Rows;
+use office_base::transitions::{at_moment, has_all_releases, is_expired, with_next_release};
+use office_commands::notice::Weight;
 use office_values::given::{GivenNumber, LastNumber};
 use office_values::moment::Moment;
 use office_values::money::Amount;
@@ -99,7 +99,7 @@ fn won(
     ensures fault { IfErr result (λ e. e ≡ Unavailable) }
 {
     let award = GivenNumber::read(clock.awards.get() + 1).ok_or(Refusal::Unavailable)?;
-    let notice = released(notice).ok_or(Refusal::Unavailable)?;
+    let notice = with_next_release(notice).ok_or(Refusal::Unavailable)?;
     let price = price_of(winner);
     let line = line_after(line, lot.reserved, price).ok_or(Refusal::Unavailable)?;
     let award_row = award_row(award, t, &lot, winner);
@@ -133,7 +133,7 @@ fn lost(
     ensures puts { IfOk result (λ made. made.items ≡ decision_puts clock t notice lot line None securities.now) }
     ensures fault { IfErr result (λ e. e ≡ Unavailable) }
 {
-    let notice = released(notice).ok_or(Refusal::Unavailable)?;
+    let notice = with_next_release(notice).ok_or(Refusal::Unavailable)?;
     let nothing = Amount::read(0).unwrap();
     let line = line_after(line, lot.reserved, nothing).ok_or(Refusal::Unavailable)?;
     let mut made = Vec::with_capacity(alloc, 4)?;

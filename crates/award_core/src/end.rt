@@ -2,19 +2,21 @@
 ghost use Rattle.std.specs.Prelude.{◌≡◌, ◌++◌, IfSome, OnOk, IfOk, IfErr, false};
 ghost use Rattle.office_values.specs.declared.refusal.Refusal.TheVariants.{Unavailable};
 ghost use Rattle.office_base.specs.Deciding.{Decides};
-ghost use Rattle.office_base.specs.RuleParts.{performance_settled, put_if};
+ghost use Rattle.office_base.specs.Transitions.{performance_settled, put_if};
 ghost use Rattle.office_base.specs.Rules.{first_of};
 ghost use Rattle.award_core.specs.Rules.End.{end_lacks, end_tests, end_puts, ended_contract, ended_state, lacks_performance};
 
 use crate::entries::{is_overdrawn, outstanding};
 use crate::lines::with_free;
-use office_acts::contract::How;
-use office_base::parts::{at_moment, has_all_releases, released, settled_performance};
 use office_base::puts::Put;
 use office_base::records::{
     ClockRow, ContractRow, EntryRow, LineRow, NoticeRow, PerformanceRow, SecurityState,
 };
 use office_base::rows::Rows;
+use office_base::transitions::{
+    at_moment, has_all_releases, settled_performance, with_next_release,
+};
+use office_commands::contract::How;
 use office_values::moment::Moment;
 use office_values::money::Total;
 use office_values::refusal::{Refusal, Thing};
@@ -97,7 +99,7 @@ pub fn puts(alloc: Global, t: Moment, rows: EndRows, how: How) -> Result<Vec<Put
     }
     let rest = outstanding(rows.entries.as_slice(), &contract);
     let free = line.free.units() as u128 + rest;
-    let notice = released(notice).ok_or(Refusal::Unavailable)?;
+    let notice = with_next_release(notice).ok_or(Refusal::Unavailable)?;
     let line = with_free(line, free).ok_or(Refusal::Unavailable)?;
     let contract = ContractRow {
         ended: Some(t),

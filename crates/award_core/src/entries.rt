@@ -3,12 +3,12 @@ ghost use Rattle.std.specs.Prelude.{◌≡◌, ◌<◌, ◌+◌, ◌-◌, ◌^�
 ghost use Rattle.std.specs.List.{list_any};
 ghost use Rattle.office_base.specs.EntryKinds.{is_raise, is_less};
 ghost use Rattle.office_base.specs.Joined.{entry_sum, is_overdrawn, minus, outstanding, plus};
-ghost use Rattle.office_base.specs.RuleParts.{has_all_releases};
+ghost use Rattle.office_base.specs.Transitions.{has_all_releases};
 ghost use Rattle.office_base.specs.Tables.{same_number};
 ghost use Rattle.award_core.specs.Rules.AmendContract.{is_beyond, is_taken, has_all_entries};
 
-use office_acts::amounts::EntryAmount;
 use office_base::records::{ContractRow, EntryKind, EntryRow};
+use office_commands::amounts::EntryAmount;
 use office_values::given::GivenNumber;
 use office_values::id::Id;
 

@@ -8,10 +8,10 @@ ghost use Rattle.office_base.specs.Rules.{first_of};
 ghost use Rattle.award_core.specs.Rules.Examine.{is_bad_quality, cant_be_examined, examined, examine_lacks, examine_tests, examine_puts};
 
 use crate::best::is_priced;
-use office_acts::tender::Quality;
-use office_base::parts::at_moment;
 use office_base::puts::Put;
 use office_base::records::{ClockRow, EnvelopeRow, EnvelopeState, LotRow, LotState, NoticeRow};
+use office_base::transitions::at_moment;
+use office_commands::tender::Quality;
 use office_values::moment::Moment;
 use office_values::refusal::{BadPart, Field, Refusal, Thing};
 use std::alloc::Global;

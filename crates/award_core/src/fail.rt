@@ -2,18 +2,19 @@
 ghost use Rattle.std.specs.Prelude.{◌≡◌, ◌++◌, OnOk, Some, IfOk, IfErr, false};
 ghost use Rattle.office_values.specs.declared.refusal.Refusal.TheVariants.{Unavailable};
 ghost use Rattle.office_base.specs.Deciding.{Decides};
-ghost use Rattle.office_base.specs.RuleParts.{put_if, security_settled};
+ghost use Rattle.office_base.specs.Transitions.{put_if, security_settled};
 ghost use Rattle.office_base.specs.Rules.{first_of};
 ghost use Rattle.office_base.specs.declared.records.SecurityState.TheVariants.{Forfeited};
 ghost use Rattle.award_core.specs.Rules.Fail.{stands_still, fail_lacks, fail_tests, fail_puts, standing_tests};
 
-use office_base::parts::{
-    at_moment, has_all_releases, is_expired, lacks_security, passed_over, released, settled,
-};
 use office_base::puts::Put;
 use office_base::records::{
     AwardRow, AwardState, ClockRow, EnvelopeRow, LotRow, LotState, NoticeRow, SecurityRow,
     SecurityState,
+};
+use office_base::transitions::{
+    at_moment, has_all_releases, is_expired, lacks_security, passed_over, settled,
+    with_next_release,
 };
 use office_values::moment::Moment;
 use office_values::refusal::{Refusal, Thing};
@@ -100,7 +101,7 @@ pub fn puts(alloc: Global, t: Moment, rows: FailRows) -> Result<Vec<Put>, Refusa
     if lacks_security(&envelope, &rows.security) {
         return Err(Refusal::Unavailable);
     }
-    let notice = released(notice).ok_or(Refusal::Unavailable)?;
+    let notice = with_next_release(notice).ok_or(Refusal::Unavailable)?;
     let mut made = Vec::with_capacity(alloc, 6)?;
     made.push(Put::Award(AwardRow {
         state: AwardState::Failed,

@@ -6,11 +6,11 @@ ghost use Rattle.office_base.specs.Rules.{first_of};
 ghost use Rattle.award_core.specs.Rules.Pay.{pay_lacks, pay_tests, pay_puts};
 
 use crate::entries::{has_all_entries, has_entry, is_beyond};
-use office_acts::amounts::EntryAmount;
-use office_base::parts::{at_moment, has_all_releases, released};
 use office_base::puts::Put;
 use office_base::records::{ClockRow, ContractRow, EntryKind, EntryRow, NoticeRow};
 use office_base::rows::Rows;
+use office_base::transitions::{at_moment, has_all_releases, with_next_release};
+use office_commands::amounts::EntryAmount;
 use office_values::id::Id;
 use office_values::moment::Moment;
 use office_values::refusal::{Refusal, Thing};
@@ -61,7 +61,7 @@ pub fn puts(
 {
     let contract = rows.contract.ok_or(Refusal::Unavailable)?;
     let notice = rows.notice.ok_or(Refusal::Unavailable)?;
-    let notice = released(notice).ok_or(Refusal::Unavailable)?;
+    let notice = with_next_release(notice).ok_or(Refusal::Unavailable)?;
     let mut made = Vec::with_capacity(alloc, 3)?;
     made.push(Put::Entry(EntryRow {
         contract: contract.contract,

@@ -2,20 +2,20 @@
 ghost use Rattle.std.specs.Prelude.{◌≡◌, ◌++◌, OnOk, IfOk, IfErr, false};
 ghost use Rattle.office_values.specs.declared.refusal.Refusal.TheVariants.{Unavailable};
 ghost use Rattle.office_base.specs.Deciding.{Decides};
-ghost use Rattle.office_base.specs.RuleParts.{put_if};
+ghost use Rattle.office_base.specs.Transitions.{put_if};
 ghost use Rattle.office_base.specs.Rules.{first_of};
-ghost use Rattle.award_core.specs.Rules.Sign.{contract_row, is_missing, is_too_small, isnt_asked, performance_put, performance_row, sign_lacks, sign_tests, sign_puts};
+ghost use Rattle.award_core.specs.Rules.Sign.{contract_row, is_missing, performance_is_too_small, isnt_asked, performance_put, performance_row, sign_lacks, sign_tests, sign_puts};
 
 use crate::fail::standing_refusal;
 use crate::securities::push_returned;
-use office_acts::tender::NamedSecurity;
-use office_base::parts::{at_moment, released};
 use office_base::puts::Put;
 use office_base::records::{
     AwardRow, AwardState, ClockRow, ContractRow, EnvelopeRow, LotRow, LotState, NoticeRow,
     PerformanceRow, SecurityRow, SecurityState,
 };
 use office_base::rows::Rows;
+use office_base::transitions::{at_moment, with_next_release};
+use office_commands::tender::NamedSecurity;
 use office_values::id::Id;
 use office_values::moment::Moment;
 use office_values::money::{Amount, Total};
@@ -59,8 +59,8 @@ fn is_missing(notice: &NoticeRow, security: &Option<NamedSecurity>) -> bool
 }
 
 // Whether the one that is named is less than the notice asks.
-fn is_too_small(notice: &NoticeRow, security: &Option<NamedSecurity>) -> bool
-    ensures { result ≡ is_too_small security.now notice.now }
+fn performance_is_too_small(notice: &NoticeRow, security: &Option<NamedSecurity>) -> bool
+    ensures { result ≡ performance_is_too_small security.now notice.now }
 {
     match security {
         Some(named) => named.amount.get() < notice.performance.units(),
@@ -86,7 +86,7 @@ pub fn refusal(t: Moment, rows: &SignRows, security: &Option<NamedSecurity>) -> 
         if is_missing(row, security) {
             return Some(Refusal::SecurityMissing);
         }
-        if is_too_small(row, security) {
+        if performance_is_too_small(row, security) {
             return Some(Refusal::SecurityTooSmall);
         }
         if isnt_asked(row, security) {
@@ -137,7 +137,7 @@ pub fn puts(
     let notice = rows.notice.ok_or(Refusal::Unavailable)?;
     let lot = rows.lot.ok_or(Refusal::Unavailable)?;
     let envelope = rows.envelope.ok_or(Refusal::Unavailable)?;
-    let notice = released(notice).ok_or(Refusal::Unavailable)?;
+    let notice = with_next_release(notice).ok_or(Refusal::Unavailable)?;
     let contract = contract_row(t, &award, envelope.tenderer);
     let mut made = Vec::with_capacity(alloc, 6)?;
     made.push(Put::Award(AwardRow {

@@ -5,7 +5,7 @@ use Rattle.json.specs.Print.{escape, quoted}
 use Rattle.serde_json.specs.Data.{Data, string, array, object, Items, item, Members, no_members, member, depth, items_depth, members_depth}
 use Rattle.serde_json.specs.Written.{compact_text, items_text, members_text, comma_if}
 use Rattle.ocds_merge.specs.Inside.Scan.{AllStandForThemselves}
-use Rattle.ocds_merge.specs.Inside.Splice.{IsKept, AreMembersKept, AllAbove}
+use Rattle.ocds_merge.specs.Inside.Splice.{TextIsKept, AreMembersKept, AllAbove}
 use Rattle.ocds_merge.specs.Inside.Readable.{AllAfter, Passed, PassedItems, PassedMembers}
 use Rattle.ocds_merge.proofs.MemberLemmas.{bytes_cmp}
 use Rattle.ocds_merge.proofs.PlainLaw.{plain_escape}
@@ -44,7 +44,7 @@ array_passed text after rest first deep e is some p = record {
     nested : (n deep : ℕ) → (deep ≡ 0 → ⊥) → n ≤ deep - 1 → suc n ≤ deep
     nested n deep some h = omega arith
 
-pub word_passed : (d : Data) (text after rest : List ℕ) (first deep : ℕ) → IsKept d → depth d ≤ deep → text ≡ first ∷ after → first ∷ after ≡ compact_text d ++ rest → Passed text rest deep
+pub word_passed : (d : Data) (text after rest : List ℕ) (first deep : ℕ) → TextIsKept d → depth d ≤ deep → text ≡ first ∷ after → first ∷ after ≡ compact_text d ++ rest → Passed text rest deep
 word_passed d text after rest first deep w low e f = record { value = d; kept = w; shallow = low; is = e ∙ f }
 
 regroup : (a b c r : List ℕ) → a ++ (b ++ (c ++ r)) ≡ (a ++ (b ++ c)) ++ r

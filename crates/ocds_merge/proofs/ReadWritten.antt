@@ -4,11 +4,11 @@ use Rattle.serde_json.specs.Data.{Data, object, depth}
 use Rattle.serde_json.specs.Read.{read, max_depth}
 use Rattle.serde_json.specs.Written.{compact_text}
 use Rattle.ocds_merge.specs.Stored.{IsObjectText}
-use Rattle.ocds_merge.specs.Inside.Splice.{IsKept}
+use Rattle.ocds_merge.specs.Inside.Splice.{TextIsKept}
 use Rattle.ocds_merge.specs.Inside.Readable.{Passed, PassedMembers, Reads}
 use Rattle.ocds_merge.proofs.ReadKept.{kept_reads}
 
-whole : (text rest : List ℕ) (d : Data) → IsKept d → depth d ≤ max_depth → text ≡ compact_text d ++ rest → rest ≡ [] → Reads text
+whole : (text rest : List ℕ) (d : Data) → TextIsKept d → depth d ≤ max_depth → text ≡ compact_text d ++ rest → rest ≡ [] → Reads text
 whole text rest d kept shallow is none =
     let all : text ≡ compact_text d = is ∙ ap (λ (r : List ℕ). compact_text d ++ r) none ∙ append-nil (compact_text d) in
     record { value = d; kept = kept; is = all; reads = ap read all ∙ kept_reads d kept shallow }

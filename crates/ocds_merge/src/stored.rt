@@ -6,7 +6,7 @@ ghost use Rattle.serde_json.specs.Written.{compact_text};
 ghost use Rattle.ocds_merge.specs.Merge.{merge_or_null};
 ghost use Rattle.ocds_merge.specs.Stored.{KeepsMerge, IsObjectText, IsStorable};
 ghost use Rattle.ocds_merge.specs.Inside.Step.{step};
-ghost use Rattle.ocds_merge.specs.Inside.Splice.{IsKept};
+ghost use Rattle.ocds_merge.specs.Inside.Splice.{TextIsKept};
 ghost use Rattle.ocds_merge.specs.Inside.Readable.{Reads};
 ghost use Rattle.ocds_merge.specs.declared.stored.StoredFault.TheVariants.{NoMemory as no_memory};
 
@@ -156,7 +156,7 @@ fn spliced(alloc: Global, stored: &str, value: &Value) -> Result<String, Unsplic
 
 /// The bytes of that text.
 fn spliced_bytes(alloc: Global, stored: &[u8], value: &Value) -> Result<Vec<u8>, Unspliced>
-    ensures { IfOk result (λ bytes. IsKept (view value.now) → (merge : Data) → IsKept merge → stored.now ≡ compact_text merge
+    ensures { IfOk result (λ bytes. TextIsKept (view value.now) → (merge : Data) → TextIsKept merge → stored.now ≡ compact_text merge
         → bytes.items ≡ compact_text (unwrap_or (step (Some merge) (view value.now)) null)) }
 {
     let mut out: Vec<u8> = Vec::with_capacity(alloc, stored.len())?;

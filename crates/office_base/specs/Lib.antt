@@ -16,6 +16,6 @@ pub mod Rules
 pub mod States
 pub mod Limits
 pub mod Readings
-pub mod RuleParts
+pub mod Transitions
 pub mod Parents
 pub mod Deciding

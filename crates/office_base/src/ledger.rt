@@ -3,7 +3,7 @@ ghost use Rattle.std.specs.Prelude.{◌≡◌, ◌+◌, ◌^◌, ◌<◌, ◌≤
 ghost use Rattle.office_base.specs.EntrySums.{sums_with_entry};
 
 use crate::records::EntryKind;
-use office_acts::amounts::EntryAmount;
+use office_commands::amounts::EntryAmount;
 use office_values::id::Id;
 use office_values::money::Total;
 

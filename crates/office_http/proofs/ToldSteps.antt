@@ -1,14 +1,14 @@
 -- What the machine replies, as it is told.
 use Rattle.std.proofs.Common.{◌≡◌, ℕ, Bool, true, false, List, ◌∷◌, Option, Some, None, Ok, Err, refl}
 use Rattle.std.specs.Prelude.{cond, not, map, filter, ◌||◌}
-use Rattle.office_acts.specs.Queries.{kind_of}
-use Rattle.office_acts.specs.Callers.{is_by}
-use Rattle.office_acts.specs.Rights.{is_clerk, may_look}
-use Rattle.office_acts.specs.declared.command.Caller.{Caller}
-use Rattle.office_acts.specs.declared.commands.Command.{Command}
-use Rattle.office_acts.specs.declared.commands.Command.TheVariants.{Modify}
-use Rattle.office_acts.specs.declared.queries.Query.{Query}
-use Rattle.office_acts.specs.declared.queries.Query.TheVariants as queries
+use Rattle.office_commands.specs.Queries.{query_kind_of}
+use Rattle.office_commands.specs.Callers.{is_by}
+use Rattle.office_commands.specs.Rights.{is_clerk, may_look}
+use Rattle.office_commands.specs.declared.command.Caller.{Caller}
+use Rattle.office_commands.specs.declared.commands.Command.{Command}
+use Rattle.office_commands.specs.declared.commands.Command.TheVariants.{Modify}
+use Rattle.office_commands.specs.declared.queries.Query.{Query}
+use Rattle.office_commands.specs.declared.queries.Query.TheVariants as queries
 use Rattle.office_values.specs.declared.refusal.Refusal.{Refusal}
 use Rattle.office_values.specs.declared.refusal.Refusal.TheVariants.{Forbidden, NotOpened, NotYourTender}
 use Rattle.office_base.specs.declared.records.LineRow.{LineRow}
@@ -133,7 +133,7 @@ performance_seen caller (Some c) (Some w) text is =
     (λ at. cc) is
 
 shown_as : (p : Packages) (s : Tables) (caller : Caller) (query : Query) (text : List ℕ) → Ok text ≡ text_of (shown p s caller query)
-    → told_as (shown p s caller query) ≡ seen_as (kind_of query) text
+    → told_as (shown p s caller query) ≡ seen_as (query_kind_of query) text
 shown_as p s caller (queries.Line line) text is = line_seen s (line_at line s) text is
 shown_as p s caller queries.Ledger text is = cc
 shown_as p s caller (queries.Minutes notice) text is =
@@ -147,6 +147,6 @@ shown_as p s caller (queries.Performance contract) text is = performance_seen ca
 
 -- what is seen is told by the query's kind
 pub told_seen : (p : Packages) (s : Tables) (caller : Caller) (query : Query) (text : List ℕ) → Ok text ≡ text_of (told p s caller query)
-    → told_as (told p s caller query) ≡ seen_as (kind_of query) text
+    → told_as (told p s caller query) ≡ seen_as (query_kind_of query) text
 told_seen p s caller query text is =
-    where_may (may_look caller (kind_of query)) (shown p s caller query) Forbidden (seen_as (kind_of query) text) text (shown_as p s caller query text) is
+    where_may (may_look caller (query_kind_of query)) (shown p s caller query) Forbidden (seen_as (query_kind_of query) text) text (shown_as p s caller query text) is

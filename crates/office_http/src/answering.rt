@@ -15,10 +15,10 @@ use crate::laws;
 use crate::response::{
     accepted_response, bad_head, coding, refusal_response, seen_response, too_long, unavailable,
 };
-use office_acts::command::Caller;
-use office_acts::commands::Command;
-use office_acts::queries::Query;
 use office_base::shelf::{Lookups, Shelf};
+use office_commands::command::Caller;
+use office_commands::commands::Command;
+use office_commands::queries::Query;
 use office_desk::desk::Desk;
 use office_publications::laws::keeping;
 use office_requests::asked::{Asked, command_of};
@@ -173,7 +173,7 @@ pub fn answer_request<H: Shelf + Drop>(
     ensures shown { ShowsOnlyWhole H.meaning desk.old.shelf desk.new.shelf (meant desk.old.settings request.now) result }
     ensures kept { IsKeptAnswering H.meaning desk.old.settings desk.old.shelf desk.new.shelf moment (meant desk.old.settings request.now) result }
 {
-    laws::kept();
+    laws::accounts_and_fates();
     answer_read(alloc, routes, desk, moment, request)
 }
 
@@ -206,7 +206,7 @@ pub fn answer<H: Shelf + Drop>(
     ensures kept { KeepsAnswering H.meaning desk.old.settings desk.old.shelf desk.new.shelf moment bytes.now result
         ⊎ KeepsRefusing H.meaning desk.old.settings desk.old.shelf desk.new.shelf bytes.now result }
 {
-    laws::kept();
+    laws::accounts_and_fates();
     let mut reader = CountedReader::new(bytes);
     match read_request(alloc, &mut reader) {
         Ok(request) => answer_request(alloc, routes, desk, moment, &request),

@@ -1,6 +1,6 @@
 -- Which commands publish.
 use Rattle.std.specs.Prelude.{ℕ, List, Option}
-use Rattle.office_acts.specs.declared.commands.Command.{Command}
+use Rattle.office_commands.specs.declared.commands.Command.{Command}
 use Rattle.office_base.specs.Tables.{Tables}
 use Rattle.office_machine.specs.Rule.{notice_of}
 use Rattle.office_machine.specs.Rules.{rule_of}

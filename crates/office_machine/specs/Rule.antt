@@ -1,7 +1,7 @@
 -- A command's rule, and what rules share.
 use Rattle.std.specs.Prelude.{ℕ, Bool, List, [], map, filter, Option, Some, None, option_map}
-use Rattle.office_acts.specs.declared.item.Item.{Item}
-use Rattle.office_acts.specs.declared.command.Caller.{Caller}
+use Rattle.office_commands.specs.declared.item.Item.{Item}
+use Rattle.office_commands.specs.declared.command.Caller.{Caller}
 use Rattle.office_values.specs.declared.refusal.Refusal.{Refusal}
 use Rattle.office_base.specs.declared.records.LotRow.{LotRow}
 use Rattle.office_base.specs.declared.records.EnvelopeRow.{EnvelopeRow}
@@ -52,13 +52,13 @@ abbrev pub bytes_in : Option SealRow → List ℕ
 bytes_in None = []
 bytes_in (Some seal) = seal.bytes
 
-abbrev pub items_in : Option LotRow → List Item
-items_in None = []
-items_in (Some l) = l.items
+abbrev pub items_of_row : Option LotRow → List Item
+items_of_row None = []
+items_of_row (Some l) = l.items
 
 -- the sealed tenders of a notice, each with its bytes and the items of its lot
 abbrev pub sealed_tender : Tables → EnvelopeRow → SealedTender
-sealed_tender s e = record { envelope = e; bytes = bytes_in (seal_at e.receipt s); items = items_in (lot_at (e.notice, e.lot) s) }
+sealed_tender s e = record { envelope = e; bytes = bytes_in (seal_at e.receipt s); items = items_of_row (lot_at (e.notice, e.lot) s) }
 
 abbrev pub sealed_tenders : List ℕ → Tables → List SealedTender
 sealed_tenders notice s = map (sealed_tender s) (filter is_sealed_envelope (envelopes_of_notice notice s))

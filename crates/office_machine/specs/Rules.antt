@@ -1,6 +1,6 @@
 -- The rule of each command.
-use Rattle.office_acts.specs.declared.commands.Command.TheVariants.{Import, Register, Publish, AmendNotice, Cancel, Open, Present, Modify, Withdraw, Examine, Award, Fail, Sign, AmendContract, Pay, End}
-use Rattle.office_acts.specs.declared.commands.Command.{Command}
+use Rattle.office_commands.specs.declared.commands.Command.TheVariants.{Import, Register, Publish, AmendNotice, Cancel, Open, Present, Modify, Withdraw, Examine, Award, Fail, Sign, AmendContract, Pay, End}
+use Rattle.office_commands.specs.declared.commands.Command.{Command}
 use Rattle.office_machine.specs.Rule.{Rule}
 use Rattle.office_machine.specs.Commands.Import.{import_budget}
 use Rattle.office_machine.specs.Commands.Register.{register}

@@ -1,6 +1,6 @@
 ghost use Rattle.office_machine.specs.Accounts.{AccountsAreKept, TablesAreInOrder};
 ghost use Rattle.office_machine.specs.Clock.{ClockIsSet, ClockNeverRunsBack};
-ghost use Rattle.office_machine.specs.Fits.{SumsFit};
+ghost use Rattle.office_machine.specs.Fits.{SumsInRange};
 ghost use Rattle.office_machine.specs.Lacking.{NothingIsLacking};
 ghost use Rattle.office_machine.specs.Late.{LateRulesAreKept};
 ghost use Rattle.office_machine.specs.MergesApart.{FatesReadNoMerges, LooksReadNoMerges, NextReadsNoMerges, PutsReadNoMerges, RefusalsReadNoMerges, RepliesReadNoMerges};
@@ -44,7 +44,7 @@ pub fn runs()
 
 /// No sum over the rows that accepted commands lead to is out of its range: not of a line, a lot or a contract.
 pub fn sums()
-    ensures { SumsFit }
+    ensures { SumsInRange }
 {}
 
 /// What is outstanding of a contract after an accepted command on it, by the rows that the command looks at; and wherever accepted

@@ -4,7 +4,7 @@ use Rattle.std.proofs.Common.{◌∙◌, ap, inl, sym}
 use Rattle.office_values.specs.declared.refusal.Refusal.{Refusal}
 use Rattle.office_values.specs.declared.refusal.Refusal.TheVariants.{Forbidden}
 use Rattle.office_values.specs.declared.settings.Settings.{Settings}
-use Rattle.office_acts.specs.declared.commands.Command.{Command}
+use Rattle.office_commands.specs.declared.commands.Command.{Command}
 use Rattle.office_base.specs.Rules.{first_of}
 use Rattle.office_base.specs.Shelves.{Looks, LooksFollow, Meaning}
 use Rattle.office_base.specs.Tables.{Tables}

@@ -1,7 +1,7 @@
 //! Commands, planned over any shelf: each in its room, and here all of them.
 ghost use Rattle.std.specs.Prelude.{◌≡◌, true};
-ghost use Rattle.office_acts.specs.Commands.{kind_of};
-ghost use Rattle.office_acts.specs.Rights.{may};
+ghost use Rattle.office_commands.specs.Commands.{kind_of};
+ghost use Rattle.office_commands.specs.Rights.{may};
 ghost use Rattle.office_base.specs.Shelves.{Looks};
 ghost use Rattle.office_plans.specs.Asking.{given_by};
 ghost use Rattle.office_plans.specs.Published.{IsPlanned};
@@ -24,8 +24,8 @@ pub mod sign;
 pub mod withdraw;
 
 use crate::planned::Planned;
-use office_acts::commands::Command;
 use office_base::shelf::Lookups;
+use office_commands::commands::Command;
 use office_values::refusal::Refusal;
 use office_values::settings::Settings;
 use std::alloc::Global;

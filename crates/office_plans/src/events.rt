@@ -1,9 +1,9 @@
 //! What the events of a notice are told from.
 ghost use Rattle.std.specs.Prelude.{◌≡◌, None, IfErr, IfNone, IfOk, IfSome, filter, map};
-ghost use Rattle.ocds_release.specs.TenderStatuses.{state_with, status_of};
+ghost use Rattle.ocds_release.specs.TenderStatuses.{state_with, tender_status_of};
 ghost use Rattle.office_base.specs.Tables.{award_key};
 ghost use Rattle.office_publications.specs.AwardEvents.{name_in};
-ghost use Rattle.office_publications.specs.NoticeEvents.{lot_of};
+ghost use Rattle.office_publications.specs.NoticeEvents.{lot_name};
 ghost use Rattle.office_values.specs.declared.refusal.Refusal.TheVariants.{Unavailable};
 ghost use Rattle.tender_core.specs.Rules.Cancel.{is_ended_award, is_open_lot};
 
@@ -39,7 +39,7 @@ pub(crate) fn status_with(
     lot: Id,
     state: LotState,
 ) -> Result<TenderStatus, Refusal>
-    ensures status { IfOk result (λ status. status ≡ status_of (map (state_with lot state) lots.now)) }
+    ensures status { IfOk result (λ status. status ≡ tender_status_of (map (state_with lot state) lots.now)) }
     ensures none { IfErr result (λ why. why ≡ Unavailable) }
 {
     let states = states_with(alloc, lots, lot, state)?;
@@ -48,7 +48,7 @@ pub(crate) fn status_with(
 
 /// The identifiers of the lots that are open.
 pub(crate) fn open_lots(alloc: Global, lots: &[LotRow]) -> Result<Vec<Id>, AllocError>
-    ensures { IfOk result (λ ids. ids.items ≡ map lot_of (filter is_open_lot lots.now)) }
+    ensures { IfOk result (λ ids. ids.items ≡ map lot_name (filter is_open_lot lots.now)) }
 {
     let mut ids = Vec::new(alloc);
     for lot in lots {

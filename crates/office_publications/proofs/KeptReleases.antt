@@ -21,7 +21,7 @@ use Rattle.office_machine.proofs.Releases.NextIs.{next_is}
 use Rattle.office_machine.proofs.Parents.ParentsThere.{parents_there}
 use Rattle.office_machine.proofs.Rows.Keyed.{found, found_put}
 use Rattle.office_machine.proofs.Rows.Keyed as keyed
-use Rattle.office_publications.specs.Keeping.{KeepsReleases, PublicationReadsBack, kept_puts, kept_next, merge_puts, merged_row, KeptStepsReach, ReleasesStayKept, NothingIsKeptAtFirst}
+use Rattle.office_publications.specs.Keeping.{KeepsReleases, PublicationReadsBack, kept_puts, next_with_merges, merge_puts, merged_row, KeptStepsReach, ReleasesStayKept, NothingIsKeptAtFirst}
 use Rattle.office_publications.specs.Merges.{AreMerged, CanBeMerged, body_in}
 use Rattle.office_publications.specs.Publishing.{publishing}
 use Rattle.office_publications.proofs.KeptPuts.{merges_stand_beside}
@@ -56,9 +56,9 @@ module _ (settings : Settings) (x : Given) (have : HaveParents (next (publishing
         | inr p ↦ (have.merges key c p.1).notice
       ]
 
-  of_notices : AreOfNotices (kept_next settings x).compiled after
+  of_notices : AreOfNotices (next_with_merges settings x).compiled after
   of_notices =
-      subst (λ trees. AreOfNotices trees after)
+      subst (λ merges. AreOfNotices merges after)
       (sym (ap (λ (u : Tables). u.compiled) (after-append (puts_of (publishing settings) x) (merge_puts x.before (publication (publishing settings) x)) x.before)
       ∙ put_beside x.before (publication (publishing settings) x) after))
       (merges_of (publication (publishing settings) x) refl)
@@ -68,7 +68,7 @@ reaches keep sorted parents steps settings xs x reached given allowed = record {
   reached = reached;
   given = given;
   allowed = allowed;
-  trees = (kept_next settings x).compiled;
+  merges = (next_with_merges settings x).compiled;
   in_order = (keep (kept_puts settings x) x.before (sorted (publishing settings) xs x.before reached)).compiled;
   of_notices = of_notices settings x (parents (publishing settings) (x ∷ xs) (next (publishing settings) x) (steps (publishing settings) xs x reached given allowed));
   is = merges_stand_beside settings x;
@@ -80,7 +80,7 @@ module _ (settings : Settings) (x : Given) (no_merge : (next (publishing setting
   means = publishing settings
 
   abbrev kept : Tables
-  kept = kept_next settings x
+  kept = next_with_merges settings x
 
   merges_are : kept.compiled ≡ with_merge x.before (publication means x) x.before.compiled
   merges_are =
@@ -98,12 +98,12 @@ module _ (settings : Settings) (x : Given) (no_merge : (next (publishing setting
             releases n ∙ ap (λ p. releases_of_notice n x.before ++ filter (λ (r : ReleaseRow). same_id r.notice n) (option_to_list p)) none
             ∙ append-nil (releases_of_notice n x.before)
 
-        trees : kept.compiled ≡ x.before.compiled
-        trees = merges_are ∙ ap (λ p. with_merge x.before p x.before.compiled) none
+        merges : kept.compiled ≡ x.before.compiled
+        merges = merges_are ∙ ap (λ p. with_merge x.before p x.before.compiled) none
 
         merged : AreMerged kept
         merged n c found =
-            subst (λ rows. KeepsMerge c.text (map body_in rows)) (sym (same n)) (keeps.merged n c (ap (λ rows. find_compiled rows n) (sym trees) ∙ found))
+            subst (λ rows. KeepsMerge c.text (map body_in rows)) (sym (same n)) (keeps.merged n c (ap (λ rows. find_compiled rows n) (sym merges) ∙ found))
 
     more : (r : ReleaseRow) → CanBeMerged r → (b : Bool) → All CanBeMerged (cond b (r ∷ []) [])
     more r can true = All-cons CanBeMerged r [] can (All-nil CanBeMerged)
@@ -134,8 +134,8 @@ module _ (settings : Settings) (x : Given) (no_merge : (next (publishing setting
 
 pub stays : KeptStepsReach → ReleasesArePublished → ReleasesStayKept
 stays reach published settings xs x reached given allowed back keeps =
-    let releases : (n : List ℕ) → releases_of_notice n (kept_next settings x) ≡ releases_of_notice n x.before ++ published_of (publishing settings) x n = λ n.
-    published (publishing settings) (x ∷ xs) (kept_next settings x) (reach settings xs x reached given allowed) n
+    let releases : (n : List ℕ) → releases_of_notice n (next_with_merges settings x) ≡ releases_of_notice n x.before ++ published_of (publishing settings) x n = λ n.
+    published (publishing settings) (x ∷ xs) (next_with_merges settings x) (reach settings xs x reached given allowed) n
     ∙ ap (λ rows. rows ++ published_of (publishing settings) x n) (sym (published (publishing settings) xs x.before reached n)) in
     kept_by settings x (next_is (publishing settings) x (parents_there (publishing settings) xs x.before reached) allowed).compiled keeps releases (publication (publishing settings) x) refl back
 

@@ -12,7 +12,7 @@ use Rattle.office_publications.specs.Events.{event_of}
 use Rattle.office_publications.specs.Keys.{KeysMayChange, KeysTellNothing, with_clerk_key}
 use Rattle.office_publications.specs.Packages.{packages}
 use Rattle.office_publications.specs.Publishing.{publishing, release_by, text_by}
-use Rattle.office_publications.specs.Standing.{Stands}
+use Rattle.office_publications.specs.Standing.{IsReached}
 
 release_alike : (settings : Settings) (key : List ℕ) (seq t : ℕ) (e : Event)
     → release_of_event (with_clerk_key key settings) seq t e ≡ release_of_event settings seq t e

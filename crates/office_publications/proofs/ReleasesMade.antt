@@ -1,8 +1,8 @@
 -- Each command that publishes has a release.
 use Rattle.std.specs.Prelude.{Option, Some, None, option_map, IsSome}
 use Rattle.std.proofs.Common.{refl}
-use Rattle.office_acts.specs.declared.commands.Command.{Command}
-use Rattle.office_acts.specs.declared.commands.Command.TheVariants.{Import, Register, Publish, AmendNotice, Cancel, Open, Present, Modify, Withdraw, Examine, Award, Fail, Sign, AmendContract, Pay, End}
+use Rattle.office_commands.specs.declared.commands.Command.{Command}
+use Rattle.office_commands.specs.declared.commands.Command.TheVariants.{Import, Register, Publish, AmendNotice, Cancel, Open, Present, Modify, Withdraw, Examine, Award, Fail, Sign, AmendContract, Pay, End}
 use Rattle.office_base.specs.Tables.{Tables, award_at, contract_at}
 use Rattle.office_machine.specs.Publications.{published_for}
 use Rattle.office_publications.specs.Events.{event_of}

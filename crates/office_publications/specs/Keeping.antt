@@ -10,7 +10,7 @@ use Rattle.office_base.specs.declared.puts.Put.TheVariants as puts
 use Rattle.office_base.specs.declared.records.CompiledRow.{CompiledRow}
 use Rattle.office_base.specs.declared.records.ReleaseRow.{ReleaseRow}
 use Rattle.office_base.specs.Tables.{Tables, no_tables, notice_at, release_at, after_puts}
-use Rattle.office_machine.specs.Machine.{Given, CanBeGiven, Reaches, effect, next, publication, puts_of, refusal_of, release_row, with_trees}
+use Rattle.office_machine.specs.Machine.{Given, CanBeGiven, Reaches, effect, next, publication, puts_of, refusal_of, release_row, with_merges}
 use Rattle.office_machine.specs.Counted.{releases_in}
 use Rattle.office_machine.specs.OfficeMeans.{office_readings}
 use Rattle.office_machine.specs.Publications.{published_for}
@@ -31,8 +31,8 @@ abbrev pub kept_puts : Settings → Given → List Put
 kept_puts settings x = puts_of (publishing settings) x ++ merge_puts x.before (publication (publishing settings) x)
 
 -- the office after it, with the merges beside it
-abbrev pub kept_next : Settings → Given → Tables
-kept_next settings x = after_puts (kept_puts settings x) x.before
+abbrev pub next_with_merges : Settings → Given → Tables
+next_with_merges settings x = after_puts (kept_puts settings x) x.before
 
 -- all releases can be merged, and each merge that is kept is that of its notice's releases
 pub record KeepsReleases (t : Tables) : Type 0 where
@@ -94,17 +94,17 @@ EventsPutReleases = (settings : Settings) (x : Given) (e : Event) (notice : List
 
 -- the office after it is the machine's, with the merges beside it
 abbrev pub MergesStandBeside : Type 0
-MergesStandBeside = (settings : Settings) (x : Given) → kept_next settings x ≡ with_trees (kept_next settings x).compiled (next (publishing settings) x)
+MergesStandBeside = (settings : Settings) (x : Given) → next_with_merges settings x ≡ with_merges (next_with_merges settings x).compiled (next (publishing settings) x)
 
 -- so accepted commands lead there
 abbrev pub KeptStepsReach : Type 0
 KeptStepsReach = (settings : Settings) (xs : List Given) (x : Given) → Reaches (publishing settings) xs x.before → CanBeGiven x → refusal_of x ≡ None
-    → Reaches (publishing settings) (x ∷ xs) (kept_next settings x)
+    → Reaches (publishing settings) (x ∷ xs) (next_with_merges settings x)
 
 -- what is kept of releases stays kept
 abbrev pub ReleasesStayKept : Type 0
 ReleasesStayKept = (settings : Settings) (xs : List Given) (x : Given) → Reaches (publishing settings) xs x.before → CanBeGiven x → refusal_of x ≡ None
-    → PublicationReadsBack settings x → KeepsReleases x.before → KeepsReleases (kept_next settings x)
+    → PublicationReadsBack settings x → KeepsReleases x.before → KeepsReleases (next_with_merges settings x)
 
 -- in the empty office nothing is published
 abbrev pub NothingIsKeptAtFirst : Type 0

@@ -4,7 +4,7 @@ use Rattle.office_values.specs.declared.settings.Settings.{Settings}
 use Rattle.office_base.specs.Tables.{Tables}
 use Rattle.office_publications.specs.Packages.{packages}
 use Rattle.office_publications.specs.Publishing.{publishing}
-use Rattle.office_publications.specs.Standing.{Stands}
+use Rattle.office_publications.specs.Standing.{IsReached}
 
 -- these settings, with another key of the clerk
 abbrev pub with_clerk_key : List ℕ → Settings → Settings
@@ -20,4 +20,4 @@ KeysTellNothing = (before after : Settings) → SameButKey before after → (pub
 
 -- an office stands under another key as it stood
 abbrev pub KeysMayChange : Type 0
-KeysMayChange = (before after : Settings) (s : Tables) → SameButKey before after → Stands before s → Stands after s
+KeysMayChange = (before after : Settings) (s : Tables) → SameButKey before after → IsReached before s → IsReached after s

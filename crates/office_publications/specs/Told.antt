@@ -14,7 +14,7 @@ use Rattle.office_base.specs.declared.records.ReleaseRow.{ReleaseRow}
 use Rattle.office_machine.specs.Counted.{releases_in}
 use Rattle.office_publications.specs.Merges.{bodies}
 use Rattle.office_publications.specs.Packages.{releases_told, compiled_told}
-use Rattle.office_publications.specs.Standing.{Stands}
+use Rattle.office_publications.specs.Standing.{IsReached}
 
 -- it is a moment that has a text
 abbrev pub IsInRange : ReleaseRow → Type 0
@@ -22,7 +22,7 @@ IsInRange r = r.moment ≤ last_moment
 
 -- each row keeps the release that is told: its text is the compact text of it, and its moment the release's date
 abbrev pub ReleasesAreTold : Type 0
-ReleasesAreTold = (settings : Settings) (s : Tables) → Stands settings s → (notice : List ℕ) → AreKept (releases_of_notice notice s) (releases_told notice s)
+ReleasesAreTold = (settings : Settings) (s : Tables) → IsReached settings s → (notice : List ℕ) → AreKept (releases_of_notice notice s) (releases_told notice s)
 
 -- what a notice's releases compile to is their merge under the head of the last release's moment, and its text is known
 pub record IsCompiled (settings : Settings) (notice : List ℕ) (s : Tables) : Type 0 where
@@ -32,7 +32,7 @@ pub record IsCompiled (settings : Settings) (notice : List ℕ) (s : Tables) : T
 
 -- it does where there are releases, each at a moment that has a text: they stand in the order of their dates
 abbrev pub RecordsAreCompiled : Type 0
-RecordsAreCompiled = (settings : Settings) (s : Tables) → Stands settings s → (notice : List ℕ) → 0 < length (releases_of_notice notice s)
+RecordsAreCompiled = (settings : Settings) (s : Tables) → IsReached settings s → (notice : List ℕ) → 0 < length (releases_of_notice notice s)
     → All IsInRange (releases_of_notice notice s) → IsCompiled settings notice s
 
 -- each release of the notice stands in its sequence where its number says; there are as many as the notice's row counts, and no more than there are
@@ -44,7 +44,7 @@ pub record AreInSequence (notice : List ℕ) (s : Tables) : Type 0 where
 
 -- they do
 abbrev pub ReleasesAreInSequence : Type 0
-ReleasesAreInSequence = (settings : Settings) (s : Tables) → Stands settings s → (notice : List ℕ) → AreInSequence notice s
+ReleasesAreInSequence = (settings : Settings) (s : Tables) → IsReached settings s → (notice : List ℕ) → AreInSequence notice s
 
 -- the release of this number is there, and its text is a JSON object, so that it can be merged
 abbrev pub CanBeShown : List ℕ → ℕ → Tables → Type 0

@@ -21,9 +21,9 @@ use Rattle.office_base.proofs.ExactKeys.{equal_keys}
 use Rattle.office_base.proofs.RowLaws.Starts.{all_above}
 use Rattle.office_base.proofs.RowLaws.Filters.{all_filter}
 use Rattle.office_sql.specs.Standing.{Stand}
-use Rattle.office_sql.proofs.KeptRows.{in_order-table_of}
+use Rattle.office_sql.proofs.KeptRows.{in_order-rows_kept}
 use Rattle.office_sql.proofs.Selected.{selects, comes_back, picked, passes_query}
-use Rattle.office_sql.proofs.Meanings.{Means}
+use Rattle.office_sql.proofs.Meanings.{StatementMeans}
 use Rattle.office_sql.proofs.Selecting.{select, tested}
 
 filter-none : {X : Type 0} (p : X → Bool) (xs : List X) → AllByRecursion (λ x. p x ≡ false) xs → filter p xs ≡ []
@@ -77,7 +77,7 @@ module _ {K X : Type 0} (R : K → K → Ordering) (total : IsTotalOrder R) (sam
     read_back sorts (x ∷ xs) h = λ i. h.0 i ∷ read_back sorts xs h.1 i
 
     module _ (old new : State) (rows : List Row) (n : ℕ) (xs : List X) (stand : Stand R key form decode (old.now.trees n) xs)
-        (text : List ℕ) (params : Row) (tests shown order : List ℕ) (names : List (List ℕ)) (means : Means old.now.schema text (Select (record { lets = []; body = select n tests shown order }) names))
+        (text : List ℕ) (params : Row) (tests shown order : List ℕ) (names : List (List ℕ)) (means : StatementMeans old.now.schema text (Select (record { lets = []; body = select n tests shown order }) names))
         (p : X → Bool) (passing : (v : Value) (x : X) → list_all (holds (params ∷ form v x ∷ [])) (tested 0 tests) ≡ p x) where
       -- what is shown of the rows that pass
       pub shows_rows : (out : X → Output) → ((v : Value) (x : X) → output (select n tests shown order) (params ∷ form v x ∷ []) ≡ out x)
@@ -105,4 +105,4 @@ module _ {K X : Type 0} (R : K → K → Ordering) (total : IsTotalOrder R) (sam
       gets k is shows unordered h =
           sym (slice_get-map read rows)
           ∙ ap (λ (l : List X). slice_get l 0) (ap (map read) (shows_rows (λ x. ([], encode x)) shows (λ x y a b. ap is_lt (unordered ([], encode x) ([], encode y)) ∙ tied_keys p k is x y a b) h) ∙ read_back (λ x. []) (filter p xs) back)
-          ∙ first_at p k is xs (subst (IsInOrder R key) stand.is (in_order-table_of R total same key form decode (old.now.trees n)))
+          ∙ first_at p k is xs (subst (IsInOrder R key) stand.is (in_order-rows_kept R total same key form decode (old.now.trees n)))

@@ -1,7 +1,7 @@
 //! An office that is served over connections of TCP, one after another.
 ghost use Rattle.std.specs.Prelude.{◌≡◌, ◌⊎◌, IfErr};
 ghost use Rattle.office_http.specs.Stops.{StopsOnce};
-ghost use Rattle.procure_programs.specs.Serving.{KeepsServing, Serves};
+ghost use Rattle.procure_programs.specs.Serving.{TurnsKeepCommands, TakesTurns};
 ghost use Rattle.procure_programs.specs.Turns.{ServesInTurn};
 
 use crate::clock::moment_now;
@@ -94,11 +94,11 @@ pub fn serve<C: Clock, H: StoredShelf + Drop>(
     count: u32,
 ) -> Result<(), ProgramFault>
     ensures before { H.meaning.honest office.new.shelf → H.meaning.honest office.old.shelf }
-    ensures serves { Serves H.meaning count office.old office.new }
-    ensures kept { KeepsServing H.meaning count office.old office.new }
+    ensures serves { TakesTurns H.meaning count office.old office.new }
+    ensures kept { TurnsKeepCommands H.meaning count office.old office.new }
     ensures turns { ServesInTurn H.meaning H.store count office.old office.new result }
     ensures fault { IfErr result (λ fault. (fault ≡ ProgramFault.Store) ⊎ (fault ≡ ProgramFault.Input)) }
 {
-    laws::kept();
+    laws::accounts_and_fates();
     take_turns(clock, alloc, listener, office, count)
 }

@@ -2,8 +2,8 @@
 use Rattle.std.specs.Prelude.{◌≡◌, ℕ, ◌+◌, ◌-◌, Bool, not, ◌&&◌, ◌||◌, nat_lt, List, [], ◌∷◌, map, filter, is_some, Option}
 use Rattle.std.specs.List.{list_any}
 use Rattle.std.proofs.Common.{refl, ap, ◌∙◌}
-use Rattle.office_acts.specs.declared.lot.NewLot.{NewLot}
-use Rattle.office_acts.specs.declared.notice.NewNotice.{NewNotice}
+use Rattle.office_commands.specs.declared.lot.NewLot.{NewLot}
+use Rattle.office_commands.specs.declared.notice.NewNotice.{NewNotice}
 use Rattle.office_base.specs.Joined.{free_in}
 use Rattle.office_base.specs.declared.records.LineRow.{LineRow}
 use Rattle.office_base.specs.declared.records.LotRow.{LotRow}
@@ -32,11 +32,11 @@ abbrev published_line : List NewLot → NewLot → Option LineRow → Put
 published_line all lot o =
     puts.Line (record (Rattle.std.specs.Prelude.unwrap_or o (no_line lot.line)) { line = lot.line; free = free_in o - wanted lot.line all })
 
-published-agree : (m n : List LineRow) (all lots : List NewLot) → AgreeOnNewLots m n lots → map (published.line_put m all) lots ≡ map (published.line_put n all) lots
+published-agree : (m n : List LineRow) (all lots : List NewLot) → AgreeOnNewLots m n lots → map (published.reserving_line_put m all) lots ≡ map (published.reserving_line_put n all) lots
 published-agree m n all [] h = refl
 published-agree m n all (lot ∷ lots) h =
-    ap (λ o. published_line all lot o ∷ map (published.line_put m all) lots) h.0
-    ∙ ap (λ ps. published.line_put n all lot ∷ ps) (published-agree m n all lots h.1)
+    ap (λ o. published_line all lot o ∷ map (published.reserving_line_put m all) lots) h.0
+    ∙ ap (λ ps. published.reserving_line_put n all lot ∷ ps) (published-agree m n all lots h.1)
 
 publish_tests-agree : (m n : List LineRow) (rows : PublishRows) (t : ℕ) (content : NewNotice) → AgreeOnNewLots m n content.lots
     → publish_tests (publish_on m rows) t content ≡ publish_tests (publish_on n rows) t content
@@ -53,11 +53,11 @@ abbrev cancelled_line : List LotRow → LotRow → Option LineRow → Put
 cancelled_line all l o =
     puts.Line (record (Rattle.std.specs.Prelude.unwrap_or o (no_line l.line)) { line = l.line; free = free_in o + cancelled.freed l.line all })
 
-cancelled-agree : (m n : List LineRow) (all lots : List LotRow) → AgreeOnLots m n lots → map (cancelled.line_put m all) lots ≡ map (cancelled.line_put n all) lots
+cancelled-agree : (m n : List LineRow) (all lots : List LotRow) → AgreeOnLots m n lots → map (cancelled.freed_line_put m all) lots ≡ map (cancelled.freed_line_put n all) lots
 cancelled-agree m n all [] h = refl
 cancelled-agree m n all (l ∷ lots) h =
-    ap (λ o. cancelled_line all l o ∷ map (cancelled.line_put m all) lots) h.0
-    ∙ ap (λ ps. cancelled.line_put n all l ∷ ps) (cancelled-agree m n all lots h.1)
+    ap (λ o. cancelled_line all l o ∷ map (cancelled.freed_line_put m all) lots) h.0
+    ∙ ap (λ ps. cancelled.freed_line_put n all l ∷ ps) (cancelled-agree m n all lots h.1)
 
 cancel_puts-agree : (m n : List LineRow) (rows : CancelRows) (t : ℕ) → AgreeOnLots m n (filter is_open_lot rows.lots)
     → cancel_puts (cancel_on m rows) t ≡ cancel_puts (cancel_on n rows) t

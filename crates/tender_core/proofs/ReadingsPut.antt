@@ -1,9 +1,9 @@
 -- An opening puts the readings of its tenders.
 use Rattle.std.proofs.Common.{◌≡◌, refl, ap, ◌∷◌, [], ◌++◌, List, ℕ, map, Option, Some, None}
-use Rattle.office_acts.specs.declared.item.Item.{Item}
+use Rattle.office_commands.specs.declared.item.Item.{Item}
 use Rattle.office_base.specs.declared.reading.Reading.{Reading}
 use Rattle.office_base.specs.declared.puts.Put.TheVariants as puts
-use Rattle.office_base.specs.RuleParts.{clock_put}
+use Rattle.office_base.specs.Transitions.{clock_put}
 use Rattle.tender_core.specs.Rules.Open.{SealedTender, opened_put, opened_notice, open_puts, opened_with, with_reading, read_put, ReadingsArePut}
 use Rattle.tender_core.specs.declared.opening.OpenRows.{OpenRows}
 use Rattle.office_base.specs.declared.records.NoticeRow.{NoticeRow}

@@ -2,9 +2,9 @@
 -- given these alone, in place of all lines of the office.
 use Rattle.std.specs.Prelude.{◌≡◌, ℕ, List, filter, option_map}
 use Rattle.std.specs.List.{AllByRecursion}
-use Rattle.office_acts.specs.declared.budget.BudgetRow.{BudgetRow}
-use Rattle.office_acts.specs.declared.lot.NewLot.{NewLot}
-use Rattle.office_acts.specs.declared.notice.NewNotice.{NewNotice}
+use Rattle.office_commands.specs.declared.budget.BudgetRow.{BudgetRow}
+use Rattle.office_commands.specs.declared.lot.NewLot.{NewLot}
+use Rattle.office_commands.specs.declared.notice.NewNotice.{NewNotice}
 use Rattle.office_base.specs.Tables.{Tables, find_line, line_at}
 use Rattle.office_base.specs.Standings.{columns_at, columns_of_row, standings}
 use Rattle.office_base.specs.declared.standing.Standing.{Standing}

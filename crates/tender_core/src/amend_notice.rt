@@ -3,13 +3,13 @@ ghost use Rattle.std.specs.Prelude.{◌≡◌, ◌||◌, IfOk, IfErr, IfSome, If
 ghost use Rattle.office_values.specs.declared.refusal.Refusal.TheVariants.{Unavailable};
 ghost use Rattle.office_base.specs.Deciding.{Decides};
 ghost use Rattle.office_base.specs.Rules.{first_of};
-ghost use Rattle.office_base.specs.RuleParts.{has_all_releases};
+ghost use Rattle.office_base.specs.Transitions.{has_all_releases};
 ghost use Rattle.tender_core.specs.Rules.AmendNotice.{has_all_amendments, amended, amend_notice_lacks, amend_notice_tests, amend_notice_puts};
 
 use office_base::counts::{AmendmentCount, ReleaseCount};
-use office_base::parts::{at_moment, has_all_releases, is_past_deadline};
 use office_base::puts::Put;
 use office_base::records::{ClockRow, NoticeRow, NoticeState};
+use office_base::transitions::{at_moment, has_all_releases, is_past_deadline};
 use office_values::moment::Moment;
 use office_values::refusal::{Refusal, Thing};
 use std::alloc::Global;

@@ -4,7 +4,7 @@ ghost use Rattle.std.specs.List.{list_any};
 ghost use Rattle.office_values.specs.declared.refusal.Refusal.TheVariants.{Unavailable};
 ghost use Rattle.office_base.specs.Deciding.{Decides};
 ghost use Rattle.office_base.specs.Rules.{first_of};
-ghost use Rattle.office_base.specs.RuleParts.{has_all_releases, clock_put};
+ghost use Rattle.office_base.specs.Transitions.{has_all_releases, clock_put};
 ghost use Rattle.office_base.specs.declared.puts.Put.TheVariants as puts;
 ghost use Rattle.tender_core.specs.Rules.Cancel.{is_open_lot, cancelled_notice, cancel_lacks, cancel_tests, cancel_puts};
 
@@ -14,12 +14,12 @@ use crate::ended::{
 };
 use keyed_table::table::Table;
 use office_base::counts::ReleaseCount;
-use office_base::parts::{at_moment, has_all_releases};
 use office_base::puts::Put;
 use office_base::records::{
     AwardRow, ClockRow, EnvelopeRow, LineRow, LotRow, NoticeRow, NoticeState, SecurityRow,
 };
 use office_base::rows::Rows;
+use office_base::transitions::{at_moment, has_all_releases};
 use office_values::moment::Moment;
 use office_values::refusal::{Refusal, Thing};
 use std::alloc::Global;

@@ -5,18 +5,18 @@ ghost use Rattle.office_values.specs.declared.refusal.Refusal.TheVariants.{Unava
 ghost use Rattle.office_base.specs.Standings.{columns_at, find_standing};
 ghost use Rattle.office_base.specs.Deciding.{Decides};
 ghost use Rattle.office_base.specs.Rules.{first_of};
-ghost use Rattle.tender_core.specs.Rules.Import.{is_cut, columns_after, after_row, after_rows, some_row, cuts_nothing, cuts_too_much, passes_limit, cuts_below_zero, import_lacks, import_tests, import_puts, line_put, puts_after, appropriation_of, free_of};
+ghost use Rattle.tender_core.specs.Rules.Import.{is_cut, columns_after, after_row, after_rows, any_while_walking, cuts_nothing, cuts_too_much, passes_limit, cuts_below_zero, import_lacks, import_tests, import_puts, imported_line_put, puts_after, appropriation_of, free_of};
 ghost use Rattle.tender_core.specs.Walks.{AreNamed, IsAtMost, AreAtMost};
 
 use crate::budget_file::BudgetFile;
 use keyed_table::table::Table;
-use office_acts::budget::{BudgetKind, BudgetRow};
 use office_base::counts::RowCount;
 use office_base::laws::rows_are_kept;
-use office_base::parts::at_moment;
 use office_base::puts::Put;
 use office_base::records::{BatchRow, ClockRow, LineRow};
 use office_base::standing::{Columns, Standing};
+use office_base::transitions::at_moment;
+use office_commands::budget::{BudgetKind, BudgetRow};
 use office_values::id::Id;
 use office_values::moment::Moment;
 use office_values::money::{TOTAL_LIMIT, Total};
@@ -143,10 +143,10 @@ fn take_rows(lines: &mut Table<Standing>, rows: &[BudgetRow]) -> Findings
     requires named { AreNamed lines.old rows.now }
     requires fit { AreAtMost total_limit lines.old }
     ensures lines { lines.new ≡ after_rows lines.old rows.now }
-    ensures unknown { result.unknown ≡ some_row cuts_nothing lines.old rows.now }
-    ensures short { result.short ≡ some_row cuts_too_much lines.old rows.now }
-    ensures past { result.past ≡ some_row passes_limit lines.old rows.now }
-    ensures lacking { result.lacking ≡ some_row cuts_below_zero lines.old rows.now }
+    ensures unknown { result.unknown ≡ any_while_walking cuts_nothing lines.old rows.now }
+    ensures short { result.short ≡ any_while_walking cuts_too_much lines.old rows.now }
+    ensures past { result.past ≡ any_while_walking passes_limit lines.old rows.now }
+    ensures lacking { result.lacking ≡ any_while_walking cuts_below_zero lines.old rows.now }
 {
     rows_are_kept::<Standing>();
     let mut all = Findings {
@@ -166,7 +166,7 @@ fn take_rows(lines: &mut Table<Standing>, rows: &[BudgetRow]) -> Findings
 // The line of a row, with its columns after all rows. A column that is no sum of money is a fault of the store, since no office
 // that commands lead to has it.
 fn line_put(after: &Table<Standing>, row: &BudgetRow) -> Result<Put, Refusal>
-    ensures put { IfOk result (λ put. put ≡ line_put after.now row.now) }
+    ensures put { IfOk result (λ put. put ≡ imported_line_put after.now row.now) }
     ensures fault { IfErr result (λ e. e ≡ Unavailable) }
 {
     let (appropriation, free) = amounts(columns_at(after, &row.line));

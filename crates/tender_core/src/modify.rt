@@ -8,10 +8,10 @@ ghost use Rattle.tender_core.specs.Rules.Modify.{replacing, modify_lacks, modify
 
 use crate::receipts::{length_of, next_receipt, receipt_clock};
 use crate::tenders::{is_by, is_past_deadline, withdrawn};
-use office_acts::command::Caller;
-use office_acts::sealed::{Sealed, SealedBytes};
 use office_base::puts::Put;
 use office_base::records::{ClockRow, EnvelopeRow, EnvelopeState, NoticeRow, SealRow};
+use office_commands::command::Caller;
+use office_commands::sealed::{Sealed, SealedBytes};
 use office_values::given::GivenNumber;
 use office_values::moment::Moment;
 use office_values::refusal::{Refusal, Thing};

@@ -3,15 +3,15 @@ ghost use Rattle.std.specs.Prelude.{◌≡◌, ◌++◌, IfSome, IfNone, IfOk, I
 ghost use Rattle.office_values.specs.declared.refusal.Refusal.TheVariants.{Unavailable};
 ghost use Rattle.office_base.specs.Deciding.{Decides};
 ghost use Rattle.office_base.specs.Rules.{first_of};
-ghost use Rattle.office_base.specs.RuleParts.{has_all_releases};
+ghost use Rattle.office_base.specs.Transitions.{has_all_releases};
 ghost use Rattle.tender_core.specs.Rules.Open.{is_sealed_envelope, read_envelope, read_put, opened_notice, open_lacks, open_tests, opened_with};
 
 use office_base::counts::ReleaseCount;
-use office_base::parts::{at_moment, has_all_releases};
 use office_base::puts::Put;
 use office_base::reading::Reading;
 use office_base::records::{ClockRow, EnvelopeRow, EnvelopeState, NoticeRow, NoticeState};
 use office_base::rows::Rows;
+use office_base::transitions::{at_moment, has_all_releases};
 use office_values::moment::Moment;
 use office_values::refusal::{Refusal, Thing};
 use std::alloc::Global;

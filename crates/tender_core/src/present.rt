@@ -3,24 +3,24 @@ ghost use Rattle.std.specs.Prelude.{◌≡◌, ◌+◌, ◌++◌, ◌&&◌, IfOk
 ghost use Rattle.std.specs.List.{list_any};
 ghost use Rattle.sha2.specs.Sha256.{sha256};
 ghost use Rattle.office_values.specs.declared.refusal.Refusal.TheVariants.{Unavailable};
-ghost use Rattle.office_acts.specs.declared.command.Caller.TheVariants.{Tenderer};
+ghost use Rattle.office_commands.specs.declared.command.Caller.TheVariants.{Tenderer};
 ghost use Rattle.office_base.specs.Deciding.{Decides};
 ghost use Rattle.office_base.specs.Rows.{holds_of};
 ghost use Rattle.office_base.specs.Rules.{first_of};
-ghost use Rattle.office_base.specs.RuleParts.{put_if, receipt_clock};
+ghost use Rattle.office_base.specs.Transitions.{put_if, receipt_clock};
 ghost use Rattle.tender_core.specs.Rules.Present.{is_sealed_by, asks_security, is_too_small, received, security_row, security_put, seal_puts, received_puts, present_lacks, present_tests, present_puts};
 
 use crate::receipts::{length_of, next_receipt, receipt_clock};
 use crate::tenders::{is_by, is_in_time};
-use office_acts::command::Caller;
-use office_acts::sealed::{Sealed, SealedBytes};
-use office_acts::tender::NamedSecurity;
 use office_base::puts::Put;
 use office_base::records::{
     ClockRow, EnvelopeRow, EnvelopeState, LotRow, NoticeRow, NoticeState, SealRow, SecurityRow,
     SecurityState,
 };
 use office_base::rows::Rows;
+use office_commands::command::Caller;
+use office_commands::sealed::{Sealed, SealedBytes};
+use office_commands::tender::NamedSecurity;
 use office_values::given::GivenNumber;
 use office_values::id::Id;
 use office_values::moment::Moment;

@@ -6,17 +6,17 @@ ghost use Rattle.office_base.specs.Tables.{find_line};
 ghost use Rattle.office_base.specs.Joined.{free_in};
 ghost use Rattle.office_base.specs.Deciding.{Decides};
 ghost use Rattle.office_base.specs.Rules.{first_of};
-ghost use Rattle.office_base.specs.RuleParts.{clock_put};
-ghost use Rattle.tender_core.specs.Rules.Publish.{wanted, is_on_no_line, is_short, has_too_many_items, publish_lacks, publish_tests, publish_puts, line_put, lot_put, notice_put, late_puts};
+ghost use Rattle.office_base.specs.Transitions.{clock_put};
+ghost use Rattle.tender_core.specs.Rules.Publish.{wanted, is_on_no_line, is_short, has_too_many_items, publish_lacks, publish_tests, publish_puts, reserving_line_put, new_lot_put, notice_put, late_puts};
 
 use keyed_table::table::Table;
-use office_acts::amounts::amount_of;
-use office_acts::lot::NewLot;
-use office_acts::notice::{LateWithdrawal, NewNotice};
 use office_base::counts::{AmendmentCount, ReleaseCount};
-use office_base::parts::at_moment;
 use office_base::puts::Put;
 use office_base::records::{ClockRow, LateRow, LineRow, LotRow, LotState, NoticeRow, NoticeState};
+use office_base::transitions::at_moment;
+use office_commands::amounts::amount_of;
+use office_commands::lot::NewLot;
+use office_commands::notice::{LateWithdrawal, NewNotice};
 use office_values::id::Id;
 use office_values::moment::Moment;
 use office_values::money::Total;
@@ -122,7 +122,7 @@ pub fn refusal(t: Moment, rows: &PublishRows, new: &NewNotice) -> Option<Refusal
 
 // The line of a lot, with what all lots want of it no longer free.
 fn line_put(lines: &Table<LineRow>, lots: &[NewLot], lot: &NewLot) -> Result<Put, Refusal>
-    ensures put { IfOk result (λ put. put ≡ line_put lines.now lots.now lot.now) }
+    ensures put { IfOk result (λ put. put ≡ reserving_line_put lines.now lots.now lot.now) }
     ensures fault { IfErr result (λ e. e ≡ Unavailable) }
 {
     match lines.get(&lot.line) {
@@ -139,7 +139,7 @@ fn line_put(lines: &Table<LineRow>, lots: &[NewLot], lot: &NewLot) -> Result<Put
 
 // The lines of all lots.
 fn push_lines(made: &mut Vec<Put>, lines: &Table<LineRow>, lots: &[NewLot]) -> Result<(), Refusal>
-    ensures puts { OnOk result (made.new.items ≡ made.old.items ++ map (line_put lines.now lots.now) lots.now) }
+    ensures puts { OnOk result (made.new.items ≡ made.old.items ++ map (reserving_line_put lines.now lots.now) lots.now) }
     ensures fault { IfErr result (λ e. e ≡ Unavailable) }
 {
     for lot in lots {
@@ -150,7 +150,7 @@ fn push_lines(made: &mut Vec<Put>, lines: &Table<LineRow>, lots: &[NewLot]) -> R
 
 // The lot, undecided, with its estimate reserved.
 fn lot_put(notice: Id, lot: NewLot) -> Put
-    ensures { result ≡ lot_put notice lot }
+    ensures { result ≡ new_lot_put notice lot }
 {
     Put::Lot(LotRow {
         notice,
@@ -167,7 +167,7 @@ fn lot_put(notice: Id, lot: NewLot) -> Put
 
 // All lots.
 fn push_lots(made: &mut Vec<Put>, notice: Id, lots: Vec<NewLot>) -> Result<(), Refusal>
-    ensures puts { OnOk result (made.new.items ≡ made.old.items ++ map (lot_put notice) lots.items) }
+    ensures puts { OnOk result (made.new.items ≡ made.old.items ++ map (new_lot_put notice) lots.items) }
     ensures fault { IfErr result (λ e. e ≡ Unavailable) }
 {
     for lot in lots {
@@ -195,7 +195,7 @@ fn push_notice(
     notice: Id,
     new: NewNotice,
 ) -> Result<(), Refusal>
-    ensures puts { OnOk result (made.new.items ≡ made.old.items ++ map (lot_put notice) new.lots ++ (notice_put t notice new ∷ clock_put clock t ∷ [])) }
+    ensures puts { OnOk result (made.new.items ≡ made.old.items ++ map (new_lot_put notice) new.lots ++ (notice_put t notice new ∷ clock_put clock t ∷ [])) }
     ensures fault { IfErr result (λ e. e ≡ Unavailable) }
 {
     push_lots(made, notice, new.lots.into_vec())?;

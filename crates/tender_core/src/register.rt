@@ -5,9 +5,9 @@ ghost use Rattle.office_base.specs.Deciding.{Decides};
 ghost use Rattle.office_base.specs.Rules.{first_of};
 ghost use Rattle.tender_core.specs.Rules.Register.{register_lacks, register_tests, register_puts};
 
-use office_base::parts::at_moment;
 use office_base::puts::Put;
 use office_base::records::{ClockRow, TendererRow};
+use office_base::transitions::at_moment;
 use office_values::id::Id;
 use office_values::moment::Moment;
 use office_values::refusal::Refusal;

@@ -4,17 +4,17 @@ ghost use Rattle.office_values.specs.declared.refusal.Refusal.TheVariants.{Unava
 ghost use Rattle.office_base.specs.Deciding.{Decides};
 ghost use Rattle.office_base.specs.Rows.{holds_of};
 ghost use Rattle.office_base.specs.Rules.{first_of};
-ghost use Rattle.office_base.specs.RuleParts.{is_expired, is_late, put_if, security_settled};
+ghost use Rattle.office_base.specs.Transitions.{is_expired, is_late, put_if, security_settled};
 ghost use Rattle.tender_core.specs.Rules.Withdraw.{cant_be_taken_back, is_decided, taken_back_puts, withdraw_lacks, withdraw_tests, withdraw_puts};
 
 use crate::tenders::{is_by, is_late, is_past_deadline, withdrawn};
-use office_acts::command::Caller;
-use office_base::parts::{at_moment, is_expired, lacks_security, passed_over, settled};
 use office_base::puts::Put;
 use office_base::records::{
     ClockRow, EnvelopeRow, EnvelopeState, LateRow, LotRow, LotState, NoticeRow, SecurityRow,
     SecurityState,
 };
+use office_base::transitions::{at_moment, is_expired, lacks_security, passed_over, settled};
+use office_commands::command::Caller;
 use office_values::moment::Moment;
 use office_values::refusal::{Refusal, Thing};
 use std::alloc::Global;

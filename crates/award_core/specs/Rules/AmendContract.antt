@@ -3,15 +3,15 @@ use Rattle.std.specs.Prelude.{ℕ, ◌+◌, ◌-◌, Bool, true, false, not, ◌
 use Rattle.std.specs.List.{list_any}
 use Rattle.office_values.specs.Ids.{same_id}
 use Rattle.office_base.specs.Limits.{entry_limit}
-use Rattle.office_acts.specs.declared.contract.ChangeKind.{ChangeKind}
-use Rattle.office_acts.specs.declared.contract.ChangeKind.TheVariants as change_kinds
+use Rattle.office_commands.specs.declared.contract.ChangeKind.{ChangeKind}
+use Rattle.office_commands.specs.declared.contract.ChangeKind.TheVariants as change_kinds
 use Rattle.office_base.specs.declared.records.EntryKind.{EntryKind}
 use Rattle.office_base.specs.declared.records.EntryKind.TheVariants as entry_kinds
 use Rattle.office_values.specs.declared.refusal.Thing.TheVariants as things
 use Rattle.office_values.specs.declared.refusal.Refusal.{Refusal}
 use Rattle.office_values.specs.declared.refusal.Refusal.TheVariants.{NoSuch, Exists, InsufficientFunds, MoreThanOutstanding, ContractEnded, LimitReached}
 use Rattle.office_base.specs.Rows.{holds_of}
-use Rattle.office_base.specs.RuleParts.{clock_put, released, has_all_releases, puts_if}
+use Rattle.office_base.specs.Transitions.{clock_put, with_next_release, has_all_releases, puts_if}
 use Rattle.office_base.specs.Joined.{free_in, is_overdrawn, outstanding}
 use Rattle.office_base.specs.declared.records.LineRow.{LineRow}
 use Rattle.office_base.specs.declared.records.NoticeRow.{NoticeRow}
@@ -89,7 +89,7 @@ amend_contract_puts rows t entry kind amount rationale =
     puts_if (λ (c : ContractRow). puts_if (λ (n : NoticeRow). puts_if (λ (r : LineRow).
     puts.Entry (change_row t c entry kind amount rationale)
     ∷ puts.Line (line_after kind amount r)
-    ∷ puts.Notice (released n)
+    ∷ puts.Notice (with_next_release n)
     ∷ clock_put rows.clock t
     ∷ []
     ) rows.line) rows.notice) rows.contract

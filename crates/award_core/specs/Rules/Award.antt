@@ -7,7 +7,7 @@ use Rattle.office_values.specs.declared.refusal.Refusal.{Refusal}
 use Rattle.office_values.specs.declared.refusal.Refusal.TheVariants.{NoSuch, NotOpened, AlreadyDecided, NotAllExamined, Expired, InsufficientFunds, LimitReached}
 use Rattle.office_base.specs.Rows.{holds_of}
 use Rattle.office_base.specs.Joined.{free_in}
-use Rattle.office_base.specs.RuleParts.{clock_put, award_clock, released, has_all_releases, is_expired, securities_returned, puts_if}
+use Rattle.office_base.specs.Transitions.{clock_put, award_clock, with_next_release, has_all_releases, is_expired, securities_returned, puts_if}
 use Rattle.office_base.specs.States.{is_opened, is_read, is_undecided}
 use Rattle.office_base.specs.declared.records.LotState.TheVariants as lot_states
 use Rattle.office_base.specs.declared.records.AwardState.TheVariants as award_states
@@ -120,14 +120,14 @@ abbrev pub decision_puts : ClockRow → ℕ → NoticeRow → LotRow → LineRow
 decision_puts clock t n l r None securities =
     puts.Lot (unsuccessful l)
     ∷ puts.Line (record r { free = r.free + l.reserved })
-    ∷ puts.Notice (released n)
+    ∷ puts.Notice (with_next_release n)
     ∷ clock_put clock t
     ∷ securities_returned securities
 decision_puts clock t n l r (Some e) securities =
     puts.Award (award_row clock t l e)
     ∷ puts.Lot (awarded e l)
     ∷ puts.Line (record r { free = (r.free + l.reserved) - price_of e })
-    ∷ puts.Notice (released n)
+    ∷ puts.Notice (with_next_release n)
     ∷ award_clock clock t
     ∷ []
 

@@ -1,12 +1,12 @@
 -- The end of a contract: what is outstanding is free again.
 use Rattle.std.specs.Prelude.{ℕ, ◌+◌, Bool, not, ◌&&◌, ◌||◌, List, [], ◌∷◌, ◌++◌, Option, Some, is_some, nat_lt}
-use Rattle.office_acts.specs.declared.contract.How.{How}
-use Rattle.office_acts.specs.declared.contract.How.TheVariants as hows
+use Rattle.office_commands.specs.declared.contract.How.{How}
+use Rattle.office_commands.specs.declared.contract.How.TheVariants as hows
 use Rattle.office_values.specs.declared.refusal.Thing.TheVariants as things
 use Rattle.office_values.specs.declared.refusal.Refusal.{Refusal}
 use Rattle.office_values.specs.declared.refusal.Refusal.TheVariants.{NoSuch, ContractEnded, LimitReached}
 use Rattle.office_base.specs.Rows.{holds_of}
-use Rattle.office_base.specs.RuleParts.{clock_put, released, has_all_releases, performance_settled, put_if, puts_if}
+use Rattle.office_base.specs.Transitions.{clock_put, with_next_release, has_all_releases, performance_settled, put_if, puts_if}
 use Rattle.office_base.specs.Joined.{is_overdrawn, outstanding}
 use Rattle.award_core.specs.Rules.AmendContract.{has_ended}
 use Rattle.office_base.specs.declared.records.LineRow.{LineRow}
@@ -36,7 +36,7 @@ abbrev pub end_parts : ClockRow → ℕ → How → ContractRow → List EntryRo
 end_parts clock t how c entries n r =
     puts.Contract (ended_contract t how entries c)
     ∷ puts.Line (record r { free = r.free + outstanding entries c })
-    ∷ puts.Notice (released n)
+    ∷ puts.Notice (with_next_release n)
     ∷ clock_put clock t
     ∷ []
 

@@ -7,7 +7,7 @@ use Rattle.office_values.specs.declared.refusal.Refusal.TheVariants.{BadBody, No
 use Rattle.office_values.specs.declared.refusal.BadPart.TheVariants.{Field}
 use Rattle.office_values.specs.declared.refusal.Field.TheVariants.{Quality}
 use Rattle.office_base.specs.Rows.{holds_of}
-use Rattle.office_base.specs.RuleParts.{clock_put, puts_if}
+use Rattle.office_base.specs.Transitions.{clock_put, puts_if}
 use Rattle.office_base.specs.States.{is_read, is_undecided}
 use Rattle.office_base.specs.declared.records.NoticeRow.{NoticeRow}
 use Rattle.office_base.specs.declared.records.LotRow.{LotRow}

@@ -5,7 +5,7 @@ use Rattle.office_values.specs.declared.refusal.Thing.TheVariants as things
 use Rattle.office_values.specs.declared.refusal.Refusal.{Refusal}
 use Rattle.office_values.specs.declared.refusal.Refusal.TheVariants.{NoSuch, AlreadyDecided, Expired, Standstill, LimitReached}
 use Rattle.office_base.specs.Rows.{holds_of}
-use Rattle.office_base.specs.RuleParts.{clock_put, released, has_all_releases, is_expired, lacks_security, passed_over, security_settled, put_if, puts_if}
+use Rattle.office_base.specs.Transitions.{clock_put, with_next_release, has_all_releases, is_expired, lacks_security, passed_over, security_settled, put_if, puts_if}
 use Rattle.office_base.specs.States.{is_active}
 use Rattle.office_base.specs.declared.records.LotState.TheVariants as lot_states
 use Rattle.office_base.specs.declared.records.AwardState.TheVariants as award_states
@@ -74,7 +74,7 @@ fail_puts rows t =
     puts_if (λ (a : AwardRow). puts_if (λ (n : NoticeRow). puts_if (λ (l : LotRow).
     puts.Award (failed_award a)
     ∷ puts.Lot (undecided_again l)
-    ∷ puts.Notice (released n)
+    ∷ puts.Notice (with_next_release n)
     ∷ clock_put rows.clock t
     ∷ put_if (λ e. puts.Envelope (passed_over e)) rows.envelope
     ++ put_if (security_settled Forfeited) rows.security

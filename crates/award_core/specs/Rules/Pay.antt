@@ -6,7 +6,7 @@ use Rattle.office_values.specs.declared.refusal.Thing.TheVariants as things
 use Rattle.office_values.specs.declared.refusal.Refusal.{Refusal}
 use Rattle.office_values.specs.declared.refusal.Refusal.TheVariants.{NoSuch, Exists, MoreThanOutstanding, ContractEnded, LimitReached}
 use Rattle.office_base.specs.Rows.{holds_of}
-use Rattle.office_base.specs.RuleParts.{clock_put, released, has_all_releases, puts_if}
+use Rattle.office_base.specs.Transitions.{clock_put, with_next_release, has_all_releases, puts_if}
 use Rattle.award_core.specs.Rules.AmendContract.{has_ended, is_beyond, is_taken, has_all_entries}
 use Rattle.office_base.specs.declared.records.NoticeRow.{NoticeRow}
 use Rattle.office_base.specs.declared.records.ContractRow.{ContractRow}
@@ -48,5 +48,5 @@ pay_tests rows entry amount =
 abbrev pub pay_puts : PayRows → ℕ → List ℕ → ℕ → List Put
 pay_puts rows t entry amount =
     puts_if (λ (c : ContractRow). puts_if (λ (n : NoticeRow).
-    puts.Entry (payment_row t c entry amount) ∷ puts.Notice (released n) ∷ clock_put rows.clock t ∷ []
+    puts.Entry (payment_row t c entry amount) ∷ puts.Notice (with_next_release n) ∷ clock_put rows.clock t ∷ []
     ) rows.notice) rows.contract

@@ -1,11 +1,11 @@
 -- The signing of a contract (Model Law, article 22).
 use Rattle.std.specs.Prelude.{ℕ, Bool, not, ◌&&◌, ◌||◌, List, [], ◌∷◌, ◌++◌, Option, Some, None, is_some, nat_lt, nat_eq}
-use Rattle.office_acts.specs.declared.tender.NamedSecurity.{NamedSecurity}
+use Rattle.office_commands.specs.declared.tender.NamedSecurity.{NamedSecurity}
 use Rattle.office_values.specs.declared.refusal.Thing.TheVariants as things
 use Rattle.office_values.specs.declared.refusal.Refusal.{Refusal}
 use Rattle.office_values.specs.declared.refusal.Refusal.TheVariants.{NoSuch, SecurityMissing, SecurityTooSmall, SecurityNotAsked}
 use Rattle.office_base.specs.Rows.{holds_of}
-use Rattle.office_base.specs.RuleParts.{clock_put, released, securities_returned, put_if, puts_if}
+use Rattle.office_base.specs.Transitions.{clock_put, with_next_release, securities_returned, put_if, puts_if}
 use Rattle.award_core.specs.Rules.Fail.{standing_tests}
 use Rattle.office_base.specs.declared.records.LotState.TheVariants as lot_states
 use Rattle.office_base.specs.declared.records.AwardState.TheVariants as award_states
@@ -28,8 +28,8 @@ use Rattle.award_core.specs.declared.sign.SignRows.{SignRows}
 abbrev pub is_missing : Option NamedSecurity → NoticeRow → Bool
 is_missing named n = nat_lt 0 n.performance && not (is_some named)
 
-abbrev pub is_too_small : Option NamedSecurity → NoticeRow → Bool
-is_too_small named n = holds_of (λ (s : NamedSecurity). nat_lt s.amount n.performance) named
+abbrev pub performance_is_too_small : Option NamedSecurity → NoticeRow → Bool
+performance_is_too_small named n = holds_of (λ (s : NamedSecurity). nat_lt s.amount n.performance) named
 
 abbrev pub isnt_asked : Option NamedSecurity → NoticeRow → Bool
 isnt_asked named n = nat_eq n.performance 0 && is_some named
@@ -72,7 +72,7 @@ sign_parts clock t a n l envelope securities =
     puts.Award (signed_award a)
     ∷ puts.Lot (contracted_lot l)
     ∷ puts.Contract (contract_row t a (tenderer_in envelope))
-    ∷ puts.Notice (released n)
+    ∷ puts.Notice (with_next_release n)
     ∷ clock_put clock t
     ∷ securities_returned securities
 
@@ -96,7 +96,7 @@ abbrev pub sign_tests : SignRows → ℕ → Option NamedSecurity → List (Bool
 sign_tests rows t named =
     (not (is_some rows.award), NoSuch things.Award)
     ∷ (holds_of (is_missing named) rows.notice, SecurityMissing)
-    ∷ (holds_of (is_too_small named) rows.notice, SecurityTooSmall)
+    ∷ (holds_of (performance_is_too_small named) rows.notice, SecurityTooSmall)
     ∷ (holds_of (isnt_asked named) rows.notice, SecurityNotAsked)
     ∷ standing_tests t rows.award rows.notice
 

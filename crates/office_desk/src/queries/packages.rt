@@ -1,17 +1,17 @@
 //! The packages of a notice's releases and of its record.
 ghost use Rattle.std.specs.Prelude.{◌≡◌, true, OnOk};
-ghost use Rattle.office_acts.specs.Rights.{may_look};
-ghost use Rattle.office_acts.specs.declared.command.QueryKind.TheVariants as kinds;
-ghost use Rattle.office_acts.specs.declared.queries.Query.TheVariants.{Record, Releases};
+ghost use Rattle.office_commands.specs.Rights.{may_look};
+ghost use Rattle.office_commands.specs.declared.command.QueryKind.TheVariants as kinds;
+ghost use Rattle.office_commands.specs.declared.queries.Query.TheVariants.{Record, Releases};
 ghost use Rattle.office_base.specs.Shelves.{Looks};
 ghost use Rattle.office_base.specs.Tables.{Tables};
 ghost use Rattle.office_desk.specs.Steps.{HasShown, IsSeen, read_text};
 
 mod texts;
 
-use office_acts::command::Caller;
 use office_base::laws;
 use office_base::shelf::Lookups;
+use office_commands::command::Caller;
 use office_values::id::Id;
 use office_values::refusal::{Refusal, Thing};
 use office_values::settings::Settings;

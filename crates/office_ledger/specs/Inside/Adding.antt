@@ -153,9 +153,9 @@ abbrev pub take_row : JoinedRow → Added → Added
 take_row r s = record (enter_line r s) { sums = take_perhaps take_lot r.lot (enter_line r s).sums }
 
 -- rows that come one after another
-abbrev pub takes : {R S : Type 0} → (R → S → S) → List R → S → S
-takes take [] s = s
-takes take (r ∷ rs) s = takes take rs (take r s)
+abbrev pub fold_rows : {R S : Type 0} → (R → S → S) → List R → S → S
+fold_rows take [] s = s
+fold_rows take (r ∷ rs) s = fold_rows take rs (take r s)
 
 abbrev pub added : List JoinedRow → Added
-added rows = takes take_row rows nothing_added
+added rows = fold_rows take_row rows nothing_added

@@ -1,19 +1,19 @@
 -- Each accepted command keeps the accounts, and so does every list of them.
 use Rattle.std.proofs.Common.{◌≡◌, ℕ, List, [], ◌∷◌, Some, None, refl}
 use Rattle.std.specs.Prelude.{max}
-use Rattle.office_acts.specs.declared.command.Caller.{Caller}
-use Rattle.office_acts.specs.declared.commands.Command.{Command}
+use Rattle.office_commands.specs.declared.command.Caller.{Caller}
+use Rattle.office_commands.specs.declared.commands.Command.{Command}
 use Rattle.office_base.specs.Rows.{row_at}
 use Rattle.office_base.specs.Rules.{first_of}
 use Rattle.office_base.specs.Tables.{Tables, IsSorted, no_tables, after_puts}
-use Rattle.office_machine.specs.Machine.{Means, Given, Reaches, IsCommand, tests_for, puts_for, with_trees}
+use Rattle.office_machine.specs.Machine.{Means, Given, Reaches, IsCommand, tests_for, puts_for, with_merges}
 use Rattle.office_machine.specs.Parents.{HaveParents}
 use Rattle.office_machine.specs.Readings.{Readings}
 use Rattle.office_base.specs.declared.records.CompiledRow.{CompiledRow}
 use Rattle.office_machine.specs.Accounts.{AreBalanced}
 use Rattle.office_machine.proofs.Accounts.Aside.{kept_published}
 use Rattle.office_machine.proofs.Accounts.Balance.{balanced}
-use Rattle.office_machine.proofs.Accounts.Kept.{IsKept}
+use Rattle.office_machine.proofs.Accounts.Kept.{AccountsStand}
 use Rattle.office_machine.proofs.Commands.AllLawful.{lawful}
 use Rattle.office_machine.proofs.Accounts.Idle.{idle_keeps}
 use Rattle.office_machine.proofs.Commands.Lawful.{given, KeepsBooks, Idle, Moving}
@@ -22,7 +22,7 @@ use Rattle.office_machine.proofs.Runs.{along}
 use Rattle.office_machine.proofs.Passed.{allowed_by}
 use Rattle.office_machine.proofs.Rows.SortedTables.{sorted}
 
-start : IsKept [] no_tables
+start : AccountsStand [] no_tables
 unfolding row_at
 start = record {
   pots = λ q. record { appropriation_is = refl; free_is = refl; reserved_is = refl; gains_are = refl; losses_are = refl; paid_is = refl; none_spent = refl };
@@ -34,8 +34,8 @@ start = record {
 }
 
 -- the same with other merges of releases beside it
-kept_beside : (trees : List CompiledRow) (xs : List Given) (s : Tables) → IsKept xs s → IsKept xs (with_trees trees s)
-kept_beside trees xs s k = record {
+kept_beside : (merges : List CompiledRow) (xs : List Given) (s : Tables) → AccountsStand xs s → AccountsStand xs (with_merges merges s)
+kept_beside merges xs s k = record {
   pots = λ q. let p = k.pots q in record { appropriation_is = p.appropriation_is; free_is = p.free_is; reserved_is = p.reserved_is; gains_are = p.gains_are; losses_are = p.losses_are; paid_is = p.paid_is; none_spent = p.none_spent };
   lots = λ key lot found. let l = k.lots key lot found in record { of_notice = l.of_notice; on_line = l.on_line; held = l.held };
   awards = λ number award found. let a = k.awards number award found in record { drawn = a.drawn; of_lot = a.of_lot };
@@ -45,17 +45,17 @@ kept_beside trees xs s k = record {
 }
 
 -- each accepted command
-keeps : (readings : Readings) (xs : List Given) (s : Tables) (moment : ℕ) (caller : Caller) (command : Command) → IsKept xs s → IsSorted s → HaveParents s s → IsCommand command
+keeps : (readings : Readings) (xs : List Given) (s : Tables) (moment : ℕ) (caller : Caller) (command : Command) → AccountsStand xs s → IsSorted s → HaveParents s s → IsCommand command
     → first_of (tests_for s (max moment s.clock.moment) caller command) ≡ None
-    → IsKept (given s moment caller command ∷ xs) (after_puts (puts_for readings s (max moment s.clock.moment) caller command) s)
+    → AccountsStand (given s moment caller command ∷ xs) (after_puts (puts_for readings s (max moment s.clock.moment) caller command) s)
 keeps readings xs s moment caller command kept order have own allowed = by (lawful command).accounts
   where
-    by : KeepsBooks command (lawful command).touches → IsKept (given s moment caller command ∷ xs) (after_puts (puts_for readings s (max moment s.clock.moment) caller command) s)
+    by : KeepsBooks command (lawful command).touches → AccountsStand (given s moment caller command ∷ xs) (after_puts (puts_for readings s (max moment s.clock.moment) caller command) s)
     by (Idle apart idle) = idle_keeps (given s moment caller command) (lawful command).touches apart _ ((lawful command).tail readings s moment caller have allowed) xs (idle s moment caller xs) kept
     by (Moving moves) = moves readings xs s moment caller kept order own allowed
 
-pub all_kept : (means : Means) (xs : List Given) (s : Tables) → Reaches means xs s → IsKept xs s
-all_kept means = along means IsKept start (λ trees in_order xs s of_notices. kept_beside trees xs s)
+pub all_kept : (means : Means) (xs : List Given) (s : Tables) → Reaches means xs s → AccountsStand xs s
+all_kept means = along means AccountsStand start (λ merges in_order xs s of_notices. kept_beside merges xs s)
     (λ xs x accepted kept. kept_published means x xs
     (keeps means.readings xs x.before x.moment x.caller x.command kept (sorted means xs x.before accepted.reached) (parents_there means xs x.before accepted.reached) accepted.given.0 (allowed_by x accepted.allowed)))
 

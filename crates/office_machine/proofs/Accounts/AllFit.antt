@@ -8,25 +8,25 @@ use Rattle.office_base.specs.Rules.{first_of}
 use Rattle.office_base.specs.declared.records.LotRow.{LotRow}
 use Rattle.office_base.specs.declared.records.ContractRow.{ContractRow}
 use Rattle.office_base.specs.declared.records.EnvelopeRow.{EnvelopeRow}
-use Rattle.office_acts.specs.declared.contract.ChangeKind.{ChangeKind}
-use Rattle.office_acts.specs.declared.contract.ChangeKind.TheVariants as change_kinds
-use Rattle.office_acts.specs.declared.commands.Command.{Command}
-use Rattle.office_acts.specs.declared.commands.Command.TheVariants.{Import, Publish, Cancel, Award, Sign, AmendContract, Pay, End}
+use Rattle.office_commands.specs.declared.contract.ChangeKind.{ChangeKind}
+use Rattle.office_commands.specs.declared.contract.ChangeKind.TheVariants as change_kinds
+use Rattle.office_commands.specs.declared.commands.Command.{Command}
+use Rattle.office_commands.specs.declared.commands.Command.TheVariants.{Import, Publish, Cancel, Award, Sign, AmendContract, Pay, End}
 use Rattle.office_base.specs.Tables.{Tables, IsSorted, lot_cmp, lot_key, contract_key, find_lot, notice_at, lot_at, contract_at, envelopes_of_lot, after_puts}
 use Rattle.award_core.specs.Rules.Award.{price_of, winner}
 use Rattle.office_base.specs.Joined.{outstanding, paid_under, is_on_line}
 use Rattle.office_base.specs.Parents.{lot_of_contract}
 use Rattle.office_machine.specs.Machine.{Means, Given, Reaches, command_tests, effect, publication_puts, next, publication}
-use Rattle.office_machine.specs.Moves.{Move, Outside, came, went, moves, moves_by, move_of_lot, move_back, move_of_award, move_of_change, held_for, line_in, Free, Reserved}
+use Rattle.office_machine.specs.Moves.{Move, Outside, inflow, outflow, moves, moves_by, move_of_lot, move_back, move_of_award, move_of_change, reserved_for, line_in, Free, Reserved}
 use Rattle.office_machine.specs.Accounts.{appropriation}
-use Rattle.office_machine.specs.Fits.{SumsFit}
+use Rattle.office_machine.specs.Fits.{SumsInRange}
 use Rattle.office_machine.proofs.Accounts.AccountsKept.{all_kept}
 use Rattle.office_machine.proofs.Accounts.Aside.{all_aside, published_aside, after-append}
 use Rattle.office_machine.proofs.Accounts.Balance.{add_up, balanced}
 use Rattle.office_base.proofs.ExactKeys.{same_itself}
 use Rattle.office_machine.proofs.Commands.Import.Accounts.{import_fits}
 use Rattle.office_machine.proofs.Accounts.Joins.{is_of}
-use Rattle.office_machine.proofs.Accounts.Kept.{IsKept, reserved_by, over_contracts}
+use Rattle.office_machine.proofs.Accounts.Kept.{AccountsStand, reserved_by, over_contracts}
 use Rattle.office_machine.proofs.Rows.Keyed.{weight_le}
 use Rattle.office_machine.proofs.Passed.{witness, allowed_by}
 use Rattle.office_machine.proofs.Rows.SortedTables.{sorted}
@@ -34,8 +34,8 @@ use Rattle.office_base.proofs.SumsOver.{sum_over-append_map, sum_over-zero}
 
 -- a command but an import moves nothing from outside or to it
 record IsInside (ms : List Move) (more : List Move) (q : List ℕ) : Type 0 where
-  came_is : came (more ++ ms) q Outside ≡ came ms q Outside
-  went_is : went (more ++ ms) q Outside ≡ went ms q Outside
+  came_is : inflow (more ++ ms) q Outside ≡ inflow ms q Outside
+  went_is : outflow (more ++ ms) q Outside ≡ outflow ms q Outside
 
 nothing_more : (ms : List Move) (q : List ℕ) → IsInside ms [] q
 nothing_more ms q = record { came_is = refl; went_is = refl }
@@ -53,19 +53,19 @@ of_change change_kinds.Raise line amount ms q = record { came_is = omega arith; 
 of_change change_kinds.Cut line amount ms q = record { came_is = omega arith; went_is = omega arith }
 
 -- the appropriation stays as it was where nothing comes from outside
-same_appropriation : (xs : List Given) (x : Given) (s t : Tables) (q : List ℕ) → IsKept xs s → IsKept (x ∷ xs) t → IsInside (moves xs) (moves_by x xs) q → appropriation q t ≡ appropriation q s
+same_appropriation : (xs : List Given) (x : Given) (s t : Tables) (q : List ℕ) → AccountsStand xs s → AccountsStand (x ∷ xs) t → IsInside (moves xs) (moves_by x xs) q → appropriation q t ≡ appropriation q s
 same_appropriation xs x s t q kept after inside =
     omega (arith, (kept.pots q).appropriation_is, (after.pots q).appropriation_is, inside.came_is, inside.went_is)
 
 abbrev Fit : Tables → Type 0
 Fit s = (q : List ℕ) → appropriation q s ≤ total_limit
 
-module _ (means : Means) (xs : List Given) (s : Tables) (moment : ℕ) (caller : Rattle.office_acts.specs.declared.command.Caller.Caller) (kept : IsKept xs s) (order : IsSorted s) (fit : Fit s) where
+module _ (means : Means) (xs : List Given) (s : Tables) (moment : ℕ) (caller : Rattle.office_commands.specs.declared.command.Caller.Caller) (kept : AccountsStand xs s) (order : IsSorted s) (fit : Fit s) where
   abbrev given : Command → Given
   given command = record { before = s; moment = moment; caller = caller; command = command }
 
   abbrev FitsAfter : Command → Type 0
-  FitsAfter command = first_of (command_tests (given command)) ≡ None → (t : Tables) → IsKept (given command ∷ xs) t → ((q : List ℕ) → appropriation q t ≡ appropriation q (after_puts (effect means.readings (given command)) s)) → Fit t
+  FitsAfter command = first_of (command_tests (given command)) ≡ None → (t : Tables) → AccountsStand (given command ∷ xs) t → ((q : List ℕ) → appropriation q t ≡ appropriation q (after_puts (effect means.readings (given command)) s)) → Fit t
 
   inside : (command : Command) → ((q : List ℕ) → IsInside (moves xs) (moves_by (given command) xs) q) → FitsAfter command
   inside command is allowed t after same q = omega (arith, fit q, same_appropriation xs (given command) s t q kept after (is q))
@@ -79,10 +79,10 @@ module _ (means : Means) (xs : List Given) (s : Tables) (moment : ℕ) (caller :
   fits (Cancel notice rationale) = inside (Cancel notice rationale) (λ q.
       let ended = Rattle.std.proofs.Common.filter Rattle.tender_core.specs.Rules.Cancel.is_open_lot (Rattle.office_base.specs.Tables.lots_of_notice notice s) in
       record {
-        came_is = omega (arith, sum_over-append_map (λ (m : Move). cond (Rattle.office_machine.specs.Moves.same_pot m.to Outside && same_id m.line q) m.amount 0) (move_back (held_for xs)) ended (moves xs), sum_over-zero ended);
-        went_is = omega (arith, sum_over-append_map (λ (m : Move). cond (Rattle.office_machine.specs.Moves.same_pot m.from Outside && same_id m.line q) m.amount 0) (move_back (held_for xs)) ended (moves xs), sum_over-zero ended);
+        came_is = omega (arith, sum_over-append_map (λ (m : Move). cond (Rattle.office_machine.specs.Moves.same_pot m.to Outside && same_id m.line q) m.amount 0) (move_back (reserved_for xs)) ended (moves xs), sum_over-zero ended);
+        went_is = omega (arith, sum_over-append_map (λ (m : Move). cond (Rattle.office_machine.specs.Moves.same_pot m.from Outside && same_id m.line q) m.amount 0) (move_back (reserved_for xs)) ended (moves xs), sum_over-zero ended);
       })
-  fits (Award notice lot) = inside (Award notice lot) (of_award (winner (notice_at notice s) (envelopes_of_lot notice lot s)) (line_in (lot_at (notice, lot) s)) (held_for xs (notice, lot)) (moves xs))
+  fits (Award notice lot) = inside (Award notice lot) (of_award (winner (notice_at notice s) (envelopes_of_lot notice lot s)) (line_in (lot_at (notice, lot) s)) (reserved_for xs (notice, lot)) (moves xs))
   fits (Sign award named) = inside (Sign award named) (λ q. record { came_is = omega arith; went_is = omega arith })
   fits (AmendContract contract entry kind amount rationale) = inside (AmendContract contract entry kind amount rationale) (of_change kind (line_in (lot_of_contract (contract_at contract s) s)) amount (moves xs))
   fits (Pay contract entry amount) = inside (Pay contract entry amount) (λ q. record { came_is = omega arith; went_is = omega arith })
@@ -110,7 +110,7 @@ one_of f lots cs n c l is lot =
     let own : is_on_line lots l.line c ≡ true = ap (λ o. is_of o l.line) lot ∙ same_itself l.line in
     omega (arith, weight_le nat_cmp contract_key (λ (y : ContractRow). cond (is_on_line lots l.line y) (f y) 0) cs n c is, ap (λ b. cond b (f c) 0) own)
 
-pub sums_fit : SumsFit
+pub sums_fit : SumsInRange
 sums_fit means xs t reached = record {
   lines = λ q.
       let p = balanced xs t kept order q in
@@ -136,7 +136,7 @@ sums_fit means xs t reached = record {
       };
 }
   where
-    kept : IsKept xs t
+    kept : AccountsStand xs t
     kept = all_kept means xs t reached
 
     order : IsSorted t

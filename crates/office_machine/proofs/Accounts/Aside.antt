@@ -6,11 +6,11 @@ use Rattle.office_base.specs.declared.records.SecurityRow.{SecurityRow}
 use Rattle.office_base.specs.Tables.{Tables, find_notice, after_put, after_puts}
 use Rattle.office_base.specs.declared.puts.Put.{Put}
 use Rattle.office_base.specs.declared.puts.Put.TheVariants as puts
-use Rattle.office_base.specs.RuleParts.{security_returned, is_held_security, securities_returned, put_if}
+use Rattle.office_base.specs.Transitions.{security_returned, is_held_security, securities_returned, put_if}
 use Rattle.office_base.specs.declared.records.ReleaseRow.{ReleaseRow}
 use Rattle.office_machine.specs.Machine.{Given, Means, publication_puts, effect, next, publication}
-use Rattle.office_machine.specs.Moves.{moves, moves_by, held_for, brought, brought_by, taken, taken_by}
-use Rattle.office_machine.proofs.Accounts.Kept.{IsKept, PotsAre}
+use Rattle.office_machine.specs.Moves.{moves, moves_by, reserved_for, brought, brought_by, taken, taken_by}
+use Rattle.office_machine.proofs.Accounts.Kept.{AccountsStand, PotsAre}
 use Rattle.office_machine.proofs.Rows.Keyed as keyed
 use Rattle.office_machine.proofs.Rows.Keyed.{still_there}
 
@@ -83,10 +83,10 @@ all_aside n (p ∷ ps) s a =
     }
 
 -- what is kept of the books stays so
-pub kept_alike : (xs : List Given) (s s' : Tables) → SameBooks s.clock.awards s s' → IsKept xs s → IsKept xs s'
-kept_alike xs s s' same kept = subst (IsKept xs) path mixed
+pub kept_alike : (xs : List Given) (s s' : Tables) → SameBooks s.clock.awards s s' → AccountsStand xs s → AccountsStand xs s'
+kept_alike xs s s' same kept = subst (AccountsStand xs) path mixed
   where
-    mixed : IsKept xs (record s' { lines = s.lines; lots = s.lots; awards = s.awards; contracts = s.contracts; entries = s.entries })
+    mixed : AccountsStand xs (record s' { lines = s.lines; lots = s.lots; awards = s.awards; contracts = s.contracts; entries = s.entries })
     mixed = record {
       pots = λ q. let p = kept.pots q in record { appropriation_is = p.appropriation_is; free_is = p.free_is; reserved_is = p.reserved_is; gains_are = p.gains_are; losses_are = p.losses_are; paid_is = p.paid_is; none_spent = p.none_spent };
       lots = λ k l h. let old = kept.lots k l h in record { of_notice = same.notices k.0 old.of_notice; on_line = old.on_line; held = old.held };
@@ -100,7 +100,7 @@ kept_alike xs s s' same kept = subst (IsKept xs) path mixed
     path = λ i. record s' { lines = same.lines i; lots = same.lots i; awards = same.awards i; contracts = same.contracts i; entries = same.entries i }
 
 -- after puts that are aside
-pub kept_aside : (xs : List Given) (ps : List Put) (s : Tables) → AreAside s.clock.awards ps → IsKept xs s → IsKept xs (after_puts ps s)
+pub kept_aside : (xs : List Given) (ps : List Put) (s : Tables) → AreAside s.clock.awards ps → AccountsStand xs s → AccountsStand xs (after_puts ps s)
 kept_aside xs ps s a kept = kept_alike xs s (after_puts ps s) (all_aside s.clock.awards ps s a) kept
 
 pub aside-append : (n : ℕ) (ps qs : List Put) → AreAside n ps → AreAside n qs → AreAside n (ps ++ qs)
@@ -127,19 +127,19 @@ pub published_aside : (n : ℕ) (p : Option ReleaseRow) → AreAside n (publicat
 published_aside n None = tt
 published_aside n (Some p) = (tt, tt)
 
-pub kept_published : (means : Means) (x : Given) (xs : List Given) → IsKept (x ∷ xs) (after_puts (effect means.readings x) x.before) → IsKept (x ∷ xs) (next means x)
+pub kept_published : (means : Means) (x : Given) (xs : List Given) → AccountsStand (x ∷ xs) (after_puts (effect means.readings x) x.before) → AccountsStand (x ∷ xs) (next means x)
 kept_published means x xs kept =
-    subst (IsKept (x ∷ xs)) (sym (after-append (effect means.readings x) (publication_puts (publication means x)) x.before))
+    subst (AccountsStand (x ∷ xs)) (sym (after-append (effect means.readings x) (publication_puts (publication means x)) x.before))
     (kept_aside (x ∷ xs) (publication_puts (publication means x)) (after_puts (effect means.readings x) x.before) (published_aside _ (publication means x)) kept)
 
 -- the command moves nothing, and no more is held or owed after it
 pub record IsIdle (x : Given) (xs : List Given) : Type 0 where
   pub moves_none : moves_by x xs ≡ []
-  pub held : (lot : List ℕ × List ℕ) → held_for (x ∷ xs) lot ≡ held_for xs lot
-  pub none_brought : (c : ℕ) → brought_by x.before x.command (held_for xs) c ≡ 0
+  pub held : (lot : List ℕ × List ℕ) → reserved_for (x ∷ xs) lot ≡ reserved_for xs lot
+  pub none_brought : (c : ℕ) → brought_by x.before x.command (reserved_for xs) c ≡ 0
   pub none_taken : (c : ℕ) → taken_by x.command (brought xs c - taken xs c) c ≡ 0
 
-pub kept_idle : (x : Given) (xs : List Given) (s : Tables) → IsIdle x xs → IsKept xs s → IsKept (x ∷ xs) s
+pub kept_idle : (x : Given) (xs : List Given) (s : Tables) → IsIdle x xs → AccountsStand xs s → AccountsStand (x ∷ xs) s
 kept_idle x xs s idle kept = record {
   pots = λ q. subst (λ ms. PotsAre ms s q) (sym (ap (λ ms. ms ++ moves xs) idle.moves_none)) (kept.pots q);
   lots = λ k l h. let old = kept.lots k l h in record { of_notice = old.of_notice; on_line = old.on_line; held = λ e. idle.held k ∙ old.held e };

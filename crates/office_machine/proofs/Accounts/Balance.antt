@@ -6,9 +6,9 @@ use Rattle.office_base.specs.declared.records.ContractRow.{ContractRow}
 use Rattle.office_base.specs.Tables.{Tables, IsSorted}
 use Rattle.office_base.specs.Joined.{plus, minus, outstanding, paid_under, is_on_line}
 use Rattle.office_machine.specs.Machine.{Given}
-use Rattle.office_machine.specs.Moves.{Move, Pot, Outside, Free, Reserved, Contracted, Paid, came, went, same_pot, moves}
+use Rattle.office_machine.specs.Moves.{Move, Pot, Outside, Free, Reserved, Contracted, Paid, inflow, outflow, same_pot, moves}
 use Rattle.office_machine.specs.Accounts.{appropriation, free, IsBalanced}
-use Rattle.office_machine.proofs.Accounts.Kept.{IsKept, reserved_over, over_contracts}
+use Rattle.office_machine.proofs.Accounts.Kept.{AccountsStand, reserved_over, over_contracts}
 use Rattle.office_machine.proofs.Accounts.Joins.{reserved_is_over, contracted_is_over, paid_is_over}
 use Rattle.office_machine.proofs.Rows.Keyed.{sum-found_le, sum-found_agree}
 use Rattle.office_machine.proofs.Rows.Keyed as by
@@ -25,8 +25,8 @@ in_one Paid b n = omega arith
 
 -- what came into any pot went out of one
 pub conserved : (ms : List Move) (q : List ℕ)
-    → came ms q Outside + came ms q Free + came ms q Reserved + came ms q Contracted + came ms q Paid
-    ≡ went ms q Outside + went ms q Free + went ms q Reserved + went ms q Contracted + went ms q Paid
+    → inflow ms q Outside + inflow ms q Free + inflow ms q Reserved + inflow ms q Contracted + inflow ms q Paid
+    ≡ outflow ms q Outside + outflow ms q Free + outflow ms q Reserved + outflow ms q Contracted + outflow ms q Paid
 conserved [] q = refl
 conserved (m ∷ ms) q = omega (arith, conserved ms q, in_one m.to (same_id m.line q) m.amount, in_one m.from (same_id m.line q) m.amount)
 
@@ -35,7 +35,7 @@ at_most true m n h = h
 at_most false m n h = omega arith
 
 -- no more was taken from the contracts of a line than was brought
-pub covered : (xs : List Given) (s : Tables) → IsKept xs s → IsSorted s → (q : List ℕ) → over_contracts (minus s.entries) s.lots s.contracts q ≤ over_contracts (plus s.entries) s.lots s.contracts q
+pub covered : (xs : List Given) (s : Tables) → AccountsStand xs s → IsSorted s → (q : List ℕ) → over_contracts (minus s.entries) s.lots s.contracts q ≤ over_contracts (plus s.entries) s.lots s.contracts q
 covered xs s kept order q =
     sum-found_le by.contracts _ _ s.contracts order.contracts (λ r h. at_most (is_on_line s.lots q r) (minus s.entries r) (plus s.entries r) (kept.contracts r.contract r h).within)
 
@@ -48,7 +48,7 @@ sum-both f g [] = refl
 sum-both f g (x ∷ xs) = omega (arith, sum-both f g xs)
 
 -- what is outstanding of them is the difference
-pub net : (xs : List Given) (s : Tables) → IsKept xs s → IsSorted s → (q : List ℕ)
+pub net : (xs : List Given) (s : Tables) → AccountsStand xs s → IsSorted s → (q : List ℕ)
     → over_contracts (outstanding s.entries) s.lots s.contracts q + over_contracts (minus s.entries) s.lots s.contracts q ≡ over_contracts (plus s.entries) s.lots s.contracts q
 net xs s kept order q =
     let f : ContractRow → ℕ = λ c. cond (is_on_line s.lots q c) (outstanding s.entries c) 0 in
@@ -61,14 +61,14 @@ net xs s kept order q =
           (λ r found. joined (is_on_line s.lots q r) (plus s.entries r) (minus s.entries r) (kept.contracts r.contract r found).within),
     )
 
-pub add_up : (xs : List Given) (s : Tables) → IsKept xs s → IsSorted s → (q : List ℕ)
+pub add_up : (xs : List Given) (s : Tables) → AccountsStand xs s → IsSorted s → (q : List ℕ)
     → appropriation q s ≡ free q s + reserved_over q s.lots + over_contracts (outstanding s.entries) s.lots s.contracts q + over_contracts (paid_under s.entries) s.lots s.contracts q
 add_up xs s kept order q =
     let p = kept.pots q in
     omega (arith, conserved (moves xs) q, net xs s kept order q, p.free_is, p.reserved_is, p.gains_are, p.losses_are, p.paid_is, p.none_spent, p.appropriation_is)
 
 -- each pot is the balance of the moves
-pub balanced : (xs : List Given) (s : Tables) → IsKept xs s → IsSorted s → (q : List ℕ) → IsBalanced q xs s
+pub balanced : (xs : List Given) (s : Tables) → AccountsStand xs s → IsSorted s → (q : List ℕ) → IsBalanced q xs s
 balanced xs s kept order q =
     let p = kept.pots q in
     record {

@@ -14,9 +14,9 @@ use Rattle.office_base.specs.declared.records.EntryRow.{EntryRow}
 use Rattle.office_base.specs.Joined.{entry_sum, plus, minus, paid_under}
 use Rattle.award_core.specs.Rules.AmendContract.{is_taken}
 use Rattle.office_machine.specs.Machine.{Given}
-use Rattle.office_machine.specs.Moves.{held_for, brought, brought_by, taken, taken_by}
+use Rattle.office_machine.specs.Moves.{reserved_for, brought, brought_by, taken, taken_by}
 use Rattle.office_base.proofs.ExactKeys.{equal_keys, same_itself}
-use Rattle.office_machine.proofs.Accounts.Kept.{IsKept, ContractIs, NoContractIs, over_contracts}
+use Rattle.office_machine.proofs.Accounts.Kept.{AccountsStand, ContractIs, NoContractIs, over_contracts}
 use Rattle.office_machine.proofs.Accounts.Joins.{entry_sum-new, over_contracts-gains}
 use Rattle.office_base.proofs.RowLaws.Keyed.{found_key, own_key}
 use Rattle.office_machine.proofs.Rows.Keyed as keyed
@@ -51,9 +51,9 @@ not_taken (e ∷ es) c entry h =
       | Greater ↦ λ o. not_taken es c entry (later c entry e es (is_of_contract c e) h)
     ] refl
 
-module _ (x : Given) (xs : List Given) (s : Tables) (kept : IsKept xs s) (order : IsSorted s) (c : ℕ) (r : ContractRow) (l : LotRow) (row : EntryRow)
+module _ (x : Given) (xs : List Given) (s : Tables) (kept : AccountsStand xs s) (order : IsSorted s) (c : ℕ) (r : ContractRow) (l : LotRow) (row : EntryRow)
     (is : find_contract s.contracts c ≡ Some r) (lot : find_lot s.lots (r.notice, r.lot) ≡ Some l) (at : row.contract ≡ c) (new : find_entry s.entries (row.contract, row.entry) ≡ None)
-    (comes : (n : ℕ) → brought_by x.before x.command (held_for xs) n ≡ cond (same_number c n) (cond (is_raise row.kind) row.amount 0) 0)
+    (comes : (n : ℕ) → brought_by x.before x.command (reserved_for xs) n ≡ cond (same_number c n) (cond (is_raise row.kind) row.amount 0) 0)
     (goes : (n : ℕ) → taken_by x.command (brought xs n - taken xs n) n ≡ cond (same_number c n) (cond (is_less row.kind) row.amount 0) 0)
     (enough : minus s.entries r + cond (is_less row.kind) row.amount 0 ≤ plus s.entries r + cond (is_raise row.kind) row.amount 0) where
   abbrev pub entered : List EntryRow

@@ -7,7 +7,7 @@ use Rattle.office_base.specs.Tables.{after_puts}
 use Rattle.office_machine.specs.Machine.{Given}
 use Rattle.office_machine.proofs.Accounts.Aside.{IsIdle, SameBooks, kept_alike, kept_idle}
 use Rattle.office_machine.proofs.Commands.Footprint.{TableName, Lines, Lots, Awards, Contracts, Entries, is_in, leaves}
-use Rattle.office_machine.proofs.Accounts.Kept.{IsKept}
+use Rattle.office_machine.proofs.Accounts.Kept.{AccountsStand}
 use Rattle.office_machine.proofs.Parents.ParentsPut.{grows-puts}
 use Rattle.office_machine.proofs.Passed.{neither}
 use Rattle.office_machine.proofs.Commands.Tail.{HasTail, is_touched}
@@ -35,5 +35,5 @@ module _ (x : Given) (names : List TableName) (apart : touches_books names ≡ f
         numbers = λ _. subst (λ (c : ClockRow). x.before.clock.awards ≤ c.awards) (sym (tail.writes.clock_is x.before)) tail.drawn;
       }
 
-  pub idle_keeps : (xs : List Given) → IsIdle x xs → IsKept xs x.before → IsKept (x ∷ xs) (after_puts ps x.before)
+  pub idle_keeps : (xs : List Given) → IsIdle x xs → AccountsStand xs x.before → AccountsStand (x ∷ xs) (after_puts ps x.before)
   idle_keeps xs idle kept = kept_alike (x ∷ xs) x.before (after_puts ps x.before) same_books (kept_idle x xs x.before idle kept)

@@ -12,7 +12,7 @@ use Rattle.office_base.specs.declared.records.ContractRow.{ContractRow}
 use Rattle.office_base.specs.Tables.{Tables, find_line, find_lot, find_notice, find_award, find_contract}
 use Rattle.office_base.specs.Joined.{entry_sum, plus, minus, paid_under, is_on_line}
 use Rattle.office_machine.specs.Machine.{Given}
-use Rattle.office_machine.specs.Moves.{Move, Outside, Free, Reserved, Contracted, Paid, came, went, moves, held_for, brought, taken}
+use Rattle.office_machine.specs.Moves.{Move, Outside, Free, Reserved, Contracted, Paid, inflow, outflow, moves, reserved_for, brought, taken}
 use Rattle.office_machine.specs.Accounts.{appropriation, free}
 
 abbrev pub is_awarded : LotState → Bool
@@ -36,19 +36,19 @@ over_contracts f lots contracts q = sum_over (λ (c : ContractRow). cond (is_on_
 
 -- each pot of the line is what came into it less what went out
 pub record PotsAre (ms : List Move) (s : Tables) (q : List ℕ) : Type 0 where
-  pub appropriation_is : appropriation q s + came ms q Outside ≡ went ms q Outside
-  pub free_is : free q s + went ms q Free ≡ came ms q Free
-  pub reserved_is : reserved_over q s.lots + went ms q Reserved ≡ came ms q Reserved
-  pub gains_are : over_contracts (plus s.entries) s.lots s.contracts q ≡ came ms q Contracted
-  pub losses_are : over_contracts (minus s.entries) s.lots s.contracts q ≡ went ms q Contracted
-  pub paid_is : over_contracts (paid_under s.entries) s.lots s.contracts q ≡ came ms q Paid
-  pub none_spent : went ms q Paid ≡ 0
+  pub appropriation_is : appropriation q s + inflow ms q Outside ≡ outflow ms q Outside
+  pub free_is : free q s + outflow ms q Free ≡ inflow ms q Free
+  pub reserved_is : reserved_over q s.lots + outflow ms q Reserved ≡ inflow ms q Reserved
+  pub gains_are : over_contracts (plus s.entries) s.lots s.contracts q ≡ inflow ms q Contracted
+  pub losses_are : over_contracts (minus s.entries) s.lots s.contracts q ≡ outflow ms q Contracted
+  pub paid_is : over_contracts (paid_under s.entries) s.lots s.contracts q ≡ inflow ms q Paid
+  pub none_spent : outflow ms q Paid ≡ 0
 
 -- a lot's notice and line are there; while it is open it has reserved what is to be held for it
 pub record LotIs (xs : List Given) (s : Tables) (key : List ℕ × List ℕ) (lot : LotRow) : Type 0 where
   pub of_notice : IsSome (find_notice s.notices key.0)
   pub on_line : IsSome (find_line s.lines lot.line)
-  pub held : is_open lot.state ≡ true → held_for xs key ≡ lot.reserved
+  pub held : is_open lot.state ≡ true → reserved_for xs key ≡ lot.reserved
 
 -- an award's lot is there; while it is active the lot is awarded, and has its price reserved
 pub record AwardIs (s : Tables) (number : ℕ) (award : AwardRow) : Type 0 where
@@ -72,7 +72,7 @@ pub record NoContractIs (xs : List Given) (s : Tables) (number : ℕ) : Type 0 w
   pub lessened : entry_sum is_less s.entries number ≡ 0
   pub paid_out : entry_sum is_payment s.entries number ≡ 0
 
-pub record IsKept (xs : List Given) (s : Tables) : Type 0 where
+pub record AccountsStand (xs : List Given) (s : Tables) : Type 0 where
   pub pots : (q : List ℕ) → PotsAre (moves xs) s q
   pub lots : (key : List ℕ × List ℕ) (lot : LotRow) → find_lot s.lots key ≡ Some lot → LotIs xs s key lot
   pub awards : (number : ℕ) (award : AwardRow) → find_award s.awards number ≡ Some award → AwardIs s number award

@@ -15,16 +15,16 @@ use Rattle.office_base.specs.declared.records.AwardRow.{AwardRow}
 use Rattle.office_base.specs.declared.records.ContractRow.{ContractRow}
 use Rattle.office_base.specs.Joined.{plus, minus, paid_under}
 use Rattle.office_machine.specs.Machine.{Given}
-use Rattle.office_machine.specs.Moves.{Free, Reserved, moves, held_for}
+use Rattle.office_machine.specs.Moves.{Free, Reserved, moves, reserved_for}
 use Rattle.office_base.proofs.ExactKeys.{equal_keys, other_keys, lots_exact}
 use Rattle.office_machine.proofs.Accounts.Joins.{over_contracts-lot_kept, reserved-replaced, free-replaced}
 use Rattle.office_machine.proofs.Rows.Keyed.{found, found_put, elsewhere}
 use Rattle.office_base.proofs.RowLaws.Keyed.{own_key}
 use Rattle.office_machine.proofs.Rows.Keyed as keyed
-use Rattle.office_machine.proofs.Accounts.Kept.{IsKept, PotsAre, LotIs, AwardIs, reserved_over, over_contracts, is_awarded}
+use Rattle.office_machine.proofs.Accounts.Kept.{AccountsStand, PotsAre, LotIs, AwardIs, reserved_over, over_contracts, is_awarded}
 use Rattle.office_machine.proofs.Passed.{split}
 
-module _ (xs : List Given) (s : Tables) (kept : IsKept xs s) (l : LotRow) (state : LotState) (amount : ℕ) (here : find_lot s.lots (l.notice, l.lot) ≡ Some l) where
+module _ (xs : List Given) (s : Tables) (kept : AccountsStand xs s) (l : LotRow) (state : LotState) (amount : ℕ) (here : find_lot s.lots (l.notice, l.lot) ≡ Some l) where
   abbrev pub lot_after : LotRow
   lot_after = record l { state = state; reserved = amount }
 
@@ -42,8 +42,8 @@ module _ (xs : List Given) (s : Tables) (kept : IsKept xs s) (l : LotRow) (state
 
   -- every lot is as it should be, if this one is
   pub lots_are : (x : Given) (s' : Tables) → s'.lots ≡ lots_after → ((q : List ℕ) → IsSome (find_line s.lines q) → IsSome (find_line s'.lines q)) → ((q : List ℕ) → IsSome (find_notice s.notices q) → IsSome (find_notice s'.notices q))
-      → (is_open state ≡ true → held_for (x ∷ xs) (l.notice, l.lot) ≡ amount)
-      → ((j : List ℕ × List ℕ) → eq_by_cmp lot_cmp j (l.notice, l.lot) ≡ false → held_for (x ∷ xs) j ≡ held_for xs j)
+      → (is_open state ≡ true → reserved_for (x ∷ xs) (l.notice, l.lot) ≡ amount)
+      → ((j : List ℕ × List ℕ) → eq_by_cmp lot_cmp j (l.notice, l.lot) ≡ false → reserved_for (x ∷ xs) j ≡ reserved_for xs j)
       → (j : List ℕ × List ℕ) (y : LotRow) → find_lot s'.lots j ≡ Some y → LotIs (x ∷ xs) s' j y
   lots_are x s' is lines notices now others j y h =
       by (found keyed.lots s.lots lot_after j y (ap (λ m. find_lot m j) (sym is) ∙ h))

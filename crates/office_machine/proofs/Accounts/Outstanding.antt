@@ -2,12 +2,12 @@
 use Rattle.std.proofs.Common.{◌≡◌, ℕ, ◌+◌, ◌≤◌, Bool, true, false, cond, ◌&&◌, List, Option, Some, None, is_some, refl, sym, ◌∙◌, ap, subst, arith, []}
 use Rattle.std.specs.Cmp.{nat_cmp_total}
 use Rattle.std.specs.List.{AllByRecursion, list_any}
-use Rattle.office_acts.specs.declared.command.Caller.{Caller}
-use Rattle.office_acts.specs.declared.commands.Command.{Command}
-use Rattle.office_acts.specs.declared.commands.Command.TheVariants.{AmendContract, Pay, End}
-use Rattle.office_acts.specs.declared.contract.ChangeKind.{ChangeKind}
-use Rattle.office_acts.specs.declared.contract.ChangeKind.TheVariants as change_kinds
-use Rattle.office_acts.specs.declared.contract.How.{How}
+use Rattle.office_commands.specs.declared.command.Caller.{Caller}
+use Rattle.office_commands.specs.declared.commands.Command.{Command}
+use Rattle.office_commands.specs.declared.commands.Command.TheVariants.{AmendContract, Pay, End}
+use Rattle.office_commands.specs.declared.contract.ChangeKind.{ChangeKind}
+use Rattle.office_commands.specs.declared.contract.ChangeKind.TheVariants as change_kinds
+use Rattle.office_commands.specs.declared.contract.How.{How}
 use Rattle.office_values.specs.declared.refusal.Refusal.{Refusal}
 use Rattle.office_base.specs.declared.records.PerformanceRow.{PerformanceRow}
 use Rattle.office_base.specs.EntryKinds.{is_raise, is_less}
@@ -26,14 +26,14 @@ use Rattle.award_core.specs.Rules.Pay.{payment_row, pay_puts}
 use Rattle.award_core.specs.Rules.End.{ended_contract, end_puts}
 use Rattle.office_machine.specs.Readings.{Readings}
 use Rattle.office_machine.specs.Machine.{Means, Given, Reaches, time_of, command_tests}
-use Rattle.office_machine.specs.Outstanding.{left_with, left_by_payment, left_by_change, left_by_end, left_before, notice_under, line_under, IsLeft, LeftIsKnown, IsBooked, LeftIsBooked}
+use Rattle.office_machine.specs.Outstanding.{left_with, left_by_payment, left_by_change, left_by_end, left_before, notice_under, line_under, IsLeft, LeftIsKnown, OutstandingIsKept, LeftIsBooked}
 use Rattle.office_machine.specs.Replies.{left_of}
 use Rattle.office_machine.proofs.Accounts.Entered.{not_taken}
 use Rattle.office_machine.proofs.Accounts.Joins.{entry_sum-new, entry_sum-own, outstanding-own}
 use Rattle.office_machine.proofs.Rows.Keyed.{found_put}
 use Rattle.office_base.proofs.RowLaws.Keyed.{found_key, own_key}
 use Rattle.office_machine.proofs.Rows.Keyed as keyed
-use Rattle.office_machine.proofs.Accounts.Kept.{IsKept}
+use Rattle.office_machine.proofs.Accounts.Kept.{AccountsStand}
 use Rattle.office_machine.proofs.Accounts.AccountsKept.{all_kept}
 use Rattle.office_machine.proofs.Passed.{none_holds, allowed_by, not_false, not_both, at_least, witness, test_of}
 
@@ -148,7 +148,7 @@ left_is_known readings x allowed = known readings x.before x.moment x.caller x.c
 
 -- in an office that commands reach, what a command on a contract looks at is there
 module _ (means : Means) (xs : List Given) (s : Tables) (reached : Reaches means xs s) (c : ℕ) (there : is_some (contract_at c s) ≡ true) where
-  kept : IsKept xs s
+  kept : AccountsStand xs s
   kept = all_kept means xs s reached
 
   contract : (r : ContractRow) × (contract_at c s ≡ Some r)
@@ -217,7 +217,7 @@ module _ (means : Means) (xs : List Given) (s : Tables) (reached : Reaches means
       omega (arith, at, before, within)
 
 booked : (means : Means) (xs : List Given) (s : Tables) (moment : ℕ) (caller : Caller) (command : Command) → Reaches means xs s
-    → Passes (given s moment caller command) → IsBooked means.readings (given s moment caller command) s command
+    → Passes (given s moment caller command) → OutstandingIsKept means.readings (given s moment caller command) s command
 booked means xs s moment caller (AmendContract c entry change_kinds.Raise amount rationale) reached passes =
     booked_raise means xs s reached c (not_false _ passes.0) amount _
     (known means.readings s moment caller (AmendContract c entry change_kinds.Raise amount rationale) passes)

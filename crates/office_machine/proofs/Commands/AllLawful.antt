@@ -1,6 +1,6 @@
 -- Every command keeps the laws of the office.
-use Rattle.office_acts.specs.declared.commands.Command.{Command}
-use Rattle.office_acts.specs.declared.commands.Command.TheVariants.{Import, Register, Publish, AmendNotice, Cancel, Open, Present, Modify, Withdraw, Examine, Award, Fail, Sign, AmendContract, Pay, End}
+use Rattle.office_commands.specs.declared.commands.Command.{Command}
+use Rattle.office_commands.specs.declared.commands.Command.TheVariants.{Import, Register, Publish, AmendNotice, Cancel, Open, Present, Modify, Withdraw, Examine, Award, Fail, Sign, AmendContract, Pay, End}
 use Rattle.office_machine.proofs.Commands.Lawful.{Lawful}
 use Rattle.office_machine.proofs.Commands.Import.{import_budget}
 use Rattle.office_machine.proofs.Commands.Register.{register}

@@ -4,15 +4,15 @@ use Rattle.std.proofs.Common.{◌≡◌, ℕ, ◌+◌, ◌-◌, ◌≤◌, Bool,
 use Rattle.std.specs.List.{AllByRecursion}
 use Rattle.office_values.specs.Ids.{same_id}
 use Rattle.office_values.specs.declared.refusal.Refusal.{Refusal}
-use Rattle.office_acts.specs.declared.command.Caller.{Caller}
-use Rattle.office_acts.specs.declared.contract.ChangeKind.{ChangeKind}
-use Rattle.office_acts.specs.declared.commands.Command.TheVariants.{AmendContract}
-use Rattle.office_acts.specs.declared.commands.Command.TheVariants as commands
-use Rattle.office_acts.specs.declared.contract.ChangeKind.TheVariants as change_kinds
+use Rattle.office_commands.specs.declared.command.Caller.{Caller}
+use Rattle.office_commands.specs.declared.contract.ChangeKind.{ChangeKind}
+use Rattle.office_commands.specs.declared.commands.Command.TheVariants.{AmendContract}
+use Rattle.office_commands.specs.declared.commands.Command.TheVariants as commands
+use Rattle.office_commands.specs.declared.contract.ChangeKind.TheVariants as change_kinds
 use Rattle.office_base.specs.Tables.{IsSorted, same_number, Tables, line_at, notice_at, lot_at, contract_at, find_line, put_line, find_entry, put_entry, entries_of_contract, after_puts, of_notice}
 use Rattle.office_base.specs.Rows.{holds_of}
 use Rattle.office_base.specs.Rules.{first_of}
-use Rattle.office_base.specs.RuleParts.{released, clock_put, has_all_releases}
+use Rattle.office_base.specs.Transitions.{with_next_release, clock_put, has_all_releases}
 use Rattle.office_base.specs.declared.records.LineRow.{LineRow}
 use Rattle.office_base.specs.declared.records.NoticeRow.{NoticeRow}
 use Rattle.office_base.specs.declared.records.LotRow.{LotRow}
@@ -35,7 +35,7 @@ use Rattle.office_machine.proofs.Parents.RowsHave.{entry_has}
 use Rattle.office_machine.proofs.Accounts.Aside.{kept_aside}
 use Rattle.office_machine.proofs.Rows.Keyed.{found, still_there}
 use Rattle.office_base.proofs.RowLaws.Keyed.{found_key}
-use Rattle.office_machine.proofs.Accounts.Kept.{IsKept, PotsAre, ContractIs, over_contracts}
+use Rattle.office_machine.proofs.Accounts.Kept.{AccountsStand, PotsAre, ContractIs, over_contracts}
 use Rattle.office_machine.proofs.Accounts.Joins.{outstanding-own, free-replaced}
 use Rattle.office_machine.proofs.Passed.{none_holds, not_false, not_both, not_all, at_least, witness, test_of, split, neither}
 use Rattle.office_machine.proofs.Accounts.Entered.{not_taken, contracts_are, no_contract_are, gains, losses, payments}
@@ -72,7 +72,7 @@ abbrev IsEnough : ChangeKind → ℕ → ℕ → ℕ → Type 0
 IsEnough change_kinds.Raise amount free left = amount ≤ free
 IsEnough change_kinds.Cut amount free left = amount ≤ left
 
-module _ (readings : Readings) (xs : List Given) (s : Tables) (moment : ℕ) (caller : Caller) (c : ℕ) (entry : List ℕ) (kind : ChangeKind) (amount : ℕ) (rationale : List ℕ) (kept : IsKept xs s) (order : IsSorted s) where
+module _ (readings : Readings) (xs : List Given) (s : Tables) (moment : ℕ) (caller : Caller) (c : ℕ) (entry : List ℕ) (kind : ChangeKind) (amount : ℕ) (rationale : List ℕ) (kept : AccountsStand xs s) (order : IsSorted s) where
   abbrev x : Given
   x = record { before = s; moment = moment; caller = caller; command = commands.AmendContract c entry kind amount rationale }
 
@@ -162,7 +162,7 @@ module _ (readings : Readings) (xs : List Given) (s : Tables) (moment : ℕ) (ca
     there_by change_kinds.Raise q h = still_there keyed.lines s.lines _ q h
     there_by change_kinds.Cut q h = still_there keyed.lines s.lines _ q h
 
-    entered_keeps : IsKept (x ∷ xs) s'
+    entered_keeps : AccountsStand (x ∷ xs) s'
     entered_keeps = record {
       pots = pots;
       lots = λ k l h. let old = kept.lots k l h in record { of_notice = old.of_notice; on_line = there_by kind l.line old.on_line; held = old.held };
@@ -175,9 +175,9 @@ module _ (readings : Readings) (xs : List Given) (s : Tables) (moment : ℕ) (ca
     effect_is : amend_contract_puts (record { contract = Some r; entries = []; notice = Some n; line = Some w; clock = s.clock }) (time_of x) entry kind amount rationale ≡ effect readings x
     effect_is = λ i. amend_contract_puts (record { contract = sym is i; entries = []; notice = (sym (ap (λ o. notice_of_contract o s) is ∙ notice) i); line = (sym (ap (λ o. line_of_lot o s) (ap (λ o. lot_of_contract o s) is ∙ lot) ∙ line) i); clock = s.clock }) (time_of x) entry kind amount rationale
 
-    keeps : IsKept (x ∷ xs) (after_puts (effect readings x) s)
-    keeps = subst (λ ps. IsKept (x ∷ xs) (after_puts ps s)) effect_is
-        (kept_aside (x ∷ xs) (puts.Notice (released n) ∷ clock_put s.clock (time_of x) ∷ []) s' (tt, (omega arith, tt)) entered_keeps)
+    keeps : AccountsStand (x ∷ xs) (after_puts (effect readings x) s)
+    keeps = subst (λ ps. AccountsStand (x ∷ xs) (after_puts ps s)) effect_is
+        (kept_aside (x ∷ xs) (puts.Notice (with_next_release n) ∷ clock_put s.clock (time_of x) ∷ []) s' (tt, (omega arith, tt)) entered_keeps)
 
   module _ (allowed : first_of (command_tests x) ≡ None) where
     passes : AllByRecursion (λ (test : Bool × Refusal). test.0 ≡ false) (command_tests x)
@@ -195,7 +195,7 @@ module _ (readings : Readings) (xs : List Given) (s : Tables) (moment : ℕ) (ca
         let left = at_least _ _ (not_both _ _ (test_of (is_beyond (entries_of_contract c s) amount) (contract_at c s) r is false beyond) runs) in
         omega (arith, left, outstanding-own s.entries c r (found_key keyed.contracts s.contracts c r is))
 
-    pub amend_contract_keeps : IsKept (x ∷ xs) (after_puts (effect readings x) s)
+    pub amend_contract_keeps : AccountsStand (x ∷ xs) (after_puts (effect readings x) s)
     amend_contract_keeps =
         let found = witness (contract_at c s) (not_false _ passes.0) in
         let r = found.0 in

@@ -2,8 +2,8 @@
 use Rattle.std.proofs.Common.{arith, ◌≡◌, ℕ, List, [], ◌∷◌, Option, Some, None, refl}
 use Rattle.std.specs.Prelude.{max}
 use Rattle.tender_core.specs.Rules.AmendNotice.{amended, amend_notice_rows, amend_notice_tests, amend_notice_puts}
-use Rattle.office_acts.specs.declared.commands.Command.TheVariants.{AmendNotice}
-use Rattle.office_base.specs.RuleParts.{has_all_releases}
+use Rattle.office_commands.specs.declared.commands.Command.TheVariants.{AmendNotice}
+use Rattle.office_base.specs.Transitions.{has_all_releases}
 use Rattle.office_base.specs.Tables.{Tables, notice_at}
 use Rattle.office_base.specs.declared.records.ClockRow.{ClockRow}
 use Rattle.office_base.specs.declared.records.NoticeRow.{NoticeRow}

@@ -5,13 +5,13 @@ pub mod Winners
 use Rattle.std.specs.Prelude.{max, IsSome}
 use Rattle.std.proofs.Common.{arith, ◌≡◌, ℕ, false, List, [], ◌∷◌, Option, Some, None, refl, ◌∙◌, ap, Bool, filter, is_some, subst, sym, not}
 use Rattle.std.specs.List.{AllByRecursion}
-use Rattle.office_acts.specs.declared.commands.Command.TheVariants.{Award}
+use Rattle.office_commands.specs.declared.commands.Command.TheVariants.{Award}
 use Rattle.office_base.specs.declared.records.EnvelopeRow.{EnvelopeRow}
 use Rattle.office_base.specs.Tables.{IsSorted, Tables, notice_at, lot_at, line_at, envelopes_of_lot, securities_of_lot, envelope_at}
 use Rattle.office_base.specs.declared.records.LineRow.{LineRow}
 use Rattle.office_base.specs.declared.records.NoticeRow.{NoticeRow}
 use Rattle.office_base.specs.declared.records.LotRow.{LotRow}
-use Rattle.office_base.specs.RuleParts.{released, has_all_releases, security_returned, is_held_security}
+use Rattle.office_base.specs.Transitions.{with_next_release, has_all_releases, security_returned, is_held_security}
 use Rattle.office_base.specs.Parents.{line_of_lot}
 use Rattle.office_base.specs.declared.records.SecurityRow.{SecurityRow}
 use Rattle.office_base.specs.declared.records.ClockRow.{ClockRow}
@@ -19,7 +19,7 @@ use Rattle.office_base.specs.declared.puts.Put.TheVariants as puts
 use Rattle.award_core.specs.Best.{IsBest, IsAnswer}
 use Rattle.award_core.proofs.BestFound.{of_one, best_is_found}
 use Rattle.award_core.specs.Rules.Award.{winner, decision_puts, award_rows, award_tests, best_of, award_puts, award_lacks}
-use Rattle.office_machine.specs.Worlds.{Theirs, Pairs}
+use Rattle.office_machine.specs.Worlds.{ChosenTender, Pairs}
 use Rattle.office_machine.specs.Parents.{HaveParents}
 use Rattle.office_machine.proofs.Worlds.WorldsPut.{Alike, AlikeOptions, plain-map, IsPlain, PutPair, blind-option, plain_pairs}
 use Rattle.office_machine.proofs.Parents.ParentsPut.{Grows, AllParents, lot_still, all-filter}
@@ -38,8 +38,8 @@ use Rattle.office_machine.proofs.Rows.Keyed as keyed
 module _ (s : Tables) (now : ℕ) (notice lot : List ℕ) (n : NoticeRow) (l : LotRow) (w : LineRow) (is : notice_at notice s ≡ Some n)
     (full : has_all_releases (notice_at notice s) ≡ false) where
   decided : (o : Option EnvelopeRow) → HasTail s now (Awards ∷ Lots ∷ Lines ∷ Securities ∷ []) (Some notice) None (decision_puts s.clock now n l w o (securities_of_lot notice lot s))
-  decided None = front (puts.Lot _ ∷ puts.Line _ ∷ []) (refl, (refl, tt)) (loud notice n (released n) _ _ is full refl refl refl (returned_own (Awards ∷ Lots ∷ Lines ∷ Securities ∷ []) refl (securities_of_lot notice lot s)) refl (omega arith))
-  decided (Some e) = front (puts.Award _ ∷ puts.Lot _ ∷ puts.Line _ ∷ []) (refl, (refl, (refl, tt))) (loud notice n (released n) _ [] is full refl refl refl tt refl (omega arith))
+  decided None = front (puts.Lot _ ∷ puts.Line _ ∷ []) (refl, (refl, tt)) (loud notice n (with_next_release n) _ _ is full refl refl refl (returned_own (Awards ∷ Lots ∷ Lines ∷ Securities ∷ []) refl (securities_of_lot notice lot s)) refl (omega arith))
+  decided (Some e) = front (puts.Award _ ∷ puts.Lot _ ∷ puts.Line _ ∷ []) (refl, (refl, (refl, tt))) (loud notice n (with_next_release n) _ [] is full refl refl refl tt refl (omega arith))
 
 module _ (s u : Tables) (have : HaveParents s s) (g : Grows s u) (order : IsSorted s) where
   -- the best tender is one of the office's
@@ -70,7 +70,7 @@ module _ (s u : Tables) (have : HaveParents s s) (g : Grows s u) (order : IsSort
   parents_of clock t notice lot (Some n) (Some l) None is = tt
 
 -- tenders that are alike are decided alike
-module _ (th : Theirs) (W : ℕ → Bool) where
+module _ (th : ChosenTender) (W : ℕ → Bool) where
   decision_pairs : (clock : ClockRow) (t : ℕ) (n : NoticeRow) (l : LotRow) (w : LineRow) (o o' : Option EnvelopeRow) (securities : List SecurityRow) → AlikeOptions th W o o' → Pairs (PutPair th W) (decision_puts clock t n l w o securities) (decision_puts clock t n l w o' securities)
   decision_pairs clock t n l w o o' securities a =
       subst (λ ps. Pairs (PutPair th W) (decision_puts clock t n l w o securities) ps) (sym (blind-option th W (λ o. decision_puts clock t n l w o securities) (λ _ _. refl) o o' a))

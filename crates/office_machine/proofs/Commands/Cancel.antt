@@ -4,7 +4,7 @@ pub mod Fates
 use Rattle.std.specs.Prelude.{max, ℕ, List, IsSome}
 use Rattle.std.proofs.Common.{[], ◌∷◌, ◌≡◌, Bool, false, ◌++◌, map, filter, Option, Some, None, refl, ap, sym, arith, not, ◌||◌}
 use Rattle.std.specs.List.{AllByRecursion, list_any}
-use Rattle.office_acts.specs.declared.commands.Command.TheVariants.{Cancel}
+use Rattle.office_commands.specs.declared.commands.Command.TheVariants.{Cancel}
 use Rattle.office_base.specs.declared.records.EnvelopeRow.{EnvelopeRow}
 use Rattle.office_base.specs.Tables.{IsSorted, notice_at, Tables, lots_of_notice, awards_of_notice, envelopes_of_notice, securities_of_notice, of_notice, line_at}
 use Rattle.office_base.specs.declared.records.LineRow.{LineRow}
@@ -14,10 +14,10 @@ use Rattle.office_base.specs.declared.records.SecurityRow.{SecurityRow}
 use Rattle.office_base.specs.declared.records.AwardRow.{AwardRow}
 use Rattle.office_base.specs.declared.records.ClockRow.{ClockRow}
 use Rattle.office_base.specs.declared.puts.Put.{Put}
-use Rattle.office_base.specs.RuleParts.{security_returned, has_all_releases, clock_put}
+use Rattle.office_base.specs.Transitions.{security_returned, has_all_releases, clock_put}
 use Rattle.office_base.specs.declared.puts.Put.TheVariants as puts
-use Rattle.tender_core.specs.Rules.Cancel.{line_put as cancel_line, lot_put as cancel_lot, cancel_tests, cancel_rows, is_open_lot, is_ended_award, award_put, is_ended_envelope, envelope_put, drop_put, is_ended_security, cancelled_notice, returned_envelope, cancel_puts, cancel_lacks, lacks_line}
-use Rattle.office_machine.specs.Worlds.{Theirs, Pairs}
+use Rattle.tender_core.specs.Rules.Cancel.{freed_line_put as cancel_line, cancelled_lot_put as cancel_lot, cancel_tests, cancel_rows, is_open_lot, is_ended_award, award_put, is_ended_envelope, envelope_put, drop_put, is_ended_security, cancelled_notice, returned_envelope, cancel_puts, cancel_lacks, lacks_line}
+use Rattle.office_machine.specs.Worlds.{ChosenTender, Pairs}
 use Rattle.office_machine.specs.Parents.{HaveParents, LotHas, EnvelopeHas, AwardHas}
 use Rattle.office_machine.proofs.Commands.Tail.{HasTail, moved, front_map, loud}
 use Rattle.office_machine.proofs.Commands.Footprint.{Envelopes, Seals, Lines, Lots, Securities, Awards}
@@ -79,7 +79,7 @@ module _ (s u : Tables) (have : HaveParents s s) (g : Grows s u) (order : IsSort
       (tt, (tt, tt)))))))
 
 -- rows that are alike are ended alike
-module _ (th : Theirs) (W : ℕ → Bool) where
+module _ (th : ChosenTender) (W : ℕ → Bool) where
   pairs : (clock : ClockRow) (t : ℕ) (lines : List LineRow) (n : Option NoticeRow) (lots : List LotRow) (awards : List AwardRow) (es es' : List EnvelopeRow) (securities : List SecurityRow) → Pairs (Alike th W) es es'
       → Pairs (PutPair th W) (cancel_puts (record { notice = n; lines = lines; lots = lots; awards = awards; envelopes = es; securities = securities; clock = clock }) t) (cancel_puts (record { notice = n; lines = lines; lots = lots; awards = awards; envelopes = es'; securities = securities; clock = clock }) t)
   pairs clock t lines None lots awards es es' securities all = tt

@@ -7,14 +7,14 @@ use Rattle.std.specs.List.{AllByRecursion}
 use Rattle.std.specs.Ordering.{nat_cmp, eq_by_cmp}
 use Rattle.office_values.specs.Ids.{same_id}
 use Rattle.office_values.specs.declared.refusal.Refusal.{Refusal}
-use Rattle.office_acts.specs.declared.command.Caller.{Caller}
-use Rattle.office_acts.specs.declared.contract.How.{How}
-use Rattle.office_acts.specs.declared.commands.Command.TheVariants.{End}
-use Rattle.office_acts.specs.declared.commands.Command.TheVariants as commands
+use Rattle.office_commands.specs.declared.command.Caller.{Caller}
+use Rattle.office_commands.specs.declared.contract.How.{How}
+use Rattle.office_commands.specs.declared.commands.Command.TheVariants.{End}
+use Rattle.office_commands.specs.declared.commands.Command.TheVariants as commands
 use Rattle.office_base.specs.Tables.{IsSorted, same_number, Tables, line_at, notice_at, lot_at, contract_at, find_line, put_line, find_contract, put_contract, entries_of_contract, after_puts, performance_at, of_notice}
 use Rattle.office_base.specs.Rules.{first_of}
 use Rattle.office_base.specs.Rows.{holds_of}
-use Rattle.office_base.specs.RuleParts.{released, clock_put, performance_settled, put_if, settled_performance}
+use Rattle.office_base.specs.Transitions.{with_next_release, clock_put, performance_settled, put_if, settled_performance}
 use Rattle.office_base.specs.declared.records.LineRow.{LineRow}
 use Rattle.office_base.specs.declared.records.NoticeRow.{NoticeRow}
 use Rattle.office_base.specs.declared.records.LotRow.{LotRow}
@@ -41,7 +41,7 @@ use Rattle.office_machine.proofs.FateLaws.QuietFates.{Stands, contract_notice, k
 use Rattle.office_machine.proofs.Accounts.Aside.{kept_aside, aside-if}
 use Rattle.office_machine.proofs.Rows.Keyed.{found, still_there, none_before}
 use Rattle.office_base.proofs.RowLaws.Keyed.{found_key, own_key}
-use Rattle.office_machine.proofs.Accounts.Kept.{IsKept, PotsAre, ContractIs, NoContractIs, over_contracts}
+use Rattle.office_machine.proofs.Accounts.Kept.{AccountsStand, PotsAre, ContractIs, NoContractIs, over_contracts}
 use Rattle.office_machine.proofs.Accounts.Joins.{outstanding-own, over_contracts-replaced, free-replaced}
 use Rattle.office_machine.proofs.Passed.{none_holds, not_false, witness, test_of, split}
 use Rattle.office_machine.proofs.Commands.Footprint.{Lines, Contracts}
@@ -52,7 +52,7 @@ use Rattle.office_machine.proofs.FateLaws.FatesHold.{Keeps, given}
 use Rattle.office_machine.proofs.Rows.Keyed as keyed
 
 -- the accounts
-module _ (readings : Readings) (xs : List Given) (s : Tables) (moment : ℕ) (caller : Caller) (c : ℕ) (how : How) (kept : IsKept xs s) (order : IsSorted s) where
+module _ (readings : Readings) (xs : List Given) (s : Tables) (moment : ℕ) (caller : Caller) (c : ℕ) (how : How) (kept : AccountsStand xs s) (order : IsSorted s) where
   abbrev x : Given
   x = record { before = s; moment = moment; caller = caller; command = commands.End c how }
 
@@ -149,7 +149,7 @@ module _ (readings : Readings) (xs : List Given) (s : Tables) (moment : ℕ) (ca
         let apart : same_number c n ≡ false = other_keys nat_cmp-IsAntisymmetric c n (λ e. let i : same_number n r.contract ≡ true = ap (λ k. same_number n k) (number ∙ e) ∙ own_key nat_cmp_total n in let f = p.0 in absurd cc) in
         record { came_in = omega (arith, old.came_in); went_out = omega (arith, old.went_out, ap (λ b. cond b (owed xs n) 0) apart); raised = old.raised; lessened = old.lessened; paid_out = old.paid_out }
 
-    ended_keeps : IsKept (x ∷ xs) s'
+    ended_keeps : AccountsStand (x ∷ xs) s'
     ended_keeps = record {
       pots = pots;
       lots = λ k l h. let old = kept.lots k l h in record { of_notice = old.of_notice; on_line = still_there keyed.lines s.lines _ l.line old.on_line; held = old.held };
@@ -162,15 +162,15 @@ module _ (readings : Readings) (xs : List Given) (s : Tables) (moment : ℕ) (ca
     effect_is : end_puts (record { contract = Some r; entries = entries_of_contract c s; notice = Some n; line = Some w; performance = performance_at c s; clock = s.clock }) (time_of x) how ≡ effect readings x
     effect_is = λ i. end_puts (record { contract = sym is i; entries = entries_of_contract c s; notice = (sym (ap (λ o. notice_of_contract o s) is ∙ notice) i); line = (sym (ap (λ o. line_of_lot o s) (ap (λ o. lot_of_contract o s) is ∙ lot) ∙ line) i); performance = performance_at c s; clock = s.clock }) (time_of x) how
 
-    keeps : IsKept (x ∷ xs) (after_puts (effect readings x) s)
-    keeps = subst (λ ps. IsKept (x ∷ xs) (after_puts ps s)) effect_is
-        (kept_aside (x ∷ xs) (puts.Notice (released n) ∷ clock_put s.clock (time_of x) ∷ put_if (performance_settled (ended_state how)) (performance_at c s)) s' (tt, (omega arith, aside-if s.clock.awards (performance_settled (ended_state how)) (performance_at c s) (λ _. tt))) ended_keeps)
+    keeps : AccountsStand (x ∷ xs) (after_puts (effect readings x) s)
+    keeps = subst (λ ps. AccountsStand (x ∷ xs) (after_puts ps s)) effect_is
+        (kept_aside (x ∷ xs) (puts.Notice (with_next_release n) ∷ clock_put s.clock (time_of x) ∷ put_if (performance_settled (ended_state how)) (performance_at c s)) s' (tt, (omega arith, aside-if s.clock.awards (performance_settled (ended_state how)) (performance_at c s) (λ _. tt))) ended_keeps)
 
   module _ (allowed : first_of (command_tests x) ≡ None) where
     passes : AllByRecursion (λ (test : Bool × Refusal). test.0 ≡ false) (command_tests x)
     passes = none_holds (command_tests x) allowed
 
-    pub end_keeps : IsKept (x ∷ xs) (after_puts (effect readings x) s)
+    pub end_keeps : AccountsStand (x ∷ xs) (after_puts (effect readings x) s)
     end_keeps =
         let found = witness (contract_at c s) (not_false _ passes.0) in
         let r = found.0 in

@@ -4,16 +4,16 @@ use Rattle.std.proofs.Common.{arith, ◌≡◌, ℕ, Bool, [], ◌∷◌, Option
 use Rattle.std.specs.Cmp.{nat_cmp_total}
 use Rattle.std.specs.FinMap.{nat_cmp-IsAntisymmetric}
 use Rattle.std.specs.Ordering.{nat_cmp, eq_by_cmp}
-use Rattle.office_acts.specs.declared.commands.Command.TheVariants.{Examine}
-use Rattle.office_acts.specs.declared.command.Caller.{Caller}
+use Rattle.office_commands.specs.declared.commands.Command.TheVariants.{Examine}
+use Rattle.office_commands.specs.declared.command.Caller.{Caller}
 use Rattle.office_base.specs.Tables.{find_envelope, Tables, envelope_at, envelope_key, after_puts}
 use Rattle.office_base.specs.Parents.{notice_of_envelope, lot_of_envelope}
 use Rattle.office_base.specs.declared.records.EnvelopeRow.{EnvelopeRow}
 use Rattle.office_base.specs.declared.records.ClockRow.{ClockRow}
-use Rattle.office_base.specs.RuleParts.{clock_put}
+use Rattle.office_base.specs.Transitions.{clock_put}
 use Rattle.office_base.specs.declared.puts.Put.TheVariants as puts
 use Rattle.award_core.specs.Rules.Examine.{examine_rows, examine_tests, examined, examine_puts, examine_lacks}
-use Rattle.office_machine.specs.Worlds.{Theirs, Pairs}
+use Rattle.office_machine.specs.Worlds.{ChosenTender, Pairs}
 use Rattle.office_machine.specs.Parents.{HaveParents}
 use Rattle.office_machine.specs.Machine.{Given}
 use Rattle.office_machine.specs.Readings.{Readings}
@@ -30,14 +30,14 @@ use Rattle.office_base.proofs.RowLaws.Keyed.{found_key}
 use Rattle.office_machine.proofs.FateLaws.Views.{Change, after_change}
 use Rattle.office_machine.proofs.FateLaws.Steps.{cond_keeps, examination, fair_examination}
 use Rattle.office_machine.proofs.FateLaws.Seen.{seen, alike, order-puts}
-use Rattle.office_machine.proofs.FateLaws.FatesHold.{IsKept, Keeps, still_sealed, still_held, securities_keep}
+use Rattle.office_machine.proofs.FateLaws.FatesHold.{FatesStand, Keeps, still_sealed, still_held, securities_keep}
 use Rattle.office_machine.proofs.FateLaws.QuietFates.{one_more}
 use Rattle.office_machine.proofs.FateLaws.FatesChanged.{kept_by_change}
 use Rattle.office_machine.proofs.FateLaws.States.{map_same}
 use Rattle.office_machine.proofs.Rows.Keyed as keyed
 
 module _ (readings : Readings) (receipt : ℕ) (responsive : Bool) (quality : Option ℕ) (xs : List Given) (t : Tables) (m : ℕ) (caller : Caller)
-    (kept : IsKept readings xs t) where
+    (kept : FatesStand readings xs t) where
   abbrev x : Given
   x = given t m caller (Examine receipt responsive quality)
 
@@ -51,7 +51,7 @@ module _ (readings : Readings) (receipt : ℕ) (responsive : Bool) (quality : Op
     examine_state : (r : ℕ) (d : EnvelopeRow) → (examine_change.envelope_to r d).state ≡ d.state
     examine_state r d = cond_keeps (λ (e : EnvelopeRow). e.state) (eq_by_cmp nat_cmp r receipt) (examined responsive quality d) d refl
 
-    examined_kept : IsKept readings (x ∷ xs) after_examine
+    examined_kept : FatesStand readings (x ∷ xs) after_examine
     examined_kept =
         kept_by_change readings xs x t after_examine examine_change kept
         (fair_examination (seen t) receipt (examined responsive quality) (λ e. refl) (λ e. refl) (λ e. refl) (λ e. refl))
@@ -83,7 +83,7 @@ module _ (readings : Readings) (receipt : ℕ) (responsive : Bool) (quality : Op
         (order-puts (puts.Envelope (examined responsive quality e) ∷ clock_put t.clock (max m t.clock.moment) ∷ []) t kept.order)
 
   examine_by : (o : Option EnvelopeRow) → envelope_at receipt t ≡ o
-      → IsKept readings (x ∷ xs) (after_puts (examine_puts (record { envelope = o; notice = None; lot = None; clock = t.clock }) (max m t.clock.moment) responsive quality) t)
+      → FatesStand readings (x ∷ xs) (after_puts (examine_puts (record { envelope = o; notice = None; lot = None; clock = t.clock }) (max m t.clock.moment) responsive quality) t)
   examine_by None found = one_more readings xs x t kept refl (λ r. refl) (λ s. refl)
   examine_by (Some e) found = examined_kept e found
 
@@ -101,7 +101,7 @@ parents_of s u have g clock t receipt responsive quality (Some e) is =
     (record { notice = h.notice; lot = h.lot; tenderer = h.tenderer; security = h.security }, (tt, tt))
 
 -- tenders that are alike are examined alike
-module _ (th : Theirs) (W : ℕ → Bool) where
+module _ (th : ChosenTender) (W : ℕ → Bool) where
   pairs : (clock : ClockRow) (t : ℕ) (responsive : Bool) (quality : Option ℕ) (o o' : Option EnvelopeRow) → AlikeOptions th W o o' → Pairs (PutPair th W) (examine_puts (record { envelope = o; notice = None; lot = None; clock = clock }) t responsive quality) (examine_puts (record { envelope = o'; notice = None; lot = None; clock = clock }) t responsive quality)
   pairs clock t responsive quality None None a = tt
   pairs clock t responsive quality None (Some e') a = absurd a

@@ -3,12 +3,12 @@ pub mod Accounts
 pub mod Fates
 use Rattle.std.specs.Prelude.{max, ℕ}
 use Rattle.std.proofs.Common.{[], ◌∷◌, refl, ◌≡◌, Bool, Option, Some, None, option_map, sym, ◌∙◌, ap, arith, subst, false, not, ◌||◌}
-use Rattle.office_acts.specs.declared.commands.Command.TheVariants.{Fail}
+use Rattle.office_commands.specs.declared.commands.Command.TheVariants.{Fail}
 use Rattle.office_base.specs.declared.records.EnvelopeRow.{EnvelopeRow}
 use Rattle.office_base.specs.Parents.{notice_of_award, lot_of_award, envelope_of_award, security_of_envelope}
 use Rattle.office_base.specs.Tables.{award_at, Tables, envelope_at}
 use Rattle.office_base.specs.Rows.{holds_of}
-use Rattle.office_base.specs.RuleParts.{released, has_all_releases, security_settled, passed_over, put_if, lacks_security}
+use Rattle.office_base.specs.Transitions.{with_next_release, has_all_releases, security_settled, passed_over, put_if, lacks_security}
 use Rattle.office_base.specs.declared.records.NoticeRow.{NoticeRow}
 use Rattle.office_base.specs.declared.records.LotRow.{LotRow}
 use Rattle.office_base.specs.declared.records.SecurityRow.{SecurityRow}
@@ -17,7 +17,7 @@ use Rattle.office_base.specs.declared.records.SecurityState.TheVariants.{Forfeit
 use Rattle.office_base.specs.declared.records.ClockRow.{ClockRow}
 use Rattle.office_base.specs.declared.puts.Put.TheVariants as puts
 use Rattle.award_core.specs.Rules.Fail.{fail_tests, fail_rows, fail_puts, fail_lacks}
-use Rattle.office_machine.specs.Worlds.{Theirs, Pairs}
+use Rattle.office_machine.specs.Worlds.{ChosenTender, Pairs}
 use Rattle.office_machine.specs.Parents.{HaveParents, EnvelopeHas}
 use Rattle.office_machine.proofs.Commands.Footprint.{Envelopes, Awards, Lots, Securities, TableName, on-append, on-if}
 use Rattle.office_machine.proofs.Worlds.WorldsPut.{TwoEnvelopes, AlikeOptions, plain-if, PutPair, Plain, blind-option, plain_pairs, pairs-append, alike-set}
@@ -62,7 +62,7 @@ module _ (s u : Tables) (have : HaveParents s s) (g : Grows s u) where
   parents_of clock t award (Some a) (Some n) None is lot = tt
 
 -- tenders that are alike fail alike
-module _ (th : Theirs) (W : ℕ → Bool) where
+module _ (th : ChosenTender) (W : ℕ → Bool) where
   pairs : (clock : ClockRow) (t : ℕ) (w : Option AwardRow) (n : Option NoticeRow) (l : Option LotRow) (o o' : Option EnvelopeRow) (r r' : Option SecurityRow) → AlikeOptions th W o o' → r' ≡ r → Pairs (PutPair th W) (fail_puts (record { award = w; notice = n; lot = l; envelope = o; security = r; clock = clock }) t) (fail_puts (record { award = w; notice = n; lot = l; envelope = o'; security = r'; clock = clock }) t)
   pairs clock t None n l o o' r r' a same = tt
   pairs clock t (Some w) None l o o' r r' a same = tt
@@ -116,7 +116,7 @@ fail award = record {
       let security = security_of_envelope envelope s in
       moved (ap (option_map (λ (a : AwardRow). a.notice)) of.is) (λ i. fail_puts (record { award = of.is i; notice = of.notice i; lot = of.lot i; envelope = envelope; security = security; clock = s.clock }) now)
       (front (puts.Award _ ∷ puts.Lot _ ∷ []) (refl, (refl, tt))
-      (loud of.w.notice of.n (released of.n) _ _ of.notice_is (ap has_all_releases (of.notice_is ∙ sym of.notice) ∙ tests.1.1.1.1.0) refl refl refl
+      (loud of.w.notice of.n (with_next_release of.n) _ _ of.notice_is (ap has_all_releases (of.notice_is ∙ sym of.notice) ∙ tests.1.1.1.1.0) refl refl refl
       (on-append own _ _ (on-if own (λ e. puts.Envelope (passed_over e)) envelope (λ _. refl)) (on-if own (security_settled Forfeited) security (λ _. refl))) refl (omega arith)));
   parents = λ readings s moment caller order have registered may allowed u grown later. parents_of s u have grown s.clock _ award (award_at award s) (notice_of_award (award_at award s) s) (lot_of_award (award_at award s) s) refl refl;
   lacks = λ xs s moment caller whole allowed. none_lacking s whole.parents award (award_at award s) refl;

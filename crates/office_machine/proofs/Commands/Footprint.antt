@@ -3,7 +3,7 @@ use Rattle.std.proofs.Common.{◌≡◌, Bool, true, false, List, [], ◌∷◌,
 use Rattle.std.specs.List.{AllByRecursion, list_any}
 use Rattle.office_base.specs.declared.puts.Put.{Put}
 use Rattle.office_base.specs.declared.puts.Put.TheVariants as puts
-use Rattle.office_base.specs.RuleParts.{put_if}
+use Rattle.office_base.specs.Transitions.{put_if}
 use Rattle.office_base.specs.Tables.{Tables, after_put, after_puts}
 
 -- an office's tables

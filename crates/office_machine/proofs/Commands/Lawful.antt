@@ -1,8 +1,8 @@
 -- What the laws of the office need of one command.
 use Rattle.std.specs.Prelude.{◌≡◌, ℕ, Bool, true, false, max, List, ◌∷◌, None}
-use Rattle.office_acts.specs.declared.command.Caller.{Caller}
-use Rattle.office_acts.specs.declared.commands.Command.{Command}
-use Rattle.office_acts.specs.declared.commands.Command.TheVariants.{Publish, Sign, End}
+use Rattle.office_commands.specs.declared.command.Caller.{Caller}
+use Rattle.office_commands.specs.declared.commands.Command.{Command}
+use Rattle.office_commands.specs.declared.commands.Command.TheVariants.{Publish, Sign, End}
 use Rattle.office_base.specs.Rules.{first_of}
 use Rattle.office_base.specs.Tables.{Tables, IsSorted, after_puts}
 use Rattle.office_machine.specs.Readings.{Readings}
@@ -13,7 +13,7 @@ use Rattle.office_machine.specs.Rules.{rule_of}
 use Rattle.office_machine.proofs.Accounts.Aside.{IsIdle}
 use Rattle.office_machine.proofs.Commands.Footprint.{TableName, Contracts, LateRules, is_in}
 use Rattle.office_machine.proofs.Accounts.Idle.{touches_books}
-use Rattle.office_machine.proofs.Accounts.Kept.{IsKept}
+use Rattle.office_machine.proofs.Accounts.Kept.{AccountsStand}
 use Rattle.office_machine.proofs.FateLaws.FatesHold.{Keeps}
 use Rattle.office_machine.proofs.Parents.ParentsPut.{Grows, AllParents}
 use Rattle.office_machine.proofs.Parents.Whole.{IsWhole}
@@ -26,9 +26,9 @@ given s moment caller command = record { before = s; moment = moment; caller = c
 -- a command touches no book and moves nothing, or keeps the books as is shown
 pub data KeepsBooks (command : Command) (touches : List TableName) : Type 0 where
   Idle : touches_books touches ≡ false → ((s : Tables) (moment : ℕ) (caller : Caller) (xs : List Given) → IsIdle (given s moment caller command) xs) → KeepsBooks command touches
-  Moving : ((readings : Readings) (xs : List Given) (s : Tables) (moment : ℕ) (caller : Caller) → IsKept xs s → IsSorted s → IsCommand command
+  Moving : ((readings : Readings) (xs : List Given) (s : Tables) (moment : ℕ) (caller : Caller) → AccountsStand xs s → IsSorted s → IsCommand command
       → first_of (tests_for s (max moment s.clock.moment) caller command) ≡ None
-      → IsKept (given s moment caller command ∷ xs) (after_puts (puts_for readings s (max moment s.clock.moment) caller command) s)) → KeepsBooks command touches
+      → AccountsStand (given s moment caller command ∷ xs) (after_puts (puts_for readings s (max moment s.clock.moment) caller command) s)) → KeepsBooks command touches
 
 abbrev pub puts_contracts : Command → Bool
 puts_contracts (Sign award named) = true

@@ -2,7 +2,7 @@
 pub mod Fates
 use Rattle.std.specs.Prelude.{max, ℕ, List}
 use Rattle.std.proofs.Common.{[], ◌∷◌, refl, ◌≡◌, Bool, false, Option, Some, None, sym, ◌∙◌, ap, arith, ◌+◌, length, not}
-use Rattle.office_acts.specs.declared.commands.Command.TheVariants.{Modify}
+use Rattle.office_commands.specs.declared.commands.Command.TheVariants.{Modify}
 use Rattle.office_base.specs.declared.records.EnvelopeRow.{EnvelopeRow}
 use Rattle.office_base.specs.Tables.{envelope_at, Tables}
 use Rattle.office_base.specs.Parents.{notice_of_envelope}
@@ -11,7 +11,7 @@ use Rattle.office_base.specs.declared.records.ClockRow.{ClockRow}
 use Rattle.office_base.specs.declared.puts.Put.TheVariants as puts
 use Rattle.office_base.specs.declared.records.EnvelopeState.TheVariants as envelope_states
 use Rattle.tender_core.specs.Rules.Modify.{modify_tests, modify_rows, withdrawn, replacing, modify_puts, modify_lacks}
-use Rattle.office_machine.specs.Worlds.{Theirs, Pairs, is_theirs}
+use Rattle.office_machine.specs.Worlds.{ChosenTender, Pairs, is_theirs}
 use Rattle.office_machine.specs.Parents.{HaveParents}
 use Rattle.office_machine.proofs.Commands.Footprint.{Envelopes, Seals}
 use Rattle.office_machine.proofs.Worlds.WorldsPut.{TwoEnvelopes, TwoSeals, AlikeOptions, PutPair, Plain, receipt_is, alike-set}
@@ -30,7 +30,7 @@ module _ (s u : Tables) (have : HaveParents s s) (g : Grows s u) where
       (record { notice = h.notice; lot = h.lot; tenderer = h.tenderer; security = h.security }, (tt, (record { notice = h.notice; lot = h.lot; tenderer = h.tenderer; security = h.security }, (tt, (tt, tt)))))
 
 -- in two worlds, with the one's bytes and with the other's
-module _ (th : Theirs) (W : ℕ → Bool) (digest : List ℕ → List ℕ) (clock : ClockRow) (t : ℕ) (bytes bytes' : List ℕ) (len : length bytes ≡ length bytes') where
+module _ (th : ChosenTender) (W : ℕ → Bool) (digest : List ℕ → List ℕ) (clock : ClockRow) (t : ℕ) (bytes bytes' : List ℕ) (len : length bytes ≡ length bytes') where
   pub modify_pairs : (o o' : Option EnvelopeRow) → AlikeOptions th W o o' → (holds_of (is_theirs th) o ≡ W (clock.receipts + 1)) → (holds_of (is_theirs th) o ≡ false → bytes ≡ bytes')
       → Pairs (PutPair th W) (modify_puts digest (record { envelope = o; notice = None; clock = clock }) t bytes) (modify_puts digest (record { envelope = o'; notice = None; clock = clock }) t bytes')
   modify_pairs None None a own same = tt

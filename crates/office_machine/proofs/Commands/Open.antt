@@ -3,8 +3,8 @@ pub mod Fates
 use Rattle.std.specs.Prelude.{max, ℕ, List}
 use Rattle.std.proofs.Common.{[], ◌∷◌, refl, ◌≡◌, Bool, map, filter, Option, Some, None, sym, ◌∙◌, ap, arith}
 use Rattle.std.specs.List.{AllByRecursion}
-use Rattle.office_acts.specs.declared.item.Item.{Item}
-use Rattle.office_acts.specs.declared.commands.Command.TheVariants.{Open}
+use Rattle.office_commands.specs.declared.item.Item.{Item}
+use Rattle.office_commands.specs.declared.commands.Command.TheVariants.{Open}
 use Rattle.office_base.specs.declared.reading.Reading.{Reading}
 use Rattle.office_base.specs.Tables.{find_seal, seal_at, IsSorted, notice_at, Tables, envelopes_of_notice, lot_at}
 use Rattle.office_base.specs.declared.records.SealRow.{SealRow}
@@ -13,8 +13,8 @@ use Rattle.office_base.specs.declared.records.NoticeRow.{NoticeRow}
 use Rattle.office_base.specs.declared.records.ClockRow.{ClockRow}
 use Rattle.office_base.specs.declared.records.EnvelopeState.TheVariants as envelope_states
 use Rattle.tender_core.specs.Rules.Open.{open_tests, open_rows, opened_put, opened_notice, is_sealed_envelope, opened_envelope, open_puts}
-use Rattle.office_machine.specs.Rule.{sealed_tenders, sealed_tender, bytes_in, items_in}
-use Rattle.office_machine.specs.Worlds.{Theirs, Pairs}
+use Rattle.office_machine.specs.Rule.{sealed_tenders, sealed_tender, bytes_in, items_of_row}
+use Rattle.office_machine.specs.Worlds.{ChosenTender, Pairs}
 use Rattle.office_machine.specs.Parents.{HaveParents, EnvelopeHas}
 use Rattle.office_machine.proofs.Worlds.WorldsPut.{TwoEnvelopes, Alike, PutPair, Plain, receipt_is, pairs-filter, blind, pairs-append}
 use Rattle.office_machine.proofs.Parents.ParentsPut.{Grows, AllParents, envelope_still, parents-append, all-filter, all-table}
@@ -42,14 +42,14 @@ module _ (s u : Tables) (have : HaveParents s s) (g : Grows s u) (order : IsSort
       (tt, (tt, tt))
 
 -- tenders with equal seals are opened alike
-module _ (th : Theirs) (W : ℕ → Bool) (s : Tables) (es' : List EnvelopeRow) (ss' : List SealRow) (all : Pairs (Alike th W) s.envelopes es') where
+module _ (th : ChosenTender) (W : ℕ → Bool) (s : Tables) (es' : List EnvelopeRow) (ss' : List SealRow) (all : Pairs (Alike th W) s.envelopes es') where
   abbrev other : Tables
   other = record s { envelopes = es'; seals = ss' }
 
   opened_pair : (read : List ℕ → List Item → Reading) (e e' : EnvelopeRow) → Alike th W e e' → seal_at e.receipt s ≡ find_seal ss' e.receipt → PutPair th W (opened_put read (sealed_tender s e)) (opened_put read (sealed_tender other e'))
   opened_pair read e e' a same =
       let bytes : bytes_in (find_seal ss' e'.receipt) ≡ bytes_in (seal_at e.receipt s) = ap (λ n. bytes_in (find_seal ss' n)) (receipt_is th W e e' a) ∙ ap bytes_in (sym same) in
-      let items : items_in (lot_at (e'.notice, e'.lot) s) ≡ items_in (lot_at (e.notice, e.lot) s) = blind th W (λ (e : EnvelopeRow). items_in (lot_at (e.notice, e.lot) s)) (λ _ _. refl) e e' a in
+      let items : items_of_row (lot_at (e'.notice, e'.lot) s) ≡ items_of_row (lot_at (e.notice, e.lot) s) = blind th W (λ (e : EnvelopeRow). items_of_row (lot_at (e.notice, e.lot) s)) (λ _ _. refl) e e' a in
       TwoEnvelopes (opened_envelope read (sealed_tender s e)) (opened_envelope read (sealed_tender other e')) refl refl
       (record {
         rows = record { but_digest = λ i. record (a.rows.but_digest i) { state = envelope_states.Opened; reading = Some (read (bytes i) (items i)) }; digest = a.rows.digest };

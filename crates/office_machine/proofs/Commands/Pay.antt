@@ -4,12 +4,12 @@ use Rattle.std.proofs.Common.{◌≡◌, ℕ, ◌+◌, ◌≤◌, Bool, true, fa
 use Rattle.std.specs.List.{AllByRecursion}
 use Rattle.office_values.specs.Ids.{same_id}
 use Rattle.office_values.specs.declared.refusal.Refusal.{Refusal}
-use Rattle.office_acts.specs.declared.command.Caller.{Caller}
-use Rattle.office_acts.specs.declared.commands.Command.TheVariants.{Pay}
-use Rattle.office_acts.specs.declared.commands.Command.TheVariants as commands
+use Rattle.office_commands.specs.declared.command.Caller.{Caller}
+use Rattle.office_commands.specs.declared.commands.Command.TheVariants.{Pay}
+use Rattle.office_commands.specs.declared.commands.Command.TheVariants as commands
 use Rattle.office_base.specs.Tables.{IsSorted, same_number, Tables, notice_at, lot_at, contract_at, find_entry, put_entry, entries_of_contract, after_puts, of_notice}
 use Rattle.office_base.specs.Rules.{first_of}
-use Rattle.office_base.specs.RuleParts.{released, clock_put, has_all_releases}
+use Rattle.office_base.specs.Transitions.{with_next_release, clock_put, has_all_releases}
 use Rattle.office_base.specs.declared.records.NoticeRow.{NoticeRow}
 use Rattle.office_base.specs.declared.records.LotRow.{LotRow}
 use Rattle.office_base.specs.declared.records.ContractRow.{ContractRow}
@@ -30,7 +30,7 @@ use Rattle.office_machine.proofs.FateLaws.QuietFates.{Stands, contract_notice, k
 use Rattle.office_machine.proofs.Parents.RowsHave.{entry_has}
 use Rattle.office_machine.proofs.Accounts.Aside.{kept_aside}
 use Rattle.office_base.proofs.RowLaws.Keyed.{found_key}
-use Rattle.office_machine.proofs.Accounts.Kept.{IsKept, PotsAre, ContractIs}
+use Rattle.office_machine.proofs.Accounts.Kept.{AccountsStand, PotsAre, ContractIs}
 use Rattle.office_machine.proofs.Accounts.Joins.{outstanding-own}
 use Rattle.office_machine.proofs.Passed.{none_holds, not_false, not_both, at_least, witness, test_of, neither}
 use Rattle.office_machine.proofs.Accounts.Entered.{not_taken, contracts_are, no_contract_are, gains, losses, payments}
@@ -44,7 +44,7 @@ use Rattle.office_machine.proofs.Worlds.WorldsPut.{IsPlain, plain_pairs}
 use Rattle.office_machine.proofs.Rows.Keyed as keyed
 
 -- the accounts
-module _ (readings : Readings) (xs : List Given) (s : Tables) (moment : ℕ) (caller : Caller) (c : ℕ) (entry : List ℕ) (amount : ℕ) (kept : IsKept xs s) (order : IsSorted s) where
+module _ (readings : Readings) (xs : List Given) (s : Tables) (moment : ℕ) (caller : Caller) (c : ℕ) (entry : List ℕ) (amount : ℕ) (kept : AccountsStand xs s) (order : IsSorted s) where
   abbrev x : Given
   x = record { before = s; moment = moment; caller = caller; command = commands.Pay c entry amount }
 
@@ -93,7 +93,7 @@ module _ (readings : Readings) (xs : List Given) (s : Tables) (moment : ℕ) (ca
         old : PotsAre (moves xs) s q
         old = kept.pots q
 
-    entered_keeps : IsKept (x ∷ xs) s'
+    entered_keeps : AccountsStand (x ∷ xs) s'
     entered_keeps = record {
       pots = pots;
       lots = λ k l h. let old = kept.lots k l h in record { of_notice = old.of_notice; on_line = old.on_line; held = old.held };
@@ -106,9 +106,9 @@ module _ (readings : Readings) (xs : List Given) (s : Tables) (moment : ℕ) (ca
     effect_is : pay_puts (record { contract = Some r; entries = []; notice = Some n; clock = s.clock }) (time_of x) entry amount ≡ effect readings x
     effect_is = λ i. pay_puts (record { contract = sym is i; entries = []; notice = (sym (ap (λ o. notice_of_contract o s) is ∙ notice) i); clock = s.clock }) (time_of x) entry amount
 
-    keeps : IsKept (x ∷ xs) (after_puts (effect readings x) s)
-    keeps = subst (λ ps. IsKept (x ∷ xs) (after_puts ps s)) effect_is
-        (kept_aside (x ∷ xs) (puts.Notice (released n) ∷ clock_put s.clock (time_of x) ∷ []) s' (tt, (omega arith, tt)) entered_keeps)
+    keeps : AccountsStand (x ∷ xs) (after_puts (effect readings x) s)
+    keeps = subst (λ ps. AccountsStand (x ∷ xs) (after_puts ps s)) effect_is
+        (kept_aside (x ∷ xs) (puts.Notice (with_next_release n) ∷ clock_put s.clock (time_of x) ∷ []) s' (tt, (omega arith, tt)) entered_keeps)
 
   module _ (allowed : first_of (command_tests x) ≡ None) where
     passes : AllByRecursion (λ (test : Bool × Refusal). test.0 ≡ false) (command_tests x)
@@ -117,7 +117,7 @@ module _ (readings : Readings) (xs : List Given) (s : Tables) (moment : ℕ) (ca
     found_contract : (r : ContractRow) × (contract_at c s ≡ Some r)
     found_contract = witness (contract_at c s) (not_false _ passes.0)
 
-    pub pay_keeps : IsKept (x ∷ xs) (after_puts (effect readings x) s)
+    pub pay_keeps : AccountsStand (x ∷ xs) (after_puts (effect readings x) s)
     pay_keeps =
         let r = found_contract.0 in
         let is = found_contract.1 in

@@ -2,19 +2,19 @@
 pub mod Fates
 use Rattle.std.specs.Prelude.{max, ℕ, List, Option, IsSome}
 use Rattle.std.proofs.Common.{◌+◌, [], ◌∷◌, refl, is_some, ◌≡◌, Bool, true, false, Some, None, option_map, sym, ◌∙◌, ap, arith, subst, length}
-use Rattle.office_acts.specs.declared.commands.Command.TheVariants.{Present}
-use Rattle.office_acts.specs.declared.tender.NamedSecurity.{NamedSecurity}
-use Rattle.office_acts.specs.declared.command.Caller.{Caller}
-use Rattle.office_acts.specs.declared.command.Caller.TheVariants.{Public, Clerk, Tenderer}
-use Rattle.office_acts.specs.Callers.{tenderer_of}
-use Rattle.office_acts.specs.Rights.{is_tenderer}
+use Rattle.office_commands.specs.declared.commands.Command.TheVariants.{Present}
+use Rattle.office_commands.specs.declared.tender.NamedSecurity.{NamedSecurity}
+use Rattle.office_commands.specs.declared.command.Caller.{Caller}
+use Rattle.office_commands.specs.declared.command.Caller.TheVariants.{Public, Clerk, Tenderer}
+use Rattle.office_commands.specs.Callers.{tenderer_of}
+use Rattle.office_commands.specs.Rights.{is_tenderer}
 use Rattle.office_base.specs.Tables.{notice_at, lot_at, Tables, tenderer_at, security_at, after_puts}
 use Rattle.office_base.specs.Rows.{holds_of}
-use Rattle.office_base.specs.RuleParts.{is_in_time, put_if}
+use Rattle.office_base.specs.Transitions.{is_in_time, put_if}
 use Rattle.office_base.specs.declared.records.ClockRow.{ClockRow}
 use Rattle.office_base.specs.declared.puts.Put.TheVariants as puts
 use Rattle.tender_core.specs.Rules.Present.{security_row, received_puts, seal_puts, security_put, received}
-use Rattle.office_machine.specs.Worlds.{Theirs, Pairs, is_theirs}
+use Rattle.office_machine.specs.Worlds.{ChosenTender, Pairs, is_theirs}
 use Rattle.office_machine.specs.Machine.{command_tests, IsRegistered}
 use Rattle.office_machine.proofs.Commands.Tail.{HasTail, front, quiet}
 use Rattle.office_machine.proofs.Commands.Footprint.{Envelopes, Seals, Securities}
@@ -75,7 +75,7 @@ presenter Clerk s may registered = cc
 presenter (Tenderer id) s may registered = registered
 
 -- in two worlds, with the one's bytes and with the other's
-module _ (th : Theirs) (W : ℕ → Bool) (digest : List ℕ → List ℕ) (clock : ClockRow) (t : ℕ) (bytes bytes' : List ℕ) (len : length bytes ≡ length bytes') where
+module _ (th : ChosenTender) (W : ℕ → Bool) (digest : List ℕ → List ℕ) (clock : ClockRow) (t : ℕ) (bytes bytes' : List ℕ) (len : length bytes ≡ length bytes') where
   seal_pairs : (in_time : Bool) → (W (clock.receipts + 1) ≡ false → bytes ≡ bytes') → Pairs (PutPair th W) (seal_puts clock bytes in_time) (seal_puts clock bytes' in_time)
   seal_pairs true same = (TwoSeals (record { receipt = clock.receipts + 1; bytes = bytes }) (record { receipt = clock.receipts + 1; bytes = bytes' }) refl refl refl (λ out. λ i. record { receipt = clock.receipts + 1; bytes = same out i }), tt)
   seal_pairs false same = tt

@@ -5,17 +5,17 @@ pub mod Rows
 use Rattle.std.specs.Prelude.{max, IsSome, ℕ, List}
 use Rattle.std.proofs.Common.{[], ◌∷◌, sym, subst, map, ◌++◌, ◌≡◌, Bool, false, Option, Some, None, is_some, refl, ◌∙◌, ap, arith}
 use Rattle.std.specs.List.{AllByRecursion}
-use Rattle.office_acts.specs.declared.commands.Command.TheVariants.{Publish}
-use Rattle.office_acts.specs.declared.notice.NewNotice.{NewNotice}
-use Rattle.office_acts.specs.declared.notice.LateWithdrawal.{LateWithdrawal}
-use Rattle.office_acts.specs.declared.notice.LateWithdrawal.TheVariants.{Refused, Forfeits}
-use Rattle.office_acts.specs.declared.lot.NewLot.{NewLot}
+use Rattle.office_commands.specs.declared.commands.Command.TheVariants.{Publish}
+use Rattle.office_commands.specs.declared.notice.NewNotice.{NewNotice}
+use Rattle.office_commands.specs.declared.notice.LateWithdrawal.{LateWithdrawal}
+use Rattle.office_commands.specs.declared.notice.LateWithdrawal.TheVariants.{Refused, Forfeits}
+use Rattle.office_commands.specs.declared.lot.NewLot.{NewLot}
 use Rattle.office_base.specs.Tables.{notice_at, Tables, after_puts}
 use Rattle.office_base.specs.declared.records.NoticeRow.{NoticeRow}
 use Rattle.office_base.specs.declared.records.ClockRow.{ClockRow}
 use Rattle.office_base.specs.declared.puts.Put.{Put}
 use Rattle.office_base.specs.declared.puts.Put.TheVariants as puts
-use Rattle.tender_core.specs.Rules.Publish.{publish_tests, publish_rows, publish_parts, late_puts, line_put, lot_put, notice_row, publish_puts}
+use Rattle.tender_core.specs.Rules.Publish.{publish_tests, publish_rows, publish_parts, late_puts, reserving_line_put, new_lot_put, notice_row, publish_puts}
 use Rattle.office_machine.specs.Machine.{command_tests, time_of}
 use Rattle.office_machine.specs.Counted.{releases_in}
 use Rattle.office_machine.proofs.Commands.Tail.{AsksAsBefore, HasTail, is_own, front, back, counted}
@@ -45,12 +45,12 @@ tail_of s t notice content new =
     let own : TableName → Bool = is_own (Lines ∷ Lots ∷ LateRules ∷ []) in
     let old = ap releases_in (absent (notice_at notice s) new) in
     back (late_puts notice content.late_withdrawal) (late_own notice content.late_withdrawal)
-    (front (map (line_put s.lines content.lots) content.lots ++ map (lot_put notice) content.lots)
-    (on-append own (map (line_put s.lines content.lots) content.lots) (map (lot_put notice) content.lots) (on-map own (line_put s.lines content.lots) content.lots (λ _. refl)) (on-map own (lot_put notice) content.lots (λ _. refl)))
+    (front (map (reserving_line_put s.lines content.lots) content.lots ++ map (new_lot_put notice) content.lots)
+    (on-append own (map (reserving_line_put s.lines content.lots) content.lots) (map (new_lot_put notice) content.lots) (on-map own (reserving_line_put s.lines content.lots) content.lots (λ _. refl)) (on-map own (new_lot_put notice) content.lots (λ _. refl)))
     (counted notice (notice_row t notice content) _ [] refl (omega (arith, old)) (omega arith) (subst (λ o. AsksAsBefore o (notice_row t notice content)) (sym (absent (notice_at notice s) new)) tt) tt refl (omega arith)))
 
 module _ (s u : Tables) (g : Grows s u) where
-  published_lots : (notice : List ℕ) → IsSome (notice_at notice u) → (lots : List NewLot) → OnLines s.lines lots → AllByRecursion (λ (l : NewLot). Parents u (lot_put notice l)) lots
+  published_lots : (notice : List ℕ) → IsSome (notice_at notice u) → (lots : List NewLot) → OnLines s.lines lots → AllByRecursion (λ (l : NewLot). Parents u (new_lot_put notice l)) lots
   published_lots notice there [] on = tt
   published_lots notice there (l ∷ lots) on = (record { notice = there; line = g.lines l.line on.0 }, published_lots notice there lots on.1)
 
@@ -58,10 +58,10 @@ module _ (s u : Tables) (g : Grows s u) where
   parents_of : (clock : ClockRow) (t : ℕ) (notice : List ℕ) (content : NewNotice) → OnLines s.lines content.lots → IsSome (notice_at notice u) → AllParents u (publish_puts (record { notice = None; lines = s.lines; clock = clock }) t notice content)
   parents_of clock t notice content on there =
       parents-append u (publish_parts clock t notice s.lines content) (late_puts notice content.late_withdrawal)
-      (parents-append u (map (line_put s.lines content.lots) content.lots ++ map (lot_put notice) content.lots) _
-      (parents-append u (map (line_put s.lines content.lots) content.lots) (map (lot_put notice) content.lots)
-      (parents-map u (line_put s.lines content.lots) content.lots (λ _. tt))
-      (parents-all u (lot_put notice) content.lots (published_lots notice there content.lots on)))
+      (parents-append u (map (reserving_line_put s.lines content.lots) content.lots ++ map (new_lot_put notice) content.lots) _
+      (parents-append u (map (reserving_line_put s.lines content.lots) content.lots) (map (new_lot_put notice) content.lots)
+      (parents-map u (reserving_line_put s.lines content.lots) content.lots (λ _. tt))
+      (parents-all u (new_lot_put notice) content.lots (published_lots notice there content.lots on)))
       (tt, (tt, tt)))
       (late_parents content.late_withdrawal)
     where
@@ -84,8 +84,8 @@ late_leaves Forfeits notice k u there = there
 plain : (s : Tables) (t : ℕ) (notice : List ℕ) (content : NewNotice) → AllByRecursion IsPlain (publish_puts (record { notice = None; lines = s.lines; clock = s.clock }) t notice content)
 plain s t notice content =
     plain-append (publish_parts s.clock t notice s.lines content) (late_puts notice content.late_withdrawal)
-    (plain-append (map (line_put s.lines content.lots) content.lots ++ map (lot_put notice) content.lots) _
-    (plain-append (map (line_put s.lines content.lots) content.lots) (map (lot_put notice) content.lots) (plain-map (line_put s.lines content.lots) content.lots (λ _. tt)) (plain-map (lot_put notice) content.lots (λ _. tt))) (tt, (tt, tt))) (late_plain content.late_withdrawal)
+    (plain-append (map (reserving_line_put s.lines content.lots) content.lots ++ map (new_lot_put notice) content.lots) _
+    (plain-append (map (reserving_line_put s.lines content.lots) content.lots) (map (new_lot_put notice) content.lots) (plain-map (reserving_line_put s.lines content.lots) content.lots (λ _. tt)) (plain-map (new_lot_put notice) content.lots (λ _. tt))) (tt, (tt, tt))) (late_plain content.late_withdrawal)
   where
     late_plain : (late : LateWithdrawal) → AllByRecursion IsPlain (late_puts notice late)
     late_plain Refused = tt
@@ -105,7 +105,7 @@ publish notice content = record {
       parents_of s u grown s.clock _ notice content (on_lines s.lines content.lots passes.0)
       (later.notices notice
       (subst (λ u. IsSome (notice_at notice u)) (sym (after-append (publish_parts s.clock (time_of (given s moment caller (Publish notice content))) notice s.lines content) (late_puts notice content.late_withdrawal) s))
-      (late_leaves content.late_withdrawal notice notice _ (notice_put_there (map (line_put s.lines content.lots) content.lots ++ map (lot_put notice) content.lots) _ _ s))));
+      (late_leaves content.late_withdrawal notice notice _ (notice_put_there (map (reserving_line_put s.lines content.lots) content.lots ++ map (new_lot_put notice) content.lots) _ _ s))));
   lacks = λ xs s moment caller whole allowed. refl;
   alike = λ th W s es' ss' all seals readings t caller quiet. plain_pairs th W (publish_puts (record { notice = None; lines = s.lines; clock = s.clock }) t notice content) (plain s t notice content);
 }

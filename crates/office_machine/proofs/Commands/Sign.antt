@@ -4,12 +4,12 @@ pub mod Fates
 use Rattle.std.specs.Prelude.{max, ℕ, Option, option_and_then, IsSome}
 use Rattle.std.proofs.Common.{[], ◌∷◌, refl, ◌≡◌, Bool, true, false, List, ◌++◌, map, filter, Some, None, is_some, option_map, sym, ◌∙◌, ap, arith, subst, not, ◌||◌}
 use Rattle.std.specs.List.{AllByRecursion}
-use Rattle.office_acts.specs.declared.commands.Command.TheVariants.{Sign}
-use Rattle.office_acts.specs.declared.tender.NamedSecurity.{NamedSecurity}
+use Rattle.office_commands.specs.declared.commands.Command.TheVariants.{Sign}
+use Rattle.office_commands.specs.declared.tender.NamedSecurity.{NamedSecurity}
 use Rattle.office_base.specs.Tables.{securities_of_lot, IsSorted, award_at, contract_at, Tables, envelope_at, tenderer_at, after_puts}
 use Rattle.office_base.specs.Parents.{securities_of_award, notice_of_award, lot_of_award, envelope_of_award}
 use Rattle.office_base.specs.declared.records.EnvelopeRow.{EnvelopeRow}
-use Rattle.office_base.specs.RuleParts.{released, has_all_releases, security_returned, put_if, securities_returned, is_held_security, clock_put}
+use Rattle.office_base.specs.Transitions.{with_next_release, has_all_releases, security_returned, put_if, securities_returned, is_held_security, clock_put}
 use Rattle.office_base.specs.declared.records.NoticeRow.{NoticeRow}
 use Rattle.office_base.specs.declared.records.LotRow.{LotRow}
 use Rattle.office_base.specs.declared.records.SecurityRow.{SecurityRow}
@@ -18,7 +18,7 @@ use Rattle.office_base.specs.declared.records.ClockRow.{ClockRow}
 use Rattle.office_base.specs.declared.puts.Put.{Put}
 use Rattle.office_base.specs.declared.puts.Put.TheVariants as puts
 use Rattle.award_core.specs.Rules.Sign.{sign_tests, sign_rows, sign_puts, sign_parts, performance_row, tenderer_in, performance_put, signed_award, contracted_lot, contract_row, sign_lacks}
-use Rattle.office_machine.specs.Worlds.{Theirs, Pairs}
+use Rattle.office_machine.specs.Worlds.{ChosenTender, Pairs}
 use Rattle.office_machine.specs.Parents.{HaveParents}
 use Rattle.office_machine.proofs.Worlds.WorldsPut.{Alike, plain-map, plain-append, plain-if, IsPlain, PutPair, blind-option, plain_pairs}
 use Rattle.office_machine.proofs.Parents.ParentsPut.{Grows, grows-puts, AllParents, envelope_still, award_still, parents-append, parents-if}
@@ -37,7 +37,7 @@ use Rattle.office_machine.proofs.Rows.Keyed as keyed
 -- the contract is there once it is signed
 contract_made : (s : Tables) (clock : ClockRow) (t : ℕ) (a : AwardRow) (n : NoticeRow) (l : LotRow) (o : Option EnvelopeRow) (rows : List SecurityRow) (rest : List Put) → IsSome (contract_at a.award (after_puts (sign_parts clock t a n l o rows ++ rest) s))
 contract_made s clock t a n l o rows rest =
-    (grows-puts (puts.Notice (released n) ∷ clock_put clock t ∷ securities_returned rows ++ rest) (after_puts (puts.Award (signed_award a) ∷ puts.Lot (contracted_lot l) ∷ puts.Contract (contract_row t a (tenderer_in o)) ∷ []) s)).contracts a.award
+    (grows-puts (puts.Notice (with_next_release n) ∷ clock_put clock t ∷ securities_returned rows ++ rest) (after_puts (puts.Award (signed_award a) ∷ puts.Lot (contracted_lot l) ∷ puts.Contract (contract_row t a (tenderer_in o)) ∷ []) s)).contracts a.award
     (ap is_some (found_put keyed.contracts s.contracts (contract_row t a (tenderer_in o))))
 
 module _ (s u : Tables) (have : HaveParents s s) (g : Grows s u) (order : IsSorted s) where
@@ -73,12 +73,12 @@ plain clock t (Some w) (Some n) None o r named = tt
 -- a tender is looked at for its tenderer alone
 same_signer : (clock : ClockRow) (t : ℕ) (w : Option AwardRow) (n : Option NoticeRow) (l : Option LotRow) (o o' : Option EnvelopeRow) (r : List SecurityRow) (named : Option NamedSecurity) → tenderer_in o' ≡ tenderer_in o → sign_puts (record { award = w; notice = n; lot = l; envelope = o'; securities = r; clock = clock }) t named ≡ sign_puts (record { award = w; notice = n; lot = l; envelope = o; securities = r; clock = clock }) t named
 same_signer clock t (Some w) (Some n) (Some l) o o' r named e =
-    ap (λ x. puts.Award (signed_award w) ∷ puts.Lot (contracted_lot l) ∷ puts.Contract (contract_row t w x) ∷ puts.Notice (released n) ∷ clock_put clock t ∷ securities_returned r ++ put_if (performance_put w) named) e
+    ap (λ x. puts.Award (signed_award w) ∷ puts.Lot (contracted_lot l) ∷ puts.Contract (contract_row t w x) ∷ puts.Notice (with_next_release n) ∷ clock_put clock t ∷ securities_returned r ++ put_if (performance_put w) named) e
 same_signer clock t None n l o o' r named e = refl
 same_signer clock t (Some w) None l o o' r named e = refl
 same_signer clock t (Some w) (Some n) None o o' r named e = refl
 
-module _ (th : Theirs) (W : ℕ → Bool) (s : Tables) (es' : List EnvelopeRow) (all : Pairs (Alike th W) s.envelopes es') where
+module _ (th : ChosenTender) (W : ℕ → Bool) (s : Tables) (es' : List EnvelopeRow) (all : Pairs (Alike th W) s.envelopes es') where
   alike : (t award : ℕ) (named : Option NamedSecurity) → Pairs (PutPair th W) (sign_puts (sign_rows s award) t named) (sign_puts (sign_rows (record s { envelopes = es' }) award) t named)
   alike t award named =
       let a = award_at award s in
@@ -110,7 +110,7 @@ sign award named = record {
       (bound (ap (option_and_then (λ (w : AwardRow). option_map (performance_row w) named)) of.is)
       (bonded (performance_row of.w) named
       (front (puts.Award _ ∷ puts.Lot _ ∷ puts.Contract _ ∷ []) (refl, (refl, (refl, tt)))
-      (loud of.w.notice of.n (released of.n) _ _ of.notice_is (ap has_all_releases (of.notice_is ∙ sym of.notice) ∙ tests.1.1.1.1.1.1.1.0) refl refl refl (returned_own (Awards ∷ Lots ∷ Contracts ∷ Securities ∷ []) refl securities) refl (omega arith)))));
+      (loud of.w.notice of.n (with_next_release of.n) _ _ of.notice_is (ap has_all_releases (of.notice_is ∙ sym of.notice) ∙ tests.1.1.1.1.1.1.1.0) refl refl refl (returned_own (Awards ∷ Lots ∷ Contracts ∷ Securities ∷ []) refl securities) refl (omega arith)))));
   parents = λ readings s moment caller order have registered may allowed u grown later. parents_of s u have grown order s.clock _ award named (award_at award s) (notice_of_award (award_at award s) s) (lot_of_award (award_at award s) s) refl refl later;
   lacks = λ xs s moment caller whole allowed. none_lacking s whole.parents award (award_at award s) refl;
   alike = λ th W s es' ss' all seals readings t caller quiet. alike th W s es' all t award named;

@@ -2,10 +2,10 @@
 use Rattle.std.proofs.Common.{[], ◌≡◌, ℕ, ◌+◌, ◌≤◌, ◌<◌, Bool, true, false, List, ◌∷◌, ◌++◌, map, filter, Option, Some, None, option_map, nat_le, refl, sym, ◌∙◌, ap, subst, arith}
 use Rattle.std.specs.Prelude.{option_and_then}
 use Rattle.std.proofs.lemmas.Bool.Decides.{nat_tests}
-use Rattle.office_acts.specs.declared.commands.Command.{Command}
-use Rattle.office_acts.specs.declared.commands.Command.TheVariants.{Sign, End}
+use Rattle.office_commands.specs.declared.commands.Command.{Command}
+use Rattle.office_commands.specs.declared.commands.Command.TheVariants.{Sign, End}
 use Rattle.office_base.specs.declared.records.ContractRow.{ContractRow}
-use Rattle.office_base.specs.RuleParts.{released, has_all_releases, security_returned, is_held_security, securities_returned, settled_performance, put_if}
+use Rattle.office_base.specs.Transitions.{with_next_release, has_all_releases, security_returned, is_held_security, securities_returned, settled_performance, put_if}
 use Rattle.office_base.specs.Parents.{notice_of_contract}
 use Rattle.office_base.specs.Tables.{contract_at, Tables, put_notice, put_performance, notice_at, award_at, performance_at, after_put, after_puts}
 use Rattle.office_base.specs.Limits.{release_limit}
@@ -210,7 +210,7 @@ returned_own names own rows = on-map (is_own names) security_returned (filter is
 
 -- a command on a contract that is there
 pub on_contract : {s : Tables} {t : ℕ} {names : List TableName} (contract : ℕ) (of : OfContract s contract) → has_all_releases (notice_of_contract (contract_at contract s) s) ≡ false
-    → HasTail s t names (option_map (λ (c : ContractRow). c.notice) (contract_at contract s)) None (puts.Notice (released of.n) ∷ puts.Clock (record s.clock { moment = t }) ∷ [])
+    → HasTail s t names (option_map (λ (c : ContractRow). c.notice) (contract_at contract s)) None (puts.Notice (with_next_release of.n) ∷ puts.Clock (record s.clock { moment = t }) ∷ [])
 on_contract {s = s} contract of full =
     moved (ap (option_map (λ (c : ContractRow). c.notice)) of.is) refl
-    (loud of.c.notice of.n (released of.n) _ [] of.notice_is (ap has_all_releases (of.notice_is ∙ sym of.notice) ∙ full) refl refl refl tt refl (omega arith))
+    (loud of.c.notice of.n (with_next_release of.n) _ [] of.notice_is (ap has_all_releases (of.notice_is ∙ sym of.notice) ∙ full) refl refl refl tt refl (omega arith))

@@ -2,13 +2,13 @@
 pub mod Fates
 use Rattle.std.specs.Prelude.{max}
 use Rattle.std.proofs.Common.{arith, ℕ, Bool, true, false, [], ◌∷◌, Option, None, refl, ◌≡◌, List, Some, ap, subst, sym, not, ◌||◌}
-use Rattle.office_acts.specs.declared.commands.Command.TheVariants.{Withdraw}
+use Rattle.office_commands.specs.declared.commands.Command.TheVariants.{Withdraw}
 use Rattle.office_base.specs.Tables.{find_envelope, Tables, envelope_at}
 use Rattle.office_base.specs.declared.records.EnvelopeRow.{EnvelopeRow}
 use Rattle.office_base.specs.Parents.{notice_of_envelope, late_of_envelope, security_of_envelope, lot_of_envelope}
 use Rattle.office_base.specs.declared.records.SecurityRow.{SecurityRow}
 use Rattle.office_base.specs.declared.records.SecurityState.TheVariants.{Returned, Forfeited}
-use Rattle.office_base.specs.RuleParts.{is_late, security_settled, put_if, settled, passed_over}
+use Rattle.office_base.specs.Transitions.{is_late, security_settled, put_if, settled, passed_over}
 use Rattle.office_base.specs.declared.records.SecurityState.{SecurityState}
 use Rattle.office_base.specs.declared.records.LateRow.{LateRow}
 use Rattle.office_base.specs.declared.records.NoticeRow.{NoticeRow}
@@ -16,7 +16,7 @@ use Rattle.office_base.specs.declared.records.ClockRow.{ClockRow}
 use Rattle.office_base.specs.declared.puts.Put.TheVariants as puts
 use Rattle.tender_core.specs.Rules.Withdraw.{withdraw_puts, withdraw_rows, withdraw_tests, taken_back_puts, withdraw_lacks}
 use Rattle.tender_core.specs.Rules.Modify.{withdrawn}
-use Rattle.office_machine.specs.Worlds.{Theirs, Pairs}
+use Rattle.office_machine.specs.Worlds.{ChosenTender, Pairs}
 use Rattle.office_machine.specs.Parents.{HaveParents, SecurityHas}
 use Rattle.office_machine.proofs.Commands.Footprint.{Envelopes, Seals, Securities, on-if}
 use Rattle.office_machine.proofs.Worlds.WorldsPut.{TwoEnvelopes, Alike, AlikeOptions, plain-if, PutPair, Plain, receipt_is, blind-option, plain_pairs, alike-set}
@@ -52,7 +52,7 @@ module _ (s u : Tables) (have : HaveParents s s) (g : Grows s u) where
   parents_of clock t receipt (Some e) n late is = taken_back_parents clock t receipt e is (is_late late t n)
 
 -- tenders that are alike are taken back alike
-module _ (th : Theirs) (W : ℕ → Bool) where
+module _ (th : ChosenTender) (W : ℕ → Bool) where
   taken_back_pairs : (clock : ClockRow) (t : ℕ) (e e' : EnvelopeRow) (r r' : Option SecurityRow) (late : Bool) → Alike th W e e' → r' ≡ r → Pairs (PutPair th W) (taken_back_puts clock t e r late) (taken_back_puts clock t e' r' late)
   taken_back_pairs clock t e e' r r' false a same = (
     TwoEnvelopes (withdrawn e) (withdrawn e') refl refl (alike-set th W withdrawn (λ _ _. refl) (λ _. refl) (λ _. refl) (λ _. refl) e e' a),
@@ -72,7 +72,7 @@ module _ (th : Theirs) (W : ℕ → Bool) where
   withdraw_pairs clock t (Some e) None n late r r' a same = absurd a
   withdraw_pairs clock t (Some e) (Some e') n late r r' a same = taken_back_pairs clock t e e' r r' (is_late late t n) a same
 
-module _ (th : Theirs) (W : ℕ → Bool) (s : Tables) (es' : List EnvelopeRow) (all : Pairs (Alike th W) s.envelopes es') where
+module _ (th : ChosenTender) (W : ℕ → Bool) (s : Tables) (es' : List EnvelopeRow) (all : Pairs (Alike th W) s.envelopes es') where
   -- what hangs on rows that are alike is the same
   alike : (t receipt : ℕ) → Pairs (PutPair th W) (withdraw_puts (withdraw_rows s receipt) t) (withdraw_puts (withdraw_rows (record s { envelopes = es' }) receipt) t)
   alike t receipt =

@@ -16,7 +16,7 @@ use Rattle.office_base.specs.declared.records.LotState.{LotState}
 use Rattle.office_base.specs.declared.records.LotState.TheVariants as lot
 use Rattle.office_base.specs.declared.records.NoticeState.{NoticeState}
 use Rattle.office_base.specs.declared.records.NoticeState.TheVariants as notice
-use Rattle.office_base.specs.RuleParts.{returned, settled, passed_over}
+use Rattle.office_base.specs.Transitions.{returned, settled, passed_over}
 use Rattle.award_core.specs.Rules.Fail.{failed_award}
 use Rattle.tender_core.specs.Rules.Cancel.{cancelled_award, returned_envelope}
 use Rattle.office_machine.proofs.Rows.Counting.{is_live}

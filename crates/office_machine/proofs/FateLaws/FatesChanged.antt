@@ -4,7 +4,7 @@ use Rattle.std.proofs.Common.{refl, sym, ap, ◌∙◌, subst, arith}
 use Rattle.std.proofs.lemmas.Bool.Decides.{nat_tests}
 use Rattle.std.specs.Cmp.{nat_cmp_total}
 use Rattle.std.specs.FinMap.{nat_cmp-IsAntisymmetric}
-use Rattle.office_acts.specs.declared.tender.NamedSecurity.{NamedSecurity}
+use Rattle.office_commands.specs.declared.tender.NamedSecurity.{NamedSecurity}
 use Rattle.office_base.specs.Rows.{holds_of}
 use Rattle.office_base.specs.declared.records.NoticeRow.{NoticeRow}
 use Rattle.office_base.specs.declared.records.EnvelopeRow.{EnvelopeRow}
@@ -14,44 +14,44 @@ use Rattle.office_base.specs.declared.records.EnvelopeState.{EnvelopeState}
 use Rattle.office_base.specs.declared.records.SecurityState.TheVariants as security
 use Rattle.office_base.specs.declared.records.LotState.{LotState}
 use Rattle.office_base.specs.States.{is_sealed, is_held}
-use Rattle.office_base.specs.RuleParts.{is_past_deadline}
+use Rattle.office_base.specs.Transitions.{is_past_deadline}
 use Rattle.office_base.specs.Tables.{Tables, security_key, envelope_at, seal_at, security_at, notice_at, find_security, put_security}
 use Rattle.office_machine.specs.Machine.{Given}
 use Rattle.office_machine.specs.Readings.{Readings}
-use Rattle.office_machine.specs.Fates.{Reception, brought, came, tender_decided, fate_of_tender, security_decided, fate_of_security, is_kept, has_number, is_before_deadline, is_effective, EnvelopeIs, SecurityIs}
+use Rattle.office_machine.specs.Fates.{Reception, received_by, received_at, tender_decided, fate_of_tender, security_decided, fate_of_security, is_kept, has_number, is_before_deadline, is_effective, EnvelopeIs, SecurityIs}
 use Rattle.office_machine.proofs.Rows.RowsChanged.{row_at-changed_put}
 use Rattle.office_base.proofs.RowLaws.Keyed.{found_key}
 use Rattle.office_machine.proofs.Rows.Counting.{is_live}
 use Rattle.office_machine.proofs.FateLaws.Views.{View, IsSound, EnvelopeFits, Change, IsFair, after_change, sound_changed}
 use Rattle.office_machine.proofs.FateLaws.Matched.{EnvelopeKeeps, SecurityKeeps, EnvelopesMatch}
 use Rattle.office_machine.proofs.FateLaws.Seen.{seen, AreInOrder, OnLines}
-use Rattle.office_machine.proofs.FateLaws.FatesHold.{IsKept, tenders_changed, named_changed}
+use Rattle.office_machine.proofs.FateLaws.FatesHold.{FatesStand, tenders_changed, named_changed}
 use Rattle.office_machine.proofs.Rows.Keyed as keyed
 
 -- what the command does to tenders, to seals and to securities is what it decides of them
 pub record Decides (digest : List ℕ → List ℕ) (xs : List Given) (x : Given) (t u : Tables) (c : Change) : Type 0 where
-  pub none : brought x.command x (λ q. came xs q) ≡ None
+  pub none : received_by x.command x (λ q. received_at xs q) ≡ None
   pub seen_is : seen u ≡ after_change c (seen t)
   pub receipts_are : u.clock.receipts ≡ t.clock.receipts
   pub e_keeps : EnvelopeKeeps digest c.envelope_to
   pub s_keeps : SecurityKeeps c.security_to
-  pub tender_goes : (r : ℕ) (e : EnvelopeRow) (a : Reception) → envelope_at r t ≡ Some e → came xs r ≡ Some a
+  pub tender_goes : (r : ℕ) (e : EnvelopeRow) (a : Reception) → envelope_at r t ≡ Some e → received_at xs r ≡ Some a
       → EnvelopeIs digest r a (fate_of_tender xs r) e (seal_at r t)
-      → (c.envelope_to r e).state ≡ cond (is_sealed e.state) (tender_decided x.command x (came xs) r) e.state
+      → (c.envelope_to r e).state ≡ cond (is_sealed e.state) (tender_decided x.command x (received_at xs) r) e.state
   pub seal_goes : (r : ℕ) (e : EnvelopeRow) (a : Reception) → envelope_at r t ≡ Some e → EnvelopeIs digest r a (fate_of_tender xs r) e (seal_at r t)
       → seal_at r u ≡ cond (is_kept (c.envelope_to r e).state) (Some (record { receipt = r; bytes = a.bytes })) None
   pub no_seal : (r : ℕ) → envelope_at r t ≡ None → seal_at r t ≡ None → seal_at r u ≡ None
-  pub security_goes : (s : ℕ) (w : SecurityRow) (a : Reception) (named : NamedSecurity) → security_at s t ≡ Some w → came xs s ≡ Some a
+  pub security_goes : (s : ℕ) (w : SecurityRow) (a : Reception) (named : NamedSecurity) → security_at s t ≡ Some w → received_at xs s ≡ Some a
       → SecurityIs s a named (fate_of_security xs s) w
-      → (c.security_to s w).state ≡ cond (is_held w.state) (security_decided x.command x (came xs) s) w.state
+      → (c.security_to s w).state ≡ cond (is_held w.state) (security_decided x.command x (received_at xs) s) w.state
 
-pub kept_by_change : (readings : Readings) (xs : List Given) (x : Given) (t u : Tables) (c : Change) → IsKept readings xs t → IsFair c (seen t)
+pub kept_by_change : (readings : Readings) (xs : List Given) (x : Given) (t u : Tables) (c : Change) → FatesStand readings xs t → IsFair c (seen t)
     → Decides readings.digest xs x t u c
-    → OnLines u.lines u.lots → AreInOrder u → IsKept readings (x ∷ xs) u
+    → OnLines u.lines u.lots → AreInOrder u → FatesStand readings (x ∷ xs) u
 kept_by_change readings xs x t u c kept fair d lines order = record {
   sound = subst IsSound (sym d.seen_is) (sound_changed c (seen t) kept.sound fair);
   tenders =
-      subst (λ (n : ℕ). EnvelopesMatch readings.digest (came (x ∷ xs)) (fate_of_tender (x ∷ xs)) (λ r. seal_at r u) n (λ r. envelope_at r u)) (sym d.receipts_are)
+      subst (λ (n : ℕ). EnvelopesMatch readings.digest (received_at (x ∷ xs)) (fate_of_tender (x ∷ xs)) (λ r. seal_at r u) n (λ r. envelope_at r u)) (sym d.receipts_are)
       (tenders_changed readings.digest xs x d.none t.clock.receipts (λ r. envelope_at r t) (λ r. envelope_at r u) (λ r. seal_at r t) (λ r. seal_at r u) kept.tenders
       c.envelope_to d.e_keeps (λ r. ap (λ (V : View). V.envelope_at r) d.seen_is) d.tender_goes d.seal_goes d.no_seal);
   named =
@@ -95,8 +95,8 @@ past t None late = cc
 past t (Some n) late = grind (arith, nat_tests)
 
 -- and one whose notice's deadline is past isn't
-pub not_effective : (xs : List Given) (x : Given) (r : ℕ) (e : EnvelopeRow) (a : Reception) → came xs r ≡ Some a → e.notice ≡ a.notice
-    → holds_of (is_past_deadline (Rattle.office_machine.specs.Machine.time_of x)) (notice_at e.notice x.before) ≡ true → is_effective x (came xs r) ≡ false
+pub not_effective : (xs : List Given) (x : Given) (r : ℕ) (e : EnvelopeRow) (a : Reception) → received_at xs r ≡ Some a → e.notice ≡ a.notice
+    → holds_of (is_past_deadline (Rattle.office_machine.specs.Machine.time_of x)) (notice_at e.notice x.before) ≡ true → is_effective x (received_at xs r) ≡ false
 not_effective xs x r e a came_is same late =
     ap (is_effective x) came_is
     ∙ ap (λ n. holds_of (is_before_deadline (Rattle.office_machine.specs.Machine.time_of x)) (notice_at n x.before)) (sym same)
@@ -108,8 +108,8 @@ not_past t (Some n) there h = grind (arith, nat_tests)
 
 -- a tender whose notice's deadline isn't past is withdrawn in time
 pub effective : (digest : List ℕ → List ℕ) (xs : List Given) (x : Given) (r : ℕ) (e : EnvelopeRow) (a : Reception) → EnvelopeFits (seen x.before) e
-    → came xs r ≡ Some a → e.notice ≡ a.notice
-    → holds_of (is_past_deadline (Rattle.office_machine.specs.Machine.time_of x)) (notice_at e.notice x.before) ≡ false → is_effective x (came xs r) ≡ true
+    → received_at xs r ≡ Some a → e.notice ≡ a.notice
+    → holds_of (is_past_deadline (Rattle.office_machine.specs.Machine.time_of x)) (notice_at e.notice x.before) ≡ false → is_effective x (received_at xs r) ≡ true
 effective digest xs x r e a fits came_is same not_late =
     ap (is_effective x) came_is
     ∙ ap (λ n. holds_of (is_before_deadline (Rattle.office_machine.specs.Machine.time_of x)) (notice_at n x.before)) (sym same)

@@ -1,9 +1,9 @@
 -- What holds of an office that accepted commands reach, and how commands keep it.
 use Rattle.std.specs.Prelude.{◌≡◌, ℕ, ◌+◌, Bool, true, false, cond, List, ◌∷◌, Option, Some, None, option_map, max}
 use Rattle.std.proofs.Common.{refl, sym, ap, ◌∙◌, subst}
-use Rattle.office_acts.specs.declared.tender.NamedSecurity.{NamedSecurity}
-use Rattle.office_acts.specs.declared.command.Caller.{Caller}
-use Rattle.office_acts.specs.declared.commands.Command.{Command}
+use Rattle.office_commands.specs.declared.tender.NamedSecurity.{NamedSecurity}
+use Rattle.office_commands.specs.declared.command.Caller.{Caller}
+use Rattle.office_commands.specs.declared.commands.Command.{Command}
 use Rattle.office_base.specs.declared.records.EnvelopeRow.{EnvelopeRow}
 use Rattle.office_base.specs.declared.records.SealRow.{SealRow}
 use Rattle.office_base.specs.declared.records.SecurityRow.{SecurityRow}
@@ -16,15 +16,15 @@ use Rattle.office_base.specs.Rules.{first_of}
 use Rattle.office_base.specs.Tables.{Tables, envelope_at, seal_at, security_at, after_puts}
 use Rattle.office_machine.specs.Machine.{Given, IsCommand, tests_for, puts_for}
 use Rattle.office_machine.specs.Readings.{Readings}
-use Rattle.office_machine.specs.Fates.{Reception, brought, came_after, came, tender_decided, fate_after, fate_of_tender, security_received, security_decided, security_after, fate_of_security, is_kept, EnvelopeIs, SecurityIs}
+use Rattle.office_machine.specs.Fates.{Reception, received_by, received_after, received_at, tender_decided, fate_after, fate_of_tender, security_received, security_decided, security_after, fate_of_security, is_kept, EnvelopeIs, SecurityIs}
 use Rattle.office_machine.proofs.FateLaws.Views.{IsSound}
 use Rattle.office_machine.proofs.FateLaws.Matched.{EnvelopesMatch, EnvelopeKeeps, envelopes_changed, SecuritiesMatch, SecurityKeeps, named_in, securities_changed}
 use Rattle.office_machine.proofs.FateLaws.Seen.{seen, AreInOrder, OnLines}
 
-pub record IsKept (readings : Readings) (xs : List Given) (t : Tables) : Type 0 where
+pub record FatesStand (readings : Readings) (xs : List Given) (t : Tables) : Type 0 where
   pub sound : IsSound (seen t)
-  pub tenders : EnvelopesMatch readings.digest (came xs) (fate_of_tender xs) (λ r. seal_at r t) t.clock.receipts (λ r. envelope_at r t)
-  pub named : SecuritiesMatch (came xs) (fate_of_security xs) (λ s. security_at s t)
+  pub tenders : EnvelopesMatch readings.digest (received_at xs) (fate_of_tender xs) (λ r. seal_at r t) t.clock.receipts (λ r. envelope_at r t)
+  pub named : SecuritiesMatch (received_at xs) (fate_of_security xs) (λ s. security_at s t)
   pub lines : OnLines t.lines t.lots
   pub order : AreInOrder t
 
@@ -32,9 +32,9 @@ abbrev pub given : Tables → ℕ → Caller → Command → Given
 given t m caller command = record { before = t; moment = m; caller = caller; command = command }
 
 abbrev pub Keeps : Readings → Command → Type 0
-Keeps readings command = (xs : List Given) (t : Tables) (m : ℕ) (caller : Caller) → IsKept readings xs t → IsCommand command
+Keeps readings command = (xs : List Given) (t : Tables) (m : ℕ) (caller : Caller) → FatesStand readings xs t → IsCommand command
     → first_of (tests_for t (max m t.clock.moment) caller command) ≡ None
-    → IsKept readings (given t m caller command ∷ xs) (after_puts (puts_for readings t (max m t.clock.moment) caller command) t)
+    → FatesStand readings (given t m caller command ∷ xs) (after_puts (puts_for readings t (max m t.clock.moment) caller command) t)
 
 -- what is decided stays so, and what isn't is decided now
 fate_step : (st : EnvelopeState) (now : Option Reception) (d : EnvelopeState) → fate_after (Some st) now d ≡ Some (cond (is_sealed st) d st)
@@ -72,7 +72,7 @@ none_new true = refl
 none_new false = refl
 
 -- nothing came in
-pub came_none : (o new : Option Reception) (b : Bool) → new ≡ None → came_after o (cond b new None) ≡ o
+pub came_none : (o new : Option Reception) (b : Bool) → new ≡ None → received_after o (cond b new None) ≡ o
 came_none None new b e = ap (λ (n : Option Reception). cond b n None) e ∙ none_new b
 came_none (Some c) new b e = refl
 
@@ -88,57 +88,57 @@ none_security : (fate : Option SecurityState) (now : Option Reception) (d : Secu
 none_security fate now d e n = ap (λ f. security_after f now d) e ∙ no_name now n
 
 -- a command that takes no tender in
-module _ (digest : List ℕ → List ℕ) (xs : List Given) (x : Given) (none : brought x.command x (λ q. came xs q) ≡ None) where
-  came_same : (r : ℕ) → came (x ∷ xs) r ≡ came xs r
-  came_same r = came_none (came xs r) (brought x.command x (λ q. came xs q)) (Rattle.office_base.specs.Tables.same_number r (x.before.clock.receipts + 1)) none
+module _ (digest : List ℕ → List ℕ) (xs : List Given) (x : Given) (none : received_by x.command x (λ q. received_at xs q) ≡ None) where
+  came_same : (r : ℕ) → received_at (x ∷ xs) r ≡ received_at xs r
+  came_same r = came_none (received_at xs r) (received_by x.command x (λ q. received_at xs q)) (Rattle.office_base.specs.Tables.same_number r (x.before.clock.receipts + 1)) none
 
-  module _ (n : ℕ) (E E' : ℕ → Option EnvelopeRow) (K K' : ℕ → Option SealRow) (m : EnvelopesMatch digest (came xs) (fate_of_tender xs) K n E)
+  module _ (n : ℕ) (E E' : ℕ → Option EnvelopeRow) (K K' : ℕ → Option SealRow) (m : EnvelopesMatch digest (received_at xs) (fate_of_tender xs) K n E)
       (f : ℕ → EnvelopeRow → EnvelopeRow) (keeps : EnvelopeKeeps digest f) (is : (r : ℕ) → E' r ≡ option_map (f r) (E r))
-      (goes : (r : ℕ) (e : EnvelopeRow) (c : Reception) → E r ≡ Some e → came xs r ≡ Some c → EnvelopeIs digest r c (fate_of_tender xs r) e (K r)
-      → (f r e).state ≡ cond (is_sealed e.state) (tender_decided x.command x (came xs) r) e.state)
+      (goes : (r : ℕ) (e : EnvelopeRow) (c : Reception) → E r ≡ Some e → received_at xs r ≡ Some c → EnvelopeIs digest r c (fate_of_tender xs r) e (K r)
+      → (f r e).state ≡ cond (is_sealed e.state) (tender_decided x.command x (received_at xs) r) e.state)
       (seal : (r : ℕ) (e : EnvelopeRow) (c : Reception) → E r ≡ Some e → EnvelopeIs digest r c (fate_of_tender xs r) e (K r)
       → K' r ≡ cond (is_kept (f r e).state) (Some (record { receipt = r; bytes = c.bytes })) None)
       (no_seal : (r : ℕ) → E r ≡ None → K r ≡ None → K' r ≡ None) where
-    changed_tenders : EnvelopesMatch digest (came (x ∷ xs)) (fate_of_tender (x ∷ xs)) K' n (λ r. option_map (f r) (E r))
+    changed_tenders : EnvelopesMatch digest (received_at (x ∷ xs)) (fate_of_tender (x ∷ xs)) K' n (λ r. option_map (f r) (E r))
     changed_tenders =
-        envelopes_changed digest (came xs) (came (x ∷ xs)) (fate_of_tender xs) (fate_of_tender (x ∷ xs)) K K' n E m f keeps
+        envelopes_changed digest (received_at xs) (received_at (x ∷ xs)) (fate_of_tender xs) (fate_of_tender (x ∷ xs)) K K' n E m f keeps
         came_same
         (λ r e found c came_is stands. record {
           fate_is =
-              fate_goes (fate_of_tender xs r) e.state (came (x ∷ xs) r) (tender_decided x.command x (came xs) r) stands.fate_is
+              fate_goes (fate_of_tender xs r) e.state (received_at (x ∷ xs) r) (tender_decided x.command x (received_at xs) r) stands.fate_is
               ∙ sym (ap Some (goes r e c found came_is stands));
           seal_is = seal r e c found stands;
         })
         (λ r found was. record {
           no_reception = came_same r ∙ was.no_reception;
           no_fate =
-              none_fate (fate_of_tender xs r) (came (x ∷ xs) r) (tender_decided x.command x (came xs) r) was.no_fate (came_same r ∙ was.no_reception);
+              none_fate (fate_of_tender xs r) (received_at (x ∷ xs) r) (tender_decided x.command x (received_at xs) r) was.no_fate (came_same r ∙ was.no_reception);
           no_seal = no_seal r found was.no_seal;
         })
 
-    pub tenders_changed : EnvelopesMatch digest (came (x ∷ xs)) (fate_of_tender (x ∷ xs)) K' n E'
-    tenders_changed = subst (EnvelopesMatch digest (came (x ∷ xs)) (fate_of_tender (x ∷ xs)) K' n) (sym (λ i r. is r i)) changed_tenders
+    pub tenders_changed : EnvelopesMatch digest (received_at (x ∷ xs)) (fate_of_tender (x ∷ xs)) K' n E'
+    tenders_changed = subst (EnvelopesMatch digest (received_at (x ∷ xs)) (fate_of_tender (x ∷ xs)) K' n) (sym (λ i r. is r i)) changed_tenders
 
-  module _ (S S' : ℕ → Option SecurityRow) (m : SecuritiesMatch (came xs) (fate_of_security xs) S) (g : ℕ → SecurityRow → SecurityRow)
+  module _ (S S' : ℕ → Option SecurityRow) (m : SecuritiesMatch (received_at xs) (fate_of_security xs) S) (g : ℕ → SecurityRow → SecurityRow)
       (keeps : SecurityKeeps g)
       (is : (s : ℕ) → S' s ≡ option_map (g s) (S s))
-      (goes : (s : ℕ) (w : SecurityRow) (c : Reception) (named : NamedSecurity) → S s ≡ Some w → came xs s ≡ Some c → SecurityIs s c named (fate_of_security xs s) w
-      → (g s w).state ≡ cond (is_held w.state) (security_decided x.command x (came xs) s) w.state) where
-    changed_named : SecuritiesMatch (came (x ∷ xs)) (fate_of_security (x ∷ xs)) (λ s. option_map (g s) (S s))
+      (goes : (s : ℕ) (w : SecurityRow) (c : Reception) (named : NamedSecurity) → S s ≡ Some w → received_at xs s ≡ Some c → SecurityIs s c named (fate_of_security xs s) w
+      → (g s w).state ≡ cond (is_held w.state) (security_decided x.command x (received_at xs) s) w.state) where
+    changed_named : SecuritiesMatch (received_at (x ∷ xs)) (fate_of_security (x ∷ xs)) (λ s. option_map (g s) (S s))
     changed_named =
-        securities_changed (came xs) (came (x ∷ xs)) (fate_of_security xs) (fate_of_security (x ∷ xs)) S m g keeps
+        securities_changed (received_at xs) (received_at (x ∷ xs)) (fate_of_security xs) (fate_of_security (x ∷ xs)) S m g keeps
         (λ s w found. came_same s)
         (λ s w found c named came_is named_is stands.
-        security_goes (fate_of_security xs s) w.state (came (x ∷ xs) s) (security_decided x.command x (came xs) s) stands.fate_is
+        security_goes (fate_of_security xs s) w.state (received_at (x ∷ xs) s) (security_decided x.command x (received_at xs) s) stands.fate_is
         ∙ sym (ap Some (goes s w c named found came_is stands)))
         (λ s found was. record {
           none_named = ap named_in (came_same s) ∙ was.none_named;
           no_fate =
-              none_security (fate_of_security xs s) (came (x ∷ xs) s) (security_decided x.command x (came xs) s) was.no_fate (ap named_in (came_same s) ∙ was.none_named);
+              none_security (fate_of_security xs s) (received_at (x ∷ xs) s) (security_decided x.command x (received_at xs) s) was.no_fate (ap named_in (came_same s) ∙ was.none_named);
         })
 
-    pub named_changed : SecuritiesMatch (came (x ∷ xs)) (fate_of_security (x ∷ xs)) S'
-    named_changed = subst (SecuritiesMatch (came (x ∷ xs)) (fate_of_security (x ∷ xs))) (sym (λ i s. is s i)) changed_named
+    pub named_changed : SecuritiesMatch (received_at (x ∷ xs)) (fate_of_security (x ∷ xs)) S'
+    named_changed = subst (SecuritiesMatch (received_at (x ∷ xs)) (fate_of_security (x ∷ xs))) (sym (λ i s. is s i)) changed_named
 
 map_same : {X : Type 0} (o : Option X) → o ≡ option_map (λ x. x) o
 map_same None = refl
@@ -168,18 +168,18 @@ securities_keep = record {
 }
 
 -- a command that takes in and decides no tender leaves the envelopes as they are; likewise one that decides no security
-module _ (digest : List ℕ → List ℕ) (xs : List Given) (x : Given) (none : brought x.command x (λ q. came xs q) ≡ None) where
-  pub tenders_same : (n : ℕ) (E E' : ℕ → Option EnvelopeRow) (K K' : ℕ → Option SealRow) → EnvelopesMatch digest (came xs) (fate_of_tender xs) K n E
-      → ((r : ℕ) → tender_decided x.command x (came xs) r ≡ envelope.Sealed) → ((r : ℕ) → E' r ≡ E r) → ((r : ℕ) → K' r ≡ K r)
-      → EnvelopesMatch digest (came (x ∷ xs)) (fate_of_tender (x ∷ xs)) K' n E'
+module _ (digest : List ℕ → List ℕ) (xs : List Given) (x : Given) (none : received_by x.command x (λ q. received_at xs q) ≡ None) where
+  pub tenders_same : (n : ℕ) (E E' : ℕ → Option EnvelopeRow) (K K' : ℕ → Option SealRow) → EnvelopesMatch digest (received_at xs) (fate_of_tender xs) K n E
+      → ((r : ℕ) → tender_decided x.command x (received_at xs) r ≡ envelope.Sealed) → ((r : ℕ) → E' r ≡ E r) → ((r : ℕ) → K' r ≡ K r)
+      → EnvelopesMatch digest (received_at (x ∷ xs)) (fate_of_tender (x ∷ xs)) K' n E'
   tenders_same n E E' K K' m undecided same seals =
       tenders_changed digest xs x none n E E' K K' m (λ r e. e) (all_keep digest) (λ r. same r ∙ map_same (E r))
       (λ r e c found came_is stands. still_sealed e.state ∙ ap (λ d. cond (is_sealed e.state) d e.state) (sym (undecided r)))
       (λ r e c found stands. seals r ∙ stands.seal_is)
       (λ r found no. seals r ∙ no)
 
-  pub named_same : (S S' : ℕ → Option SecurityRow) → SecuritiesMatch (came xs) (fate_of_security xs) S
-      → ((s : ℕ) → security_decided x.command x (came xs) s ≡ security.Held) → ((s : ℕ) → S' s ≡ S s) → SecuritiesMatch (came (x ∷ xs)) (fate_of_security (x ∷ xs)) S'
+  pub named_same : (S S' : ℕ → Option SecurityRow) → SecuritiesMatch (received_at xs) (fate_of_security xs) S
+      → ((s : ℕ) → security_decided x.command x (received_at xs) s ≡ security.Held) → ((s : ℕ) → S' s ≡ S s) → SecuritiesMatch (received_at (x ∷ xs)) (fate_of_security (x ∷ xs)) S'
   named_same S S' m undecided same =
       named_changed digest xs x none S S' m (λ s w. w) securities_keep (λ s. same s ∙ map_same (S s))
       (λ s w c named found came_is stands. still_held w.state ∙ ap (λ d. cond (is_held w.state) d w.state) (sym (undecided s)))

@@ -1,12 +1,12 @@
 -- The notices of which tenders may be withdrawn late are those whose accepted publication said so.
 use Rattle.std.specs.Prelude.{◌≡◌, ℕ, Bool, true, false, cond, ◌&&◌, ◌||◌, List, [], ◌∷◌, ◌++◌, map, Option, Some, None}
 use Rattle.std.proofs.Common.{refl, sym, ap, ◌∙◌, subst}
-use Rattle.office_acts.specs.declared.command.Caller.{Caller}
-use Rattle.office_acts.specs.declared.commands.Command.{Command}
-use Rattle.office_acts.specs.declared.commands.Command.TheVariants.{Publish}
-use Rattle.office_acts.specs.declared.notice.LateWithdrawal.{LateWithdrawal}
-use Rattle.office_acts.specs.declared.notice.LateWithdrawal.TheVariants.{Refused, Forfeits}
-use Rattle.office_acts.specs.declared.notice.NewNotice.{NewNotice}
+use Rattle.office_commands.specs.declared.command.Caller.{Caller}
+use Rattle.office_commands.specs.declared.commands.Command.{Command}
+use Rattle.office_commands.specs.declared.commands.Command.TheVariants.{Publish}
+use Rattle.office_commands.specs.declared.notice.LateWithdrawal.{LateWithdrawal}
+use Rattle.office_commands.specs.declared.notice.LateWithdrawal.TheVariants.{Refused, Forfeits}
+use Rattle.office_commands.specs.declared.notice.NewNotice.{NewNotice}
 use Rattle.office_values.specs.Ids.{same_id}
 use Rattle.office_base.specs.Rows.{row_at}
 use Rattle.office_base.specs.Rules.{first_of}
@@ -17,7 +17,7 @@ use Rattle.office_base.specs.declared.records.LineRow.{LineRow}
 use Rattle.office_base.specs.declared.records.ReleaseRow.{ReleaseRow}
 use Rattle.office_base.specs.Tables.{Tables, late_at, find_late, put_late, after_puts}
 use Rattle.office_base.proofs.ExactKeys.{equal_ids, same_id_is}
-use Rattle.tender_core.specs.Rules.Publish.{late_puts, line_put, lot_put, publish_parts, publish_puts, publish_rows}
+use Rattle.tender_core.specs.Rules.Publish.{late_puts, reserving_line_put, new_lot_put, publish_parts, publish_puts, publish_rows}
 use Rattle.office_machine.specs.Late.{LateRulesAreKept, is_forfeiting, late_row, lets_late, was_let_late}
 use Rattle.office_machine.specs.Machine.{Given, Means, Reaches, command_tests, effect, next, publication, publication_puts, time_of}
 use Rattle.office_machine.proofs.Accounts.Aside.{after-append}
@@ -43,9 +43,9 @@ isnt_late name = true
 
 parts_on : (clock : ClockRow) (t : ℕ) (notice : List ℕ) (lines : List LineRow) (content : NewNotice) → AreOn isnt_late (publish_parts clock t notice lines content)
 parts_on clock t notice lines content =
-    on-append isnt_late (map (line_put lines content.lots) content.lots ++ map (lot_put notice) content.lots) _
-    (on-append isnt_late (map (line_put lines content.lots) content.lots) (map (lot_put notice) content.lots)
-    (on-map isnt_late (line_put lines content.lots) content.lots (λ _. refl)) (on-map isnt_late (lot_put notice) content.lots (λ _. refl)))
+    on-append isnt_late (map (reserving_line_put lines content.lots) content.lots ++ map (new_lot_put notice) content.lots) _
+    (on-append isnt_late (map (reserving_line_put lines content.lots) content.lots) (map (new_lot_put notice) content.lots)
+    (on-map isnt_late (reserving_line_put lines content.lots) content.lots (λ _. refl)) (on-map isnt_late (new_lot_put notice) content.lots (λ _. refl)))
     (refl, (refl, tt))
 
 abbrev with_late : LateWithdrawal → List ℕ → List LateRow → List LateRow
@@ -110,7 +110,7 @@ published_kept xs t (Some p) kept q = kept q
 
 pub late_rules_kept : LateRulesAreKept
 unfolding row_at
-late_rules_kept means = along means AreKept (λ q. refl) (λ trees in_order xs t of_notices kept q. kept q)
+late_rules_kept means = along means AreKept (λ q. refl) (λ merges in_order xs t of_notices kept q. kept q)
     (λ xs x accepted kept.
     subst (AreKept (x ∷ xs)) (sym (after-append (effect means.readings x) (publication_puts (publication means x)) x.before))
     (published_kept (x ∷ xs) (after_puts (effect means.readings x) x.before) (publication means x)

@@ -5,7 +5,7 @@ use Rattle.std.specs.Cmp.{nat_cmp_total}
 use Rattle.std.specs.FinMap.{nat_cmp-IsAntisymmetric}
 use Rattle.std.specs.Ordering.{nat_cmp, eq_by_cmp}
 use Rattle.office_values.specs.Ids.{same_id}
-use Rattle.office_acts.specs.declared.tender.NamedSecurity.{NamedSecurity}
+use Rattle.office_commands.specs.declared.tender.NamedSecurity.{NamedSecurity}
 use Rattle.office_base.specs.declared.records.SecurityRow.{SecurityRow}
 use Rattle.office_base.specs.declared.records.AwardRow.{AwardRow}
 use Rattle.office_base.specs.declared.records.EnvelopeState.TheVariants as envelope
@@ -16,11 +16,11 @@ use Rattle.office_base.specs.declared.records.LotState.TheVariants as lot
 use Rattle.office_base.specs.declared.records.LotState.{LotState}
 use Rattle.office_base.specs.declared.records.NoticeState.TheVariants as notice
 use Rattle.office_base.specs.States.{is_held, is_sealed}
-use Rattle.office_base.specs.RuleParts.{is_held_security, returned}
+use Rattle.office_base.specs.Transitions.{is_held_security, returned}
 use Rattle.office_base.specs.Tables.{Tables, lot_cmp, security_key, envelope_at, seal_at, security_at, securities_of_lot, find_security}
 use Rattle.office_machine.specs.Machine.{Given}
 use Rattle.office_machine.specs.Readings.{Readings}
-use Rattle.office_machine.specs.Fates.{Reception, brought, came, is_of_lot, tender_decided, security_decided, fate_of_security, SecurityIs}
+use Rattle.office_machine.specs.Fates.{Reception, received_by, received_at, is_received_for, tender_decided, security_decided, fate_of_security, SecurityIs}
 use Rattle.office_machine.proofs.Rows.Counting.{is_live}
 use Rattle.office_base.proofs.ExactKeys.{equal_ids, same_itself}
 use Rattle.office_machine.proofs.Rows.RowsChanged.{rows_put, changed, row_at-changed}
@@ -29,7 +29,7 @@ use Rattle.office_machine.proofs.FateLaws.Views.{Change, after_change}
 use Rattle.office_machine.proofs.FateLaws.Steps.{cond_keeps, both_true}
 use Rattle.office_machine.proofs.FateLaws.Decisions.{closing, fair_closing}
 use Rattle.office_machine.proofs.FateLaws.Seen.{seen, alike, AreInOrder, OnLines}
-use Rattle.office_machine.proofs.FateLaws.FatesHold.{IsKept, still_sealed, all_keep}
+use Rattle.office_machine.proofs.FateLaws.FatesHold.{FatesStand, still_sealed, all_keep}
 use Rattle.office_machine.proofs.FateLaws.FatesChanged.{kept_by_change}
 use Rattle.office_machine.proofs.FateLaws.States.{map_same}
 
@@ -64,7 +64,7 @@ securities_go_back t n l s order =
     ap (λ rs. find_security (rows_put nat_cmp security_key t.securities (map returned rs)) s) (filter_filter is_held_security (λ (w : SecurityRow). same_id w.notice n && same_id w.lot l) t.securities)
     ∙ row_at-changed nat_cmp_total nat_cmp-IsAntisymmetric security_key returned (λ w. refl) (is_held_of n l) t.securities s order.2
 
-module _ (readings : Readings) (xs : List Given) (x : Given) (t u : Tables) (kept : IsKept readings xs t) (n l : List ℕ) (closed : LotState)
+module _ (readings : Readings) (xs : List Given) (x : Given) (t u : Tables) (kept : FatesStand readings xs t) (n l : List ℕ) (closed : LotState)
     (is_closed : is_live (Some closed) ≡ false)
     (award_to : ℕ → AwardRow → AwardRow)
     (not_receiving : (seen t).lot_at (n, l) ≡ Some lot.Undecided → (seen t).notice_at n ≡ Some notice.Receiving → ⊥)
@@ -72,9 +72,9 @@ module _ (readings : Readings) (xs : List Given) (x : Given) (t u : Tables) (kep
     (a_receipt : (a : ℕ) (w : AwardRow) → (award_to a w).receipt ≡ w.receipt)
     (active : (a : ℕ) (w : AwardRow) → (seen t).award_at a ≡ Some w → (award_to a w).state ≡ award.Active → w.state ≡ award.Active)
     (elsewhere : (a : ℕ) (w : AwardRow) → (seen t).award_at a ≡ Some w → (award_to a w).state ≡ award.Active → w.notice ≡ n → w.lot ≡ l → ⊥)
-    (none : brought x.command x (λ q. came xs q) ≡ None)
-    (undecided : (r : ℕ) → tender_decided x.command x (came xs) r ≡ envelope.Sealed)
-    (decided : (s : ℕ) → security_decided x.command x (came xs) s ≡ cond (is_of_lot n l (came xs s)) security.Returned security.Held)
+    (none : received_by x.command x (λ q. received_at xs q) ≡ None)
+    (undecided : (r : ℕ) → tender_decided x.command x (received_at xs) r ≡ envelope.Sealed)
+    (decided : (s : ℕ) → security_decided x.command x (received_at xs) s ≡ cond (is_received_for n l (received_at xs s)) security.Returned security.Held)
     (envelopes_are : (r : ℕ) → envelope_at r u ≡ envelope_at r t)
     (seals_are : (r : ℕ) → seal_at r u ≡ seal_at r t)
     (securities_are : (s : ℕ) → security_at s u ≡ option_map (changed (is_held_of n l) returned) (security_at s t))
@@ -86,16 +86,16 @@ module _ (readings : Readings) (xs : List Given) (x : Given) (t u : Tables) (kep
   c =
       closing (seen t) kept.sound (n, l) closed is_closed award_to (is_held_of n l) (held_of_all n l) (held_of_only n l) not_receiving a_notice a_lot a_receipt active elsewhere
 
-  security_goes : (s : ℕ) (w : SecurityRow) (a : Reception) (named : NamedSecurity) → security_at s t ≡ Some w → came xs s ≡ Some a
+  security_goes : (s : ℕ) (w : SecurityRow) (a : Reception) (named : NamedSecurity) → security_at s t ≡ Some w → received_at xs s ≡ Some a
       → SecurityIs s a named (fate_of_security xs s) w
-      → (c.security_to s w).state ≡ cond (is_held w.state) (security_decided x.command x (came xs) s) w.state
+      → (c.security_to s w).state ≡ cond (is_held w.state) (security_decided x.command x (received_at xs) s) w.state
   security_goes s w a named at came_is is =
       returned_by w w.state (same_id w.notice n && same_id w.lot l) refl
       ∙ ap (λ b. cond (is_held w.state) (cond b security.Returned security.Held) w.state)
-      (ap (λ q. same_id q n && same_id w.lot l) is.of_notice ∙ ap (λ q. same_id a.notice n && same_id q l) is.of_lot ∙ sym (ap (is_of_lot n l) came_is))
+      (ap (λ q. same_id q n && same_id w.lot l) is.of_notice ∙ ap (λ q. same_id a.notice n && same_id q l) is.of_lot ∙ sym (ap (is_received_for n l) came_is))
       ∙ ap (λ d. cond (is_held w.state) d w.state) (sym (decided s))
 
-  pub closing_kept : IsKept readings (x ∷ xs) u
+  pub closing_kept : FatesStand readings (x ∷ xs) u
   closing_kept =
       kept_by_change readings xs x t u c kept
       (fair_closing (seen t) kept.sound (n, l) closed is_closed award_to (is_held_of n l) (held_of_all n l) (held_of_only n l) not_receiving a_notice a_lot a_receipt active elsewhere)

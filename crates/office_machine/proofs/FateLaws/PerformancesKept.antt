@@ -6,12 +6,12 @@ use Rattle.std.specs.List.{AllByRecursion}
 use Rattle.std.specs.Cmp.{nat_cmp_total}
 use Rattle.std.specs.FinMap.{nat_cmp-IsAntisymmetric}
 use Rattle.std.specs.Ordering.{nat_cmp, eq_by_cmp}
-use Rattle.office_acts.specs.declared.tender.NamedSecurity.{NamedSecurity}
-use Rattle.office_acts.specs.declared.command.Caller.{Caller}
-use Rattle.office_acts.specs.declared.contract.How.{How}
-use Rattle.office_acts.specs.declared.contract.How.TheVariants as hows
-use Rattle.office_acts.specs.declared.commands.Command.{Command}
-use Rattle.office_acts.specs.declared.commands.Command.TheVariants.{Sign, End}
+use Rattle.office_commands.specs.declared.tender.NamedSecurity.{NamedSecurity}
+use Rattle.office_commands.specs.declared.command.Caller.{Caller}
+use Rattle.office_commands.specs.declared.contract.How.{How}
+use Rattle.office_commands.specs.declared.contract.How.TheVariants as hows
+use Rattle.office_commands.specs.declared.commands.Command.{Command}
+use Rattle.office_commands.specs.declared.commands.Command.TheVariants.{Sign, End}
 use Rattle.office_values.specs.declared.refusal.Refusal.{Refusal}
 use Rattle.office_base.specs.declared.records.AwardRow.{AwardRow}
 use Rattle.office_base.specs.declared.records.NoticeRow.{NoticeRow}
@@ -25,7 +25,7 @@ use Rattle.office_base.specs.Tables.{Tables, performance_key, performance_at, co
 use Rattle.office_machine.specs.Fates.{named_for, named_after, performance_named, performance_decided, performance_after, fate_of_performance, ended_fate, HasPerformance}
 use Rattle.office_base.specs.Rules.{first_of}
 use Rattle.office_base.specs.Parents.{notice_of_award, envelope_of_award, securities_of_award}
-use Rattle.office_base.specs.RuleParts.{put_if, performance_settled, settled_performance, is_held_security, security_returned, securities_returned}
+use Rattle.office_base.specs.Transitions.{put_if, performance_settled, settled_performance, is_held_security, security_returned, securities_returned}
 use Rattle.office_base.specs.declared.records.ReleaseRow.{ReleaseRow}
 use Rattle.office_base.specs.declared.records.CompiledRow.{CompiledRow}
 use Rattle.office_base.specs.Tables.{award_at, entries_of_contract, after_puts}
@@ -33,7 +33,7 @@ use Rattle.award_core.specs.Rules.Sign.{contract_row, is_missing, sign_parts, pe
 use Rattle.award_core.specs.Rules.End.{end_parts, ended_contract, ended_state, end_puts}
 use Rattle.award_core.specs.Rules.Fail.{isnt_active}
 use Rattle.office_base.specs.States.{is_active}
-use Rattle.office_machine.specs.Machine.{Given, Means, Reaches, time_of, effect, publication, publication_puts, command_tests, with_trees}
+use Rattle.office_machine.specs.Machine.{Given, Means, Reaches, time_of, effect, publication, publication_puts, command_tests, with_merges}
 use Rattle.office_machine.specs.Fates.{PerformancesHaveFates, PerformancesAreKept}
 use Rattle.office_machine.specs.Parents.{HaveParents, HavePerformances, PerformancesAreThere}
 use Rattle.office_machine.specs.Publications.{published_for}
@@ -44,7 +44,7 @@ use Rattle.office_machine.proofs.Commands.Footprint.{TableName, Securities, leav
 use Rattle.office_machine.proofs.Commands.Tail.{HasTail, bond_for, is_bond, is_touched, with_performance}
 use Rattle.office_machine.proofs.Accounts.Aside.{after-append}
 use Rattle.office_machine.proofs.FateLaws.Added.{equal_numbers}
-use Rattle.office_machine.proofs.Accounts.Kept.{IsKept}
+use Rattle.office_machine.proofs.Accounts.Kept.{AccountsStand}
 use Rattle.office_machine.proofs.Accounts.AccountsKept.{all_kept}
 use Rattle.office_machine.proofs.Parents.ParentsThere.{parents_there}
 use Rattle.office_machine.proofs.Parents.PerformancesAsked.{asks_as_before, of_old}
@@ -172,7 +172,7 @@ module _ (x : Given) (xs : List Given) (c : ℕ) (before after : Option Performa
   elsewhere_kept : named_for x.command c ≡ None → performance_decided x.command c ≡ security.Held → HasPerformance c (performance_named (x ∷ xs) c) (fate_of_performance (x ∷ xs) c) after
   elsewhere_kept none undecided = subst (HasPerformance c (performance_named (x ∷ xs) c) (fate_of_performance (x ∷ xs) c)) (sym same) (one_idle c x xs before none undecided h)
 
-module _ (means : Means) (xs : List Given) (s : Tables) (moment : ℕ) (caller : Caller) (kept : AreKept xs s) (accounts : IsKept xs s) (reached : Reaches means xs s) where
+module _ (means : Means) (xs : List Given) (s : Tables) (moment : ℕ) (caller : Caller) (kept : AreKept xs s) (accounts : AccountsStand xs s) (reached : Reaches means xs s) where
   abbrev given : Command → Given
   given command = record { before = s; moment = moment; caller = caller; command = command }
 
@@ -397,14 +397,14 @@ published_kept : (means : Means) (xs : List Given) (t : Tables) (p : Option Rele
 published_kept means xs t None kept = kept
 published_kept means xs t (Some p) kept = record { fates = kept.fates; asked = kept.asked }
 
-beside : (trees : List CompiledRow) (xs : List Given) (t : Tables) → AreKept xs t → AreKept xs (with_trees trees t)
-beside trees xs t kept = record { fates = kept.fates; asked = kept.asked }
+beside : (merges : List CompiledRow) (xs : List Given) (t : Tables) → AreKept xs t → AreKept xs (with_merges merges t)
+beside merges xs t kept = record { fates = kept.fates; asked = kept.asked }
 
 kept_along : (means : Means) (xs : List Given) (t : Tables) → Reaches means xs t → AreKept xs t
 unfolding Rattle.office_base.specs.Rows.row_at
 kept_along means =
     along means AreKept (record { fates = λ c. refl; asked = λ k c n found. absurd (let no : None ≡ Some c = found in cc) })
-    (λ trees in_order xs t of_notices. beside trees xs t)
+    (λ merges in_order xs t of_notices. beside merges xs t)
     (λ xs x accepted kept.
     subst (AreKept (x ∷ xs)) (sym (after-append (effect means.readings x) (publication_puts (publication means x)) x.before))
     (published_kept means (x ∷ xs) (after_puts (effect means.readings x) x.before) (publication means x)

@@ -17,12 +17,12 @@ use Rattle.office_base.specs.declared.records.SecurityState.TheVariants as secur
 use Rattle.office_base.specs.declared.puts.Put.TheVariants as puts
 use Rattle.office_machine.specs.Machine.{Given, publication_puts}
 use Rattle.office_machine.specs.Readings.{Readings}
-use Rattle.office_machine.specs.Fates.{brought, came, tender_decided, fate_of_tender, security_decided, fate_of_security}
+use Rattle.office_machine.specs.Fates.{received_by, received_at, tender_decided, fate_of_tender, security_decided, fate_of_security}
 use Rattle.office_base.proofs.RowLaws.Keyed.{found_key}
 use Rattle.office_machine.proofs.FateLaws.Views.{View, IsSound}
 use Rattle.office_machine.proofs.FateLaws.Matched.{EnvelopesMatch, SecuritiesMatch}
 use Rattle.office_machine.proofs.FateLaws.Seen.{seen, notice_state, IsQuiet, quiet, LotFits, lines-puts, order-puts}
-use Rattle.office_machine.proofs.FateLaws.FatesHold.{IsKept, tenders_same, named_same}
+use Rattle.office_machine.proofs.FateLaws.FatesHold.{FatesStand, tenders_same, named_same}
 use Rattle.office_machine.proofs.Rows.Keyed as keyed
 
 quiet_fits : (V : View) (n : ℕ) (lines : List LineRow) (p : Put) → IsQuiet V n p → LotFits lines p
@@ -35,25 +35,25 @@ all_fit V n lines (p ∷ ps) h = (quiet_fits V n lines p h.0, all_fit V n lines 
 
 -- quiet changes keep what holds
 pub kept_after : (readings : Readings) (xs : List Given) (ps : List Put) (t : Tables) → AllByRecursion (IsQuiet (seen t) t.clock.receipts) ps
-    → IsKept readings xs t → IsKept readings xs (after_puts ps t)
+    → FatesStand readings xs t → FatesStand readings xs (after_puts ps t)
 kept_after readings xs ps t still kept =
     let same = quiet ps t still in
     let u : Tables = after_puts ps t in
     record {
       sound = subst IsSound (sym same.seen_is) kept.sound;
       tenders =
-          subst (λ (E : ℕ → Option EnvelopeRow). EnvelopesMatch readings.digest (came xs) (fate_of_tender xs) (λ r. seal_at r u) u.clock.receipts E) (sym (ap (λ (V : View). V.envelope_at) same.seen_is))
-          (subst (λ (rows : List SealRow). EnvelopesMatch readings.digest (came xs) (fate_of_tender xs) (λ r. find_seal rows r) u.clock.receipts (λ r. envelope_at r t)) (sym same.seals_are)
-          (subst (λ (n : ℕ). EnvelopesMatch readings.digest (came xs) (fate_of_tender xs) (λ r. seal_at r t) n (λ r. envelope_at r t)) (sym same.receipts_are) kept.tenders));
+          subst (λ (E : ℕ → Option EnvelopeRow). EnvelopesMatch readings.digest (received_at xs) (fate_of_tender xs) (λ r. seal_at r u) u.clock.receipts E) (sym (ap (λ (V : View). V.envelope_at) same.seen_is))
+          (subst (λ (rows : List SealRow). EnvelopesMatch readings.digest (received_at xs) (fate_of_tender xs) (λ r. find_seal rows r) u.clock.receipts (λ r. envelope_at r t)) (sym same.seals_are)
+          (subst (λ (n : ℕ). EnvelopesMatch readings.digest (received_at xs) (fate_of_tender xs) (λ r. seal_at r t) n (λ r. envelope_at r t)) (sym same.receipts_are) kept.tenders));
       named =
-          subst (λ (S : ℕ → Option SecurityRow). SecuritiesMatch (came xs) (fate_of_security xs) S) (sym (ap (λ (V : View). V.security_at) same.seen_is)) kept.named;
+          subst (λ (S : ℕ → Option SecurityRow). SecuritiesMatch (received_at xs) (fate_of_security xs) S) (sym (ap (λ (V : View). V.security_at) same.seen_is)) kept.named;
       lines = lines-puts ps t kept.lines (all_fit (seen t) t.clock.receipts t.lines ps still);
       order = order-puts ps t kept.order;
     }
 
 -- one more command that takes in no tender and decides nothing
-pub one_more : (readings : Readings) (xs : List Given) (x : Given) (t : Tables) → IsKept readings xs t → brought x.command x (λ q. came xs q) ≡ None
-    → ((r : ℕ) → tender_decided x.command x (came xs) r ≡ envelope.Sealed) → ((s : ℕ) → security_decided x.command x (came xs) s ≡ security.Held) → IsKept readings (x ∷ xs) t
+pub one_more : (readings : Readings) (xs : List Given) (x : Given) (t : Tables) → FatesStand readings xs t → received_by x.command x (λ q. received_at xs q) ≡ None
+    → ((r : ℕ) → tender_decided x.command x (received_at xs) r ≡ envelope.Sealed) → ((s : ℕ) → security_decided x.command x (received_at xs) s ≡ security.Held) → FatesStand readings (x ∷ xs) t
 one_more readings xs x t kept none undecided held = record {
   sound = kept.sound;
   tenders =
@@ -86,7 +86,7 @@ abbrev pub Stands : View → Option NoticeRow → Type 0
 Stands V o = (n : NoticeRow) → o ≡ Some n → V.notice_at n.notice ≡ Some n.state
 
 -- what a command publishes
-pub publication_keeps : (readings : Readings) (xs : List Given) (t : Tables) (p : Option ReleaseRow) → IsKept readings xs t
-    → IsKept readings xs (after_puts (publication_puts p) t)
+pub publication_keeps : (readings : Readings) (xs : List Given) (t : Tables) (p : Option ReleaseRow) → FatesStand readings xs t
+    → FatesStand readings xs (after_puts (publication_puts p) t)
 publication_keeps readings xs t None kept = kept
 publication_keeps readings xs t (Some p) kept = kept_after readings xs (publication_puts (Some p)) t (tt, tt) kept

@@ -4,7 +4,7 @@ use Rattle.std.proofs.Common.{refl, sym, ap, ◌∙◌}
 use Rattle.std.specs.Ordering.{nat_cmp, eq_by_cmp}
 use Rattle.office_base.specs.declared.records.SecurityState.{SecurityState}
 use Rattle.office_base.specs.States.{is_held}
-use Rattle.office_base.specs.RuleParts.{settled}
+use Rattle.office_base.specs.Transitions.{settled}
 use Rattle.tender_core.specs.Rules.Modify.{withdrawn}
 use Rattle.office_machine.specs.Fates.{has_number}
 use Rattle.office_base.specs.declared.records.EnvelopeRow.{EnvelopeRow}

@@ -12,7 +12,7 @@ use Rattle.office_base.specs.declared.records.ContractRow.{ContractRow}
 use Rattle.office_base.specs.Tables.{Tables, line_at, tenderer_at, notice_at, lot_at, envelope_at, security_at, contract_at, after_put, after_puts}
 use Rattle.office_base.specs.declared.puts.Put.{Put}
 use Rattle.office_base.specs.declared.puts.Put.TheVariants as puts
-use Rattle.office_base.specs.RuleParts.{put_if}
+use Rattle.office_base.specs.Transitions.{put_if}
 use Rattle.office_machine.specs.Parents.{LotHas, EnvelopeHas, SecurityHas, AwardHas, ContractHas, EntryHas, PerformanceHas, ReleaseHas, MergeHas, LateHas, HaveParents}
 use Rattle.office_machine.proofs.Rows.Keyed.{found, still_there}
 use Rattle.office_base.proofs.RowLaws.Keyed.{IsKeyed}

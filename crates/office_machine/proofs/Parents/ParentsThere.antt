@@ -2,12 +2,12 @@
 use Rattle.std.proofs.Common.{◌≡◌, ℕ, true, List, Option, Some, None, is_some, refl, sym, ◌∙◌, ap, subst}
 use Rattle.std.specs.Prelude.{IsSome, option_and_then, option_map}
 use Rattle.office_base.specs.Rows.{row_at}
-use Rattle.office_acts.specs.declared.command.Caller.{Caller}
-use Rattle.office_acts.specs.declared.commands.Command.{Command}
+use Rattle.office_commands.specs.declared.command.Caller.{Caller}
+use Rattle.office_commands.specs.declared.commands.Command.{Command}
 use Rattle.office_base.specs.Tables.{Tables, IsSorted, no_tables, find_notice, notice_at, after_puts}
 use Rattle.office_base.specs.Rules.{first_of}
 use Rattle.office_base.specs.declared.records.NoticeRow.{NoticeRow}
-use Rattle.office_machine.specs.Machine.{AreOfNotices, Means, Given, IsRegistered, may_give, publication_puts, command_tests, effect, next, puts_of, publication, release_row, with_trees}
+use Rattle.office_machine.specs.Machine.{AreOfNotices, Means, Given, IsRegistered, may_give, publication_puts, command_tests, effect, next, puts_of, publication, release_row, with_merges}
 use Rattle.office_base.specs.declared.records.CompiledRow.{CompiledRow}
 use Rattle.office_machine.specs.Parents.{HaveParents, ParentsAreThere}
 use Rattle.office_machine.specs.Publications.{published_for}
@@ -73,7 +73,7 @@ none_have = record {
 }
 
 -- the same with other merges of releases of its notices beside it
-have_beside : (trees : List CompiledRow) (t : Tables) → AreOfNotices trees t → HaveParents t t → HaveParents (with_trees trees t) (with_trees trees t)
+have_beside : (trees : List CompiledRow) (t : Tables) → AreOfNotices trees t → HaveParents t t → HaveParents (with_merges trees t) (with_merges trees t)
 have_beside trees t of_notices have = record {
   lots = λ k l found. let h = have.lots k l found in record { notice = h.notice; line = h.line };
   envelopes = λ k e found. let h = have.envelopes k e found in record { notice = h.notice; lot = h.lot; tenderer = h.tenderer; security = h.security };

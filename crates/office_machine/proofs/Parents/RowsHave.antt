@@ -10,7 +10,7 @@ use Rattle.office_base.specs.declared.records.SecurityRow.{SecurityRow}
 use Rattle.office_base.specs.declared.records.AwardRow.{AwardRow}
 use Rattle.office_base.specs.declared.records.ContractRow.{ContractRow}
 use Rattle.office_base.specs.declared.puts.Put.{Put}
-use Rattle.office_base.specs.RuleParts.{security_returned, securities_returned, is_held_security}
+use Rattle.office_base.specs.Transitions.{security_returned, securities_returned, is_held_security}
 use Rattle.office_base.specs.Parents.{security_of_envelope, lot_of_award}
 use Rattle.office_machine.specs.Parents.{HaveParents, LotHas, SecurityHas}
 use Rattle.office_machine.proofs.Parents.ParentsPut.{Grows, Parents, AllParents, lot_still, security_still, parents-all, all-filter, all-table}

@@ -5,7 +5,7 @@ use Rattle.std.proofs.lemmas.Bool.Decides.{nat_tests}
 use Rattle.office_base.specs.EntryKinds.{is_raise, is_less}
 use Rattle.office_base.specs.Joined.{is_overdrawn, minus, plus}
 use Rattle.office_base.specs.Parents.{line_of_lot, security_of_envelope}
-use Rattle.office_base.specs.RuleParts.{lacks_security}
+use Rattle.office_base.specs.Transitions.{lacks_security}
 use Rattle.office_base.specs.Tables.{IsSorted, Tables, contract_at, entries_of_contract, lot_at, same_number, security_at}
 use Rattle.office_base.specs.declared.records.ContractRow.{ContractRow}
 use Rattle.office_base.specs.declared.records.EntryRow.{EntryRow}
@@ -15,13 +15,13 @@ use Rattle.office_base.proofs.RowLaws.Keyed.{found_key}
 use Rattle.office_machine.specs.Machine.{Given}
 use Rattle.office_machine.specs.Parents.{EnvelopeHas, HaveParents, HavePerformances}
 use Rattle.office_machine.proofs.Accounts.Joins.{entry_sum-own}
-use Rattle.office_machine.proofs.Accounts.Kept.{IsKept}
+use Rattle.office_machine.proofs.Accounts.Kept.{AccountsStand}
 use Rattle.office_machine.proofs.Rows.Keyed as keyed
 
 pub record IsWhole (xs : List Given) (s : Tables) : Type 0 where
   pub parents : HaveParents s s
   pub performances : HavePerformances s
-  pub accounts : IsKept xs s
+  pub accounts : AccountsStand xs s
   pub order : IsSorted s
 
 pub not_less : (a b : ℕ) → b ≤ a → nat_lt a b ≡ false
@@ -49,5 +49,5 @@ own_within es n c is within =
     subst (λ n. is_overdrawn (filter (λ (e : EntryRow). same_number e.contract n) es) c ≡ false) is
     (not_less _ _ (omega (arith, within, entry_sum-own is_raise es c.contract, entry_sum-own is_less es c.contract)))
 
-pub not_overdrawn : (xs : List Given) (s : Tables) → IsKept xs s → (contract : ℕ) (c : ContractRow) → contract_at contract s ≡ Some c → is_overdrawn (entries_of_contract contract s) c ≡ false
+pub not_overdrawn : (xs : List Given) (s : Tables) → AccountsStand xs s → (contract : ℕ) (c : ContractRow) → contract_at contract s ≡ Some c → is_overdrawn (entries_of_contract contract s) c ≡ false
 not_overdrawn xs s kept contract c is = own_within s.entries contract c (found_key keyed.contracts s.contracts contract c is) (kept.contracts contract c is).within

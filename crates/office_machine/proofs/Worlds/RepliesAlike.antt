@@ -1,15 +1,15 @@
 -- In two worlds replies are alike.
 use Rattle.std.proofs.Common.{◌≡◌, ℕ, suc, ◌+◌, Bool, true, false, cond, ◌&&◌, List, [], ◌∷◌, length, map, filter, Option, Some, None, option_map, refl, sym, ◌∙◌, ap, subst}
 use Rattle.office_values.specs.Ids.{same_id}
-use Rattle.office_acts.specs.declared.command.Caller.{Caller}
-use Rattle.office_acts.specs.declared.command.Caller.TheVariants.{Public, Clerk, Tenderer}
-use Rattle.office_acts.specs.Callers.{is_by}
-use Rattle.office_acts.specs.Rights.{may_look}
-use Rattle.office_acts.specs.declared.commands.Command.{Command}
-use Rattle.office_acts.specs.declared.commands.Command.TheVariants as commands
+use Rattle.office_commands.specs.declared.command.Caller.{Caller}
+use Rattle.office_commands.specs.declared.command.Caller.TheVariants.{Public, Clerk, Tenderer}
+use Rattle.office_commands.specs.Callers.{is_by}
+use Rattle.office_commands.specs.Rights.{may_look}
+use Rattle.office_commands.specs.declared.commands.Command.{Command}
+use Rattle.office_commands.specs.declared.commands.Command.TheVariants as commands
 use Rattle.office_values.specs.declared.refusal.Refusal.TheVariants.{Forbidden, NotYourTender}
 use Rattle.office_base.specs.Parents.{notice_of_envelope, late_of_envelope}
-use Rattle.office_base.specs.RuleParts.{is_late}
+use Rattle.office_base.specs.Transitions.{is_late}
 use Rattle.office_base.specs.States.{is_opened}
 use Rattle.office_base.specs.declared.records.EnvelopeState.TheVariants as envelope_states
 use Rattle.office_base.specs.declared.records.TendererRow.{TendererRow}
@@ -22,38 +22,38 @@ use Rattle.tender_core.specs.Rules.Open.{is_sealed_envelope}
 use Rattle.award_core.specs.Rules.Award.{winner}
 use Rattle.office_base.specs.Tables.{Tables, find_envelope, notice_at, envelope_at, contract_at, envelopes_of_notice, envelopes_of_lot, lots_of_notice, late_at}
 use Rattle.office_machine.specs.Readings.{Readings}
-use Rattle.office_machine.specs.Worlds.{Theirs, is_theirs, is_of_lot, AlikeRows, Pairs, AlikeOffices, SameBut, Same, Presented, Modified, OpensAlike}
-use Rattle.office_acts.specs.declared.queries.Query.{Query}
-use Rattle.office_acts.specs.declared.queries.Query.TheVariants as queries
-use Rattle.office_acts.specs.Queries.{kind_of}
-use Rattle.office_machine.specs.Replies.{Reply, Refused, OpenedAll, Received, Awarded, OfContract, Tender, Registry, Minutes, release_of, contract_release, left_of, modify_reply, winning, Withdrew, state_after}
+use Rattle.office_machine.specs.Worlds.{ChosenTender, is_theirs, is_for_chosen_lot, AlikeRows, Pairs, AlikeOffices, SameBut, Same, Presented, Modified, OpensAlike}
+use Rattle.office_commands.specs.declared.queries.Query.{Query}
+use Rattle.office_commands.specs.declared.queries.Query.TheVariants as queries
+use Rattle.office_commands.specs.Queries.{query_kind_of}
+use Rattle.office_machine.specs.Replies.{Reply, Refused, OpenedAll, Received, Awarded, OfContract, Tender, Registry, Minutes, release_of, release_of_contract, left_of, modify_reply, winning, Withdrew, state_after}
 use Rattle.office_machine.specs.Machine.{reply_for}
 use Rattle.office_machine.specs.Sights.{Packages, tender_told, registered, register_told, minuted, is_read_envelope, minutes_told, package_told, shown, told}
-use Rattle.office_machine.specs.Seals.{ButDigest, SeesBlindly, without_digest, ToldAlike}
+use Rattle.office_machine.specs.Seals.{ButDigest, PackagesHideSeals, without_digest, ToldAlike}
 use Rattle.office_base.proofs.ExactKeys.{equal_ids, same_itself}
 use Rattle.office_machine.proofs.Worlds.WorldsPut.{Alike, AlikeOptions, IsBlind, blind, blind-option, pairs-filter}
 use Rattle.office_machine.proofs.Worlds.WorldsRows.{envelope_pair, lot_pairs, notice_pairs, pairs-winner}
 
-pub told_same : (th : Theirs) (caller : Caller) (r r' : Reply) → r' ≡ r → ToldAlike th caller r r'
+pub told_same : (th : ChosenTender) (caller : Caller) (r r' : Reply) → r' ≡ r → ToldAlike th caller r r'
 told_same th caller r r' e = record { others = λ _. e; but_digest = ap without_digest e }
 
-pub but_digests : (th : Theirs) (es es' : List EnvelopeRow) → Pairs (AlikeRows th) es es' → Pairs ButDigest es es'
+pub but_digests : (th : ChosenTender) (es es' : List EnvelopeRow) → Pairs (AlikeRows th) es es' → Pairs ButDigest es es'
 but_digests th [] [] all = tt
 but_digests th [] (e' ∷ es') all = absurd all
 but_digests th (e ∷ es) [] all = absurd all
 but_digests th (e ∷ es) (e' ∷ es') all = (all.0.but_digest, but_digests th es es' all.1)
 
 -- a tenderer calls in their own name
-own_call : (th : Theirs) (caller : Caller) {A : Type 0} → Tenderer th.who ≡ caller → is_by caller th.who ≡ false → A
+own_call : (th : ChosenTender) (caller : Caller) {A : Type 0} → Tenderer th.who ≡ caller → is_by caller th.who ≡ false → A
 own_call th caller who out = absurd (let clash : true ≡ false = sym (same_itself th.who) ∙ (ap (λ c. is_by c th.who) who ∙ out) in cc)
 
 -- who sees a tender has given it
-not_theirs : (th : Theirs) (caller : Caller) (e : EnvelopeRow) → is_by caller e.tenderer ≡ true → is_by caller th.who ≡ false → is_theirs th e ≡ false
+not_theirs : (th : ChosenTender) (caller : Caller) (e : EnvelopeRow) → is_by caller e.tenderer ≡ true → is_by caller th.who ≡ false → is_theirs th e ≡ false
 not_theirs th Public e mine out = cc
 not_theirs th Clerk e mine out = cc
-not_theirs th (Tenderer id) e mine out = ap (λ k. same_id k th.who && is_of_lot th e) (sym (equal_ids id e.tenderer mine)) ∙ ap (λ b. b && is_of_lot th e) out
+not_theirs th (Tenderer id) e mine out = ap (λ k. same_id k th.who && is_for_chosen_lot th e) (sym (equal_ids id e.tenderer mine)) ∙ ap (λ b. b && is_for_chosen_lot th e) out
 
-tender_by : (th : Theirs) (caller : Caller) (e : EnvelopeRow) (d : List ℕ) → (is_theirs th e ≡ false → d ≡ e.digest) → (b : Bool) → is_by caller e.tenderer ≡ b
+tender_by : (th : ChosenTender) (caller : Caller) (e : EnvelopeRow) (d : List ℕ) → (is_theirs th e ≡ false → d ≡ e.digest) → (b : Bool) → is_by caller e.tenderer ≡ b
     → ToldAlike th caller (cond b (Tender e.digest e.length e.notice e.lot e.moment e.receipt e.security e.state) (Refused NotYourTender)) (cond b (Tender d e.length e.notice e.lot e.moment e.receipt e.security e.state) (Refused NotYourTender))
 tender_by th caller e d same true h = record {
   others = λ out. ap (λ d. Tender d e.length e.notice e.lot e.moment e.receipt e.security e.state) (same (not_theirs th caller e h out));
@@ -61,7 +61,7 @@ tender_by th caller e d same true h = record {
 }
 tender_by th caller e d same false h = told_same th caller (Refused NotYourTender) (Refused NotYourTender) refl
 
-module _ (th : Theirs) (W : ℕ → Bool) where
+module _ (th : ChosenTender) (W : ℕ → Bool) where
   tender_alike : (caller : Caller) (o o' : Option EnvelopeRow) → AlikeOptions th W o o' → ToldAlike th caller (tender_told caller o) (tender_told caller o')
   tender_alike caller None None a = told_same th caller (tender_told caller None) (tender_told caller None) refl
   tender_alike caller None (Some e') a = absurd a
@@ -103,7 +103,7 @@ module _ (th : Theirs) (W : ℕ → Bool) where
     abbrev other : Tables
     other = record s { envelopes = es'; seals = ss' }
 
-    shown_alike : (packages : Packages) → SeesBlindly packages → Pairs ButDigest s.envelopes es' → (caller : Caller) (query : Query) → ToldAlike th caller (shown packages s caller query) (shown packages other caller query)
+    shown_alike : (packages : Packages) → PackagesHideSeals packages → Pairs ButDigest s.envelopes es' → (caller : Caller) (query : Query) → ToldAlike th caller (shown packages s caller query) (shown packages other caller query)
     shown_alike packages blindly rows caller (queries.Line line) = told_same th caller (shown packages s caller (queries.Line line)) (shown packages other caller (queries.Line line)) refl
     shown_alike packages blindly rows caller queries.Ledger = told_same th caller (shown packages s caller queries.Ledger) (shown packages other caller queries.Ledger) refl
     shown_alike packages blindly rows caller (queries.Minutes notice) =
@@ -129,9 +129,9 @@ module _ (th : Theirs) (W : ℕ → Bool) where
     told_if caller false r r' a = told_same th caller (Refused Forbidden) (Refused Forbidden) refl
 
     -- a query
-    pub query_told : (packages : Packages) → SeesBlindly packages → Pairs ButDigest s.envelopes es' → (caller : Caller) (query : Query) → ToldAlike th caller (told packages s caller query) (told packages other caller query)
+    pub query_told : (packages : Packages) → PackagesHideSeals packages → Pairs ButDigest s.envelopes es' → (caller : Caller) (query : Query) → ToldAlike th caller (told packages s caller query) (told packages other caller query)
     query_told packages blindly rows caller query =
-        told_if caller (may_look caller (kind_of query)) (shown packages s caller query) (shown packages other caller query) (shown_alike packages blindly rows caller query)
+        told_if caller (may_look caller (query_kind_of query)) (shown packages s caller query) (shown packages other caller query) (shown_alike packages blindly rows caller query)
 
     module _ (readings : Readings) (u u' : Tables) (t : ℕ) (caller : Caller) where
       abbrev LeavesAlike : Command → Type 0
@@ -155,9 +155,9 @@ module _ (th : Theirs) (W : ℕ → Bool) where
       same_reply (commands.Award notice lot) after =
           blind-option th W (λ o. Awarded lot (option_map (winning s.clock) o) (release_of s.notices notice) t) (λ _ _. refl) (winner (notice_at notice s) (envelopes_of_lot notice lot s)) (winner (notice_at notice s) (envelopes_of_lot notice lot other))
           (pairs-winner th W (notice_at notice s) (envelopes_of_lot notice lot s) (envelopes_of_lot notice lot other) (lot_pairs th W s es' all notice lot))
-      same_reply (commands.AmendContract contract entry kind amount rationale) after = left_same contract (contract_release (contract_at contract s) s.notices) (after tt)
-      same_reply (commands.Pay contract entry amount) after = left_same contract (contract_release (contract_at contract s) s.notices) (after tt)
-      same_reply (commands.End contract how) after = left_same contract (contract_release (contract_at contract s) s.notices) (after tt)
+      same_reply (commands.AmendContract contract entry kind amount rationale) after = left_same contract (release_of_contract (contract_at contract s) s.notices) (after tt)
+      same_reply (commands.Pay contract entry amount) after = left_same contract (release_of_contract (contract_at contract s) s.notices) (after tt)
+      same_reply (commands.End contract how) after = left_same contract (release_of_contract (contract_at contract s) s.notices) (after tt)
       same_reply _ after = refl
 
       -- two that differ in such bytes

@@ -3,11 +3,11 @@ use Rattle.std.proofs.Common.{◌≡◌, ℕ, Bool, true, false, not, ◌&&◌, 
 use Rattle.std.specs.Prelude.{option_and_then}
 use Rattle.office_values.specs.Ids.{same_id}
 use Rattle.office_base.specs.Rows.{holds_of}
-use Rattle.office_acts.specs.declared.command.Caller.{Caller}
+use Rattle.office_commands.specs.declared.command.Caller.{Caller}
 use Rattle.office_values.specs.declared.refusal.Refusal.{Refusal}
 use Rattle.office_values.specs.declared.refusal.Refusal.TheVariants.{Unavailable}
-use Rattle.office_acts.specs.declared.commands.Command.{Command}
-use Rattle.office_acts.specs.declared.commands.Command.TheVariants as commands
+use Rattle.office_commands.specs.declared.commands.Command.{Command}
+use Rattle.office_commands.specs.declared.commands.Command.TheVariants as commands
 use Rattle.office_base.specs.declared.records.EnvelopeRow.{EnvelopeRow}
 use Rattle.office_base.specs.declared.records.SealRow.{SealRow}
 use Rattle.office_machine.specs.Publications.{published_for}
@@ -15,11 +15,11 @@ use Rattle.office_machine.specs.Counted.{releases_in}
 use Rattle.office_base.specs.Tables.{Tables, notice_at, find_seal, envelope_at, seal_at, after_puts}
 use Rattle.office_base.specs.declared.records.ReleaseRow.{ReleaseRow}
 use Rattle.office_machine.specs.Machine.{Means, Given, IsCommand, CanBeGiven, Reaches, time_of, refusal_of, effect, done, next, publication_puts, publication}
-use Rattle.office_machine.specs.Worlds.{Theirs, is_theirs, AlikeRows, Pairs, AlikeOffices, IsNext, SameBut, Same, Presented, Modified, OpensAlike}
-use Rattle.office_machine.specs.Requests.{Demand, Asks, Looks, Request, asked, reply_by, office_by, joined_by, reply_to, office_after, joined, IsDemand, AreRequests}
+use Rattle.office_machine.specs.Worlds.{ChosenTender, is_theirs, AlikeRows, Pairs, AlikeOffices, IsNext, SameBut, Same, Presented, Modified, OpensAlike}
+use Rattle.office_machine.specs.Requests.{Demand, Asks, Looks, Request, given_by_request, reply_by, office_by, accepted_by, reply_to, office_after, accepted_with, IsDemand, AreRequests}
 use Rattle.office_machine.specs.Replies.{Refused}
 use Rattle.office_machine.specs.Sights.{Packages}
-use Rattle.office_machine.specs.Seals.{PublishesBlindly, SeesBlindly, SameDemand, SameRequest, SameButSeals, ToldAlike, opens_it, demand_opens, is_opening, KnowAlike, AlikeUntilOpening, SealsAreKept}
+use Rattle.office_machine.specs.Seals.{ReleasesHideSeals, PackagesHideSeals, SameDemand, SameRequest, SameButSeals, ToldAlike, opens_it, demand_opens, is_opening, KnowAlike, AlikeUntilOpening, SealsAreKept}
 use Rattle.office_base.proofs.ExactKeys.{equal_ids}
 use Rattle.office_machine.proofs.Reached.{steps_reach}
 use Rattle.office_machine.proofs.FateLaws.FatesKept.{all_kept}
@@ -37,11 +37,11 @@ next_free : (means : Means) (xs : List Given) (s : Tables) → Reaches means xs 
 next_free means xs s reached = let kept = all_kept means xs s reached in record { envelope = no_envelope_yet means.readings xs s kept; seal = (nothing_yet means.readings xs s kept).no_seal }
 
 -- a publication leaves two worlds alike
-published : (th : Theirs) (p : Option ReleaseRow) (u u' : Tables) → AlikeOffices th u u' → AlikeOffices th (after_puts (publication_puts p) u) (after_puts (publication_puts p) u')
+published : (th : ChosenTender) (p : Option ReleaseRow) (u u' : Tables) → AlikeOffices th u u' → AlikeOffices th (after_puts (publication_puts p) u) (after_puts (publication_puts p) u')
 published th None u u' a = a
 published th (Some p) u u' a = record { but_sealed = ap (after_puts (publication_puts (Some p))) a.but_sealed; envelopes = a.envelopes; seals = a.seals }
 
-next_alike : (th : Theirs) (means : Means) (x x' : Given) → AlikeOffices th (after_puts (effect means.readings x) x.before) (after_puts (effect means.readings x') x'.before) → publication means x' ≡ publication means x
+next_alike : (th : ChosenTender) (means : Means) (x x' : Given) → AlikeOffices th (after_puts (effect means.readings x) x.before) (after_puts (effect means.readings x') x'.before) → publication means x' ≡ publication means x
     → AlikeOffices th (next means x) (next means x')
 next_alike th means x x' a same =
     subst (λ u. AlikeOffices th u (next means x')) (sym (after-append (effect means.readings x) (publication_puts (publication means x)) x.before))
@@ -50,26 +50,26 @@ next_alike th means x x' a same =
     (published th (publication means x) (after_puts (effect means.readings x) x.before) (after_puts (effect means.readings x') x'.before) a))
 
 -- the tenderers of two worlds are the same
-pub know_alike : (th : Theirs) (s s' : Tables) → AlikeOffices th s s' → KnowAlike s s'
+pub know_alike : (th : ChosenTender) (s s' : Tables) → AlikeOffices th s s' → KnowAlike s s'
 know_alike th s s' alike = ap (λ (u : Tables). u.tenderers) alike.but_sealed
 
 -- what can be given still can with other bytes
-given_too : (th : Theirs) (s : Tables) (caller : Caller) (command command' : Command) → SameBut th s caller command command' → IsCommand command → IsCommand command'
+given_too : (th : ChosenTender) (s : Tables) (caller : Caller) (command command' : Command) → SameBut th s caller command command' → IsCommand command → IsCommand command'
 given_too th s caller command command' (Same e) h = subst IsCommand e h
 given_too th s caller command command' (Presented security bytes bytes' len who is is') h = subst IsCommand is' tt
 given_too th s caller command command' (Modified receipt bytes bytes' len who lot is is') h = subst IsCommand is' tt
 
 -- where a request is accepted, it opens equal seals if any
 abbrev pub FindsAlike : Tables → Tables → Request → Type 0
-FindsAlike s s' a = (command : Command) → a.demand ≡ Asks command → a.unavailable ≡ false → refusal_of (asked s a command) ≡ None → OpensAlike command s s'
+FindsAlike s s' a = (command : Command) → a.demand ≡ Asks command → a.unavailable ≡ false → refusal_of (given_by_request s a command) ≡ None → OpensAlike command s s'
 
-pub record StepAlike (means : Means) (packages : Packages) (th : Theirs) (xs ys : List Given) (s s' : Tables) (a b : Request) : Type 0 where
+pub record StepAlike (means : Means) (packages : Packages) (th : ChosenTender) (xs ys : List Given) (s s' : Tables) (a b : Request) : Type 0 where
   pub told : ToldAlike th a.caller (reply_to means packages s a) (reply_to means packages s' b)
-  pub reached : Reaches means (joined s a xs) (office_after means s a)
-  pub reached' : Reaches means (joined s' b ys) (office_after means s' b)
+  pub reached : Reaches means (accepted_with s a xs) (office_after means s a)
+  pub reached' : Reaches means (accepted_with s' b ys) (office_after means s' b)
   pub alike : FindsAlike s s' a → AlikeOffices th (office_after means s a) (office_after means s' b)
 
-module _ (means : Means) (packages : Packages) (publishes : PublishesBlindly means) (sees : SeesBlindly packages) (th : Theirs) where
+module _ (means : Means) (packages : Packages) (publishes : ReleasesHideSeals means) (sees : PackagesHideSeals packages) (th : ChosenTender) where
   module _ (xs ys : List Given) (s : Tables) (es' : List EnvelopeRow) (ss' : List SealRow)
       (reached : Reaches means xs s) (reached' : Reaches means ys (record s { envelopes = es'; seals = ss' }))
       (rows : Pairs (AlikeRows th) s.envelopes es') (seals : (n : ℕ) → holds_of (is_theirs th) (envelope_at n s) ≡ false → seal_at n s ≡ find_seal ss' n) where
@@ -105,8 +105,8 @@ module _ (means : Means) (packages : Packages) (publishes : PublishesBlindly mea
 
       record OneAlike (command command' : Command) (o o' : Option Refusal) : Type 0 where
         told : ToldAlike th caller (reply_by o means (given command)) (reply_by o' means (given' command'))
-        first : Reaches means (joined_by o (given command) xs) (office_by o means (given command))
-        second : Reaches means (joined_by o' (given' command') ys) (office_by o' means (given' command'))
+        first : Reaches means (accepted_by o (given command) xs) (office_by o means (given command))
+        second : Reaches means (accepted_by o' (given' command') ys) (office_by o' means (given' command'))
         alike : (o ≡ None → OpensAlike command s other) → AlikeOffices th (office_by o means (given command)) (office_by o' means (given' command'))
 
       one : (command command' : Command) → CanBeGiven (given command) → SameBut th s caller command command' → (o o' : Option Refusal) → refusal_of (given command) ≡ o → refusal_of (given' command') ≡ o' → o' ≡ o → OneAlike command command' o o'
@@ -172,7 +172,7 @@ module _ (means : Means) (packages : Packages) (publishes : PublishesBlindly mea
   finds : (s s' : Tables) → AlikeOffices th s s' → (a : Request) → is_opening th s a ≡ false → FindsAlike s s' a
   finds s s' alike a closed command is available allowed =
       let now : demand_opens th s a (Asks command) ≡ false = (λ i. not (sym available i) && demand_opens th s a (sym is i)) ∙ closed in
-      opens_others s s' alike command (isnt_opened (opens_it th command) (refusal_of (asked s a command)) now allowed)
+      opens_others s s' alike command (isnt_opened (opens_it th command) (refusal_of (given_by_request s a command)) now allowed)
 
   run : (xs ys : List Given) (s s' : Tables) → Reaches means xs s → Reaches means ys s' → AlikeOffices th s s' → (rest rest' : List Request) → AreRequests means s rest → SameButSeals means th s rest rest' → AlikeUntilOpening means packages th s s' rest rest'
   run xs ys s s' reached reached' alike [] [] own same = know_alike th s s' alike
@@ -180,9 +180,9 @@ module _ (means : Means) (packages : Packages) (publishes : PublishesBlindly mea
   run xs ys s s' reached reached' alike (a ∷ rest) [] own same = absurd same
   run xs ys s s' reached reached' alike (a ∷ rest) (b ∷ rest') own same =
       let it = step xs ys s s' reached reached' alike a b own.0 same.0 in
-      (know_alike th s s' alike, it.told, λ closed. run (joined s a xs) (joined s' b ys) (office_after means s a) (office_after means s' b) it.reached it.reached' (it.alike (finds s s' alike a closed)) rest rest' own.1 same.1)
+      (know_alike th s s' alike, it.told, λ closed. run (accepted_with s a xs) (accepted_with s' b ys) (office_after means s a) (office_after means s' b) it.reached it.reached' (it.alike (finds s s' alike a closed)) rest rest' own.1 same.1)
 
-pub itself : (th : Theirs) (s : Tables) → AlikeOffices th s s
+pub itself : (th : ChosenTender) (s : Tables) → AlikeOffices th s s
 itself th s = record { but_sealed = refl; envelopes = rows s.envelopes; seals = λ n out. refl }
   where
     rows : (es : List EnvelopeRow) → Pairs (AlikeRows th) es es

@@ -4,7 +4,7 @@ use Rattle.office_values.specs.Ids.{same_id}
 use Rattle.office_base.specs.Tables.{same_number, Tables, envelope_at, seal_at}
 use Rattle.office_base.specs.Rows.{holds_of}
 use Rattle.office_values.specs.declared.refusal.Refusal.{Refusal}
-use Rattle.office_acts.specs.declared.commands.Command.TheVariants as commands
+use Rattle.office_commands.specs.declared.commands.Command.TheVariants as commands
 use Rattle.office_base.specs.declared.records.EnvelopeState.TheVariants as envelope_states
 use Rattle.office_base.specs.declared.records.EnvelopeState.{EnvelopeState}
 use Rattle.office_base.specs.declared.records.EnvelopeRow.{EnvelopeRow}
@@ -12,11 +12,11 @@ use Rattle.office_base.specs.declared.records.SealRow.{SealRow}
 use Rattle.office_base.specs.States.{is_sealed}
 use Rattle.tender_core.specs.Rules.Open.{is_sealed_envelope}
 use Rattle.office_machine.specs.Machine.{Means, Given, Reaches, refusal_of}
-use Rattle.office_machine.specs.Fates.{Reception, brought, came, fate_of_tender, fate_after, tender_decided, is_of_notice, is_kept}
-use Rattle.office_machine.specs.Worlds.{Theirs, is_theirs, AlikeOffices}
-use Rattle.office_machine.specs.Requests.{Demand, Asks, Looks, Request, asked, joined_by, demand_joined, office_after, joined, all_joined, AreRequests}
+use Rattle.office_machine.specs.Fates.{Reception, received_by, received_at, fate_of_tender, fate_after, tender_decided, is_of_notice, is_kept}
+use Rattle.office_machine.specs.Worlds.{ChosenTender, is_theirs, AlikeOffices}
+use Rattle.office_machine.specs.Requests.{Demand, Asks, Looks, Request, given_by_request, accepted_by, demand_accepted, office_after, accepted_with, all_accepted, AreRequests}
 use Rattle.office_machine.specs.Sights.{Packages}
-use Rattle.office_machine.specs.Seals.{PublishesBlindly, SeesBlindly, SameButSeals, AlikeThroughout, bytes_of, is_gone, DifferingAreGone, WholeRunsAreAlike}
+use Rattle.office_machine.specs.Seals.{ReleasesHideSeals, PackagesHideSeals, SameButSeals, AlikeThroughout, bytes_of, is_gone, DifferingAreGone, WholeRunsAreAlike}
 use Rattle.office_machine.proofs.FateLaws.FatesKept.{all_kept}
 use Rattle.office_base.proofs.RowLaws.Found.{each_found}
 use Rattle.office_machine.proofs.Rows.Keyed as keyed
@@ -28,32 +28,32 @@ use Rattle.office_machine.proofs.Worlds.SealsKept.{FindsAlike, step, itself, kno
 
 -- what further commands leave stays so through a run
 module _ (P : List Given → Type 0) (on : (x : Given) (xs : List Given) → P xs → P (x ∷ xs)) where
-  by_refusal : (o : Option Refusal) (x : Given) (xs : List Given) → P xs → P (joined_by o x xs)
+  by_refusal : (o : Option Refusal) (x : Given) (xs : List Given) → P xs → P (accepted_by o x xs)
   by_refusal None x xs h = on x xs h
   by_refusal (Some why) x xs h = h
 
-  by_demand : (s : Tables) (a : Request) (d : Demand) (xs : List Given) → P xs → P (demand_joined s a d xs)
-  by_demand s a (Asks command) xs h = by_refusal (refusal_of (asked s a command)) (asked s a command) xs h
+  by_demand : (s : Tables) (a : Request) (d : Demand) (xs : List Given) → P xs → P (demand_accepted s a d xs)
+  by_demand s a (Asks command) xs h = by_refusal (refusal_of (given_by_request s a command)) (given_by_request s a command) xs h
   by_demand s a (Looks query) xs h = h
 
-  one_more : (s : Tables) (a : Request) (xs : List Given) → P xs → P (joined s a xs)
+  one_more : (s : Tables) (a : Request) (xs : List Given) → P xs → P (accepted_with s a xs)
   one_more s a xs h = by a.unavailable
     where
-      by : (u : Bool) → P (cond u xs (demand_joined s a a.demand xs))
+      by : (u : Bool) → P (cond u xs (demand_accepted s a a.demand xs))
       by true = h
       by false = by_demand s a a.demand xs h
 
-  all_more : (means : Means) (s : Tables) (xs : List Given) (rest : List Request) → P xs → P (all_joined means s xs rest)
+  all_more : (means : Means) (s : Tables) (xs : List Given) (rest : List Request) → P xs → P (all_accepted means s xs rest)
   all_more means s xs [] h = h
-  all_more means s xs (a ∷ rest) h = all_more means (office_after means s a) (joined s a xs) rest (one_more s a xs h)
+  all_more means s xs (a ∷ rest) h = all_more means (office_after means s a) (accepted_with s a xs) rest (one_more s a xs h)
 
 -- what came in stays, and what is opened
-still_came : (means : Means) (s : Tables) (xs : List Given) (rest : List Request) (r : ℕ) (c : Reception) → came xs r ≡ Some c → came (all_joined means s xs rest) r ≡ Some c
-still_came means s xs rest r c h = all_more (λ xs. came xs r ≡ Some c) (λ x xs e. came_old (came xs r) (cond (same_number r (x.before.clock.receipts + 1)) (brought x.command x (λ q. came xs q)) None) c e ∙ e) means s xs rest h
+still_came : (means : Means) (s : Tables) (xs : List Given) (rest : List Request) (r : ℕ) (c : Reception) → received_at xs r ≡ Some c → received_at (all_accepted means s xs rest) r ≡ Some c
+still_came means s xs rest r c h = all_more (λ xs. received_at xs r ≡ Some c) (λ x xs e. came_old (received_at xs r) (cond (same_number r (x.before.clock.receipts + 1)) (received_by x.command x (λ q. received_at xs q)) None) c e ∙ e) means s xs rest h
 
-still_opened : (means : Means) (s : Tables) (xs : List Given) (rest : List Request) (r : ℕ) → fate_of_tender xs r ≡ Some envelope_states.Opened → fate_of_tender (all_joined means s xs rest) r ≡ Some envelope_states.Opened
+still_opened : (means : Means) (s : Tables) (xs : List Given) (rest : List Request) (r : ℕ) → fate_of_tender xs r ≡ Some envelope_states.Opened → fate_of_tender (all_accepted means s xs rest) r ≡ Some envelope_states.Opened
 still_opened means s xs rest r h =
-    all_more (λ xs. fate_of_tender xs r ≡ Some envelope_states.Opened) (λ x xs e. ap (λ o. fate_after o (came (x ∷ xs) r) (tender_decided x.command x (came xs) r)) e) means s xs rest h
+    all_more (λ xs. fate_of_tender xs r ≡ Some envelope_states.Opened) (λ x xs e. ap (λ o. fate_after o (received_at (x ∷ xs) r) (tender_decided x.command x (received_at xs) r)) e) means s xs rest h
 
 sealed_is : (state : EnvelopeState) → is_sealed state ≡ true → state ≡ envelope_states.Sealed
 sealed_is envelope_states.Sealed e = refl
@@ -66,7 +66,7 @@ record Other (e : EnvelopeRow) (o : Option EnvelopeRow) : Type 0 where
   is : o ≡ Some row
   state : row.state ≡ e.state
 
-other_row : (th : Theirs) (W : ℕ → Bool) (e : EnvelopeRow) (o : Option EnvelopeRow) → AlikeOptions th W (Some e) o → Other e o
+other_row : (th : ChosenTender) (W : ℕ → Bool) (e : EnvelopeRow) (o : Option EnvelopeRow) → AlikeOptions th W (Some e) o → Other e o
 other_row th W e None a = absurd a
 other_row th W e (Some e') a = record { row = e'; is = refl; state = ap (λ (e : EnvelopeRow). e.state) a.rows.but_digest }
 
@@ -74,26 +74,26 @@ other_row th W e (Some e') a = record { row = e'; is = refl; state = ap (λ (e :
 its_seal : (r : ℕ) (c : Reception) (state : EnvelopeState) (seal : Option SealRow) → seal ≡ cond (is_kept state) (Some (record { receipt = r; bytes = c.bytes })) None → state ≡ envelope_states.Sealed → seal ≡ Some (record { receipt = r; bytes = c.bytes })
 its_seal r c state seal is sealed = is ∙ ap (λ st. cond (is_kept st) (Some (record { receipt = r; bytes = c.bytes })) None) sealed
 
-module _ (means : Means) (th : Theirs) (xs ys : List Given) (s s' : Tables) (reached : Reaches means xs s) (reached' : Reaches means ys s') (alike : AlikeOffices th s s')
-    (a b : Request) (rest rest' : List Request) (gone : DifferingAreGone (all_joined means s xs (a ∷ rest)) (all_joined means s' ys (b ∷ rest'))) where
+module _ (means : Means) (th : ChosenTender) (xs ys : List Given) (s s' : Tables) (reached : Reaches means xs s) (reached' : Reaches means ys s') (alike : AlikeOffices th s s')
+    (a b : Request) (rest rest' : List Request) (gone : DifferingAreGone (all_accepted means s xs (a ∷ rest)) (all_accepted means s' ys (b ∷ rest'))) where
   abbrev W : ℕ → Bool
   W n = holds_of (is_theirs th) (envelope_at n s)
 
   other_found : (r : ℕ) → AlikeOptions th W (envelope_at r s) (envelope_at r s')
   other_found r = pairs-found th W s.envelopes s'.envelopes r (with_own th s s.envelopes s'.envelopes (each_found keyed.envelopes s.envelopes (sorted means xs s reached).envelopes) alike.envelopes)
 
-  module _ (notice : List ℕ) (is : a.demand ≡ Asks (commands.Open notice)) (available : a.unavailable ≡ false) (allowed : refusal_of (asked s a (commands.Open notice)) ≡ None) where
+  module _ (notice : List ℕ) (is : a.demand ≡ Asks (commands.Open notice)) (available : a.unavailable ≡ false) (allowed : refusal_of (given_by_request s a (commands.Open notice)) ≡ None) where
     abbrev x : Given
-    x = asked s a (commands.Open notice)
+    x = given_by_request s a (commands.Open notice)
 
-    joins : joined s a xs ≡ x ∷ xs
-    joins = (λ i. cond (available i) xs (demand_joined s a (is i) xs)) ∙ ap (λ o. joined_by o x xs) allowed
+    joins : accepted_with s a xs ≡ x ∷ xs
+    joins = (λ i. cond (available i) xs (demand_accepted s a (is i) xs)) ∙ ap (λ o. accepted_by o x xs) allowed
 
-    opened_now : (r : ℕ) (e : EnvelopeRow) (c : Reception) → came xs r ≡ Some c → e.notice ≡ c.notice → same_id e.notice notice ≡ true → fate_of_tender xs r ≡ Some envelope_states.Sealed
-        → fate_of_tender (joined s a xs) r ≡ Some envelope_states.Opened
+    opened_now : (r : ℕ) (e : EnvelopeRow) (c : Reception) → received_at xs r ≡ Some c → e.notice ≡ c.notice → same_id e.notice notice ≡ true → fate_of_tender xs r ≡ Some envelope_states.Sealed
+        → fate_of_tender (accepted_with s a xs) r ≡ Some envelope_states.Opened
     opened_now r e c came_is of_notice of fate =
         ap (λ zs. fate_of_tender zs r) joins
-        ∙ (ap (λ f. fate_after f (came (x ∷ xs) r) (tender_decided (commands.Open notice) x (came xs) r)) fate
+        ∙ (ap (λ f. fate_after f (received_at (x ∷ xs) r) (tender_decided (commands.Open notice) x (received_at xs) r)) fate
         ∙ (ap (λ o. Some (cond (is_of_notice notice o) envelope_states.Opened envelope_states.Sealed)) came_is
         ∙ ap (λ b. Some (cond b envelope_states.Opened envelope_states.Sealed)) (ap (λ k. same_id k notice) (sym of_notice) ∙ of)))
 
@@ -111,8 +111,8 @@ module _ (means : Means) (th : Theirs) (xs ys : List Given) (s s' : Tables) (rea
               let same : one.came.bytes ≡ two.came.bytes = cc in
               seal ∙ (ap (λ bytes. Some (record { receipt = r; bytes = bytes })) same ∙ sym seal')
           | inr q ↦
-              let opened : fate_of_tender (all_joined means s xs (a ∷ rest)) r ≡ Some envelope_states.Opened =
-              still_opened means (office_after means s a) (joined s a xs) rest r (opened_now r e one.came one.came_is one.stands.of_notice of (one.stands.fate_is ∙ ap Some state)) in
+              let opened : fate_of_tender (all_accepted means s xs (a ∷ rest)) r ≡ Some envelope_states.Opened =
+              still_opened means (office_after means s a) (accepted_with s a xs) rest r (opened_now r e one.came one.came_is one.stands.of_notice of (one.stands.fate_is ∙ ap Some state)) in
               absurd (let clash : false ≡ true = sym (ap is_gone opened) ∙ q in cc)
         ]
 
@@ -120,9 +120,9 @@ module _ (means : Means) (th : Theirs) (xs ys : List Given) (s s' : Tables) (rea
   finds (commands.Open notice) is available allowed = same_seal notice is available allowed
   finds _ is available allowed = tt
 
-module _ (means : Means) (packages : Packages) (publishes : PublishesBlindly means) (sees : SeesBlindly packages) (th : Theirs) where
+module _ (means : Means) (packages : Packages) (publishes : ReleasesHideSeals means) (sees : PackagesHideSeals packages) (th : ChosenTender) where
   run : (xs ys : List Given) (s s' : Tables) → Reaches means xs s → Reaches means ys s' → AlikeOffices th s s' → (rest rest' : List Request) → AreRequests means s rest → SameButSeals means th s rest rest'
-      → DifferingAreGone (all_joined means s xs rest) (all_joined means s' ys rest') → AlikeThroughout means packages th s s' rest rest'
+      → DifferingAreGone (all_accepted means s xs rest) (all_accepted means s' ys rest') → AlikeThroughout means packages th s s' rest rest'
   run xs ys s s' reached reached' alike [] [] own same gone = know_alike th s s' alike
   run xs ys s s' reached reached' alike [] (b ∷ rest') own same gone = absurd same
   run xs ys s s' reached reached' alike (a ∷ rest) [] own same gone = absurd same
@@ -130,7 +130,7 @@ module _ (means : Means) (packages : Packages) (publishes : PublishesBlindly mea
       let it = step means packages publishes sees th xs ys s s' reached reached' alike a b own.0 same.0 in (
         know_alike th s s' alike,
         it.told,
-        λ goes_on. run (joined s a xs) (joined s' b ys) (office_after means s a) (office_after means s' b) it.reached it.reached'
+        λ goes_on. run (accepted_with s a xs) (accepted_with s' b ys) (office_after means s a) (office_after means s' b) it.reached it.reached'
             (it.alike (finds means th xs ys s s' reached reached' alike a b rest rest' gone)) rest rest' own.1 same.1 gone,
       )
 

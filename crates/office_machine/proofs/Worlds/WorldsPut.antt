@@ -10,19 +10,19 @@ use Rattle.office_base.specs.declared.records.SealRow.{SealRow}
 use Rattle.office_base.specs.Tables.{Tables, IsSorted, seal_key, find_envelope, find_seal, put_envelope, put_seal, drop_seal, seal_at, after_put, after_puts}
 use Rattle.office_base.specs.declared.puts.Put.{Put}
 use Rattle.office_base.specs.declared.puts.Put.TheVariants as puts
-use Rattle.office_base.specs.RuleParts.{put_if}
-use Rattle.office_machine.specs.Worlds.{Theirs, is_theirs, AlikeRows, Pairs}
+use Rattle.office_base.specs.Transitions.{put_if}
+use Rattle.office_machine.specs.Worlds.{ChosenTender, is_theirs, AlikeRows, Pairs}
 use Rattle.office_machine.proofs.Rows.Keyed as keyed
 use Rattle.office_base.proofs.RowLaws.Drops.{row_at-row_drop}
 use Rattle.office_base.proofs.SortedTables.{sorted-put}
 use Rattle.office_base.proofs.RowLaws.{row_at-row_put}
 
 -- rows that are alike, each theirs as W says
-pub record Alike (th : Theirs) (W : ℕ → Bool) (e e' : EnvelopeRow) : Type 0 where
+pub record Alike (th : ChosenTender) (W : ℕ → Bool) (e e' : EnvelopeRow) : Type 0 where
   pub rows : AlikeRows th e e'
   pub own : is_theirs th e ≡ W e.receipt
 
-pub record AlikeIn (th : Theirs) (W : ℕ → Bool) (s s' : Tables) : Type 0 where
+pub record AlikeIn (th : ChosenTender) (W : ℕ → Bool) (s s' : Tables) : Type 0 where
   pub but_sealed : s' ≡ record s { envelopes = s'.envelopes; seals = s'.seals }
   pub envelopes : Pairs (Alike th W) s.envelopes s'.envelopes
   pub seals : (n : ℕ) → W n ≡ false → seal_at n s ≡ seal_at n s'
@@ -33,7 +33,7 @@ IsPlain (puts.Envelope e) = ⊥
 IsPlain (puts.Seal r) = ⊥
 IsPlain p = Unit {0}
 
-module _ (th : Theirs) (W : ℕ → Bool) where
+module _ (th : ChosenTender) (W : ℕ → Bool) where
   pub receipt_is : (e e' : EnvelopeRow) → Alike th W e e' → e'.receipt ≡ e.receipt
   receipt_is e e' a = ap (λ (e : EnvelopeRow). e.receipt) a.rows.but_digest
 

@@ -7,10 +7,10 @@ use Rattle.office_base.specs.declared.records.NoticeRow.{NoticeRow}
 use Rattle.office_base.specs.declared.records.AwardRow.{AwardRow}
 use Rattle.office_base.specs.Parents.{envelope_of_award}
 use Rattle.award_core.specs.Rules.Award.{weight_in, is_admissible, price_of, lesser, lowest_price, is_better, better, best_with, winner}
-use Rattle.office_machine.specs.Worlds.{Theirs, Pairs}
+use Rattle.office_machine.specs.Worlds.{ChosenTender, Pairs}
 use Rattle.office_machine.proofs.Worlds.WorldsPut.{Alike, AlikeOptions, pairs-filter, blind, pairs-found}
 
-module _ (th : Theirs) (W : ℕ → Bool) (s : Tables) (es' : List EnvelopeRow) (all : Pairs (Alike th W) s.envelopes es') where
+module _ (th : ChosenTender) (W : ℕ → Bool) (s : Tables) (es' : List EnvelopeRow) (all : Pairs (Alike th W) s.envelopes es') where
   pub envelope_pair : (n : ℕ) → AlikeOptions th W (envelope_at n s) (find_envelope es' n)
   envelope_pair n = pairs-found th W s.envelopes es' n all
 
@@ -26,7 +26,7 @@ module _ (th : Theirs) (W : ℕ → Bool) (s : Tables) (es' : List EnvelopeRow) 
   awarded_pair (Some a) = envelope_pair a.receipt
 
 -- the best of rows that are alike
-module _ (th : Theirs) (W : ℕ → Bool) where
+module _ (th : ChosenTender) (W : ℕ → Bool) where
   pairs-lowest : (es es' : List EnvelopeRow) → Pairs (Alike th W) es es' → lowest_price es' ≡ lowest_price es
   pairs-lowest [] [] all = refl
   pairs-lowest [] (e' ∷ es') all = absurd all

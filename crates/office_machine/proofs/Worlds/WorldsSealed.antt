@@ -6,23 +6,23 @@ use Rattle.std.specs.List.{AllByRecursion}
 use Rattle.office_values.specs.Ids.{same_id}
 use Rattle.office_base.specs.Tables.{same_number, Tables, IsSorted, find_envelope, find_seal, notice_at, envelope_at, seal_at, after_put, after_puts}
 use Rattle.office_base.specs.Rows.{holds_of}
-use Rattle.office_acts.specs.declared.command.Caller.{Caller}
-use Rattle.office_acts.specs.declared.command.Caller.TheVariants.{Tenderer}
-use Rattle.office_acts.specs.declared.tender.NamedSecurity.{NamedSecurity}
+use Rattle.office_commands.specs.declared.command.Caller.{Caller}
+use Rattle.office_commands.specs.declared.command.Caller.TheVariants.{Tenderer}
+use Rattle.office_commands.specs.declared.tender.NamedSecurity.{NamedSecurity}
 use Rattle.office_values.specs.declared.refusal.Refusal.TheVariants.{Forbidden}
 use Rattle.office_base.specs.Rules.{first_of}
-use Rattle.office_base.specs.RuleParts.{is_in_time, receipt_clock, put_if}
-use Rattle.office_acts.specs.declared.commands.Command.{Command}
+use Rattle.office_base.specs.Transitions.{is_in_time, receipt_clock, put_if}
+use Rattle.office_commands.specs.declared.commands.Command.{Command}
 use Rattle.office_machine.specs.Machine.{may_give, Given, time_of, command_tests, effect, refusal_of}
 use Rattle.office_machine.specs.Readings.{Readings}
-use Rattle.office_acts.specs.declared.commands.Command.TheVariants as commands
+use Rattle.office_commands.specs.declared.commands.Command.TheVariants as commands
 use Rattle.office_base.specs.declared.records.EnvelopeRow.{EnvelopeRow}
 use Rattle.office_base.specs.declared.records.SealRow.{SealRow}
 use Rattle.office_base.specs.declared.puts.Put.{Put}
 use Rattle.office_base.specs.declared.puts.Put.TheVariants as puts
 use Rattle.tender_core.specs.Rules.Present.{received, seal_puts, security_put}
 use Rattle.tender_core.specs.Rules.Modify.{is_anothers, replacing, withdrawn, modify_puts}
-use Rattle.office_machine.specs.Worlds.{Theirs, is_of_lot, is_theirs, AlikeRows, Pairs, IsNext, SameBut, Same, Presented, Modified, AcceptedAlike, StepsStayAlike}
+use Rattle.office_machine.specs.Worlds.{ChosenTender, is_for_chosen_lot, is_theirs, AlikeRows, Pairs, IsNext, SameBut, Same, Presented, Modified, AcceptedAlike, StepsStayAlike}
 use Rattle.office_base.proofs.ExactKeys.{equal_keys, equal_ids, same_itself}
 use Rattle.office_machine.proofs.Rows.Keyed.{found_put}
 use Rattle.office_base.proofs.RowLaws.Found.{each_found}
@@ -40,7 +40,7 @@ use Rattle.office_machine.proofs.Worlds.WorldsKept.{GivesNone, offices_of, is_th
 put_first : (e : EnvelopeRow) (rest : List Put) (s : Tables) → is_some (envelope_at e.receipt (after_puts (puts.Envelope e ∷ rest) s)) ≡ true
 put_first e rest s = (grows-puts rest (after_put (puts.Envelope e) s)).envelopes e.receipt (ap is_some (found_put keyed.envelopes s.envelopes e))
 
-module _ (th : Theirs) (readings : Readings) (s : Tables) (es' : List EnvelopeRow) (ss' : List SealRow) (moment : ℕ) (caller : Caller) (order : IsSorted s) (next : IsNext s) (fresh : Bool) where
+module _ (th : ChosenTender) (readings : Readings) (s : Tables) (es' : List EnvelopeRow) (ss' : List SealRow) (moment : ℕ) (caller : Caller) (order : IsSorted s) (next : IsNext s) (fresh : Bool) where
   abbrev other : Tables
   other = record s { envelopes = es'; seals = ss' }
 
@@ -97,7 +97,7 @@ module _ (th : Theirs) (readings : Readings) (s : Tables) (es' : List EnvelopeRo
         put_first (received readings.digest s.clock t caller notice lot security bytes in_time) (receipt_clock s.clock t ∷ seal_puts s.clock bytes in_time ++ put_if (security_put s.clock caller notice lot in_time) security) s
 
     pub presented : (notice lot : List ℕ) (security : Option NamedSecurity) (bytes bytes' : List ℕ) → length bytes ≡ length bytes'
-        → same_id (Rattle.office_acts.specs.Callers.tenderer_of caller) th.who && (same_id notice th.notice && same_id lot th.lot) ≡ fresh → (fresh ≡ false → bytes ≡ bytes')
+        → same_id (Rattle.office_commands.specs.Callers.tenderer_of caller) th.who && (same_id notice th.notice && same_id lot th.lot) ≡ fresh → (fresh ≡ false → bytes ≡ bytes')
         → AcceptedAlike th readings (given (commands.Present notice lot security bytes)) (given' (commands.Present notice lot security bytes'))
     presented notice lot security bytes bytes' len is same = record {
       refused = refused_alike (commands.Present notice lot security bytes);
@@ -127,7 +127,7 @@ module _ (th : Theirs) (readings : Readings) (s : Tables) (es' : List EnvelopeRo
     }
 
 -- a tenderer who isn't refused owns the tender that is modified
-owns : (th : Theirs) (o : Option EnvelopeRow) → holds_of (is_of_lot th) o ≡ true → holds_of (is_anothers (Tenderer th.who)) o ≡ false → holds_of (is_theirs th) o ≡ true
+owns : (th : ChosenTender) (o : Option EnvelopeRow) → holds_of (is_for_chosen_lot th) o ≡ true → holds_of (is_anothers (Tenderer th.who)) o ≡ false → holds_of (is_theirs th) o ≡ true
 owns th None lot mine = lot
 owns th (Some e) lot mine =
     let own : same_id th.who e.tenderer ≡ true = by (same_id th.who e.tenderer) mine in
@@ -138,7 +138,7 @@ owns th (Some e) lot mine =
     by true h = refl
     by false h = cc
 
-module _ (th : Theirs) (readings : Readings) (s : Tables) (es' : List EnvelopeRow) (ss' : List SealRow) (moment : ℕ) (order : IsSorted s) (next : IsNext s)
+module _ (th : ChosenTender) (readings : Readings) (s : Tables) (es' : List EnvelopeRow) (ss' : List SealRow) (moment : ℕ) (order : IsSorted s) (next : IsNext s)
     (order' : IsSorted (record s { envelopes = es'; seals = ss' })) (none : find_seal ss' (s.clock.receipts + 1) ≡ None) (rows : Pairs (AlikeRows th) s.envelopes es') (seals : (n : ℕ) → holds_of (is_theirs th) (envelope_at n s) ≡ false → seal_at n s ≡ find_seal ss' n) where
   abbrev world : Tables
   world = record s { envelopes = es'; seals = ss' }
@@ -152,7 +152,7 @@ module _ (th : Theirs) (readings : Readings) (s : Tables) (es' : List EnvelopeRo
   -- the same command
   same_command : (caller : Caller) (command : Command) → Alike_after caller command command
   same_command caller (commands.Present notice lot security bytes) =
-      presented th readings s es' ss' moment caller order next (same_id (Rattle.office_acts.specs.Callers.tenderer_of caller) th.who && (same_id notice th.notice && same_id lot th.lot)) order' none rows seals notice lot security bytes bytes refl refl (λ _. refl)
+      presented th readings s es' ss' moment caller order next (same_id (Rattle.office_commands.specs.Callers.tenderer_of caller) th.who && (same_id notice th.notice && same_id lot th.lot)) order' none rows seals notice lot security bytes bytes refl refl (λ _. refl)
   same_command caller (commands.Modify receipt bytes) =
       modified th readings s es' ss' moment caller order next (holds_of (is_theirs th) (envelope_at receipt s)) order' none rows seals receipt bytes bytes refl refl (λ _ _. refl)
   same_command caller command = quietly caller command tt
@@ -163,7 +163,7 @@ module _ (th : Theirs) (readings : Readings) (s : Tables) (es' : List EnvelopeRo
       presented th readings s es' ss' moment (Tenderer th.who) order next true order' none rows seals th.notice th.lot security bytes bytes' len
       (λ i. same_itself th.who i && (same_itself th.notice i && same_itself th.lot i)) (λ e. cc)
 
-  other_tender : (receipt : ℕ) (bytes bytes' : List ℕ) → length bytes ≡ length bytes' → holds_of (is_of_lot th) (envelope_at receipt s) ≡ true → Alike_after (Tenderer th.who) (commands.Modify receipt bytes) (commands.Modify receipt bytes')
+  other_tender : (receipt : ℕ) (bytes bytes' : List ℕ) → length bytes ≡ length bytes' → holds_of (is_for_chosen_lot th) (envelope_at receipt s) ≡ true → Alike_after (Tenderer th.who) (commands.Modify receipt bytes) (commands.Modify receipt bytes')
   other_tender receipt bytes bytes' len lot =
       modified th readings s es' ss' moment (Tenderer th.who) order next (holds_of (is_theirs th) (envelope_at receipt s)) order' none rows seals receipt bytes bytes' len refl
       (λ allowed out.

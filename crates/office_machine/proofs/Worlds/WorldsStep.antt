@@ -1,9 +1,9 @@
 -- In two worlds a command is refused alike, and leaves them alike.
 use Rattle.std.proofs.Common.{◌≡◌, ℕ, ◌+◌, Bool, false, List, filter, Option, refl, [], None}
 use Rattle.std.specs.List.{AllByRecursion}
-use Rattle.office_acts.specs.declared.command.Caller.{Caller}
-use Rattle.office_acts.specs.declared.commands.Command.{Command}
-use Rattle.office_acts.specs.declared.commands.Command.TheVariants.{Open, Present, Modify, Withdraw, Examine, Award}
+use Rattle.office_commands.specs.declared.command.Caller.{Caller}
+use Rattle.office_commands.specs.declared.commands.Command.{Command}
+use Rattle.office_commands.specs.declared.commands.Command.TheVariants.{Open, Present, Modify, Withdraw, Examine, Award}
 use Rattle.office_base.specs.Joined.{free_in}
 use Rattle.office_base.specs.declared.records.LineRow.{LineRow}
 use Rattle.office_base.specs.Tables.{find_seal, seal_at, find_envelope, Tables, notice_at, lot_at, envelope_at, envelopes_of_notice, envelopes_of_lot}
@@ -19,7 +19,7 @@ use Rattle.tender_core.specs.Rules.Withdraw.{withdraw_tests}
 use Rattle.tender_core.specs.Rules.Open.{is_sealed_envelope}
 use Rattle.award_core.specs.Rules.Award.{reserved_in, is_admissible, isnt_examined, is_above, winner, award_tests}
 use Rattle.award_core.specs.Rules.Examine.{examine_tests}
-use Rattle.office_machine.specs.Worlds.{Theirs, Pairs}
+use Rattle.office_machine.specs.Worlds.{ChosenTender, Pairs}
 use Rattle.office_machine.specs.Readings.{Readings}
 use Rattle.office_machine.specs.Machine.{tests_for, puts_for}
 use Rattle.office_machine.proofs.Worlds.WorldsPut.{Alike, PutPair, pairs-any, blind-option}
@@ -29,7 +29,7 @@ use Rattle.office_machine.proofs.Worlds.WorldsRows.{pairs-winner, envelope_pair,
 abbrev pub SealsAlike : Tables → List SealRow → List EnvelopeRow → Type 0
 SealsAlike s ss' es = AllByRecursion (λ (e : EnvelopeRow). seal_at e.receipt s ≡ find_seal ss' e.receipt) es
 
-module _ (th : Theirs) (W : ℕ → Bool) (s : Tables) (es' : List EnvelopeRow) (ss' : List SealRow) (all : Pairs (Alike th W) s.envelopes es') (seals : (n : ℕ) → W n ≡ false → seal_at n s ≡ find_seal ss' n) where
+module _ (th : ChosenTender) (W : ℕ → Bool) (s : Tables) (es' : List EnvelopeRow) (ss' : List SealRow) (all : Pairs (Alike th W) s.envelopes es') (seals : (n : ℕ) → W n ≡ false → seal_at n s ≡ find_seal ss' n) where
   abbrev pub s' : Tables
   s' = record s { envelopes = es'; seals = ss' }
 
@@ -55,14 +55,14 @@ module _ (th : Theirs) (W : ℕ → Bool) (s : Tables) (es' : List EnvelopeRow) 
   tests_same t caller _ = refl
 
   -- the command gives no receipt, and opens equal seals if any
-  abbrev pub IsQuiet : Command → Type 0
-  IsQuiet (Present notice lot security bytes) = ⊥
-  IsQuiet (Modify receipt bytes) = ⊥
-  IsQuiet (Open notice) = SealsAlike s ss' (filter is_sealed_envelope (envelopes_of_notice notice s))
-  IsQuiet command = Unit {0}
+  abbrev pub GivesNoReceipt : Command → Type 0
+  GivesNoReceipt (Present notice lot security bytes) = ⊥
+  GivesNoReceipt (Modify receipt bytes) = ⊥
+  GivesNoReceipt (Open notice) = SealsAlike s ss' (filter is_sealed_envelope (envelopes_of_notice notice s))
+  GivesNoReceipt command = Unit {0}
 
 -- in two worlds it puts rows that are alike, where it gives no receipt and opens equal seals
 abbrev pub PutsAlike : Command → Type 0
-PutsAlike command = (th : Theirs) (W : ℕ → Bool) (s : Tables) (es' : List EnvelopeRow) (ss' : List SealRow) (all : Pairs (Alike th W) s.envelopes es') (seals : (n : ℕ) → W n ≡ false → seal_at n s ≡ find_seal ss' n)
-    (readings : Readings) (t : ℕ) (caller : Caller) → IsQuiet th W s es' ss' all seals command
+PutsAlike command = (th : ChosenTender) (W : ℕ → Bool) (s : Tables) (es' : List EnvelopeRow) (ss' : List SealRow) (all : Pairs (Alike th W) s.envelopes es') (seals : (n : ℕ) → W n ≡ false → seal_at n s ≡ find_seal ss' n)
+    (readings : Readings) (t : ℕ) (caller : Caller) → GivesNoReceipt th W s es' ss' all seals command
     → Pairs (PutPair th W) (puts_for readings s t caller command) (puts_for readings (record s { envelopes = es'; seals = ss' }) t caller command)

@@ -3,7 +3,7 @@ use Rattle.std.specs.Prelude.{length, ℕ, List}
 use Rattle.tender_core.specs.Rules.Import.{import_rows, import_lacks, import_tests, import_puts}
 use Rattle.office_machine.specs.Replies.{Imported}
 use Rattle.office_machine.specs.Rule.{Rule, Silent}
-use Rattle.office_acts.specs.declared.budget.BudgetRow.{BudgetRow}
+use Rattle.office_commands.specs.declared.budget.BudgetRow.{BudgetRow}
 
 abbrev pub import_budget : List ℕ → List BudgetRow → Rule
 import_budget batch rows = record {

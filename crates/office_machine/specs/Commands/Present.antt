@@ -1,11 +1,11 @@
 -- The presentation of a tender.
 use Rattle.office_base.specs.Rows.{holds_of}
-use Rattle.office_base.specs.RuleParts.{is_in_time}
+use Rattle.office_base.specs.Transitions.{is_in_time}
 use Rattle.office_base.specs.Tables.{notice_at}
 use Rattle.tender_core.specs.Rules.Present.{present_rows, present_lacks, present_tests, present_puts, received}
 use Rattle.office_machine.specs.Replies.{received_reply}
 use Rattle.office_machine.specs.Rule.{Rule, Silent}
-use Rattle.office_acts.specs.declared.tender.NamedSecurity.{NamedSecurity}
+use Rattle.office_commands.specs.declared.tender.NamedSecurity.{NamedSecurity}
 use Rattle.std.specs.Prelude.{ℕ, List, Option}
 
 abbrev pub present : List ℕ → List ℕ → Option NamedSecurity → List ℕ → Rule

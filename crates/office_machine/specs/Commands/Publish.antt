@@ -2,7 +2,7 @@
 use Rattle.tender_core.specs.Rules.Publish.{publish_rows, publish_lacks, publish_tests, publish_puts}
 use Rattle.office_machine.specs.Replies.{OfNotice, release_of}
 use Rattle.office_machine.specs.Rule.{Rule, UnderNotice}
-use Rattle.office_acts.specs.declared.notice.NewNotice.{NewNotice}
+use Rattle.office_commands.specs.declared.notice.NewNotice.{NewNotice}
 use Rattle.std.specs.Prelude.{ℕ, List}
 
 abbrev pub publish : List ℕ → NewNotice → Rule

@@ -1,9 +1,9 @@
 -- The signing of a contract.
 use Rattle.award_core.specs.Rules.Sign.{sign_rows, sign_lacks, sign_tests, sign_puts}
 use Rattle.office_base.specs.Tables.{award_at}
-use Rattle.office_machine.specs.Replies.{Signed, award_release}
+use Rattle.office_machine.specs.Replies.{Signed, release_of_award}
 use Rattle.office_machine.specs.Rule.{Rule, UnderAward}
-use Rattle.office_acts.specs.declared.tender.NamedSecurity.{NamedSecurity}
+use Rattle.office_commands.specs.declared.tender.NamedSecurity.{NamedSecurity}
 use Rattle.std.specs.Prelude.{ℕ, Option}
 
 abbrev pub sign : ℕ → Option NamedSecurity → Rule
@@ -12,5 +12,5 @@ sign award named = record {
   lacks = λ s. sign_lacks (sign_rows s award);
   puts = λ readings s t caller. sign_puts (sign_rows s award) t named;
   publishes = UnderAward award;
-  reply = λ readings s u t caller. Signed award (award_release (award_at award s) s.notices) t;
+  reply = λ readings s u t caller. Signed award (release_of_award (award_at award s) s.notices) t;
 }

@@ -1,6 +1,6 @@
 -- The withdrawal of a tender.
 use Rattle.std.specs.Prelude.{ℕ}
-use Rattle.office_base.specs.RuleParts.{is_late}
+use Rattle.office_base.specs.Transitions.{is_late}
 use Rattle.tender_core.specs.Rules.Withdraw.{withdraw_rows, withdraw_lacks, withdraw_tests, withdraw_puts}
 use Rattle.office_machine.specs.Replies.{Withdrew, state_after}
 use Rattle.office_machine.specs.Rule.{Rule, Silent}

@@ -1,9 +1,9 @@
 //! The amendment of a contract, planned: its reply, its release, and what it puts.
 ghost use Rattle.std.specs.Prelude.{◌≡◌, ℕ, List, true, IfErr, IfOk, None, Some};
 ghost use Rattle.award_core.specs.Rules.AmendContract.{amend_contract_rows};
-ghost use Rattle.office_acts.specs.Rights.{may};
-ghost use Rattle.office_acts.specs.declared.command.CommandKind.TheVariants as kinds;
-ghost use Rattle.office_acts.specs.declared.commands.Command.TheVariants.{AmendContract};
+ghost use Rattle.office_commands.specs.Rights.{may};
+ghost use Rattle.office_commands.specs.declared.command.CommandKind.TheVariants as kinds;
+ghost use Rattle.office_commands.specs.declared.commands.Command.TheVariants.{AmendContract};
 ghost use Rattle.office_base.specs.Shelves.{Looks, LooksUp};
 ghost use Rattle.office_base.specs.Tables.{Tables};
 ghost use Rattle.office_machine.specs.Machine.{refusal_of};
@@ -22,14 +22,14 @@ use crate::replies::contract_text;
 use award_core::amend_contract::{AmendContractRows, puts, refusal};
 use ocds_release::borrowed::BorrowedLine;
 use ocds_release::event::{ContractAmended, Event};
-use office_acts::amounts::EntryAmount;
-use office_acts::contract::ChangeKind;
 use office_base::laws::{looks_follow, rows_are_kept};
 use office_base::records::ContractRow;
 use office_base::rows::Rows;
 use office_base::shelf::{Lookups, ShelfFault};
+use office_commands::amounts::EntryAmount;
+use office_commands::contract::ChangeKind;
 use office_machine::laws;
-use office_publications::worth::worth_after;
+use office_publications::worth::contract_value_after;
 use office_values::given::AskedNumber;
 use office_values::id::Id;
 use office_values::refusal::Refusal;
@@ -97,7 +97,7 @@ fn release(
     ensures none { IfErr result (λ why. why ≡ Unavailable) }
 {
     rows_are_kept::<ContractRow>();
-    let Some(value) = worth_after(rows.entries.as_slice(), contract, kind, amount) else {
+    let Some(value) = contract_value_after(rows.entries.as_slice(), contract, kind, amount) else {
         return Err(Refusal::Unavailable);
     };
     let rationale = BorrowedLine::of(rationale);

@@ -1,8 +1,8 @@
 //! A cancellation, planned: its reply, its release, and what it puts.
 ghost use Rattle.std.specs.Prelude.{◌≡◌, IfErr, IfOk, filter, map, true};
-ghost use Rattle.office_acts.specs.Rights.{may};
-ghost use Rattle.office_acts.specs.declared.command.CommandKind.TheVariants as kinds;
-ghost use Rattle.office_acts.specs.declared.commands.Command.TheVariants.{Cancel};
+ghost use Rattle.office_commands.specs.Rights.{may};
+ghost use Rattle.office_commands.specs.declared.command.CommandKind.TheVariants as kinds;
+ghost use Rattle.office_commands.specs.declared.commands.Command.TheVariants.{Cancel};
 ghost use Rattle.office_base.specs.Shelves.{Looks};
 ghost use Rattle.office_base.specs.Tables.{Tables};
 ghost use Rattle.office_plans.specs.Asking.{given_by};

@@ -1,10 +1,10 @@
 //! The end of a contract, planned: its reply, its release, and what it puts.
 ghost use Rattle.std.specs.Prelude.{◌≡◌, ℕ, true, IfErr, IfOk, None, Some};
 ghost use Rattle.award_core.specs.Rules.End.{end_rows};
-ghost use Rattle.office_acts.specs.Rights.{may};
-ghost use Rattle.office_acts.specs.declared.command.CommandKind.TheVariants as kinds;
-ghost use Rattle.office_acts.specs.declared.commands.Command.TheVariants.{End};
-ghost use Rattle.office_acts.specs.declared.contract.How.{How};
+ghost use Rattle.office_commands.specs.Rights.{may};
+ghost use Rattle.office_commands.specs.declared.command.CommandKind.TheVariants as kinds;
+ghost use Rattle.office_commands.specs.declared.commands.Command.TheVariants.{End};
+ghost use Rattle.office_commands.specs.declared.contract.How.{How};
 ghost use Rattle.office_base.specs.Shelves.{Looks, LooksUp};
 ghost use Rattle.office_base.specs.Tables.{Tables};
 ghost use Rattle.office_machine.specs.Machine.{refusal_of};
@@ -22,11 +22,11 @@ use crate::published::{Released, make_release, published};
 use crate::replies::contract_text;
 use award_core::end::{EndRows, puts, refusal};
 use ocds_release::event::{ContractEnded, Event};
-use office_acts::contract::How;
 use office_base::laws::looks_follow;
 use office_base::records::ContractRow;
 use office_base::rows::Rows;
 use office_base::shelf::{Lookups, ShelfFault};
+use office_commands::contract::How;
 use office_machine::laws;
 use office_values::given::AskedNumber;
 use office_values::refusal::Refusal;

@@ -1,9 +1,9 @@
 //! The examination of a tender, planned: its reply, and what it puts.
 ghost use Rattle.std.specs.Prelude.{◌≡◌, IfOk, true};
 ghost use Rattle.award_core.specs.Rules.Examine.{examine_rows};
-ghost use Rattle.office_acts.specs.Rights.{may};
-ghost use Rattle.office_acts.specs.declared.command.CommandKind.TheVariants as kinds;
-ghost use Rattle.office_acts.specs.declared.commands.Command.TheVariants.{Examine};
+ghost use Rattle.office_commands.specs.Rights.{may};
+ghost use Rattle.office_commands.specs.declared.command.CommandKind.TheVariants as kinds;
+ghost use Rattle.office_commands.specs.declared.commands.Command.TheVariants.{Examine};
 ghost use Rattle.office_base.specs.Shelves.{Looks, LooksUp};
 ghost use Rattle.office_machine.specs.Replies.{Examined};
 ghost use Rattle.office_plans.specs.Asking.{given_by};
@@ -16,8 +16,8 @@ use crate::parents::{lot_of_envelope, notice_of_envelope};
 use crate::planned::Planned;
 use crate::published::silent;
 use award_core::examine::{ExamineRows, puts, refusal};
-use office_acts::tender::Quality;
 use office_base::shelf::{Lookups, ShelfFault};
+use office_commands::tender::Quality;
 use office_values::given::AskedNumber;
 use office_values::moment::Moment;
 use office_values::refusal::Refusal;

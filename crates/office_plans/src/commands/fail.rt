@@ -1,9 +1,9 @@
 //! The failing of an award, planned: its reply, its release, and what it puts.
 ghost use Rattle.std.specs.Prelude.{◌≡◌, ℕ, true, IfErr, IfOk, Some};
 ghost use Rattle.award_core.specs.Rules.Fail.{fail_rows};
-ghost use Rattle.office_acts.specs.Rights.{may};
-ghost use Rattle.office_acts.specs.declared.command.CommandKind.TheVariants as kinds;
-ghost use Rattle.office_acts.specs.declared.commands.Command.TheVariants.{Fail};
+ghost use Rattle.office_commands.specs.Rights.{may};
+ghost use Rattle.office_commands.specs.declared.command.CommandKind.TheVariants as kinds;
+ghost use Rattle.office_commands.specs.declared.commands.Command.TheVariants.{Fail};
 ghost use Rattle.office_base.specs.Shelves.{Looks, LooksUp};
 ghost use Rattle.office_base.specs.Tables.{Tables};
 ghost use Rattle.office_machine.specs.Replies.{Failed};
@@ -17,7 +17,7 @@ use crate::objects::{Plain, object_text};
 use crate::parents::{envelope_of_award, lot_of_award, notice_of_award, security_of_envelope};
 use crate::planned::Planned;
 use crate::published::{Released, make_release, published};
-use crate::releases::award_release;
+use crate::releases::release_of_award;
 use award_core::fail::{FailRows, puts, refusal};
 use ocds_release::event::{AwardFailed, Event};
 use office_base::laws::looks_follow;
@@ -79,7 +79,7 @@ fn reply(
     ensures { IfOk result (λ text. (s : Tables) → rows.now ≡ fail_rows s award
         → text.items ≡ reply_text (accepted_reply (given_by asking.now s (Fail award)))) }
 {
-    let release = award_release(&rows.award, &rows.notice);
+    let release = release_of_award(&rows.award, &rows.notice);
     let t = asking.time(&rows.clock);
     failed_text(alloc, award, release, t)
 }

@@ -1,8 +1,8 @@
 //! The import of a budget file, planned: its reply, and what it puts.
 ghost use Rattle.std.specs.Prelude.{◌≡◌, IfOk, true};
-ghost use Rattle.office_acts.specs.Rights.{may};
-ghost use Rattle.office_acts.specs.declared.command.CommandKind.TheVariants as kinds;
-ghost use Rattle.office_acts.specs.declared.commands.Command.TheVariants.{Import};
+ghost use Rattle.office_commands.specs.Rights.{may};
+ghost use Rattle.office_commands.specs.declared.command.CommandKind.TheVariants as kinds;
+ghost use Rattle.office_commands.specs.declared.commands.Command.TheVariants.{Import};
 ghost use Rattle.office_base.specs.Shelves.{Looks};
 ghost use Rattle.office_machine.specs.Replies.{Imported};
 ghost use Rattle.office_plans.specs.Asking.{given_by};
@@ -15,10 +15,10 @@ use crate::objects::{Plain, object_text};
 use crate::planned::Planned;
 use crate::published::silent;
 use crate::standings::load_standings;
-use office_acts::budget::BudgetRows;
 use office_base::laws::rows_are_kept;
 use office_base::shelf::{Lookups, ShelfFault};
 use office_base::standing::Standing;
+use office_commands::budget::BudgetRows;
 use office_values::id::Id;
 use office_values::moment::Moment;
 use office_values::refusal::Refusal;

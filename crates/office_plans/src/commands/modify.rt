@@ -1,9 +1,9 @@
 //! The modification of a tender, planned: its reply, and what it puts.
 ghost use Rattle.std.specs.Prelude.{◌≡◌, IfOk, true};
 ghost use Rattle.sha2.specs.Sha256.{sha256};
-ghost use Rattle.office_acts.specs.Rights.{may};
-ghost use Rattle.office_acts.specs.declared.command.CommandKind.TheVariants as kinds;
-ghost use Rattle.office_acts.specs.declared.commands.Command.TheVariants.{Modify};
+ghost use Rattle.office_commands.specs.Rights.{may};
+ghost use Rattle.office_commands.specs.declared.command.CommandKind.TheVariants as kinds;
+ghost use Rattle.office_commands.specs.declared.commands.Command.TheVariants.{Modify};
 ghost use Rattle.office_base.specs.Shelves.{Looks, LooksUp};
 ghost use Rattle.office_machine.specs.Replies.{received_reply};
 ghost use Rattle.office_plans.specs.Asking.{given_by};
@@ -17,9 +17,9 @@ use crate::parents::notice_of_envelope;
 use crate::planned::Planned;
 use crate::published::silent;
 use crate::replies::received_text;
-use office_acts::sealed::Sealed;
 use office_base::records::{ClockRow, EnvelopeRow, EnvelopeState};
 use office_base::shelf::{Lookups, ShelfFault};
+use office_commands::sealed::Sealed;
 use office_values::given::AskedNumber;
 use office_values::moment::Moment;
 use office_values::refusal::Refusal;

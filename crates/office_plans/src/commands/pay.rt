@@ -1,8 +1,8 @@
 //! A payment, planned: its reply, its release, and what it puts.
 ghost use Rattle.std.specs.Prelude.{◌≡◌, ℕ, List, true, IfErr, IfOk, None, Some};
-ghost use Rattle.office_acts.specs.Rights.{may};
-ghost use Rattle.office_acts.specs.declared.command.CommandKind.TheVariants as kinds;
-ghost use Rattle.office_acts.specs.declared.commands.Command.TheVariants.{Pay};
+ghost use Rattle.office_commands.specs.Rights.{may};
+ghost use Rattle.office_commands.specs.declared.command.CommandKind.TheVariants as kinds;
+ghost use Rattle.office_commands.specs.declared.commands.Command.TheVariants.{Pay};
 ghost use Rattle.office_base.specs.Shelves.{Looks, LooksUp};
 ghost use Rattle.office_base.specs.Tables.{Tables};
 ghost use Rattle.office_machine.specs.Machine.{refusal_of};
@@ -22,11 +22,11 @@ use crate::published::{Released, make_release, published};
 use crate::replies::contract_text;
 use award_core::pay::{PayRows, puts, refusal};
 use ocds_release::event::{Event, Paid};
-use office_acts::amounts::EntryAmount;
 use office_base::laws::looks_follow;
 use office_base::records::ContractRow;
 use office_base::rows::Rows;
 use office_base::shelf::{Lookups, ShelfFault};
+use office_commands::amounts::EntryAmount;
 use office_machine::laws;
 use office_values::given::AskedNumber;
 use office_values::id::Id;

@@ -1,8 +1,8 @@
 //! The publication of a notice, planned: its reply, its release, and what it puts.
 ghost use Rattle.std.specs.Prelude.{◌≡◌, IfErr, IfOk, map, true};
-ghost use Rattle.office_acts.specs.Rights.{may};
-ghost use Rattle.office_acts.specs.declared.command.CommandKind.TheVariants as kinds;
-ghost use Rattle.office_acts.specs.declared.commands.Command.TheVariants.{Publish};
+ghost use Rattle.office_commands.specs.Rights.{may};
+ghost use Rattle.office_commands.specs.declared.command.CommandKind.TheVariants as kinds;
+ghost use Rattle.office_commands.specs.declared.commands.Command.TheVariants.{Publish};
 ghost use Rattle.office_base.specs.Shelves.{Looks};
 ghost use Rattle.office_base.specs.Tables.{Tables};
 ghost use Rattle.office_plans.specs.Asking.{given_by};
@@ -18,11 +18,11 @@ use crate::replies::notice_reply;
 use keyed_table::table::Table;
 use ocds_release::borrowed::{BorrowedLine, PublishedLots};
 use ocds_release::event::{Event, Published as PublishedNotice};
-use office_acts::lot::NewLot;
-use office_acts::notice::NewNotice;
 use office_base::laws::{looks_follow, rows_are_kept};
 use office_base::records::LineRow;
 use office_base::shelf::{Lookups, ShelfFault};
+use office_commands::lot::NewLot;
+use office_commands::notice::NewNotice;
 use office_values::id::Id;
 use office_values::refusal::Refusal;
 use office_values::settings::Settings;

@@ -1,8 +1,8 @@
 //! The registration of a tenderer, planned: its reply, and what it puts.
 ghost use Rattle.std.specs.Prelude.{◌≡◌, IfOk, true};
-ghost use Rattle.office_acts.specs.Rights.{may};
-ghost use Rattle.office_acts.specs.declared.command.CommandKind.TheVariants as kinds;
-ghost use Rattle.office_acts.specs.declared.commands.Command.TheVariants.{Register};
+ghost use Rattle.office_commands.specs.Rights.{may};
+ghost use Rattle.office_commands.specs.declared.command.CommandKind.TheVariants as kinds;
+ghost use Rattle.office_commands.specs.declared.commands.Command.TheVariants.{Register};
 ghost use Rattle.office_base.specs.Shelves.{Looks, LooksUp};
 ghost use Rattle.office_machine.specs.Replies.{Enrolled};
 ghost use Rattle.office_plans.specs.Asking.{given_by};

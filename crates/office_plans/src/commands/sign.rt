@@ -1,10 +1,10 @@
 //! The signing of a contract, planned: its reply, its release, and what it puts.
 ghost use Rattle.std.specs.Prelude.{◌≡◌, ℕ, Option, true, IfErr, IfOk, Some};
 ghost use Rattle.award_core.specs.Rules.Sign.{sign_rows};
-ghost use Rattle.office_acts.specs.Rights.{may};
-ghost use Rattle.office_acts.specs.declared.command.CommandKind.TheVariants as kinds;
-ghost use Rattle.office_acts.specs.declared.commands.Command.TheVariants.{Sign};
-ghost use Rattle.office_acts.specs.declared.tender.NamedSecurity.{NamedSecurity};
+ghost use Rattle.office_commands.specs.Rights.{may};
+ghost use Rattle.office_commands.specs.declared.command.CommandKind.TheVariants as kinds;
+ghost use Rattle.office_commands.specs.declared.commands.Command.TheVariants.{Sign};
+ghost use Rattle.office_commands.specs.declared.tender.NamedSecurity.{NamedSecurity};
 ghost use Rattle.office_base.specs.Shelves.{Looks, LooksUp};
 ghost use Rattle.office_base.specs.Tables.{Tables};
 ghost use Rattle.office_machine.specs.Replies as replies;
@@ -20,13 +20,13 @@ use crate::of_lot::securities_of_award;
 use crate::parents::{envelope_of_award, lot_of_award, notice_of_award};
 use crate::planned::Planned;
 use crate::published::{Released, make_release, published};
-use crate::releases::award_release;
+use crate::releases::release_of_award;
 use award_core::sign::{SignRows, puts, refusal};
 use ocds_release::event::{Event, Signed};
-use office_acts::tender::NamedSecurity;
 use office_base::laws::looks_follow;
 use office_base::records::{AwardRow, LotState};
 use office_base::shelf::{Lookups, ShelfFault};
+use office_commands::tender::NamedSecurity;
 use office_values::given::AskedNumber;
 use office_values::moment::Moment;
 use office_values::refusal::Refusal;
@@ -87,7 +87,7 @@ fn reply(
     ensures { IfOk result (λ text. (s : Tables) (named : Option NamedSecurity) → rows.now ≡ sign_rows s award
         → text.items ≡ reply_text (accepted_reply (given_by asking.now s (Sign award named)))) }
 {
-    let release = award_release(&rows.award, &rows.notice);
+    let release = release_of_award(&rows.award, &rows.notice);
     let t = asking.time(&rows.clock);
     signed_text(alloc, award, release, t)
 }

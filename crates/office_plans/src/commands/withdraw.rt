@@ -1,9 +1,9 @@
 //! The withdrawal of a tender, planned: its reply, and what it puts.
 ghost use Rattle.std.specs.Prelude.{◌≡◌, IfOk, true};
-ghost use Rattle.office_acts.specs.Rights.{may};
-ghost use Rattle.office_acts.specs.declared.command.CommandKind.TheVariants as kinds;
-ghost use Rattle.office_acts.specs.declared.commands.Command.TheVariants.{Withdraw};
-ghost use Rattle.office_base.specs.RuleParts.{is_late};
+ghost use Rattle.office_commands.specs.Rights.{may};
+ghost use Rattle.office_commands.specs.declared.command.CommandKind.TheVariants as kinds;
+ghost use Rattle.office_commands.specs.declared.commands.Command.TheVariants.{Withdraw};
+ghost use Rattle.office_base.specs.Transitions.{is_late};
 ghost use Rattle.office_base.specs.Shelves.{Looks, LooksUp};
 ghost use Rattle.office_machine.specs.Replies.{Withdrew, state_after};
 ghost use Rattle.office_plans.specs.Asking.{given_by};

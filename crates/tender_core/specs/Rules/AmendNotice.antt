@@ -5,7 +5,7 @@ use Rattle.office_values.specs.declared.refusal.Thing.TheVariants as things
 use Rattle.office_values.specs.declared.refusal.Refusal.{Refusal}
 use Rattle.office_values.specs.declared.refusal.Refusal.TheVariants.{NoSuch, DeadlinePassed, DeadlineEarlier, NotOpenForTenders, LimitReached}
 use Rattle.office_base.specs.Rows.{holds_of}
-use Rattle.office_base.specs.RuleParts.{clock_put, has_all_releases, is_past_deadline, puts_if}
+use Rattle.office_base.specs.Transitions.{clock_put, has_all_releases, is_past_deadline, puts_if}
 use Rattle.office_base.specs.States.{is_cancelled}
 use Rattle.office_base.specs.declared.records.NoticeRow.{NoticeRow}
 use Rattle.office_base.specs.declared.puts.Put.TheVariants as puts

@@ -7,7 +7,7 @@ use Rattle.office_values.specs.declared.refusal.Refusal.{Refusal}
 use Rattle.office_values.specs.declared.refusal.Refusal.TheVariants.{NoSuch, NothingToCancel, LimitReached}
 use Rattle.office_base.specs.Sums.{sum_over}
 use Rattle.office_base.specs.Rows.{holds_of}
-use Rattle.office_base.specs.RuleParts.{clock_put, has_all_releases, is_held_security, security_returned, puts_if}
+use Rattle.office_base.specs.Transitions.{clock_put, has_all_releases, is_held_security, security_returned, puts_if}
 use Rattle.office_base.specs.States.{is_open, is_receiving, is_active, is_sealed}
 use Rattle.office_base.specs.declared.records.NoticeState.TheVariants as notice_states
 use Rattle.office_base.specs.declared.records.LotState.TheVariants as lot_states
@@ -32,19 +32,19 @@ is_open_lot l = is_open l.state
 abbrev pub cancelled_lot : LotRow → LotRow
 cancelled_lot l = record l { state = lot_states.Cancelled; reserved = 0 }
 
-abbrev pub lot_put : LotRow → Put
-lot_put l = puts.Lot (cancelled_lot l)
+abbrev pub cancelled_lot_put : LotRow → Put
+cancelled_lot_put l = puts.Lot (cancelled_lot l)
 
 -- what these lots have reserved of a line
 abbrev pub freed : List ℕ → List LotRow → ℕ
 freed line lots = sum_over (λ (l : LotRow). cond (same_id l.line line) l.reserved 0) lots
 
 -- the line of a lot, with what all these lots had reserved free again
-abbrev pub line_row : List LineRow → List LotRow → LotRow → LineRow
-line_row lines lots l = record (line_found lines l.line) { line = l.line; free = free_in (find_line lines l.line) + freed l.line lots }
+abbrev pub freed_line : List LineRow → List LotRow → LotRow → LineRow
+freed_line lines lots l = record (line_found lines l.line) { line = l.line; free = free_in (find_line lines l.line) + freed l.line lots }
 
-abbrev pub line_put : List LineRow → List LotRow → LotRow → Put
-line_put lines lots l = puts.Line (line_row lines lots l)
+abbrev pub freed_line_put : List LineRow → List LotRow → LotRow → Put
+freed_line_put lines lots l = puts.Line (freed_line lines lots l)
 
 -- the lot of these identifiers is one of those that end
 abbrev pub ends : List LotRow → List ℕ → List ℕ → Bool
@@ -114,8 +114,8 @@ cancel_tests rows =
 abbrev pub cancel_puts : CancelRows → ℕ → List Put
 cancel_puts rows t =
     puts_if (λ (n : NoticeRow).
-    map (line_put rows.lines (filter is_open_lot rows.lots)) (filter is_open_lot rows.lots)
-    ++ (map lot_put (filter is_open_lot rows.lots)
+    map (freed_line_put rows.lines (filter is_open_lot rows.lots)) (filter is_open_lot rows.lots)
+    ++ (map cancelled_lot_put (filter is_open_lot rows.lots)
     ++ (map award_put (filter (is_ended_award rows.lots) rows.awards)
     ++ (map envelope_put (filter (is_ended_envelope rows.lots) rows.envelopes)
     ++ (map drop_put (filter (is_ended_envelope rows.lots) rows.envelopes)

@@ -1,12 +1,12 @@
 -- A sealed tender is replaced by another, with the same security (Model Law, article 41).
 use Rattle.std.specs.Prelude.{ℕ, ◌+◌, Bool, false, not, ◌&&◌, List, [], ◌∷◌, None, is_some, length}
-use Rattle.office_acts.specs.declared.command.Caller.{Caller}
-use Rattle.office_acts.specs.Callers.{is_by}
+use Rattle.office_commands.specs.declared.command.Caller.{Caller}
+use Rattle.office_commands.specs.Callers.{is_by}
 use Rattle.office_values.specs.declared.refusal.Thing.TheVariants as things
 use Rattle.office_values.specs.declared.refusal.Refusal.{Refusal}
 use Rattle.office_values.specs.declared.refusal.Refusal.TheVariants.{NoSuch, NotYourTender, DeadlinePassed, NotSealed, LimitReached}
 use Rattle.office_base.specs.Rows.{holds_of}
-use Rattle.office_base.specs.RuleParts.{receipt_clock, has_all_receipts, is_past_deadline, puts_if}
+use Rattle.office_base.specs.Transitions.{receipt_clock, has_all_receipts, is_past_deadline, puts_if}
 use Rattle.office_base.specs.States.{is_sealed}
 use Rattle.office_base.specs.declared.records.EnvelopeState.TheVariants as envelope_states
 use Rattle.office_base.specs.declared.records.EnvelopeRow.{EnvelopeRow}

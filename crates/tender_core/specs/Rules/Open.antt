@@ -1,12 +1,12 @@
 -- The opening of the tenders (Model Law, article 42): every sealed tender of the notice is opened and read.
 use Rattle.std.specs.Prelude.{◌≡◌, ℕ, ◌+◌, Bool, false, not, List, [], ◌∷◌, ◌++◌, map, Option, Some, None, is_some, nat_lt}
-use Rattle.office_acts.specs.declared.item.Item.{Item}
+use Rattle.office_commands.specs.declared.item.Item.{Item}
 use Rattle.office_base.specs.declared.reading.Reading.{Reading}
 use Rattle.office_values.specs.declared.refusal.Thing.TheVariants as things
 use Rattle.office_values.specs.declared.refusal.Refusal.{Refusal}
 use Rattle.office_values.specs.declared.refusal.Refusal.TheVariants.{NoSuch, NotOpenForTenders, TooEarlyToOpen, AlreadyOpened, LimitReached}
 use Rattle.office_base.specs.Rows.{holds_of}
-use Rattle.office_base.specs.RuleParts.{clock_put, has_all_releases, puts_if}
+use Rattle.office_base.specs.Transitions.{clock_put, has_all_releases, puts_if}
 use Rattle.office_base.specs.States.{is_cancelled, is_opened, is_sealed}
 use Rattle.office_base.specs.declared.records.NoticeState.TheVariants as notice_states
 use Rattle.office_base.specs.declared.records.EnvelopeState.TheVariants as envelope_states

@@ -1,14 +1,14 @@
 -- A tender is presented, in time or late (Model Law, articles 17 and 40).
 use Rattle.std.specs.Prelude.{ℕ, ◌+◌, Bool, false, not, cond, ◌&&◌, List, [], ◌∷◌, ◌++◌, Option, None, is_some, option_map, nat_lt, length}
 use Rattle.std.specs.List.{list_any}
-use Rattle.office_acts.specs.declared.command.Caller.{Caller}
-use Rattle.office_acts.specs.declared.tender.NamedSecurity.{NamedSecurity}
-use Rattle.office_acts.specs.Callers.{is_by, tenderer_of}
+use Rattle.office_commands.specs.declared.command.Caller.{Caller}
+use Rattle.office_commands.specs.declared.tender.NamedSecurity.{NamedSecurity}
+use Rattle.office_commands.specs.Callers.{is_by, tenderer_of}
 use Rattle.office_values.specs.declared.refusal.Thing.TheVariants as things
 use Rattle.office_values.specs.declared.refusal.Refusal.{Refusal}
 use Rattle.office_values.specs.declared.refusal.Refusal.TheVariants.{NoSuch, NotOpenForTenders, AlreadyPresented, SecurityMissing, SecurityTooSmall, SecurityNotAsked, LimitReached}
 use Rattle.office_base.specs.Rows.{holds_of}
-use Rattle.office_base.specs.RuleParts.{receipt_clock, has_all_receipts, is_in_time, put_if}
+use Rattle.office_base.specs.Transitions.{receipt_clock, has_all_receipts, is_in_time, put_if}
 use Rattle.office_base.specs.States.{is_cancelled, is_sealed}
 use Rattle.office_base.specs.declared.records.EnvelopeState.TheVariants as envelope_states
 use Rattle.office_base.specs.declared.records.SecurityState.TheVariants as security_states

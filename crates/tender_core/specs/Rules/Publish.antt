@@ -3,11 +3,11 @@
 use Rattle.std.specs.Prelude.{ℕ, ◌-◌, Bool, false, cond, not, ◌||◌, List, [], ◌∷◌, ◌++◌, None, is_some, unwrap_or, nat_lt, nat_le, map, length}
 use Rattle.std.specs.List.{list_any}
 use Rattle.office_values.specs.Ids.{same_id}
-use Rattle.office_acts.specs.Notices.{weight_of}
-use Rattle.office_acts.specs.declared.lot.NewLot.{NewLot}
-use Rattle.office_acts.specs.declared.notice.NewNotice.{NewNotice}
-use Rattle.office_acts.specs.declared.notice.LateWithdrawal.{LateWithdrawal}
-use Rattle.office_acts.specs.declared.notice.LateWithdrawal.TheVariants.{Refused, Forfeits}
+use Rattle.office_commands.specs.Notices.{weight_of}
+use Rattle.office_commands.specs.declared.lot.NewLot.{NewLot}
+use Rattle.office_commands.specs.declared.notice.NewNotice.{NewNotice}
+use Rattle.office_commands.specs.declared.notice.LateWithdrawal.{LateWithdrawal}
+use Rattle.office_commands.specs.declared.notice.LateWithdrawal.TheVariants.{Refused, Forfeits}
 use Rattle.office_values.specs.declared.refusal.Thing.TheVariants as things
 use Rattle.office_values.specs.declared.refusal.Refusal.{Refusal}
 use Rattle.office_values.specs.declared.refusal.Refusal.TheVariants.{NoSuch, Exists, DeadlinePassed, InsufficientFunds, LimitReached}
@@ -53,11 +53,11 @@ abbrev pub line_found : List LineRow → List ℕ → LineRow
 line_found lines line = unwrap_or (find_line lines line) (no_line line)
 
 -- the line of a lot, with what all lots want of it no longer free
-abbrev pub line_row : List LineRow → List NewLot → NewLot → LineRow
-line_row lines lots lot = record (line_found lines lot.line) { line = lot.line; free = free_in (find_line lines lot.line) - wanted lot.line lots }
+abbrev pub reserving_line : List LineRow → List NewLot → NewLot → LineRow
+reserving_line lines lots lot = record (line_found lines lot.line) { line = lot.line; free = free_in (find_line lines lot.line) - wanted lot.line lots }
 
-abbrev pub line_put : List LineRow → List NewLot → NewLot → Put
-line_put lines lots lot = puts.Line (line_row lines lots lot)
+abbrev pub reserving_line_put : List LineRow → List NewLot → NewLot → Put
+reserving_line_put lines lots lot = puts.Line (reserving_line lines lots lot)
 
 -- the lot, undecided, with its estimate reserved
 abbrev pub lot_row : List ℕ → NewLot → LotRow
@@ -73,8 +73,8 @@ lot_row notice lot = record {
   reserved = lot.estimate;
 }
 
-abbrev pub lot_put : List ℕ → NewLot → Put
-lot_put notice lot = puts.Lot (lot_row notice lot)
+abbrev pub new_lot_put : List ℕ → NewLot → Put
+new_lot_put notice lot = puts.Lot (lot_row notice lot)
 
 -- the notice, open for tenders, with its first release
 abbrev pub notice_row : ℕ → List ℕ → NewNotice → NoticeRow
@@ -104,7 +104,7 @@ late_puts notice Forfeits = puts.Late (record { notice = notice }) ∷ []
 -- the lines of its lots, the lots, the notice and the clock
 abbrev pub publish_parts : ClockRow → ℕ → List ℕ → List LineRow → NewNotice → List Put
 publish_parts clock t notice lines new =
-    map (line_put lines new.lots) new.lots ++ map (lot_put notice) new.lots ++ (notice_put t notice new ∷ puts.Clock (record clock { moment = t }) ∷ [])
+    map (reserving_line_put lines new.lots) new.lots ++ map (new_lot_put notice) new.lots ++ (notice_put t notice new ∷ puts.Clock (record clock { moment = t }) ∷ [])
 
 -- the rows of an office that a publication looks at
 abbrev pub publish_rows : Tables → List ℕ → PublishRows

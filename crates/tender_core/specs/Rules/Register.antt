@@ -3,7 +3,7 @@ use Rattle.std.specs.Prelude.{ℕ, Bool, false, ◌||◌, List, [], ◌∷◌, i
 use Rattle.office_values.specs.Ids.{same_id}
 use Rattle.office_values.specs.declared.refusal.Refusal.{Refusal}
 use Rattle.office_values.specs.declared.refusal.Refusal.TheVariants.{Exists}
-use Rattle.office_base.specs.RuleParts.{clock_put}
+use Rattle.office_base.specs.Transitions.{clock_put}
 use Rattle.office_base.specs.declared.puts.Put.TheVariants as puts
 use Rattle.office_base.specs.declared.puts.Put.{Put}
 use Rattle.office_base.specs.Tables.{Tables, tenderer_at}

@@ -1,13 +1,13 @@
 -- A tender is taken back by its tenderer (Model Law, articles 17 and 41): before the deadline it is withdrawn and its security goes back;
 -- from then on, where its notice lets it, it stays where it is, out of the running, and its security is forfeited.
 use Rattle.std.specs.Prelude.{ℕ, Bool, true, false, not, cond, ◌&&◌, ◌||◌, List, [], ◌∷◌, Option, is_some}
-use Rattle.office_acts.specs.declared.command.Caller.{Caller}
+use Rattle.office_commands.specs.declared.command.Caller.{Caller}
 use Rattle.office_values.specs.declared.refusal.Thing.TheVariants as things
 use Rattle.office_values.specs.declared.refusal.Refusal.{Refusal}
 use Rattle.office_values.specs.declared.refusal.Refusal.TheVariants.{NoSuch, NotYourTender, DeadlinePassed, NotSealed, AlreadyDecided, Expired}
 use Rattle.office_base.specs.Rows.{holds_of}
 use Rattle.office_base.specs.States.{is_sealed, is_read, is_undecided}
-use Rattle.office_base.specs.RuleParts.{clock_put, is_past_deadline, is_expired, is_late, lacks_security, passed_over, security_settled, put_if, puts_if}
+use Rattle.office_base.specs.Transitions.{clock_put, is_past_deadline, is_expired, is_late, lacks_security, passed_over, security_settled, put_if, puts_if}
 use Rattle.tender_core.specs.Rules.Modify.{is_anothers, isnt_sealed, withdrawn}
 use Rattle.office_base.specs.declared.records.SecurityState.TheVariants.{Returned, Forfeited}
 use Rattle.office_base.specs.declared.records.LotRow.{LotRow}

@@ -1,7 +1,7 @@
 use Rattle.std.proofs.Common.{◌≡◌, ◌++◌, ◌*◌, ◌+◌, ◌≤◌, ℕ, List}
 use Rattle.serde_json.specs.Data.{object, Items, Members, items_depth, members_depth}
 use Rattle.serde_json.specs.Written.{items_text, members_text}
-use Rattle.ocds_merge.specs.Inside.Splice.{IsKept, AreItemsKept}
+use Rattle.ocds_merge.specs.Inside.Splice.{TextIsKept, AreItemsKept}
 use Rattle.ocds_merge.specs.Inside.Readable.{AllAfter, PassedItems, PassedMembers}
 use Rattle.ocds_merge.proofs.readable.+passing.Given as goal
 
@@ -20,4 +20,4 @@ invariant-passed_items-loop-turn l =
 
 abbrev pub invariant-passed_members-loop-turn : goal.invariant-passed_members-loop-turn
 invariant-passed_members-loop-turn l =
-    (ms : Members) (rest : List ℕ) → AllAfter l.later l.last ms → IsKept (object ms) → members_depth ms ≤ l.depth → l.left ≡ members_text l.later ms ++ rest → PassedMembers l.text rest l.depth
+    (ms : Members) (rest : List ℕ) → AllAfter l.later l.last ms → TextIsKept (object ms) → members_depth ms ≤ l.depth → l.left ≡ members_text l.later ms ++ rest → PassedMembers l.text rest l.depth

@@ -7,14 +7,14 @@ ghost use Rattle.ocds_merge.specs.Compile.{with_head};
 ghost use Rattle.ocds_merge.specs.Merge.{merge_or_null};
 ghost use Rattle.ocds_release.specs.Opened.{completed};
 ghost use Rattle.ocds_release.specs.Texts.{ocid_text};
-ghost use Rattle.office_acts.specs.declared.queries.Query.TheVariants as queries;
+ghost use Rattle.office_commands.specs.declared.queries.Query.TheVariants as queries;
 ghost use Rattle.office_base.specs.Shelves.{Looks};
 ghost use Rattle.office_base.specs.Tables.{Tables, notice_at, release_at, releases_of_notice};
 ghost use Rattle.office_base.specs.declared.records.ReleaseRow.{ReleaseRow as Row};
 ghost use Rattle.office_machine.specs.Counted.{releases_in};
 ghost use Rattle.office_publications.specs.Merges.{HasMerge, bodies};
 ghost use Rattle.office_publications.specs.Packages.{packages};
-ghost use Rattle.office_publications.specs.Standing.{Stands};
+ghost use Rattle.office_publications.specs.Standing.{IsReached};
 ghost use Rattle.office_publications.specs.Told.{AreAllThere, AreInSequence, IsInRange};
 ghost use Rattle.office_desk.specs.Extent.{IsExtentOf, IsMeasured, ReadsAsObject};
 ghost use Rattle.office_values.specs.Moments.{moment_text};
@@ -163,7 +163,7 @@ fn releases_package(
     notice: &Id,
     extent: Extent,
 ) -> Result<PackageText, Refusal>
-    ensures text { IfOk result (λ opened. (s : Tables) → Stands settings.now s → IsExtentOf extent (releases_of_notice notice.now s)
+    ensures text { IfOk result (λ opened. (s : Tables) → IsReached settings.now s → IsExtentOf extent (releases_of_notice notice.now s)
         → completed opened (releases_of_notice notice.now s) ≡ packages settings.now (queries.Releases notice.now) s) }
     ensures none { IfErr result (λ why. why ≡ Unavailable) }
 {
@@ -187,7 +187,7 @@ pub(super) fn releases_text<H: Lookups>(
     notice: &Id,
     count: ReleaseCount,
 ) -> Result<Vec<u8>, Refusal>
-    ensures looks { Looks H.meaning shelf.old shelf.new (λ s. Stands settings.now s → releases_in (notice_at notice.now s) ≡ count
+    ensures looks { Looks H.meaning shelf.old shelf.new (λ s. IsReached settings.now s → releases_in (notice_at notice.now s) ≡ count
         → IfOk result (λ text. text.items ≡ packages settings.now (queries.Releases notice.now) s)) }
     ensures there { Looks H.meaning shelf.old shelf.new (λ s. OnOk result (AreAllThere notice.now count s)) }
     ensures none { IfErr result (λ why. why ≡ Unavailable) }
@@ -239,7 +239,7 @@ fn load_compiled<H: Lookups>(
     notice: &Id,
     last: Moment,
 ) -> Result<Value, Refusal>
-    ensures looks { Looks H.meaning shelf.old shelf.new (λ s. IfOk result (λ release. Stands settings.now s
+    ensures looks { Looks H.meaning shelf.old shelf.new (λ s. IfOk result (λ release. IsReached settings.now s
         → view release ≡ with_head (ocid_text settings.now.prefix notice.now) (moment_text last) (merge_or_null (bodies notice.now s)))) }
     ensures merge { Looks H.meaning shelf.old shelf.new (λ s. OnOk result (HasMerge notice.now s)) }
     ensures none { IfErr result (λ why. why ≡ Unavailable) }
@@ -260,7 +260,7 @@ fn record_package<H: Lookups>(
     notice: &Id,
     extent: Extent,
 ) -> Result<PackageText, Refusal>
-    ensures looks { Looks H.meaning shelf.old shelf.new (λ s. IfOk result (λ opened. Stands settings.now s → IsExtentOf extent (releases_of_notice notice.now s)
+    ensures looks { Looks H.meaning shelf.old shelf.new (λ s. IfOk result (λ opened. IsReached settings.now s → IsExtentOf extent (releases_of_notice notice.now s)
         → completed opened (releases_of_notice notice.now s) ≡ packages settings.now (queries.Record notice.now) s)) }
     ensures merge { Looks H.meaning shelf.old shelf.new (λ s. OnOk result (HasMerge notice.now s)) }
     ensures none { IfErr result (λ why. why ≡ Unavailable) }
@@ -286,7 +286,7 @@ pub(super) fn record_text<H: Lookups>(
     notice: &Id,
     count: ReleaseCount,
 ) -> Result<Vec<u8>, Refusal>
-    ensures looks { Looks H.meaning shelf.old shelf.new (λ s. Stands settings.now s → releases_in (notice_at notice.now s) ≡ count
+    ensures looks { Looks H.meaning shelf.old shelf.new (λ s. IsReached settings.now s → releases_in (notice_at notice.now s) ≡ count
         → IfOk result (λ text. text.items ≡ packages settings.now (queries.Record notice.now) s)) }
     ensures there { Looks H.meaning shelf.old shelf.new (λ s. OnOk result (AreAllThere notice.now count s)) }
     ensures merge { Looks H.meaning shelf.old shelf.new (λ s. OnOk result (HasMerge notice.now s)) }

@@ -1,6 +1,6 @@
 use Rattle.std.proofs.Common.{None, sym, subst}
 use Rattle.office_values.specs.declared.settings.Settings.{Settings}
-use Rattle.office_publications.specs.Standing.{Stands}
+use Rattle.office_publications.specs.Standing.{IsReached}
 use Rattle.office_http.specs.Inside.Meant.{Answered, CanBeMeant}
 use Rattle.office_http.specs.Meaning.{meant, meant_asked}
 use Rattle.office_http.proofs.LeftSteps.{stops_then}
@@ -24,7 +24,7 @@ pub returns-clause-answered : goal.returns-clause-answered
 returns-clause-answered g c honest s held stands =
     let before = c.answer_asked.ensures.before honest in
     let m = meant_asked c.in-Ok-caller_of.caller c.command_of-asked.result in
-    let family : Settings → Type 0 = λ u. Stands u s → CanBeMeant s m
+    let family : Settings → Type 0 = λ u. IsReached u s → CanBeMeant s m
     → Answered g.H.Lookups.meaning u c.caller_of.new.desk.shelf c.answer_asked.new.desk.shelf s c.args.moment m c.answer_asked.result in
     let answered = subst family c.caller_of.ensures.settings (c.answer_asked.ensures.answered honest s (c.caller_of.ensures.looks.0.same before s held)) stands in
     let a = asked_answered g.H.Lookups.meaning c.args.desk.now.settings c.caller_of.new.desk.shelf c.answer_asked.new.desk.shelf s c.args.moment c.answer_asked.result c.args.request.now

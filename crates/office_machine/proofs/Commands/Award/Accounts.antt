@@ -4,11 +4,11 @@ use Rattle.std.specs.FinMap.{nat_cmp-IsAntisymmetric}
 use Rattle.std.specs.List.{AllByRecursion}
 use Rattle.std.specs.Ordering.{nat_cmp, eq_by_cmp}
 use Rattle.office_values.specs.Ids.{same_id}
-use Rattle.office_acts.specs.declared.command.Caller.{Caller}
+use Rattle.office_commands.specs.declared.command.Caller.{Caller}
 use Rattle.office_values.specs.declared.refusal.Refusal.{Refusal}
 use Rattle.office_base.specs.Rows.{holds_of}
 use Rattle.office_base.specs.Rules.{first_of}
-use Rattle.office_base.specs.RuleParts.{released, clock_put, securities_returned}
+use Rattle.office_base.specs.Transitions.{with_next_release, clock_put, securities_returned}
 use Rattle.office_base.specs.declared.records.LineRow.{LineRow}
 use Rattle.office_base.specs.declared.records.NoticeRow.{NoticeRow}
 use Rattle.office_base.specs.declared.records.LotRow.{LotRow}
@@ -17,15 +17,15 @@ use Rattle.office_base.specs.Joined.{free_in}
 use Rattle.office_base.specs.Parents.{line_of_lot}
 use Rattle.office_machine.specs.Machine.{Given, time_of, command_tests, effect}
 use Rattle.office_machine.specs.Readings.{Readings}
-use Rattle.office_machine.specs.Moves.{Move, Free, Reserved, moves, held_for, line_in, same_lot, price_after, move_of_award}
-use Rattle.office_acts.specs.declared.commands.Command.TheVariants as commands
+use Rattle.office_machine.specs.Moves.{Move, Free, Reserved, moves, reserved_for, line_in, same_lot, price_after, move_of_award}
+use Rattle.office_commands.specs.declared.commands.Command.TheVariants as commands
 use Rattle.office_base.specs.declared.puts.Put.TheVariants as puts
 use Rattle.office_machine.proofs.Accounts.Aside.{kept_aside, aside-securities}
 use Rattle.office_base.proofs.ExactKeys.{other_keys, equal_ids, same_itself}
 use Rattle.office_machine.proofs.Rows.Keyed.{found, found_put, elsewhere, still_there}
 use Rattle.office_base.proofs.RowLaws.Keyed.{found_key, own_key}
 use Rattle.office_machine.proofs.Rows.Keyed as keyed
-use Rattle.office_machine.proofs.Accounts.Kept.{IsKept, PotsAre, LotIs, AwardIs, is_awarded}
+use Rattle.office_machine.proofs.Accounts.Kept.{AccountsStand, PotsAre, LotIs, AwardIs, is_awarded}
 use Rattle.office_machine.proofs.Accounts.LotChanged.{lots_are, award_is, back, over, after_line}
 use Rattle.office_machine.proofs.Passed.{none_holds, not_false, at_least, witness, test_of}
 use Rattle.std.proofs.lemmas.Bool.Decides.{nat_tests}
@@ -56,7 +56,7 @@ abbrev price : Option EnvelopeRow → ℕ
 price None = 0
 price (Some e) = price_of e
 
-module _ (readings : Readings) (xs : List Given) (s : Tables) (moment : ℕ) (caller : Caller) (n i : List ℕ) (kept : IsKept xs s) where
+module _ (readings : Readings) (xs : List Given) (s : Tables) (moment : ℕ) (caller : Caller) (n i : List ℕ) (kept : AccountsStand xs s) where
   abbrev x : Given
   x = record { before = s; moment = moment; caller = caller; command = commands.Award n i }
 
@@ -80,7 +80,7 @@ module _ (readings : Readings) (xs : List Given) (s : Tables) (moment : ℕ) (ca
     lot_here : find_lot s.lots (l.notice, l.lot) ≡ Some l
     lot_here = ap (find_lot s.lots) at ∙ lot
 
-    held : held_for xs k ≡ l.reserved
+    held : reserved_for xs k ≡ l.reserved
     held = lot_is.held (open_too _ undecided)
 
     line_is : w.line ≡ l.line
@@ -96,41 +96,41 @@ module _ (readings : Readings) (xs : List Given) (s : Tables) (moment : ℕ) (ca
       awards = put_award s.awards (award_row s.clock (time_of x) l e);
       lots = put_lot s.lots (awarded e l);
       lines = put_line s.lines (record w { free = (w.free + l.reserved) - price_of e });
-      notices = Rattle.office_base.specs.Tables.put_notice s.notices (released row);
+      notices = Rattle.office_base.specs.Tables.put_notice s.notices (with_next_release row);
       clock = record s.clock { moment = time_of x; awards = s.clock.awards + 1 };
     }
 
     abbrev moved : Option EnvelopeRow → List Move
-    moved o = move_of_award l.line (held_for xs k) o ∷ moves xs
+    moved o = move_of_award l.line (reserved_for xs k) o ∷ moves xs
 
     pots : (o : Option EnvelopeRow) → price o ≤ l.reserved + w.free → (q : List ℕ) → PotsAre (moved o) (after o) q
-    pots None p q = back xs s kept l lot_states.Unsuccessful 0 lot_here w line_is line_here q (held_for xs k) (w.free + l.reserved) (omega (arith, held)) (omega (arith, held))
-    pots (Some e) p q = by (nat_le (price_of e) (held_for xs k)) refl
+    pots None p q = back xs s kept l lot_states.Unsuccessful 0 lot_here w line_is line_here q (reserved_for xs k) (w.free + l.reserved) (omega (arith, held)) (omega (arith, held))
+    pots (Some e) p q = by (nat_le (price_of e) (reserved_for xs k)) refl
       where
         back_move : Move
-        back_move = record { line = l.line; from = Reserved; to = Free; amount = held_for xs k - price_of e }
+        back_move = record { line = l.line; from = Reserved; to = Free; amount = reserved_for xs k - price_of e }
 
         over_move : Move
-        over_move = record { line = l.line; from = Free; to = Reserved; amount = price_of e - held_for xs k }
+        over_move = record { line = l.line; from = Free; to = Reserved; amount = price_of e - reserved_for xs k }
 
         same : (ms : List Move) → PotsAre ms (after_line xs s kept l lot_states.Awarded (price_of e) lot_here w line_is line_here q 0 ((w.free + l.reserved) - price_of e)) q → PotsAre ms (after (Some e)) q
         same ms p = record { appropriation_is = p.appropriation_is; free_is = p.free_is; reserved_is = p.reserved_is; gains_are = p.gains_are; losses_are = p.losses_are; paid_is = p.paid_is; none_spent = p.none_spent }
 
-        by : (b : Bool) → nat_le (price_of e) (held_for xs k) ≡ b → PotsAre (cond b back_move over_move ∷ moves xs) (after (Some e)) q
+        by : (b : Bool) → nat_le (price_of e) (reserved_for xs k) ≡ b → PotsAre (cond b back_move over_move ∷ moves xs) (after (Some e)) q
         by true h =
-            let le : price_of e ≤ held_for xs k = grind (arith, nat_tests) in
-            same _ (back xs s kept l lot_states.Awarded (price_of e) lot_here w line_is line_here q (held_for xs k - price_of e) ((w.free + l.reserved) - price_of e) (omega (arith, held, le)) (omega (arith, held, le)))
+            let le : price_of e ≤ reserved_for xs k = grind (arith, nat_tests) in
+            same _ (back xs s kept l lot_states.Awarded (price_of e) lot_here w line_is line_here q (reserved_for xs k - price_of e) ((w.free + l.reserved) - price_of e) (omega (arith, held, le)) (omega (arith, held, le)))
         by false h =
-            let lt : held_for xs k < price_of e = grind (arith, nat_tests) in
-            same _ (over xs s kept l lot_states.Awarded (price_of e) lot_here w line_is line_here q (price_of e - held_for xs k) ((w.free + l.reserved) - price_of e) (omega (arith, held, lt)) (omega (arith, held, lt, p)))
+            let lt : reserved_for xs k < price_of e = grind (arith, nat_tests) in
+            same _ (over xs s kept l lot_states.Awarded (price_of e) lot_here w line_is line_here q (price_of e - reserved_for xs k) ((w.free + l.reserved) - price_of e) (omega (arith, held, lt)) (omega (arith, held, lt, p)))
 
     abbrev held' : Option EnvelopeRow → List ℕ × List ℕ → ℕ
-    held' o j = cond (same_lot k j) (price_after o (held_for xs j)) (held_for xs j)
+    held' o j = cond (same_lot k j) (price_after o (reserved_for xs j)) (reserved_for xs j)
 
-    held'-other : (o : Option EnvelopeRow) (j : List ℕ × List ℕ) → eq_by_cmp lot_cmp j (l.notice, l.lot) ≡ false → held' o j ≡ held_for xs j
+    held'-other : (o : Option EnvelopeRow) (j : List ℕ × List ℕ) → eq_by_cmp lot_cmp j (l.notice, l.lot) ≡ false → held' o j ≡ reserved_for xs j
     held'-other o j e = by (same_id n j.0) (same_id i j.1) refl refl
       where
-        by : (a b : Bool) → same_id n j.0 ≡ a → same_id i j.1 ≡ b → cond (a && b) (price_after o (held_for xs j)) (held_for xs j) ≡ held_for xs j
+        by : (a b : Bool) → same_id n j.0 ≡ a → same_id i j.1 ≡ b → cond (a && b) (price_after o (reserved_for xs j)) (reserved_for xs j) ≡ reserved_for xs j
         by true true f g =
             let h : j ≡ (l.notice, l.lot) = (λ z. (sym (equal_ids n j.0 f) z, sym (equal_ids i j.1 g) z)) ∙ sym at in
             let m : eq_by_cmp lot_cmp j (l.notice, l.lot) ≡ true = ap (λ m. eq_by_cmp lot_cmp j m) (sym h) ∙ own_key keyed.lots.total j in
@@ -138,8 +138,8 @@ module _ (readings : Readings) (xs : List Given) (s : Tables) (moment : ℕ) (ca
         by true false f g = refl
         by false b f g = refl
 
-    held'-here : (o : Option EnvelopeRow) → held' o k ≡ price_after o (held_for xs k)
-    held'-here o = ap (λ b. cond b (price_after o (held_for xs k)) (held_for xs k)) ((λ z. same_itself n z && same_id i i) ∙ same_itself i)
+    held'-here : (o : Option EnvelopeRow) → held' o k ≡ price_after o (reserved_for xs k)
+    held'-here o = ap (λ b. cond b (price_after o (reserved_for xs k)) (reserved_for xs k)) ((λ z. same_itself n z && same_id i i) ∙ same_itself i)
 
     -- no active award is of this lot
     none_active : (a : ℕ) (v : AwardRow) → find_award s.awards a ≡ Some v → is_active v.state ≡ true → v.notice ≡ l.notice → v.lot ≡ l.lot → ⊥
@@ -152,9 +152,9 @@ module _ (readings : Readings) (xs : List Given) (s : Tables) (moment : ℕ) (ca
 
     -- the move is of the lot's line
     moves_are : (o : Option EnvelopeRow) → best ≡ o → moved o ≡ moves (x ∷ xs)
-    moves_are o won = λ z. move_of_award (line_in (sym lot z)) (held_for xs k) (sym won z) ∷ moves xs
+    moves_are o won = λ z. move_of_award (line_in (sym lot z)) (reserved_for xs k) (sym won z) ∷ moves xs
 
-    keeps_by : (o : Option EnvelopeRow) → best ≡ o → price o ≤ l.reserved + w.free → IsKept (x ∷ xs) (after o)
+    keeps_by : (o : Option EnvelopeRow) → best ≡ o → price o ≤ l.reserved + w.free → AccountsStand (x ∷ xs) (after o)
     keeps_by None won p = record {
       pots = λ q. subst (λ ms. PotsAre ms (after None) q) (moves_are None won) (pots None p q);
       lots = lots_are xs s kept l lot_states.Unsuccessful 0 lot_here x (after None) refl (λ q. still_there keyed.lines s.lines _ q) (λ q e. e) (λ e. cc) (held'-other best);
@@ -166,7 +166,7 @@ module _ (readings : Readings) (xs : List Given) (s : Tables) (moment : ℕ) (ca
     keeps_by (Some e) won p = record {
       pots = λ q. subst (λ ms. PotsAre ms (after (Some e)) q) (moves_are (Some e) won) (pots (Some e) p q);
       lots = lots_are xs s kept l lot_states.Awarded (price_of e) lot_here x (after (Some e)) refl (λ q. still_there keyed.lines s.lines _ q) (λ q. still_there keyed.notices s.notices _ q)
-          (λ _. ap (held' best) at ∙ (held'-here best ∙ ap (λ o. price_after o (held_for xs k)) won)) (held'-other best);
+          (λ _. ap (held' best) at ∙ (held'-here best ∙ ap (λ o. price_after o (reserved_for xs k)) won)) (held'-other best);
       awards = λ a v h. an_award a v (was a v h);
       one_active = λ a b v u g h f' f e1 e2. one a b v u (was a v g) (was b u h) f' f e1 e2;
       contracts = λ c y h. let old = kept.contracts c y h in record { of_lot = still_there keyed.lots s.lots _ (y.notice, y.lot) old.of_lot; of_award = (old.of_award.0, elsewhere keyed.awards s.awards new c (drawn_before c old.of_award.0 old.of_award.1) ∙ old.of_award.1, old.of_award.2); running = old.running; within = old.within; came_in = omega (arith, old.came_in); went_out = omega (arith, old.went_out) };
@@ -200,13 +200,13 @@ module _ (readings : Readings) (xs : List Given) (s : Tables) (moment : ℕ) (ca
         (λ z. decision_puts s.clock (time_of x) row l w (sym (ap (λ r. winner r (envelopes_of_lot n i s)) (sym notice) ∙ won) z) securities)
         ∙ (λ z. award_puts (record { notice = sym notice z; lot = sym lot z; line = (sym (ap (λ o. line_of_lot o s) lot ∙ line) z); envelopes = envelopes_of_lot n i s; securities = securities; clock = s.clock }) (time_of x))
 
-    puts_by : (o : Option EnvelopeRow) → best ≡ o → price o ≤ l.reserved + w.free → IsKept (x ∷ xs) (after_puts (decision_puts s.clock (time_of x) row l w o securities) s)
+    puts_by : (o : Option EnvelopeRow) → best ≡ o → price o ≤ l.reserved + w.free → AccountsStand (x ∷ xs) (after_puts (decision_puts s.clock (time_of x) row l w o securities) s)
     puts_by None won p =
-        kept_aside (x ∷ xs) (puts.Notice (released row) ∷ clock_put s.clock (time_of x) ∷ securities_returned securities) (after None) (tt, (omega arith, aside-securities s.clock.awards securities)) (keeps_by None won p)
+        kept_aside (x ∷ xs) (puts.Notice (with_next_release row) ∷ clock_put s.clock (time_of x) ∷ securities_returned securities) (after None) (tt, (omega arith, aside-securities s.clock.awards securities)) (keeps_by None won p)
     puts_by (Some e) won p = keeps_by (Some e) won p
 
-    keeps : (o : Option EnvelopeRow) → best ≡ o → price o ≤ l.reserved + w.free → IsKept (x ∷ xs) (after_puts (effect readings x) s)
-    keeps o won p = subst (λ ps. IsKept (x ∷ xs) (after_puts ps s)) (effect_is o won) (puts_by o won p)
+    keeps : (o : Option EnvelopeRow) → best ≡ o → price o ≤ l.reserved + w.free → AccountsStand (x ∷ xs) (after_puts (effect readings x) s)
+    keeps o won p = subst (λ ps. AccountsStand (x ∷ xs) (after_puts ps s)) (effect_is o won) (puts_by o won p)
 
   module _ (allowed : first_of (command_tests x) ≡ None) where
     passes : AllByRecursion (λ (test : Bool × Refusal). test.0 ≡ false) (command_tests x)
@@ -216,7 +216,7 @@ module _ (readings : Readings) (xs : List Given) (s : Tables) (moment : ℕ) (ca
     enough_by None funds h = omega arith
     enough_by (Some e) funds h = at_least _ _ h
 
-    pub award_keeps : IsKept (x ∷ xs) (after_puts (effect readings x) s)
+    pub award_keeps : AccountsStand (x ∷ xs) (after_puts (effect readings x) s)
     award_keeps =
         let notice = witness (notice_at n s) (not_false _ passes.0) in
         let lot = witness (lot_at k s) (not_false _ passes.1.0) in

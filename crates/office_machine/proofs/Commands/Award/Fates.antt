@@ -5,9 +5,9 @@ use Rattle.std.specs.List.{AllByRecursion}
 use Rattle.std.specs.Cmp.{nat_cmp_total}
 use Rattle.std.specs.Ordering.{nat_cmp, eq_by_cmp}
 use Rattle.office_values.specs.Ids.{same_id}
-use Rattle.office_acts.specs.declared.command.Caller.{Caller}
+use Rattle.office_commands.specs.declared.command.Caller.{Caller}
 use Rattle.office_base.specs.Readings.{is_priced}
-use Rattle.office_acts.specs.declared.commands.Command.TheVariants.{Award}
+use Rattle.office_commands.specs.declared.commands.Command.TheVariants.{Award}
 use Rattle.office_values.specs.declared.refusal.Refusal.{Refusal}
 use Rattle.office_base.specs.declared.records.LineRow.{LineRow}
 use Rattle.office_base.specs.declared.records.NoticeRow.{NoticeRow}
@@ -25,13 +25,13 @@ use Rattle.office_base.specs.declared.puts.Put.TheVariants as puts
 use Rattle.office_base.specs.declared.puts.Put.{Put}
 use Rattle.office_base.specs.States.{is_read}
 use Rattle.office_base.specs.Rules.{first_of}
-use Rattle.office_base.specs.RuleParts.{clock_put, released, is_held_security, security_returned, returned}
+use Rattle.office_base.specs.Transitions.{clock_put, with_next_release, is_held_security, security_returned, returned}
 use Rattle.award_core.specs.Rules.Award.{is_admissible, is_responsive, lowest_price, winner, unsuccessful, awarded, award_row, decision_puts, award_tests, award_puts}
 use Rattle.office_base.specs.Tables.{Tables, lot_cmp, lot_key, award_key, security_key, award_at, lot_at, notice_at, line_at, envelope_at, seal_at, security_at, envelopes_of_lot, securities_of_lot, after_puts}
 use Rattle.office_base.specs.Parents.{line_of_lot}
 use Rattle.office_machine.specs.Machine.{Given}
 use Rattle.office_machine.specs.Readings.{Readings}
-use Rattle.office_machine.specs.Fates.{came, is_of_lot}
+use Rattle.office_machine.specs.Fates.{received_at, is_received_for}
 use Rattle.office_base.proofs.ExactKeys.{equal_ids}
 use Rattle.office_machine.proofs.Passed.{none_holds, not_false}
 use Rattle.office_base.proofs.RowLaws.{row_at-row_put}
@@ -43,7 +43,7 @@ use Rattle.office_machine.proofs.FateLaws.Added.{added, sound_award}
 use Rattle.office_machine.proofs.FateLaws.Steps.{both_true}
 use Rattle.office_machine.proofs.FateLaws.Decisions.{awarding, fair_awarding, same_lot}
 use Rattle.office_machine.proofs.FateLaws.Seen.{seen, alike, lot_state, notices-same, LotFits, AreInOrder, OnLines, IsOnLine, lines-puts, order-puts, after_securities}
-use Rattle.office_machine.proofs.FateLaws.FatesHold.{IsKept, Keeps, given, tenders_same, named_same}
+use Rattle.office_machine.proofs.FateLaws.FatesHold.{FatesStand, Keeps, given, tenders_same, named_same}
 use Rattle.office_machine.proofs.FateLaws.QuietFates.{notice_stands, all_of_map}
 use Rattle.office_machine.proofs.FateLaws.States.{map_same, lots_put, undecided_state, opened_state}
 use Rattle.office_machine.proofs.Commands.Award.Winners.{passing, best_is, best_none, best_some}
@@ -71,7 +71,7 @@ first_and_last false b c d h = cc
 first_and_last true false c d h = cc
 first_and_last true true false d h = cc
 
-module _ (readings : Readings) (name lot_name : List ℕ) (xs : List Given) (t : Tables) (m : ℕ) (caller : Caller) (kept : IsKept readings xs t)
+module _ (readings : Readings) (name lot_name : List ℕ) (xs : List Given) (t : Tables) (m : ℕ) (caller : Caller) (kept : FatesStand readings xs t)
     (n : NoticeRow) (notice_found : notice_at name t ≡ Some n) (l : LotRow) (lot_found : lot_at (name, lot_name) t ≡ Some l) (r : LineRow)
     (opened : n.state ≡ notice.Opened) (undecided : l.state ≡ lot.Undecided) where
   abbrev T : ℕ
@@ -116,7 +116,7 @@ module _ (readings : Readings) (name lot_name : List ℕ) (xs : List Given) (t :
 
   abbrev nobody_first : Tables
   nobody_first =
-      after_puts (puts.Lot (unsuccessful l) ∷ puts.Line (record r { free = r.free + l.reserved }) ∷ puts.Notice (released n) ∷ clock_put t.clock T ∷ []) t
+      after_puts (puts.Lot (unsuccessful l) ∷ puts.Line (record r { free = r.free + l.reserved }) ∷ puts.Notice (with_next_release n) ∷ clock_put t.clock T ∷ []) t
 
   abbrev nobody_after : Tables
   nobody_after = record nobody_first { securities = rows_put nat_cmp security_key t.securities (map returned (filter is_held_security securities)) }
@@ -134,7 +134,7 @@ module _ (readings : Readings) (name lot_name : List ℕ) (xs : List Given) (t :
   and_true true = refl
   and_true false = refl
 
-  nobody_kept : winner (Some n) rows ≡ None → IsKept readings (x ∷ xs) nobody_after
+  nobody_kept : winner (Some n) rows ≡ None → FatesStand readings (x ∷ xs) nobody_after
   nobody_kept nobody =
       closing_kept readings xs x t nobody_after kept name lot_name lot.Unsuccessful refl (λ a w. w)
       (λ h receiving. not_receiving receiving)
@@ -145,13 +145,13 @@ module _ (readings : Readings) (name lot_name : List ℕ) (xs : List Given) (t :
       none_active
       refl
       (λ q. refl)
-      (λ s. ap (λ b. cond (is_of_lot name lot_name (came xs s) && b) security.Returned security.Held) (ap not (best_none n.weight lowest rows nobody)) ∙ ap (λ b. cond b security.Returned security.Held) (and_true (is_of_lot name lot_name (came xs s))))
+      (λ s. ap (λ b. cond (is_received_for name lot_name (received_at xs s) && b) security.Returned security.Held) (ap not (best_none n.weight lowest rows nobody)) ∙ ap (λ b. cond b security.Returned security.Held) (and_true (is_received_for name lot_name (received_at xs s))))
       (λ q. refl)
       (λ q. refl)
       (λ s. securities_go_back t name lot_name s kept.order)
       (λ a. map_same ((seen t).award_at a))
       (λ k. lots_put t.lots (name, lot_name) k l unsuccessful (λ s. lot.Unsuccessful) (λ l. refl) (λ l. refl) lot_found)
-      (notices-same t.notices (released n) (notice_stands t name n notice_found))
+      (notices-same t.notices (with_next_release n) (notice_stands t name n notice_found))
       refl
       (subst (λ (u : Tables). OnLines u.lines u.lots) nobody_is (lines-puts nobody_puts t kept.lines nobody_fit))
       (subst (λ (u : Tables). AreInOrder u) nobody_is (order-puts nobody_puts t kept.order))
@@ -217,7 +217,7 @@ module _ (readings : Readings) (name lot_name : List ℕ) (xs : List Given) (t :
         (λ s. refl)
         (λ a. sym (row_at-row_put nat_cmp_total award_key t.awards row a))
         (λ k. sym (lots_put t.lots (name, lot_name) k l (awarded e) (λ s. lot.Awarded) (λ l. refl) (λ l. refl) lot_found))
-        (λ q. sym (notices-same t.notices (released n) (notice_stands t name n notice_found) q)))
+        (λ q. sym (notices-same t.notices (with_next_release n) (notice_stands t name n notice_found) q)))
         (sound_award (t.clock.awards + 1) row W sound_W row_fits
         (λ a w at active p q. none_active a w at active (p ∙ ap (λ (k : List ℕ × List ℕ). k.0) key_is) (q ∙ ap (λ (k : List ℕ × List ℕ). k.1) key_is)))
 
@@ -225,7 +225,7 @@ module _ (readings : Readings) (name lot_name : List ℕ) (xs : List Given) (t :
     and_false true = refl
     and_false false = refl
 
-    awarded_kept : IsKept readings (x ∷ xs) after
+    awarded_kept : FatesStand readings (x ∷ xs) after
     awarded_kept = record {
       sound = sound_after;
       tenders =
@@ -234,28 +234,28 @@ module _ (readings : Readings) (name lot_name : List ℕ) (xs : List Given) (t :
       named =
           named_same readings.digest xs x refl (λ s. security_at s t) (λ s. security_at s t) kept.named
           (λ s.
-          ap (λ b. cond (is_of_lot name lot_name (came xs s) && b) security.Returned security.Held) (ap not (best_some n.weight lowest rows e wins))
-          ∙ ap (λ b. cond b security.Returned security.Held) (and_false (is_of_lot name lot_name (came xs s))))
+          ap (λ b. cond (is_received_for name lot_name (received_at xs s) && b) security.Returned security.Held) (ap not (best_some n.weight lowest rows e wins))
+          ∙ ap (λ b. cond b security.Returned security.Held) (and_false (is_received_for name lot_name (received_at xs s))))
           (λ s. refl);
       lines = lines-puts ps t kept.lines (tt, (line_there, (tt, (tt, (tt, tt)))));
       order = order-puts ps t kept.order;
     }
 
   decided_kept : (won : Option EnvelopeRow) → winner (Some n) rows ≡ won
-      → IsKept readings (x ∷ xs) (after_puts (decision_puts t.clock T n l r won securities) t)
-  decided_kept None wins = subst (IsKept readings (x ∷ xs)) (sym nobody_is) (nobody_kept wins)
+      → FatesStand readings (x ∷ xs) (after_puts (decision_puts t.clock T n l r won securities) t)
+  decided_kept None wins = subst (FatesStand readings (x ∷ xs)) (sym nobody_is) (nobody_kept wins)
   decided_kept (Some e) wins = awarded_kept e wins
 
-award_by : (readings : Readings) (name lot_name : List ℕ) (xs : List Given) (t : Tables) (m : ℕ) (caller : Caller) (kept : IsKept readings xs t) (n : NoticeRow) → notice_at name t ≡ Some n
+award_by : (readings : Readings) (name lot_name : List ℕ) (xs : List Given) (t : Tables) (m : ℕ) (caller : Caller) (kept : FatesStand readings xs t) (n : NoticeRow) → notice_at name t ≡ Some n
     → (l : LotRow) → lot_at (name, lot_name) t ≡ Some l
     → first_of (award_tests (record { notice = Some n; lot = Some l; line = line_at l.line t; envelopes = envelopes_of_lot name lot_name t; securities = []; clock = t.clock }) (max m t.clock.moment)) ≡ None
-    → IsKept readings (given t m caller (Award name lot_name) ∷ xs)
+    → FatesStand readings (given t m caller (Award name lot_name) ∷ xs)
     (after_puts (award_puts (record { notice = Some n; lot = Some l; line = line_at l.line t; envelopes = envelopes_of_lot name lot_name t; securities = securities_of_lot name lot_name t; clock = t.clock }) (max m t.clock.moment)) t)
 award_by readings name lot_name xs t m caller kept n n_is l l_is allowed =
     let tests = award_tests (record { notice = Some n; lot = Some l; line = line_at l.line t; envelopes = envelopes_of_lot name lot_name t; securities = []; clock = t.clock }) (max m t.clock.moment) in
     let passes : AllByRecursion (λ (test : Bool × Refusal). test.0 ≡ false) tests = none_holds tests allowed in
     let r = there (line_at l.line t) (on_line readings xs t kept (name, lot_name) l l_is) in
-    subst (λ o. IsKept readings (given t m caller (Award name lot_name) ∷ xs)
+    subst (λ o. FatesStand readings (given t m caller (Award name lot_name) ∷ xs)
     (after_puts (award_puts (record { notice = Some n; lot = Some l; line = o; envelopes = envelopes_of_lot name lot_name t; securities = securities_of_lot name lot_name t; clock = t.clock }) (max m t.clock.moment)) t)) (sym r.1)
     (decided_kept readings name lot_name xs t m caller kept n n_is l l_is r.0 (opened_state n.state passes.1.1.0) (undecided_state l.state passes.1.1.1.0) (winner (Some n) (envelopes_of_lot name lot_name t)) refl)
 
@@ -269,11 +269,11 @@ award_keeps readings name lot_name xs t m caller kept _ allowed =
   where
     Goal : Option NoticeRow → Option LotRow → Type 0
     Goal o p = first_of (award_tests (record { notice = o; lot = p; line = line_of_lot p t; envelopes = envelopes_of_lot name lot_name t; securities = []; clock = t.clock }) (max m t.clock.moment)) ≡ None
-        → IsKept readings (given t m caller (Award name lot_name) ∷ xs)
+        → FatesStand readings (given t m caller (Award name lot_name) ∷ xs)
         (after_puts (award_puts (record { notice = o; lot = p; line = line_of_lot p t; envelopes = envelopes_of_lot name lot_name t; securities = securities_of_lot name lot_name t; clock = t.clock }) (max m t.clock.moment)) t)
 
     by_rows : (n : NoticeRow) → notice_at name t ≡ Some n → (l : LotRow) → lot_at (name, lot_name) t ≡ Some l
-        → IsKept readings (given t m caller (Award name lot_name) ∷ xs)
+        → FatesStand readings (given t m caller (Award name lot_name) ∷ xs)
         (after_puts (award_puts (record { notice = notice_at name t; lot = (lot_at (name, lot_name) t); line = (line_of_lot (lot_at (name, lot_name) t) t); envelopes = envelopes_of_lot name lot_name t; securities = securities_of_lot name lot_name t; clock = t.clock }) (max m t.clock.moment)) t)
     by_rows n n_is l l_is =
         let goal : Goal (notice_at name t) (lot_at (name, lot_name) t) =

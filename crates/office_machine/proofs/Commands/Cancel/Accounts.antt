@@ -3,11 +3,11 @@ use Rattle.std.proofs.Common.{◌≡◌, ℕ, ◌+◌, Bool, true, false, cond, 
 use Rattle.std.specs.List.{AllByRecursion}
 use Rattle.std.specs.Ordering.{nat_cmp, eq_by_cmp}
 use Rattle.office_values.specs.Ids.{same_id, id_cmp}
-use Rattle.office_acts.specs.declared.command.Caller.{Caller}
+use Rattle.office_commands.specs.declared.command.Caller.{Caller}
 use Rattle.office_values.specs.declared.refusal.Refusal.{Refusal}
 use Rattle.office_base.specs.Rows.{holds_of, row_put}
 use Rattle.office_base.specs.Rules.{first_of}
-use Rattle.office_base.specs.RuleParts.{clock_put, security_returned}
+use Rattle.office_base.specs.Transitions.{clock_put, security_returned}
 use Rattle.office_base.specs.declared.records.LineRow.{LineRow}
 use Rattle.office_base.specs.declared.records.NoticeRow.{NoticeRow}
 use Rattle.office_base.specs.declared.records.LotRow.{LotRow}
@@ -16,8 +16,8 @@ use Rattle.office_base.specs.Tables.{Tables, IsSorted, notice_at, find_line, fin
 use Rattle.office_base.specs.Joined.{plus, minus, paid_under, free_in, appropriation_in}
 use Rattle.office_machine.specs.Machine.{Given, time_of, command_tests, effect}
 use Rattle.office_machine.specs.Readings.{Readings}
-use Rattle.office_machine.specs.Moves.{Move, Outside, Free, Reserved, Contracted, Paid, moves, held_for, Pot, came, went, same_pot, move_back}
-use Rattle.office_acts.specs.declared.commands.Command.TheVariants as commands
+use Rattle.office_machine.specs.Moves.{Move, Outside, Free, Reserved, Contracted, Paid, moves, reserved_for, Pot, inflow, outflow, same_pot, move_back}
+use Rattle.office_commands.specs.declared.commands.Command.TheVariants as commands
 use Rattle.office_base.specs.declared.puts.Put.TheVariants as puts
 use Rattle.office_machine.proofs.Accounts.Aside.{kept_aside, AreAside, aside-append, aside-map}
 use Rattle.office_base.proofs.RowLaws.Filters.{filter_filter}
@@ -26,7 +26,7 @@ use Rattle.office_machine.proofs.Rows.Keyed.{found, sum-found_agree}
 use Rattle.office_base.proofs.RowLaws.Filters.{if_passes, row_at-filter}
 use Rattle.office_base.proofs.RowLaws.Keyed.{found_key}
 use Rattle.office_machine.proofs.Rows.Keyed as keyed
-use Rattle.office_machine.proofs.Accounts.Kept.{IsKept, PotsAre, LotIs, AwardIs, over_contracts, reserved_by, reserved_over, is_awarded}
+use Rattle.office_machine.proofs.Accounts.Kept.{AccountsStand, PotsAre, LotIs, AwardIs, over_contracts, reserved_by, reserved_over, is_awarded}
 use Rattle.office_machine.proofs.Passed.{none_holds, neither, not_false, witness}
 use Rattle.std.specs.Cmp.Lexicographic.{nat_list_cmp_total}
 use Rattle.std.specs.declared.cmp.Ordering.{Ordering}
@@ -37,7 +37,7 @@ use Rattle.office_base.specs.declared.records.EnvelopeRow.{EnvelopeRow}
 use Rattle.office_base.specs.declared.records.SecurityRow.{SecurityRow}
 use Rattle.office_base.specs.States.{is_active}
 use Rattle.tender_core.specs.Rules.Publish.{no_line}
-use Rattle.tender_core.specs.Rules.Cancel.{is_open_lot, cancelled_lot, freed, line_row, ends, is_ended_award, cancelled_award, is_ended_envelope, envelope_put, drop_put, is_ended_security, cancelled_notice, cancel_puts}
+use Rattle.tender_core.specs.Rules.Cancel.{is_open_lot, cancelled_lot, freed, freed_line, ends, is_ended_award, cancelled_award, is_ended_envelope, envelope_put, drop_put, is_ended_security, cancelled_notice, cancel_puts}
 use Rattle.office_machine.proofs.Rows.RowsPut.{rows_put, some_has, lines_put, lots_put, after_lines, after_lots, found_after, there_after}
 use Rattle.office_machine.proofs.Accounts.Joins.{is_of}
 use Rattle.office_machine.proofs.Rows.Mapped.{put_changed, changed, put_changed_is, row_at-changed, sum-put_filtered, sum_over-passing}
@@ -53,28 +53,28 @@ own_line None q amount = record { appropriation_is = refl; free_is = refl }
 own_line (Some row) q amount = record { appropriation_is = refl; free_is = refl }
 
 each_freed : (lines : List LineRow) (all lots : List LotRow) (q : List ℕ)
-    → AllByRecursion (λ (r : LineRow). eq_by_cmp id_cmp q r.line ≡ true → IsFreed (find_line lines q) (Some r) (freed q all)) (map (line_row lines all) lots)
+    → AllByRecursion (λ (r : LineRow). eq_by_cmp id_cmp q r.line ≡ true → IsFreed (find_line lines q) (Some r) (freed q all)) (map (freed_line lines all) lots)
 each_freed lines all [] q = tt
 each_freed lines all (lot ∷ lots) q = (
-  λ e. subst (λ p. IsFreed (find_line lines p) (Some (line_row lines all lot)) (freed p all)) (sym (equal_keys ids_exact q lot.line e))
+  λ e. subst (λ p. IsFreed (find_line lines p) (Some (freed_line lines all lot)) (freed p all)) (sym (equal_keys ids_exact q lot.line e))
       (own_line (find_line lines lot.line) lot.line (freed lot.line all)),
   each_freed lines all lots q,
 )
 
 -- of a line that no lot names nothing is freed
-freed_of_none : (lines : List LineRow) (all lots : List LotRow) (q : List ℕ) → some_has id_cmp line_key q (map (line_row lines all) lots) ≡ false → freed q lots ≡ 0
+freed_of_none : (lines : List LineRow) (all lots : List LotRow) (q : List ℕ) → some_has id_cmp line_key q (map (freed_line lines all) lots) ≡ false → freed q lots ≡ 0
 freed_of_none lines all [] q none = refl
 freed_of_none lines all (lot ∷ lots) q none =
-    let apart = neither (eq_by_cmp id_cmp q lot.line) (some_has id_cmp line_key q (map (line_row lines all) lots)) none in
+    let apart = neither (eq_by_cmp id_cmp q lot.line) (some_has id_cmp line_key q (map (freed_line lines all) lots)) none in
     omega (arith, ap (λ b. cond b lot.reserved 0) (same_id_is lot.line q ∙ apart.0), freed_of_none lines all lots q apart.1)
 
 none_freed : (found : Option LineRow) (amount : ℕ) → amount ≡ 0 → IsFreed found found amount
 none_freed found amount none = record { appropriation_is = refl; free_is = omega (arith, none) }
 
 freed_after : (lines : List LineRow) (lots : List LotRow) (q : List ℕ)
-    → IsFreed (find_line lines q) (find_line (lines_put lines (map (line_row lines lots) lots)) q) (freed q lots)
+    → IsFreed (find_line lines q) (find_line (lines_put lines (map (freed_line lines lots) lots)) q) (freed q lots)
 freed_after lines lots q =
-    found_after nat_list_cmp_total line_key (λ found. IsFreed (find_line lines q) found (freed q lots)) q (map (line_row lines lots) lots) lines
+    found_after nat_list_cmp_total line_key (λ found. IsFreed (find_line lines q) found (freed q lots)) q (map (freed_line lines lots) lots) lines
     (each_freed lines lots lots q)
     (λ none. none_freed (find_line lines q) (freed q lots) (freed_of_none lines lots lots q none))
 
@@ -97,7 +97,7 @@ and_parts : (a b : Bool) → (a && b) ≡ true → (a ≡ true) × (b ≡ true)
 and_parts true b e = (refl, e)
 and_parts false b e = cc
 
-module _ (readings : Readings) (xs : List Given) (s : Tables) (moment : ℕ) (caller : Caller) (n rationale : List ℕ) (kept : IsKept xs s) (order : IsSorted s) where
+module _ (readings : Readings) (xs : List Given) (s : Tables) (moment : ℕ) (caller : Caller) (n rationale : List ℕ) (kept : AccountsStand xs s) (order : IsSorted s) where
   abbrev x : Given
   x = record { before = s; moment = moment; caller = caller; command = commands.Cancel n rationale }
 
@@ -124,7 +124,7 @@ module _ (readings : Readings) (xs : List Given) (s : Tables) (moment : ℕ) (ca
   awards' = map (changed is_ended_one cancelled_award) s.awards
 
   abbrev lines' : List LineRow
-  lines' = lines_put s.lines (map (line_row s.lines ended) ended)
+  lines' = lines_put s.lines (map (freed_line s.lines ended) ended)
 
   abbrev s' : Tables
   s' = record s { lines = lines'; lots = lots'; awards = awards' }
@@ -172,24 +172,24 @@ module _ (readings : Readings) (xs : List Given) (s : Tables) (moment : ℕ) (ca
 
   -- each of them has reserved what is held for it
   held_by : (q : List ℕ) (l : LotRow) → find_lot s.lots (l.notice, l.lot) ≡ Some l → (b : Bool) → is_ended l ≡ b
-      → cond b (cond (same_id l.line q) (held_for xs (l.notice, l.lot)) 0) 0 ≡ cond b (reserved_by q l) 0
+      → cond b (cond (same_id l.line q) (reserved_for xs (l.notice, l.lot)) 0) 0 ≡ cond b (reserved_by q l) 0
   held_by q l is true e = ap (λ m. cond (same_id l.line q) m 0) ((kept.lots (l.notice, l.lot) l is).held (and_parts _ _ e).1)
   held_by q l is false e = refl
 
-  held_over : (q : List ℕ) → sum_over (λ (l : LotRow). cond (same_id l.line q) (held_for xs (l.notice, l.lot)) 0) ended ≡ freed q ended
+  held_over : (q : List ℕ) → sum_over (λ (l : LotRow). cond (same_id l.line q) (reserved_for xs (l.notice, l.lot)) 0) ended ≡ freed q ended
   held_over q =
-      let f : LotRow → ℕ = λ l. cond (same_id l.line q) (held_for xs (l.notice, l.lot)) 0 in
+      let f : LotRow → ℕ = λ l. cond (same_id l.line q) (reserved_for xs (l.notice, l.lot)) 0 in
       ap (sum_over f) ended_is
       ∙ sum_over-passing is_ended f s.lots
       ∙ sum-found_agree keyed.lots (λ l. cond (is_ended l) (f l) 0) (λ l. cond (is_ended l) (reserved_by q l) 0) s.lots order.lots (λ l is. held_by q l is (is_ended l) refl)
       ∙ sym (sum_over-passing is_ended (reserved_by q) s.lots)
       ∙ sym (ap (sum_over (reserved_by q)) ended_is)
 
-  into : (q : List ℕ) (p : Pot) → came (moves (x ∷ xs)) q p ≡ sum_over (λ (l : LotRow). cond (same_pot Free p && same_id l.line q) (held_for xs (l.notice, l.lot)) 0) ended + came (moves xs) q p
-  into q p = sum_over-append_map (λ (m : Move). cond (same_pot m.to p && same_id m.line q) m.amount 0) (move_back (held_for xs)) ended (moves xs)
+  into : (q : List ℕ) (p : Pot) → inflow (moves (x ∷ xs)) q p ≡ sum_over (λ (l : LotRow). cond (same_pot Free p && same_id l.line q) (reserved_for xs (l.notice, l.lot)) 0) ended + inflow (moves xs) q p
+  into q p = sum_over-append_map (λ (m : Move). cond (same_pot m.to p && same_id m.line q) m.amount 0) (move_back (reserved_for xs)) ended (moves xs)
 
-  out_of : (q : List ℕ) (p : Pot) → went (moves (x ∷ xs)) q p ≡ sum_over (λ (l : LotRow). cond (same_pot Reserved p && same_id l.line q) (held_for xs (l.notice, l.lot)) 0) ended + went (moves xs) q p
-  out_of q p = sum_over-append_map (λ (m : Move). cond (same_pot m.from p && same_id m.line q) m.amount 0) (move_back (held_for xs)) ended (moves xs)
+  out_of : (q : List ℕ) (p : Pot) → outflow (moves (x ∷ xs)) q p ≡ sum_over (λ (l : LotRow). cond (same_pot Reserved p && same_id l.line q) (reserved_for xs (l.notice, l.lot)) 0) ended + outflow (moves xs) q p
+  out_of q p = sum_over-append_map (λ (m : Move). cond (same_pot m.from p && same_id m.line q) m.amount 0) (move_back (reserved_for xs)) ended (moves xs)
 
   pots : (q : List ℕ) → PotsAre (moves (x ∷ xs)) s' q
   pots q =
@@ -209,10 +209,10 @@ module _ (readings : Readings) (xs : List Given) (s : Tables) (moment : ℕ) (ca
   lot_kept : (j : List ℕ × List ℕ) (l y : LotRow) → find_lot s.lots j ≡ Some l → (b : Bool) → cond b (cancelled_lot l) l ≡ y → LotIs (x ∷ xs) s' j y
   lot_kept j l y is true e =
       let old = kept.lots j l is in
-      subst (LotIs (x ∷ xs) s' j) e (record { of_notice = old.of_notice; on_line = there_after nat_list_cmp_total line_key l.line (map (line_row s.lines ended) ended) s.lines old.on_line; held = λ f. cc })
+      subst (LotIs (x ∷ xs) s' j) e (record { of_notice = old.of_notice; on_line = there_after nat_list_cmp_total line_key l.line (map (freed_line s.lines ended) ended) s.lines old.on_line; held = λ f. cc })
   lot_kept j l y is false e =
       let old = kept.lots j l is in
-      subst (LotIs (x ∷ xs) s' j) e (record { of_notice = old.of_notice; on_line = there_after nat_list_cmp_total line_key l.line (map (line_row s.lines ended) ended) s.lines old.on_line; held = old.held })
+      subst (LotIs (x ∷ xs) s' j) e (record { of_notice = old.of_notice; on_line = there_after nat_list_cmp_total line_key l.line (map (freed_line s.lines ended) ended) s.lines old.on_line; held = old.held })
 
   -- an active award of a lot that ends is one that ends
   ends_too : (w : AwardRow) (l : LotRow) → find_lot s.lots (w.notice, w.lot) ≡ Some l → is_active w.state ≡ true → is_ended l ≡ true → is_ended_one w ≡ true
@@ -263,7 +263,7 @@ module _ (readings : Readings) (xs : List Given) (s : Tables) (moment : ℕ) (ca
   still_some None e = e
   still_some (Some l) e = refl
 
-  ended_keeps : IsKept (x ∷ xs) s'
+  ended_keeps : AccountsStand (x ∷ xs) s'
   ended_keeps = record {
     pots = pots;
     lots = λ j y h. let old = before_change (changed is_ended cancelled_lot) (find_lot s.lots j) y (sym (lot_after j) ∙ h) in lot_kept j old.0 y old.1 (is_ended old.0) old.2;
@@ -309,7 +309,7 @@ module _ (readings : Readings) (xs : List Given) (s : Tables) (moment : ℕ) (ca
 
     cancelled_is : after_puts all_puts s ≡ after_puts rest s'
     cancelled_is =
-        after_lines (line_row s.lines ended) ended _ s
+        after_lines (freed_line s.lines ended) ended _ s
         ∙ after_lots cancelled_lot ended _ (record s { lines = lines' })
         ∙ after_awards cancelled_award (filter (is_ended_award lots) (awards_of_notice n s)) rest (record s { lines = lines'; lots = lots_put s.lots (map cancelled_lot ended) })
         ∙ (λ i. after_puts rest (record s { lines = lines'; lots = lots_after i; awards = awards_after i }))
@@ -317,12 +317,12 @@ module _ (readings : Readings) (xs : List Given) (s : Tables) (moment : ℕ) (ca
     effect_is : all_puts ≡ effect readings x
     effect_is = λ i. cancel_puts (record { notice = sym notice i; lines = s.lines; lots = lots; awards = awards_of_notice n s; envelopes = envelopes_of_notice n s; securities = securities_of_notice n s; clock = s.clock }) (time_of x)
 
-    keeps : IsKept (x ∷ xs) (after_puts (effect readings x) s)
-    keeps = subst (IsKept (x ∷ xs)) (sym cancelled_is ∙ ap (λ ps. after_puts ps s) effect_is) (kept_aside (x ∷ xs) rest s' rest_aside ended_keeps)
+    keeps : AccountsStand (x ∷ xs) (after_puts (effect readings x) s)
+    keeps = subst (AccountsStand (x ∷ xs)) (sym cancelled_is ∙ ap (λ ps. after_puts ps s) effect_is) (kept_aside (x ∷ xs) rest s' rest_aside ended_keeps)
 
   module _ (allowed : first_of (command_tests x) ≡ None) where
     passes : AllByRecursion (λ (test : Bool × Refusal). test.0 ≡ false) (command_tests x)
     passes = none_holds (command_tests x) allowed
 
-    pub cancel_keeps : IsKept (x ∷ xs) (after_puts (effect readings x) s)
+    pub cancel_keeps : AccountsStand (x ∷ xs) (after_puts (effect readings x) s)
     cancel_keeps = let notice = witness (notice_at n s) (not_false _ passes.0) in keeps notice.0 notice.1

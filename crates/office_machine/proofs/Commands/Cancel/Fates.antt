@@ -6,9 +6,9 @@ use Rattle.std.specs.Cmp.{nat_cmp_total}
 use Rattle.std.specs.FinMap.{nat_cmp-IsAntisymmetric}
 use Rattle.std.specs.Ordering.{nat_cmp}
 use Rattle.office_values.specs.Ids.{id_cmp, same_id}
-use Rattle.office_acts.specs.declared.tender.NamedSecurity.{NamedSecurity}
-use Rattle.office_acts.specs.declared.command.Caller.{Caller}
-use Rattle.office_acts.specs.declared.commands.Command.TheVariants.{Cancel}
+use Rattle.office_commands.specs.declared.tender.NamedSecurity.{NamedSecurity}
+use Rattle.office_commands.specs.declared.command.Caller.{Caller}
+use Rattle.office_commands.specs.declared.commands.Command.TheVariants.{Cancel}
 use Rattle.office_values.specs.declared.refusal.Refusal.{Refusal}
 use Rattle.office_base.specs.Rows.{holds_of}
 use Rattle.office_base.proofs.RowLaws.Filters.{if_passes, filter_filter, row_at-filter, all_filter}
@@ -29,12 +29,12 @@ use Rattle.office_base.specs.declared.puts.Put.TheVariants as puts
 use Rattle.office_base.specs.declared.puts.Put.{Put}
 use Rattle.office_base.specs.States.{is_sealed, is_held, is_active, is_receiving}
 use Rattle.office_base.specs.Rules.{first_of}
-use Rattle.office_base.specs.RuleParts.{clock_put, security_returned, returned}
-use Rattle.tender_core.specs.Rules.Cancel.{is_open_lot, cancelled_lot, lot_put, line_row, line_put, ends, is_ended_award, cancelled_award, award_put, is_ended_envelope, returned_envelope, envelope_put, drop_put, is_ended_security, cancelled_notice, cancel_tests, cancel_puts}
+use Rattle.office_base.specs.Transitions.{clock_put, security_returned, returned}
+use Rattle.tender_core.specs.Rules.Cancel.{is_open_lot, cancelled_lot, cancelled_lot_put, freed_line, freed_line_put, ends, is_ended_award, cancelled_award, award_put, is_ended_envelope, returned_envelope, envelope_put, drop_put, is_ended_security, cancelled_notice, cancel_tests, cancel_puts}
 use Rattle.office_base.specs.Tables.{Tables, lot_cmp, line_key, lot_key, envelope_key, seal_key, security_key, award_key, find_lot, of_notice, envelope_at, seal_at, security_at, award_at, lot_at, notice_at, lots_of_notice, envelopes_of_notice, securities_of_notice, awards_of_notice, after_puts}
 use Rattle.office_machine.specs.Machine.{Given}
 use Rattle.office_machine.specs.Readings.{Readings}
-use Rattle.office_machine.specs.Fates.{Reception, came, is_of_notice, tender_decided, fate_of_tender, security_decided, fate_of_security, is_kept, EnvelopeIs, SecurityIs}
+use Rattle.office_machine.specs.Fates.{Reception, received_at, is_of_notice, tender_decided, fate_of_tender, security_decided, fate_of_security, is_kept, EnvelopeIs, SecurityIs}
 use Rattle.office_machine.proofs.Rows.Counting.{is_live}
 use Rattle.office_base.proofs.Orders.{lots_total}
 use Rattle.office_base.proofs.ExactKeys.{lots_exact, equal_ids, same_itself}
@@ -44,7 +44,7 @@ use Rattle.office_machine.proofs.FateLaws.Views.{Change, after_change}
 use Rattle.office_machine.proofs.FateLaws.Steps.{cond_keeps}
 use Rattle.office_machine.proofs.FateLaws.Decisions.{cancelling, fair_cancelling}
 use Rattle.office_machine.proofs.FateLaws.Seen.{seen, alike, lot_state, LotFits, IsOnLine, OnLines, AreInOrder, lines-puts, order-puts, after-append, after_lines, after_lots, after_awards, after_envelopes, after_securities, after_drops, row_at-drops}
-use Rattle.office_machine.proofs.FateLaws.FatesHold.{IsKept, Keeps, given}
+use Rattle.office_machine.proofs.FateLaws.FatesHold.{FatesStand, Keeps, given}
 use Rattle.office_machine.proofs.FateLaws.QuietFates.{all_append, all_of_map}
 use Rattle.office_machine.proofs.FateLaws.FatesChanged.{kept_by_change, sealed_live}
 use Rattle.office_machine.proofs.FateLaws.States.{notices_put}
@@ -56,7 +56,7 @@ no_both true false = refl
 no_both false true = refl
 no_both false false = refl
 
-lots_fit : (lines : List LineRow) (rows : List LotRow) → AllByRecursion (IsOnLine lines) rows → AllByRecursion (LotFits lines) (map lot_put rows)
+lots_fit : (lines : List LineRow) (rows : List LotRow) → AllByRecursion (IsOnLine lines) rows → AllByRecursion (LotFits lines) (map cancelled_lot_put rows)
 lots_fit lines [] h = tt
 lots_fit lines (l ∷ rows) h = (h.0, lots_fit lines rows h.1)
 
@@ -66,7 +66,7 @@ tests_agree : {X : Type 0} (p q : X → Bool) (g : X → X) (o : Option X) → (
 tests_agree p q g None h = refl
 tests_agree p q g (Some x) h = ap (λ b. Some (cond b (g x) x)) (h x refl)
 
-module _ (readings : Readings) (name : List ℕ) (rationale : List ℕ) (xs : List Given) (t : Tables) (m : ℕ) (caller : Caller) (kept : IsKept readings xs t)
+module _ (readings : Readings) (name : List ℕ) (rationale : List ℕ) (xs : List Given) (t : Tables) (m : ℕ) (caller : Caller) (kept : FatesStand readings xs t)
     (n : NoticeRow) (found : notice_at name t ≡ Some n) where
   abbrev T : ℕ
   T = max m t.clock.moment
@@ -139,7 +139,7 @@ module _ (readings : Readings) (name : List ℕ) (rationale : List ℕ) (xs : Li
   last_puts = puts.Notice (cancelled_notice n) ∷ clock_put t.clock T ∷ []
 
   abbrev t1 : Tables
-  t1 = record t { lines = rows_put id_cmp line_key t.lines (map (line_row t.lines open_lots) open_lots) }
+  t1 = record t { lines = rows_put id_cmp line_key t.lines (map (freed_line t.lines open_lots) open_lots) }
 
   abbrev t2 : Tables
   t2 = record t1 { lots = rows_put lot_cmp lot_key t.lots (map cancelled_lot open_lots) }
@@ -161,9 +161,9 @@ module _ (readings : Readings) (name : List ℕ) (rationale : List ℕ) (xs : Li
 
   after_is : after_puts ps t ≡ after
   after_is =
-      after-append (map (line_put t.lines open_lots) open_lots) (map lot_put open_lots ++ (map award_put ended_awards ++ (map envelope_put ended_envelopes ++ (map drop_put ended_envelopes ++ (map security_returned ended_securities ++ last_puts))))) t
-      ∙ ap (after_puts (map lot_put open_lots ++ (map award_put ended_awards ++ (map envelope_put ended_envelopes ++ (map drop_put ended_envelopes ++ (map security_returned ended_securities ++ last_puts)))))) (after_lines (line_row t.lines open_lots) open_lots t)
-      ∙ after-append (map lot_put open_lots) (map award_put ended_awards ++ (map envelope_put ended_envelopes ++ (map drop_put ended_envelopes ++ (map security_returned ended_securities ++ last_puts)))) t1
+      after-append (map (freed_line_put t.lines open_lots) open_lots) (map cancelled_lot_put open_lots ++ (map award_put ended_awards ++ (map envelope_put ended_envelopes ++ (map drop_put ended_envelopes ++ (map security_returned ended_securities ++ last_puts))))) t
+      ∙ ap (after_puts (map cancelled_lot_put open_lots ++ (map award_put ended_awards ++ (map envelope_put ended_envelopes ++ (map drop_put ended_envelopes ++ (map security_returned ended_securities ++ last_puts)))))) (after_lines (freed_line t.lines open_lots) open_lots t)
+      ∙ after-append (map cancelled_lot_put open_lots) (map award_put ended_awards ++ (map envelope_put ended_envelopes ++ (map drop_put ended_envelopes ++ (map security_returned ended_securities ++ last_puts)))) t1
       ∙ ap (after_puts (map award_put ended_awards ++ (map envelope_put ended_envelopes ++ (map drop_put ended_envelopes ++ (map security_returned ended_securities ++ last_puts))))) (after_lots cancelled_lot open_lots t1)
       ∙ after-append (map award_put ended_awards) (map envelope_put ended_envelopes ++ (map drop_put ended_envelopes ++ (map security_returned ended_securities ++ last_puts))) t2
       ∙ ap (after_puts (map envelope_put ended_envelopes ++ (map drop_put ended_envelopes ++ (map security_returned ended_securities ++ last_puts)))) (after_awards cancelled_award ended_awards t2)
@@ -248,9 +248,9 @@ module _ (readings : Readings) (name : List ℕ) (rationale : List ℕ) (xs : Li
       by true = refl
       by false = is.seal_is
 
-  tender_goes : (r : ℕ) (d : EnvelopeRow) (a : Reception) → envelope_at r t ≡ Some d → came xs r ≡ Some a
+  tender_goes : (r : ℕ) (d : EnvelopeRow) (a : Reception) → envelope_at r t ≡ Some d → received_at xs r ≡ Some a
       → EnvelopeIs readings.digest r a (fate_of_tender xs r) d (seal_at r t)
-      → (c.envelope_to r d).state ≡ cond (is_sealed d.state) (tender_decided (Cancel name rationale) x (came xs) r) d.state
+      → (c.envelope_to r d).state ≡ cond (is_sealed d.state) (tender_decided (Cancel name rationale) x (received_at xs) r) d.state
   tender_goes r d a at came_is is =
       by d.state refl
       ∙ ap (λ b. cond (is_sealed d.state) (cond b envelope.Returned envelope.Sealed) d.state) (ap (λ q. same_id q name) is.of_notice ∙ sym (ap (is_of_notice name) came_is))
@@ -268,9 +268,9 @@ module _ (readings : Readings) (name : List ℕ) (rationale : List ℕ) (xs : Li
       by envelope.Returned e = e
       by envelope.Opened e = e
 
-  security_goes : (s : ℕ) (w : SecurityRow) (a : Reception) (named : NamedSecurity) → security_at s t ≡ Some w → came xs s ≡ Some a
+  security_goes : (s : ℕ) (w : SecurityRow) (a : Reception) (named : NamedSecurity) → security_at s t ≡ Some w → received_at xs s ≡ Some a
       → SecurityIs s a named (fate_of_security xs s) w
-      → (c.security_to s w).state ≡ cond (is_held w.state) (security_decided (Cancel name rationale) x (came xs) s) w.state
+      → (c.security_to s w).state ≡ cond (is_held w.state) (security_decided (Cancel name rationale) x (received_at xs) s) w.state
   security_goes s w a named at came_is is =
       by w.state refl
       ∙ ap (λ b. cond (is_held w.state) (cond b security.Returned security.Held) w.state) (ap (λ q. same_id q name) is.of_notice ∙ sym (ap (is_of_notice name) came_is))
@@ -289,15 +289,15 @@ module _ (readings : Readings) (name : List ℕ) (rationale : List ℕ) (xs : Li
 
   fit : AllByRecursion (LotFits t.lines) ps
   fit =
-      all_append (LotFits t.lines) (map (line_put t.lines open_lots) open_lots) _ (all_of_map (LotFits t.lines) (line_put t.lines open_lots) open_lots (λ l. tt))
-      (all_append (LotFits t.lines) (map lot_put open_lots) _
+      all_append (LotFits t.lines) (map (freed_line_put t.lines open_lots) open_lots) _ (all_of_map (LotFits t.lines) (freed_line_put t.lines open_lots) open_lots (λ l. tt))
+      (all_append (LotFits t.lines) (map cancelled_lot_put open_lots) _
       (lots_fit t.lines open_lots (all_filter (IsOnLine t.lines) is_open_lot lots (all_filter (IsOnLine t.lines) (of_notice name) t.lots kept.lines)))
       (all_append (LotFits t.lines) (map award_put ended_awards) _ (all_of_map (LotFits t.lines) award_put ended_awards (λ w. tt))
       (all_append (LotFits t.lines) (map envelope_put ended_envelopes) _ (all_of_map (LotFits t.lines) envelope_put ended_envelopes (λ e. tt))
       (all_append (LotFits t.lines) (map drop_put ended_envelopes) _ (all_of_map (LotFits t.lines) drop_put ended_envelopes (λ e. tt))
       (all_append (LotFits t.lines) (map security_returned ended_securities) last_puts (all_of_map (LotFits t.lines) security_returned ended_securities (λ w. tt)) (tt, (tt, tt)))))))
 
-  cancelled_kept : IsKept readings (x ∷ xs) after
+  cancelled_kept : FatesStand readings (x ∷ xs) after
   cancelled_kept =
       kept_by_change readings xs x t after c kept (fair_cancelling (seen t) kept.sound name E ends_only ends_all)
       (record {
@@ -329,15 +329,15 @@ module _ (readings : Readings) (name : List ℕ) (rationale : List ℕ) (xs : Li
       (subst (λ (u : Tables). OnLines u.lines u.lots) after_is (lines-puts ps t kept.lines fit))
       (subst (λ (u : Tables). AreInOrder u) after_is (order-puts ps t kept.order))
 
-cancel_by : (readings : Readings) (name rationale : List ℕ) (xs : List Given) (t : Tables) (m : ℕ) (caller : Caller) (kept : IsKept readings xs t) (o : Option NoticeRow) → notice_at name t ≡ o
+cancel_by : (readings : Readings) (name rationale : List ℕ) (xs : List Given) (t : Tables) (m : ℕ) (caller : Caller) (kept : FatesStand readings xs t) (o : Option NoticeRow) → notice_at name t ≡ o
     → first_of (cancel_tests (record { notice = o; lines = []; lots = lots_of_notice name t; awards = []; envelopes = []; securities = []; clock = t.clock })) ≡ None
-    → IsKept readings (given t m caller (Cancel name rationale) ∷ xs)
+    → FatesStand readings (given t m caller (Cancel name rationale) ∷ xs)
     (after_puts (cancel_puts (record { notice = o; lines = t.lines; lots = lots_of_notice name t; awards = awards_of_notice name t; envelopes = envelopes_of_notice name t; securities = securities_of_notice name t; clock = t.clock }) (max m t.clock.moment)) t)
 cancel_by readings name rationale xs t m caller kept None found allowed =
     let passes : AllByRecursion (λ (test : Bool × Refusal). test.0 ≡ false) (cancel_tests (record { notice = None; lines = []; lots = lots_of_notice name t; awards = []; envelopes = []; securities = []; clock = t.clock })) = none_holds (cancel_tests (record { notice = None; lines = []; lots = lots_of_notice name t; awards = []; envelopes = []; securities = []; clock = t.clock })) allowed in
     let no : true ≡ false = passes.0 in absurd cc
 cancel_by readings name rationale xs t m caller kept (Some n) found allowed =
-    subst (IsKept readings (given t m caller (Cancel name rationale) ∷ xs)) (sym (after_is readings name rationale xs t m caller kept n found)) (cancelled_kept readings name rationale xs t m caller kept n found)
+    subst (FatesStand readings (given t m caller (Cancel name rationale) ∷ xs)) (sym (after_is readings name rationale xs t m caller kept n found)) (cancelled_kept readings name rationale xs t m caller kept n found)
 
 pub cancel_keeps : (readings : Readings) (notice : List ℕ) (rationale : List ℕ) → Keeps readings (Cancel notice rationale)
 cancel_keeps readings name rationale xs t m caller kept _ allowed = cancel_by readings name rationale xs t m caller kept (notice_at name t) refl allowed

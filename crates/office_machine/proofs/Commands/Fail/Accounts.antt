@@ -1,11 +1,11 @@
 -- A failing of an award keeps the accounts.
 use Rattle.std.proofs.Common.{◌≡◌, ℕ, Bool, true, false, List, ◌∷◌, ◌++◌, Some, None, refl, sym, ◌∙◌, ap, subst, arith}
 use Rattle.std.specs.List.{AllByRecursion}
-use Rattle.office_acts.specs.declared.command.Caller.{Caller}
+use Rattle.office_commands.specs.declared.command.Caller.{Caller}
 use Rattle.office_values.specs.declared.refusal.Refusal.{Refusal}
 use Rattle.office_base.specs.declared.records.SecurityState.TheVariants.{Forfeited}
 use Rattle.office_base.specs.Rules.{first_of}
-use Rattle.office_base.specs.RuleParts.{released, clock_put, put_if, passed_over, security_settled}
+use Rattle.office_base.specs.Transitions.{with_next_release, clock_put, put_if, passed_over, security_settled}
 use Rattle.office_base.specs.declared.records.NoticeRow.{NoticeRow}
 use Rattle.office_base.specs.declared.records.LotRow.{LotRow}
 use Rattle.office_base.specs.Tables.{Tables, notice_at, lot_at, find_lot, after_puts, find_award, put_award, put_lot, award_at}
@@ -14,13 +14,13 @@ use Rattle.office_base.specs.Parents.{notice_of_award, lot_of_award, envelope_of
 use Rattle.office_machine.specs.Machine.{Given, time_of, command_tests, effect}
 use Rattle.office_machine.specs.Readings.{Readings}
 use Rattle.office_machine.specs.Moves.{moves}
-use Rattle.office_acts.specs.declared.commands.Command.TheVariants as commands
+use Rattle.office_commands.specs.declared.commands.Command.TheVariants as commands
 use Rattle.office_base.specs.declared.puts.Put.TheVariants as puts
 use Rattle.office_machine.proofs.Accounts.Aside.{kept_aside, aside-append, aside-if}
 use Rattle.office_machine.proofs.Rows.Keyed.{found, still_there}
 use Rattle.office_base.proofs.RowLaws.Keyed.{found_key}
 use Rattle.office_machine.proofs.Rows.Keyed as keyed
-use Rattle.office_machine.proofs.Accounts.Kept.{IsKept, PotsAre, AwardIs, is_awarded}
+use Rattle.office_machine.proofs.Accounts.Kept.{AccountsStand, PotsAre, AwardIs, is_awarded}
 use Rattle.office_machine.proofs.Passed.{none_holds, not_false, witness, test_of}
 use Rattle.office_base.specs.declared.records.AwardRow.{AwardRow}
 use Rattle.office_base.specs.States.{is_active}
@@ -30,7 +30,7 @@ use Rattle.office_base.specs.declared.records.LotState.TheVariants as lot_states
 use Rattle.office_machine.proofs.Accounts.LotChanged.{joined, reserved_after, lots_are, awards_are, one_active, award_of}
 use Rattle.office_machine.proofs.Commands.Sign.Accounts.{open_too}
 
-module _ (readings : Readings) (xs : List Given) (s : Tables) (moment : ℕ) (caller : Caller) (a : ℕ) (kept : IsKept xs s) where
+module _ (readings : Readings) (xs : List Given) (s : Tables) (moment : ℕ) (caller : Caller) (a : ℕ) (kept : AccountsStand xs s) where
   abbrev x : Given
   x = record { before = s; moment = moment; caller = caller; command = commands.Fail a }
 
@@ -76,7 +76,7 @@ module _ (readings : Readings) (xs : List Given) (s : Tables) (moment : ℕ) (ca
           none_spent = old.none_spent;
         }
 
-    failed_keeps : IsKept (x ∷ xs) s'
+    failed_keeps : AccountsStand (x ∷ xs) s'
     failed_keeps = record {
       pots = pots;
       lots = lots_are xs s kept l lot_states.Undecided l.reserved lot_here x s' refl (λ q h. h) (λ q h. h) (λ e. (kept.lots _ l lot_here).held (open_too l.state awarded)) (λ j e. refl);
@@ -97,15 +97,15 @@ module _ (readings : Readings) (xs : List Given) (s : Tables) (moment : ℕ) (ca
         (aside-if s.clock.awards (λ e. puts.Envelope (passed_over e)) (envelope_of_award (award_at a s) s) (λ _. tt))
         (aside-if s.clock.awards (security_settled Forfeited) (security_of_envelope (envelope_of_award (award_at a s) s) s) (λ _. tt))
 
-    keeps : IsKept (x ∷ xs) (after_puts (effect readings x) s)
-    keeps = subst (λ ps. IsKept (x ∷ xs) (after_puts ps s)) effect_is
-        (kept_aside (x ∷ xs) (puts.Notice (released n) ∷ clock_put s.clock (time_of x) ∷ rest) s' (tt, (omega arith, rest_aside)) failed_keeps)
+    keeps : AccountsStand (x ∷ xs) (after_puts (effect readings x) s)
+    keeps = subst (λ ps. AccountsStand (x ∷ xs) (after_puts ps s)) effect_is
+        (kept_aside (x ∷ xs) (puts.Notice (with_next_release n) ∷ clock_put s.clock (time_of x) ∷ rest) s' (tt, (omega arith, rest_aside)) failed_keeps)
 
   module _ (allowed : first_of (command_tests x) ≡ None) where
     passes : AllByRecursion (λ (test : Bool × Refusal). test.0 ≡ false) (command_tests x)
     passes = none_holds (command_tests x) allowed
 
-    pub fail_keeps : IsKept (x ∷ xs) (after_puts (effect readings x) s)
+    pub fail_keeps : AccountsStand (x ∷ xs) (after_puts (effect readings x) s)
     fail_keeps =
         let found = witness (award_at a s) (not_false _ passes.0) in
         let w = found.0 in

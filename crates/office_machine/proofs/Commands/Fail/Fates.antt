@@ -5,9 +5,9 @@ use Rattle.std.specs.List.{AllByRecursion}
 use Rattle.std.specs.Cmp.{nat_cmp_total}
 use Rattle.std.specs.FinMap.{nat_cmp-IsAntisymmetric}
 use Rattle.std.specs.Ordering.{nat_cmp, eq_by_cmp}
-use Rattle.office_acts.specs.declared.tender.NamedSecurity.{NamedSecurity}
-use Rattle.office_acts.specs.declared.command.Caller.{Caller}
-use Rattle.office_acts.specs.declared.commands.Command.TheVariants.{Fail}
+use Rattle.office_commands.specs.declared.tender.NamedSecurity.{NamedSecurity}
+use Rattle.office_commands.specs.declared.command.Caller.{Caller}
+use Rattle.office_commands.specs.declared.commands.Command.TheVariants.{Fail}
 use Rattle.office_values.specs.declared.refusal.Refusal.{Refusal}
 use Rattle.office_base.specs.declared.records.NoticeRow.{NoticeRow}
 use Rattle.office_base.specs.declared.records.LotRow.{LotRow}
@@ -20,13 +20,13 @@ use Rattle.office_base.specs.declared.records.LotState.TheVariants as lot
 use Rattle.office_base.specs.declared.puts.Put.{Put}
 use Rattle.office_base.specs.States.{is_held}
 use Rattle.office_base.specs.Rules.{first_of}
-use Rattle.office_base.specs.RuleParts.{released, passed_over, settled}
+use Rattle.office_base.specs.Transitions.{with_next_release, passed_over, settled}
 use Rattle.award_core.specs.Rules.Fail.{failed_award, undecided_again, fail_tests, fail_puts}
 use Rattle.office_base.specs.Tables.{Tables, envelope_key, award_key, lot_key, envelope_at, seal_at, security_at, award_at, lot_at, notice_at, after_puts}
 use Rattle.office_base.specs.Parents.{notice_of_award, lot_of_award, envelope_of_award, security_of_envelope}
 use Rattle.office_machine.specs.Machine.{Given}
 use Rattle.office_machine.specs.Readings.{Readings}
-use Rattle.office_machine.specs.Fates.{Reception, came, fate_of_tender, security_decided, fate_of_security, is_kept, has_number, carries, is_award_security, SecurityIs}
+use Rattle.office_machine.specs.Fates.{Reception, received_at, fate_of_tender, security_decided, fate_of_security, is_kept, has_number, carries, is_award_security, SecurityIs}
 use Rattle.office_machine.proofs.Passed.{none_holds}
 use Rattle.office_machine.proofs.Rows.RowsChanged.{row_at-changed_put}
 use Rattle.office_base.proofs.RowLaws.Keyed.{found_key}
@@ -35,7 +35,7 @@ use Rattle.office_machine.proofs.FateLaws.Matched.{EnvelopeStands}
 use Rattle.office_machine.proofs.FateLaws.Steps.{cond_keeps, settled_keep, settled_goes}
 use Rattle.office_machine.proofs.FateLaws.Decisions.{failing, fair_failing}
 use Rattle.office_machine.proofs.FateLaws.Seen.{seen, alike, lot_state, notice_state, notices-same, LotFits, IsOnLine, lines-puts, order-puts}
-use Rattle.office_machine.proofs.FateLaws.FatesHold.{IsKept, Keeps, given, still_sealed}
+use Rattle.office_machine.proofs.FateLaws.FatesHold.{FatesStand, Keeps, given, still_sealed}
 use Rattle.office_machine.proofs.FateLaws.QuietFates.{notice_stands}
 use Rattle.office_machine.proofs.FateLaws.FatesChanged.{kept_by_change, securities_put, securities_left}
 use Rattle.office_machine.proofs.FateLaws.States.{map_same, lots_put, active_state}
@@ -52,7 +52,7 @@ row_there f None h = absurd (let no : false ≡ true = h in cc)
 row_there f (Some x) h = (x, refl)
 
 -- a lot that is found has its line
-pub on_line : (readings : Readings) (xs : List Given) (t : Tables) (kept : IsKept readings xs t) (k : List ℕ × List ℕ) (l : LotRow) → lot_at k t ≡ Some l
+pub on_line : (readings : Readings) (xs : List Given) (t : Tables) (kept : FatesStand readings xs t) (k : List ℕ × List ℕ) (l : LotRow) → lot_at k t ≡ Some l
     → IsOnLine t.lines l
 on_line readings xs t kept k l found =
     all-found Rattle.office_base.proofs.Orders.lots_total lot_key (λ (o : Option LotRow). o ≡ Some l → IsOnLine t.lines l) t.lots k (λ h. let no : None ≡ Some l = h in absurd cc)
@@ -62,7 +62,7 @@ on_line readings xs t kept k l found =
     each [] h = tt
     each (r ∷ rows) h = ((λ e. let is : r ≡ l = cc in subst (IsOnLine t.lines) is h.0), each rows h.1)
 
-module _ (readings : Readings) (number : ℕ) (xs : List Given) (t : Tables) (m : ℕ) (caller : Caller) (kept : IsKept readings xs t)
+module _ (readings : Readings) (number : ℕ) (xs : List Given) (t : Tables) (m : ℕ) (caller : Caller) (kept : FatesStand readings xs t)
     (w : AwardRow) (found : award_at number t ≡ Some w) (active : w.state ≡ award.Active) where
   abbrev T : ℕ
   T = max m t.clock.moment
@@ -76,7 +76,7 @@ module _ (readings : Readings) (number : ℕ) (xs : List Given) (t : Tables) (m 
   abbrev e : EnvelopeRow
   e = fits.tender
 
-  abbrev stands : EnvelopeStands readings.digest w.receipt (came xs w.receipt) (fate_of_tender xs w.receipt) e (seal_at w.receipt t)
+  abbrev stands : EnvelopeStands readings.digest w.receipt (received_at xs w.receipt) (fate_of_tender xs w.receipt) e (seal_at w.receipt t)
   stands = kept.tenders.received w.receipt e fits.found
 
   abbrev c : Change
@@ -92,14 +92,14 @@ module _ (readings : Readings) (number : ℕ) (xs : List Given) (t : Tables) (m 
     abbrev after : Option SecurityRow → Tables
     after so = after_puts (ps so) t
 
-    security_goes : (s : ℕ) (v : SecurityRow) (a : Reception) (named : NamedSecurity) → security_at s t ≡ Some v → came xs s ≡ Some a
+    security_goes : (s : ℕ) (v : SecurityRow) (a : Reception) (named : NamedSecurity) → security_at s t ≡ Some v → received_at xs s ≡ Some a
         → SecurityIs s a named (fate_of_security xs s) v
-        → (c.security_to s v).state ≡ cond (is_held v.state) (security_decided (Fail number) x (came xs) s) v.state
+        → (c.security_to s v).state ≡ cond (is_held v.state) (security_decided (Fail number) x (received_at xs) s) v.state
     security_goes s v a named at came_is is =
         settled_goes security.Forfeited v (has_number s e.security) ∙ sym (ap (λ b. cond (is_held v.state) (cond b security.Forfeited security.Held) v.state) carried)
       where
-        carried : is_award_security s (came xs) (award_at number t) ≡ has_number s e.security
-        carried = ap (is_award_security s (came xs)) found ∙ ap (carries s) stands.came_is ∙ ap (has_number s) (sym stands.stands.security_is)
+        carried : is_award_security s (received_at xs) (award_at number t) ≡ has_number s e.security
+        carried = ap (is_award_security s (received_at xs)) found ∙ ap (carries s) stands.came_is ∙ ap (has_number s) (sym stands.stands.security_is)
 
     failed_state : (r : ℕ) (d : EnvelopeRow) → (c.envelope_to r d).state ≡ d.state
     failed_state r d = cond_keeps (λ (e : EnvelopeRow). e.state) (eq_by_cmp nat_cmp r w.receipt) (passed_over d) d refl
@@ -117,9 +117,9 @@ module _ (readings : Readings) (number : ℕ) (xs : List Given) (t : Tables) (m 
           back
           (λ a. row_at-changed_put nat_cmp_total nat_cmp-IsAntisymmetric award_key failed_award t.awards number a w found (found_key keyed.awards t.awards number w found))
           (λ k. lots_put t.lots (w.notice, w.lot) k l undecided_again (λ s. lot.Undecided) (λ l. refl) (λ l. refl) lot_found)
-          (λ q. notices-same t.notices (released n) (notice_stands t w.notice n notice_found) q ∙ map_same ((seen t).notice_at q))
+          (λ q. notices-same t.notices (with_next_release n) (notice_stands t w.notice n notice_found) q ∙ map_same ((seen t).notice_at q))
 
-      failed_kept : IsKept readings (x ∷ xs) (after so)
+      failed_kept : FatesStand readings (x ∷ xs) (after so)
       failed_kept =
           kept_by_change readings xs x t (after so) c kept (fair_failing (seen t) kept.sound number w found active fits)
           (record {
@@ -149,12 +149,12 @@ module _ (readings : Readings) (number : ℕ) (xs : List Given) (t : Tables) (m 
     line_there : IsOnLine t.lines (undecided_again l)
     line_there = on_line readings xs t kept (w.notice, w.lot) l lot_found
 
-    by_security : (sec : Option ℕ) → e.security ≡ sec → IsKept readings (x ∷ xs) (after (option_and_then (λ n. security_at n t) sec))
+    by_security : (sec : Option ℕ) → e.security ≡ sec → FatesStand readings (x ∷ xs) (after (option_and_then (λ n. security_at n t) sec))
     by_security None none =
         failed_kept None (λ r. refl) (λ s. securities_left forfeited t.securities s ∙ ap (λ o. option_map (λ v. cond (has_number s o) (forfeited v) v) (security_at s t)) (sym none)) refl refl refl (tt, (line_there, (tt, (tt, (tt, tt)))))
     by_security (Some k) carried =
         let is = (kept.sound.envelopes w.receipt e fits.found).secured k carried in
-        subst (λ so. IsKept readings (x ∷ xs) (after so)) (sym is.found)
+        subst (λ so. FatesStand readings (x ∷ xs) (after so)) (sym is.found)
         (failed_kept (Some is.row) (λ r. refl)
         (λ s. securities_put forfeited t.securities k is.row is.found refl s ∙ ap (λ o. option_map (λ v. cond (has_number s o) (forfeited v) v) (security_at s t)) (sym carried))
         refl refl refl (tt, (line_there, (tt, (tt, (tt, (tt, tt)))))))
@@ -171,15 +171,15 @@ module _ (readings : Readings) (number : ℕ) (xs : List Given) (t : Tables) (m 
       (subst (λ o. P (Some n.0) o (envelope_at w.receipt t)) (sym l.1)
       (subst (λ o. P (Some n.0) (Some l.0) o) (sym fits.found) (f n.0 n.1 l.0 l.1)))
 
-  fail_kept : IsKept readings (x ∷ xs) (after_puts (fail_puts (record { award = Some w; notice = notice_at w.notice t; lot = (lot_at (w.notice, w.lot) t); envelope = envelope_at w.receipt t; security = (security_of_envelope (envelope_at w.receipt t) t); clock = t.clock }) T) t)
+  fail_kept : FatesStand readings (x ∷ xs) (after_puts (fail_puts (record { award = Some w; notice = notice_at w.notice t; lot = (lot_at (w.notice, w.lot) t); envelope = envelope_at w.receipt t; security = (security_of_envelope (envelope_at w.receipt t) t); clock = t.clock }) T) t)
   fail_kept =
-      rows_there (λ n l o. IsKept readings (x ∷ xs) (after_puts (fail_puts (record { award = Some w; notice = n; lot = l; envelope = o; security = security_of_envelope o t; clock = t.clock }) T) t))
+      rows_there (λ n l o. FatesStand readings (x ∷ xs) (after_puts (fail_puts (record { award = Some w; notice = n; lot = l; envelope = o; security = security_of_envelope o t; clock = t.clock }) T) t))
       (λ n n_is l l_is. by_security n n_is l l_is e.security refl)
 
-fail_by : (readings : Readings) (number : ℕ) (xs : List Given) (t : Tables) (m : ℕ) (caller : Caller) (kept : IsKept readings xs t) (o : Option AwardRow)
+fail_by : (readings : Readings) (number : ℕ) (xs : List Given) (t : Tables) (m : ℕ) (caller : Caller) (kept : FatesStand readings xs t) (o : Option AwardRow)
     → award_at number t ≡ o
     → first_of (fail_tests (record { award = o; notice = notice_of_award o t; lot = None; envelope = None; security = None; clock = t.clock }) (max m t.clock.moment)) ≡ None
-    → IsKept readings (given t m caller (Fail number) ∷ xs)
+    → FatesStand readings (given t m caller (Fail number) ∷ xs)
     (after_puts (fail_puts (record { award = o; notice = notice_of_award o t; lot = lot_of_award o t; envelope = envelope_of_award o t; security = (security_of_envelope (envelope_of_award o t) t); clock = t.clock }) (max m t.clock.moment)) t)
 fail_by readings number xs t m caller kept None found allowed =
     let passes : AllByRecursion (λ (test : Bool × Refusal). test.0 ≡ false) (fail_tests (record { award = None; notice = None; lot = None; envelope = None; security = None; clock = t.clock }) (max m t.clock.moment)) = none_holds (fail_tests (record { award = None; notice = None; lot = None; envelope = None; security = None; clock = t.clock }) (max m t.clock.moment)) allowed in

@@ -2,19 +2,19 @@
 use Rattle.std.proofs.Common.{◌≡◌, ℕ, ◌+◌, Bool, true, false, cond, ◌&&◌, List, ◌∷◌, ◌++◌, map, None, refl, sym, ap, subst, arith, length, nat_lt, not, Some, [], ◌≤◌, ◌-◌}
 use Rattle.std.specs.List.{AllByRecursion}
 use Rattle.office_values.specs.Ids.{same_id, id_cmp}
-use Rattle.office_acts.specs.declared.command.Caller.{Caller}
+use Rattle.office_commands.specs.declared.command.Caller.{Caller}
 use Rattle.office_values.specs.declared.refusal.Refusal.{Refusal}
 use Rattle.office_base.specs.Rules.{first_of}
 use Rattle.office_base.specs.declared.records.LineRow.{LineRow}
 use Rattle.office_base.specs.Tables.{Tables, IsSorted, after_puts, line_key, put_batch}
 use Rattle.office_machine.specs.Machine.{Given, time_of, command_tests, effect}
 use Rattle.office_machine.specs.Readings.{Readings}
-use Rattle.office_machine.specs.Moves.{Move, Outside, Free, Reserved, Contracted, Paid, moves, Pot, came, went, same_pot, move_of_row}
-use Rattle.office_acts.specs.declared.commands.Command.TheVariants as commands
-use Rattle.office_machine.proofs.Accounts.Kept.{IsKept, PotsAre}
+use Rattle.office_machine.specs.Moves.{Move, Outside, Free, Reserved, Contracted, Paid, moves, Pot, inflow, outflow, same_pot, move_of_row}
+use Rattle.office_commands.specs.declared.commands.Command.TheVariants as commands
+use Rattle.office_machine.proofs.Accounts.Kept.{AccountsStand, PotsAre}
 use Rattle.office_machine.proofs.Passed.{none_holds, neither, at_least}
 use Rattle.std.specs.Cmp.Lexicographic.{nat_list_cmp_total}
-use Rattle.office_acts.specs.declared.budget.BudgetRow.{BudgetRow}
+use Rattle.office_commands.specs.declared.budget.BudgetRow.{BudgetRow}
 use Rattle.office_base.specs.Sums.{sum_over}
 use Rattle.office_values.specs.Money.{total_limit}
 use Rattle.office_machine.specs.Accounts.{appropriation}
@@ -23,7 +23,7 @@ use Rattle.std.specs.Ordering.{eq_by_cmp}
 use Rattle.office_base.specs.declared.standing.Columns.{Columns}
 use Rattle.office_base.specs.declared.standing.Standing.{Standing}
 use Rattle.office_base.specs.Standings.{columns_at, standings}
-use Rattle.tender_core.specs.Rules.Import.{appropriation_of, free_of, columns_after, after_row, some_row, passes_limit, row_limit, is_cut, after_rows, line_row}
+use Rattle.tender_core.specs.Rules.Import.{appropriation_of, free_of, columns_after, after_row, any_while_walking, passes_limit, row_limit, is_cut, after_rows, imported_line}
 use Rattle.office_machine.proofs.Accounts.Balance.{add_up}
 use Rattle.office_machine.proofs.Commands.Import.Columns.{Changed, IsCovered, stands_after, columns_stand, adds, cuts, rows_change}
 use Rattle.office_machine.proofs.Rows.RowsPut.{lines_put, after_lines, there_after}
@@ -68,18 +68,18 @@ module _ (ms : List Move) (rows : List BudgetRow) (q : List ℕ) where
   moved f g same = omega (arith, sum_over-append_map f move_of_row rows ms, sum_over-ext (λ row. f (move_of_row row)) g rows same)
 
   into : (p : Pot) (g : BudgetRow → ℕ) → ((row : BudgetRow) → cond (same_pot (move_of_row row).to p && same_id row.line q) row.amount 0 ≡ g row)
-      → came (map move_of_row rows ++ ms) q p ≡ sum_over g rows + came ms q p
+      → inflow (map move_of_row rows ++ ms) q p ≡ sum_over g rows + inflow ms q p
   into p g same = moved (λ (m : Move). cond (same_pot m.to p && same_id m.line q) m.amount 0) g same
 
   out_of : (p : Pot) (g : BudgetRow → ℕ) → ((row : BudgetRow) → cond (same_pot (move_of_row row).from p && same_id row.line q) row.amount 0 ≡ g row)
-      → went (map move_of_row rows ++ ms) q p ≡ sum_over g rows + went ms q p
+      → outflow (map move_of_row rows ++ ms) q p ≡ sum_over g rows + outflow ms q p
   out_of p g same = moved (λ (m : Move). cond (same_pot m.from p && same_id m.line q) m.amount 0) g same
 
-  came_elsewhere : (p : Pot) → IsElsewhere p → came (map move_of_row rows ++ ms) q p ≡ came ms q p
+  came_elsewhere : (p : Pot) → IsElsewhere p → inflow (map move_of_row rows ++ ms) q p ≡ inflow ms q p
   came_elsewhere p h =
       omega (arith, into p (λ _. 0) (λ row. into_other p h (is_cut row.kind) (same_id row.line q) row.amount), sum_over-zero rows)
 
-  went_elsewhere : (p : Pot) → IsElsewhere p → went (map move_of_row rows ++ ms) q p ≡ went ms q p
+  went_elsewhere : (p : Pot) → IsElsewhere p → outflow (map move_of_row rows ++ ms) q p ≡ outflow ms q p
   went_elsewhere p h =
       omega (arith, out_of p (λ _. 0) (λ row. from_other p h (is_cut row.kind) (same_id row.line q) row.amount), sum_over-zero rows)
 
@@ -98,26 +98,26 @@ row_within m row within h q =
     by true g = let le = within row.line in omega (arith, le)
     by false g = at_least _ _ g
 
-rows_within : (m : List Standing) (rows : List BudgetRow) → ((p : List ℕ) → appropriation_of (columns_at m p) ≤ total_limit) → some_row passes_limit m rows ≡ false → (q : List ℕ) → appropriation_of (columns_at (after_rows m rows) q) ≤ total_limit
+rows_within : (m : List Standing) (rows : List BudgetRow) → ((p : List ℕ) → appropriation_of (columns_at m p) ≤ total_limit) → any_while_walking passes_limit m rows ≡ false → (q : List ℕ) → appropriation_of (columns_at (after_rows m rows) q) ≤ total_limit
 rows_within m [] within h q = within q
 rows_within m (row ∷ rows) within h q =
     let passes = neither _ _ h in
     rows_within (after_row m row) rows (row_within m row within passes.0) passes.1 q
 
 -- no more is free than was appropriated
-pub covered : (xs : List Given) (s : Tables) → IsKept xs s → IsSorted s → (q : List ℕ) → IsCovered (columns_at (standings s) q)
+pub covered : (xs : List Given) (s : Tables) → AccountsStand xs s → IsSorted s → (q : List ℕ) → IsCovered (columns_at (standings s) q)
 covered xs s kept order q =
     let stand = columns_stand s q in
     omega (arith, add_up xs s kept order q, stand.appropriation_is, stand.free_is)
 
-module _ (readings : Readings) (xs : List Given) (s : Tables) (moment : ℕ) (caller : Caller) (batch : List ℕ) (rows : List BudgetRow) (kept : IsKept xs s) (order : IsSorted s) where
+module _ (readings : Readings) (xs : List Given) (s : Tables) (moment : ℕ) (caller : Caller) (batch : List ℕ) (rows : List BudgetRow) (kept : AccountsStand xs s) (order : IsSorted s) where
   abbrev x : Given
   x = record { before = s; moment = moment; caller = caller; command = commands.Import batch rows }
 
   module _ (allowed : first_of (command_tests x) ≡ None) where
     -- the lines of the file's rows
     abbrev file_lines : List LineRow
-    file_lines = map (line_row (after_rows (standings s) rows)) rows
+    file_lines = map (imported_line (after_rows (standings s) rows)) rows
 
     -- the office after it, with its tables written out
     abbrev imported : Tables
@@ -128,7 +128,7 @@ module _ (readings : Readings) (xs : List Given) (s : Tables) (moment : ℕ) (ca
     }
 
     imported_is : after_puts (effect readings x) s ≡ imported
-    imported_is = after_lines (line_row (after_rows (standings s) rows)) rows _ s
+    imported_is = after_lines (imported_line (after_rows (standings s) rows)) rows _ s
 
     passes : AllByRecursion (λ (test : Bool × Refusal). test.0 ≡ false) (command_tests x)
     passes = none_holds (command_tests x) allowed
@@ -171,7 +171,7 @@ module _ (readings : Readings) (xs : List Given) (s : Tables) (moment : ℕ) (ca
           none_spent = omega (arith, old.none_spent, went_elsewhere ms rows q Paid (refl, refl));
         }
 
-    keeps : IsKept (x ∷ xs) imported
+    keeps : AccountsStand (x ∷ xs) imported
     keeps = record {
       pots = pots;
       lots = λ key lot found.
@@ -183,13 +183,13 @@ module _ (readings : Readings) (xs : List Given) (s : Tables) (moment : ℕ) (ca
       no_contract = λ c h. let old = kept.no_contract c h in record { came_in = omega (arith, old.came_in); went_out = omega (arith, old.went_out); raised = old.raised; lessened = old.lessened; paid_out = old.paid_out };
     }
 
-    pub import_keeps : IsKept (x ∷ xs) (after_puts (effect readings x) s)
-    import_keeps = subst (IsKept (x ∷ xs)) (sym imported_is) keeps
+    pub import_keeps : AccountsStand (x ∷ xs) (after_puts (effect readings x) s)
+    import_keeps = subst (AccountsStand (x ∷ xs)) (sym imported_is) keeps
 
     -- the appropriation of a line after it is within the bound, if all were before
     pub import_fits : ((p : List ℕ) → appropriation p s ≤ total_limit) → (q : List ℕ) → appropriation q (after_puts (effect readings x) s) ≤ total_limit
     import_fits fit q =
         let within : (p : List ℕ) → appropriation_of (columns_at (standings s) p) ≤ total_limit = λ p. let stand = columns_stand s p in omega (arith, fit p, stand.appropriation_is) in
-        let after : appropriation_of (columns_at (after_rows (standings s) rows) q) ≤ total_limit = rows_within (standings s) rows within (neither (nat_lt row_limit (length rows)) (some_row passes_limit (standings s) rows) passes.1.1.1.0).1 q in
+        let after : appropriation_of (columns_at (after_rows (standings s) rows) q) ≤ total_limit = rows_within (standings s) rows within (neither (nat_lt row_limit (length rows)) (any_while_walking passes_limit (standings s) rows) passes.1.1.1.0).1 q in
         let stand = stands_after s rows q in
         omega (arith, after, stand.appropriation_is, ap (appropriation q) imported_is)

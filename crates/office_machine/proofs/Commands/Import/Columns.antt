@@ -5,11 +5,11 @@ use Rattle.std.specs.List.{AllByRecursion}
 use Rattle.std.specs.Cmp.Lexicographic.{nat_list_cmp_total}
 use Rattle.std.specs.Ordering.{eq_by_cmp}
 use Rattle.office_values.specs.Ids.{id_cmp, same_id}
-use Rattle.office_acts.specs.declared.budget.BudgetRow.{BudgetRow}
+use Rattle.office_commands.specs.declared.budget.BudgetRow.{BudgetRow}
 use Rattle.office_base.specs.Sums.{sum_over}
 use Rattle.office_base.specs.Tables.{Tables, line_key, find_line, line_at}
 use Rattle.office_base.specs.Standings.{columns_at, columns_of_row, standings}
-use Rattle.tender_core.specs.Rules.Import.{is_cut, appropriation_of, free_of, columns_after, after_row, after_rows, some_row, cuts_too_much, line_row, cuts_below_zero}
+use Rattle.tender_core.specs.Rules.Import.{is_cut, appropriation_of, free_of, columns_after, after_row, after_rows, any_while_walking, cuts_too_much, imported_line, cuts_below_zero}
 use Rattle.office_base.specs.Joined.{appropriation_in, free_in}
 use Rattle.office_base.specs.declared.records.LineRow.{LineRow}
 use Rattle.office_base.specs.declared.standing.Columns.{Columns}
@@ -30,7 +30,7 @@ stands_itself None = record { appropriation_is = refl; free_is = refl }
 stands_itself (Some row) = record { appropriation_is = refl; free_is = refl }
 
 -- rows that don't name a line leave its columns
-unnamed : (after m : List Standing) (rows : List BudgetRow) (q : List ℕ) → some_has id_cmp line_key q (map (line_row after) rows) ≡ false
+unnamed : (after m : List Standing) (rows : List BudgetRow) (q : List ℕ) → some_has id_cmp line_key q (map (imported_line after) rows) ≡ false
     → columns_at (after_rows m rows) q ≡ columns_at m q
 unnamed after m [] q none = refl
 unnamed after m (row ∷ rows) q none =
@@ -39,19 +39,19 @@ unnamed after m (row ∷ rows) q none =
     ∙ (columns_at-after_row m row q ∙ ap (λ b. cond b (Some (columns_after (columns_at m row.line) row)) (columns_at m q)) apart.0)
 
 each_right : (after : List Standing) (rows : List BudgetRow) (q : List ℕ)
-    → AllByRecursion (λ (r : LineRow). eq_by_cmp id_cmp q r.line ≡ true → StandsAt (Some r) (columns_at after q)) (map (line_row after) rows)
+    → AllByRecursion (λ (r : LineRow). eq_by_cmp id_cmp q r.line ≡ true → StandsAt (Some r) (columns_at after q)) (map (imported_line after) rows)
 each_right after [] q = tt
 each_right after (row ∷ rows) q = (
-  λ e. subst (λ p. StandsAt (Some (line_row after row)) (columns_at after p)) (sym (equal_keys ids_exact q row.line e)) (record { appropriation_is = refl; free_is = refl }),
+  λ e. subst (λ p. StandsAt (Some (imported_line after row)) (columns_at after p)) (sym (equal_keys ids_exact q row.line e)) (record { appropriation_is = refl; free_is = refl }),
   each_right after rows q,
 )
 
 -- once its lines are put, each line has the columns that the file comes to
 pub stands_after : (t : Tables) (rows : List BudgetRow) (q : List ℕ)
-    → StandsAt (find_line (lines_put t.lines (map (line_row (after_rows (standings t) rows)) rows)) q) (columns_at (after_rows (standings t) rows) q)
+    → StandsAt (find_line (lines_put t.lines (map (imported_line (after_rows (standings t) rows)) rows)) q) (columns_at (after_rows (standings t) rows) q)
 stands_after t rows q =
     let after : List Standing = after_rows (standings t) rows in
-    found_after nat_list_cmp_total line_key (λ found. StandsAt found (columns_at after q)) q (map (line_row after) rows) t.lines (each_right after rows q)
+    found_after nat_list_cmp_total line_key (λ found. StandsAt found (columns_at after q)) q (map (imported_line after) rows) t.lines (each_right after rows q)
     (λ none. subst (StandsAt (line_at q t)) (sym (unnamed after (standings t) rows q none ∙ columns_at-standings t q)) (stands_itself (line_at q t)))
 
 -- what a row brings to a line, and cuts from it
@@ -111,7 +111,7 @@ row_changes : (m : List Standing) (row : BudgetRow) (q : List ℕ) → IsCovered
 row_changes m row q within h = row_step m row q within h (same_id row.line q) refl
 
 -- rows of which none cuts too much bring what they add and take what they cut
-pub rows_change : (m : List Standing) (rows : List BudgetRow) (q : List ℕ) → ((p : List ℕ) → IsCovered (columns_at m p)) → some_row cuts_too_much m rows ≡ false
+pub rows_change : (m : List Standing) (rows : List BudgetRow) (q : List ℕ) → ((p : List ℕ) → IsCovered (columns_at m p)) → any_while_walking cuts_too_much m rows ≡ false
     → Changed (columns_at m q) (columns_at (after_rows m rows) q) (sum_over (adds q) rows) (sum_over (cuts q) rows)
 rows_change m [] q covered h = same_columns (columns_at m q) (columns_at m q) refl
 rows_change m (row ∷ rows) q covered h =
@@ -131,7 +131,7 @@ below_by : (b : Bool) (a f n : ℕ) → f ≤ a → (b && nat_lt f n) ≡ false 
 below_by true a f n within h = let enough : n ≤ f = at_least f n h in not_less a n (omega (arith, within, enough))
 below_by false a f n within h = refl
 
-pub none_below : (m : List Standing) (rows : List BudgetRow) → ((p : List ℕ) → IsCovered (columns_at m p)) → some_row cuts_too_much m rows ≡ false → some_row cuts_below_zero m rows ≡ false
+pub none_below : (m : List Standing) (rows : List BudgetRow) → ((p : List ℕ) → IsCovered (columns_at m p)) → any_while_walking cuts_too_much m rows ≡ false → any_while_walking cuts_below_zero m rows ≡ false
 none_below m [] covered h = refl
 none_below m (row ∷ rows) covered h =
     let passes = neither _ _ h in

@@ -6,8 +6,8 @@ use Rattle.std.specs.Cmp.{nat_cmp_total}
 use Rattle.std.specs.FinMap.{nat_cmp-IsAntisymmetric}
 use Rattle.std.specs.Ordering.{nat_cmp, eq_by_cmp}
 use Rattle.office_base.specs.Tables.{same_number, Tables, envelope_key, seal_key, put_envelope, drop_seal, envelope_at, seal_at, security_at, notice_at, after_puts}
-use Rattle.office_acts.specs.declared.command.Caller.{Caller}
-use Rattle.office_acts.specs.declared.commands.Command.TheVariants.{Modify}
+use Rattle.office_commands.specs.declared.command.Caller.{Caller}
+use Rattle.office_commands.specs.declared.commands.Command.TheVariants.{Modify}
 use Rattle.office_values.specs.declared.refusal.Refusal.{Refusal}
 use Rattle.office_base.specs.declared.records.EnvelopeRow.{EnvelopeRow}
 use Rattle.office_base.specs.declared.records.SealRow.{SealRow}
@@ -20,7 +20,7 @@ use Rattle.office_base.specs.Parents.{notice_of_envelope}
 use Rattle.office_machine.specs.Machine.{Given}
 use Rattle.office_machine.specs.Readings.{Readings}
 use Rattle.office_machine.specs.Fates as fates
-use Rattle.office_machine.specs.Fates.{Reception, came, brought, tender_decided, fate_of_tender, is_kept, EnvelopeIs}
+use Rattle.office_machine.specs.Fates.{Reception, received_at, received_by, tender_decided, fate_of_tender, is_kept, EnvelopeIs}
 use Rattle.office_machine.proofs.Passed.{none_holds}
 use Rattle.office_base.proofs.RowLaws.{row_at-row_put}
 use Rattle.office_machine.proofs.Rows.RowsChanged.{row_at-changed_put}
@@ -31,13 +31,13 @@ use Rattle.office_machine.proofs.FateLaws.Added.{added, equal_numbers, sound_env
 use Rattle.office_machine.proofs.FateLaws.Matched.{EnvelopesMatch, EnvelopeStands, EnvelopeKeeps, named_in, same_itself, envelopes_received}
 use Rattle.office_machine.proofs.FateLaws.Steps.{cond_keeps, taking_back, fair_withdrawal}
 use Rattle.office_machine.proofs.FateLaws.Seen.{seen, alike, order-puts}
-use Rattle.office_machine.proofs.FateLaws.FatesHold.{IsKept, Keeps, given, fate_goes, still_sealed}
+use Rattle.office_machine.proofs.FateLaws.FatesHold.{FatesStand, Keeps, given, fate_goes, still_sealed}
 use Rattle.office_machine.proofs.FateLaws.FatesChanged.{is_sealed_state}
 use Rattle.office_machine.proofs.FateLaws.States.{map_same}
 use Rattle.office_machine.proofs.FateLaws.NextReceipt.{none_fate, came_other, came_here, no_envelope_yet, nothing_yet, securities_stay}
 use Rattle.office_machine.proofs.Rows.Keyed as keyed
 
-module _ (readings : Readings) (receipt : ℕ) (bytes : List ℕ) (xs : List Given) (t : Tables) (m : ℕ) (caller : Caller) (kept : IsKept readings xs t) where
+module _ (readings : Readings) (receipt : ℕ) (bytes : List ℕ) (xs : List Given) (t : Tables) (m : ℕ) (caller : Caller) (kept : FatesStand readings xs t) where
   abbrev T : ℕ
   T = max m t.clock.moment
 
@@ -51,7 +51,7 @@ module _ (readings : Readings) (receipt : ℕ) (bytes : List ℕ) (xs : List Giv
     abbrev fits : EnvelopeFits (seen t) e
     fits = kept.sound.envelopes receipt e found
 
-    abbrev stands : EnvelopeStands readings.digest receipt (came xs receipt) (fate_of_tender xs receipt) e (seal_at receipt t)
+    abbrev stands : EnvelopeStands readings.digest receipt (received_at xs receipt) (fate_of_tender xs receipt) e (seal_at receipt t)
     stands = kept.tenders.received receipt e found
 
     key_own : e.receipt ≡ receipt
@@ -151,14 +151,14 @@ module _ (readings : Readings) (receipt : ℕ) (bytes : List ℕ) (xs : List Giv
     none_cond true o e = refl
     none_cond false o e = e
 
-    came_new : came (x ∷ xs) k ≡ Some (fates.replacing x bytes stands.came)
+    came_new : received_at (x ∷ xs) k ≡ Some (fates.reception_replacing x bytes stands.came)
     came_new =
-        came_here (came xs k) (option_map (fates.replacing x bytes) (came xs receipt)) (same_number k k) (nothing_yet readings xs t kept).no_reception (same_itself k)
-        ∙ ap (option_map (fates.replacing x bytes)) stands.came_is
+        came_here (received_at xs k) (option_map (fates.reception_replacing x bytes) (received_at xs receipt)) (same_number k k) (nothing_yet readings xs t kept).no_reception (same_itself k)
+        ∙ ap (option_map (fates.reception_replacing x bytes)) stands.came_is
 
-    new_stands : EnvelopeStands readings.digest k (came (x ∷ xs) k) (fate_of_tender (x ∷ xs) k) new (seal_at k after)
+    new_stands : EnvelopeStands readings.digest k (received_at (x ∷ xs) k) (fate_of_tender (x ∷ xs) k) new (seal_at k after)
     new_stands = record {
-      came = fates.replacing x bytes stands.came;
+      came = fates.reception_replacing x bytes stands.came;
       came_is = came_new;
       stands = record {
         of_notice = stands.stands.of_notice;
@@ -169,48 +169,48 @@ module _ (readings : Readings) (receipt : ℕ) (bytes : List ℕ) (xs : List Giv
         length_is = refl;
         digest_is = refl;
         fate_is =
-            ap (λ o. fates.fate_after o (came (x ∷ xs) k) (tender_decided (Modify receipt bytes) x (came xs) k)) (nothing_yet readings xs t kept).no_fate
+            ap (λ o. fates.fate_after o (received_at (x ∷ xs) k) (tender_decided (Modify receipt bytes) x (received_at xs) k)) (nothing_yet readings xs t kept).no_fate
             ∙ ap (option_map fates.first_state) came_new;
         seal_is = seal_is k ∙ ap (λ b. cond b (Some new_seal) (cond (eq_by_cmp nat_cmp k receipt) None (seal_at k t))) (same_itself k);
       };
     }
 
-    tenders_after : EnvelopesMatch readings.digest (came (x ∷ xs)) (fate_of_tender (x ∷ xs)) (λ r. seal_at r after) k (added k new (λ r. option_map (f r) (envelope_at r t)))
+    tenders_after : EnvelopesMatch readings.digest (received_at (x ∷ xs)) (fate_of_tender (x ∷ xs)) (λ r. seal_at r after) k (added k new (λ r. option_map (f r) (envelope_at r t)))
     tenders_after =
-        envelopes_received readings.digest (came xs) (came (x ∷ xs)) (fate_of_tender xs) (fate_of_tender (x ∷ xs)) (λ r. seal_at r t) (λ r. seal_at r after) t.clock.receipts (λ r. envelope_at r t)
+        envelopes_received readings.digest (received_at xs) (received_at (x ∷ xs)) (fate_of_tender xs) (fate_of_tender (x ∷ xs)) (λ r. seal_at r t) (λ r. seal_at r after) t.clock.receipts (λ r. envelope_at r t)
         kept.tenders f f_keeps new
-        (λ r other. came_other (came xs r) (brought (Modify receipt bytes) x (λ q. came xs q)) (same_number r k) other)
+        (λ r other. came_other (received_at xs r) (received_by (Modify receipt bytes) x (λ q. received_at xs q)) (same_number r k) other)
         (λ r d other at a came_is is. record {
           fate_is =
-              fate_goes (fate_of_tender xs r) d.state (came (x ∷ xs) r) (tender_decided (Modify receipt bytes) x (came xs) r) is.fate_is
+              fate_goes (fate_of_tender xs r) d.state (received_at (x ∷ xs) r) (tender_decided (Modify receipt bytes) x (received_at xs) r) is.fate_is
               ∙ sym (ap Some (state_goes r d at));
           seal_is = other_seal r other ∙ seal_goes r d a is;
         })
         (λ r other at was.
-        let none = came_other (came xs r) (brought (Modify receipt bytes) x (λ q. came xs q)) (same_number r k) other ∙ was.no_reception in
+        let none = came_other (received_at xs r) (received_by (Modify receipt bytes) x (λ q. received_at xs q)) (same_number r k) other ∙ was.no_reception in
         record {
           no_reception = none;
-          no_fate = none_fate (fate_of_tender xs r) (came (x ∷ xs) r) (tender_decided (Modify receipt bytes) x (came xs) r) was.no_fate none;
+          no_fate = none_fate (fate_of_tender xs r) (received_at (x ∷ xs) r) (tender_decided (Modify receipt bytes) x (received_at xs) r) was.no_fate none;
           no_seal = other_seal r other ∙ none_cond (eq_by_cmp nat_cmp r receipt) (seal_at r t) was.no_seal;
         })
         new_stands
 
-    unnamed : (o : Option Reception) → named_in (option_map (fates.replacing x bytes) o) ≡ None
+    unnamed : (o : Option Reception) → named_in (option_map (fates.reception_replacing x bytes) o) ≡ None
     unnamed None = refl
     unnamed (Some a) = refl
 
-    modified_kept : IsKept readings (x ∷ xs) after
+    modified_kept : FatesStand readings (x ∷ xs) after
     modified_kept = record {
       sound = sound_after;
       tenders =
-          subst (EnvelopesMatch readings.digest (came (x ∷ xs)) (fate_of_tender (x ∷ xs)) (λ r. seal_at r after) k) (sym (λ i r. envelopes_are r i)) tenders_after;
-      named = securities_stay readings xs t kept x (unnamed (came xs receipt)) (λ s. refl);
+          subst (EnvelopesMatch readings.digest (received_at (x ∷ xs)) (fate_of_tender (x ∷ xs)) (λ r. seal_at r after) k) (sym (λ i r. envelopes_are r i)) tenders_after;
+      named = securities_stay readings xs t kept x (unnamed (received_at xs receipt)) (λ s. refl);
       lines = kept.lines;
       order = order-puts (modify_puts readings.digest (record { envelope = Some e; notice = None; clock = t.clock }) T bytes) t kept.order;
     }
 
   by_envelope : (o : Option EnvelopeRow) → envelope_at receipt t ≡ o → first_of (modify_tests (record { envelope = o; notice = notice_of_envelope o t; clock = t.clock }) T caller) ≡ None
-      → IsKept readings (x ∷ xs) (after_puts (modify_puts readings.digest (record { envelope = o; notice = None; clock = t.clock }) T bytes) t)
+      → FatesStand readings (x ∷ xs) (after_puts (modify_puts readings.digest (record { envelope = o; notice = None; clock = t.clock }) T bytes) t)
   by_envelope None found allowed =
       let passes : AllByRecursion (λ (test : Bool × Refusal). test.0 ≡ false) (modify_tests (record { envelope = None; notice = None; clock = t.clock }) T caller) = none_holds (modify_tests (record { envelope = None; notice = None; clock = t.clock }) T caller) allowed in
       let no : true ≡ false = passes.0 in cc

@@ -7,15 +7,15 @@ use Rattle.std.specs.FinMap.{nat_cmp-IsAntisymmetric}
 use Rattle.std.specs.Ordering.{nat_cmp, eq_by_cmp}
 use Rattle.office_values.specs.Ids.{same_id, id_cmp}
 use Rattle.office_values.specs.declared.refusal.Refusal.{Refusal}
-use Rattle.office_acts.specs.declared.command.Caller.{Caller}
-use Rattle.office_acts.specs.declared.commands.Command.TheVariants.{Open}
+use Rattle.office_commands.specs.declared.command.Caller.{Caller}
+use Rattle.office_commands.specs.declared.commands.Command.TheVariants.{Open}
 use Rattle.office_base.specs.declared.records.NoticeRow.{NoticeRow}
 use Rattle.office_base.specs.declared.records.EnvelopeRow.{EnvelopeRow}
 use Rattle.office_base.specs.declared.records.EnvelopeState.{EnvelopeState}
 use Rattle.office_base.specs.declared.records.NoticeState.{NoticeState}
 use Rattle.office_base.specs.States.{is_sealed}
 use Rattle.office_base.specs.Rules.{first_of}
-use Rattle.office_base.specs.RuleParts.{clock_put}
+use Rattle.office_base.specs.Transitions.{clock_put}
 use Rattle.office_base.specs.Tables.{Tables, envelope_key, envelope_at, notice_at, envelopes_of_notice, after_puts}
 use Rattle.office_base.specs.declared.records.EnvelopeState.TheVariants as envelope
 use Rattle.office_base.specs.declared.records.NoticeState.TheVariants as notice
@@ -31,11 +31,11 @@ use Rattle.office_base.proofs.RowLaws.Filters.{filter_filter}
 use Rattle.office_machine.proofs.FateLaws.Views.{Change, after_change}
 use Rattle.office_machine.proofs.FateLaws.Steps.{choose, cond_keeps, both_true, opening, fair_opening}
 use Rattle.office_machine.proofs.FateLaws.Seen.{seen, alike, order-puts, after-append, after_envelopes}
-use Rattle.office_machine.proofs.FateLaws.FatesHold.{IsKept, Keeps, given, still_held, securities_keep}
+use Rattle.office_machine.proofs.FateLaws.FatesHold.{FatesStand, Keeps, given, still_held, securities_keep}
 use Rattle.office_machine.proofs.FateLaws.FatesChanged.{kept_by_change}
 use Rattle.office_machine.proofs.FateLaws.States.{map_same, notices_put, same_id_key, sealed_state, map_map}
 
-module _ (readings : Readings) (name : List ℕ) (xs : List Given) (t : Tables) (m : ℕ) (caller : Caller) (kept : IsKept readings xs t) where
+module _ (readings : Readings) (name : List ℕ) (xs : List Given) (t : Tables) (m : ℕ) (caller : Caller) (kept : FatesStand readings xs t) where
   abbrev T : ℕ
   T = max m t.clock.moment
 
@@ -113,7 +113,7 @@ module _ (readings : Readings) (name : List ℕ) (xs : List Given) (t : Tables) 
     kept_by envelope.Returned b = refl
     kept_by envelope.Opened b = refl
 
-    opened_kept : IsKept readings (x ∷ xs) after
+    opened_kept : FatesStand readings (x ∷ xs) after
     opened_kept =
         kept_by_change readings xs x t after c kept
         (fair_opening (seen t) name test (λ r e. open_row e) notice_to sealed_test all_test (λ r e. refl) (λ r e. refl) (λ r e. refl) (λ r e. refl) receive)
@@ -145,11 +145,11 @@ module _ (readings : Readings) (name : List ℕ) (xs : List Given) (t : Tables) 
         (subst (λ (u : Tables). Rattle.office_machine.proofs.FateLaws.Seen.AreInOrder u) (after_envelopes open_row (filter test t.envelopes) t) (order-puts (map (λ e. puts.Envelope (open_row e)) (filter test t.envelopes)) t kept.order)))
 
   by_notice : (o : Option NoticeRow) → notice_at name t ≡ o → first_of (open_tests (record { notice = o; clock = t.clock }) T) ≡ None
-      → IsKept readings (x ∷ xs) (after_puts (open_puts readings.read (record { notice = o; clock = t.clock }) T (sealed_tenders name t)) t)
+      → FatesStand readings (x ∷ xs) (after_puts (open_puts readings.read (record { notice = o; clock = t.clock }) T (sealed_tenders name t)) t)
   by_notice None found allowed =
       let passes : AllByRecursion (λ (test : Bool × Refusal). test.0 ≡ false) (open_tests (record { notice = None; clock = t.clock }) T) = none_holds (open_tests (record { notice = None; clock = t.clock }) T) allowed in
       let no : true ≡ false = passes.0 in cc
-  by_notice (Some n) found allowed = subst (IsKept readings (x ∷ xs)) (sym (after_is n found)) (opened_kept n found)
+  by_notice (Some n) found allowed = subst (FatesStand readings (x ∷ xs)) (sym (after_is n found)) (opened_kept n found)
 
 pub open_keeps : (readings : Readings) (notice : List ℕ) → Keeps readings (Open notice)
 open_keeps readings notice xs t m caller kept _ allowed = by_notice readings notice xs t m caller kept (notice_at notice t) refl allowed

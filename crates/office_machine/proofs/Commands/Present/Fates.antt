@@ -5,9 +5,9 @@ use Rattle.std.specs.List.{AllByRecursion}
 use Rattle.std.specs.Cmp.{nat_cmp_total}
 use Rattle.std.specs.Ordering.{nat_cmp, eq_by_cmp}
 use Rattle.office_base.specs.Tables.{same_number, Tables, envelope_key, seal_key, security_key, envelope_at, seal_at, security_at, notice_at, lot_at, envelopes_of_lot, after_puts}
-use Rattle.office_acts.specs.declared.command.Caller.{Caller}
-use Rattle.office_acts.specs.declared.tender.NamedSecurity.{NamedSecurity}
-use Rattle.office_acts.specs.declared.commands.Command.TheVariants.{Present}
+use Rattle.office_commands.specs.declared.command.Caller.{Caller}
+use Rattle.office_commands.specs.declared.tender.NamedSecurity.{NamedSecurity}
+use Rattle.office_commands.specs.declared.commands.Command.TheVariants.{Present}
 use Rattle.office_values.specs.declared.refusal.Refusal.{Refusal}
 use Rattle.office_base.specs.Rows.{holds_of}
 use Rattle.office_base.specs.declared.records.NoticeRow.{NoticeRow}
@@ -21,11 +21,11 @@ use Rattle.office_base.specs.declared.records.LotState.TheVariants as lot
 use Rattle.office_base.specs.declared.records.LotState.{LotState}
 use Rattle.office_base.specs.declared.puts.Put.{Put}
 use Rattle.office_base.specs.States.{is_cancelled, is_opened}
-use Rattle.office_base.specs.RuleParts.{is_in_time}
+use Rattle.office_base.specs.Transitions.{is_in_time}
 use Rattle.tender_core.specs.Rules.Present.{received, security_row, received_puts, present_tests}
 use Rattle.office_machine.specs.Machine.{Given}
 use Rattle.office_machine.specs.Readings.{Readings}
-use Rattle.office_machine.specs.Fates.{presented, came, brought, tender_decided, fate_after, fate_of_tender, first_state, security_received, security_decided, security_after, fate_of_security, is_kept}
+use Rattle.office_machine.specs.Fates.{presented, received_at, received_by, tender_decided, fate_after, fate_of_tender, first_state, security_received, security_decided, security_after, fate_of_security, is_kept}
 use Rattle.office_machine.proofs.Rows.Counting.{is_live}
 use Rattle.office_machine.proofs.Passed.{none_holds, not_false}
 use Rattle.office_base.proofs.RowLaws.{row_at-row_put}
@@ -34,7 +34,7 @@ use Rattle.office_machine.proofs.FateLaws.Added.{added, sound_envelope, sound_se
 use Rattle.office_machine.proofs.FateLaws.Matched.{EnvelopesMatch, EnvelopeStands, SecuritiesMatch, SecurityStands, named_in, same_itself, envelopes_received, securities_added}
 use Rattle.office_machine.proofs.FateLaws.Steps.{both_true}
 use Rattle.office_machine.proofs.FateLaws.Seen.{seen, alike, lot_state, notice_state, order-puts}
-use Rattle.office_machine.proofs.FateLaws.FatesHold.{IsKept, Keeps, given, fate_goes, security_goes, still_sealed, still_held, all_keep}
+use Rattle.office_machine.proofs.FateLaws.FatesHold.{FatesStand, Keeps, given, fate_goes, security_goes, still_sealed, still_held, all_keep}
 use Rattle.office_machine.proofs.FateLaws.States.{map_same, receiving_state}
 use Rattle.office_machine.proofs.FateLaws.NextReceipt.{none_fate, none_security, came_other, came_here, no_envelope_yet, nothing_yet, no_security_yet, securities_stay}
 
@@ -58,7 +58,7 @@ in_time_receiving t (Some n) unended in_time =
     negated false h = refl
 
 module _ (readings : Readings) (name lot_name : List ℕ) (bytes : List ℕ) (xs : List Given) (t : Tables) (m : ℕ) (caller : Caller)
-    (kept : IsKept readings xs t) (sec : Option NamedSecurity)
+    (kept : FatesStand readings xs t) (sec : Option NamedSecurity)
     (b : Bool) (b_is : holds_of (is_in_time (max m t.clock.moment)) (notice_at name t) ≡ b)
     (notice_there : is_some (notice_at name t) ≡ true) (lot_there : is_some (lot_at (name, lot_name) t) ≡ true)
     (unended : holds_of (λ (n : NoticeRow). is_cancelled n.state) (notice_at name t) ≡ false) where
@@ -120,9 +120,9 @@ module _ (readings : Readings) (name lot_name : List ℕ) (bytes : List ℕ) (xs
   abbrev new_seal : SealRow
   new_seal = record { receipt = k; bytes = bytes }
 
-  came_new : came (x ∷ xs) k ≡ Some (presented x name lot_name sec bytes)
+  came_new : received_at (x ∷ xs) k ≡ Some (presented x name lot_name sec bytes)
   came_new =
-      came_here (came xs k) (Some (presented x name lot_name sec bytes)) (same_number k k) (nothing_yet readings xs t kept).no_reception (same_itself k)
+      came_here (received_at xs k) (Some (presented x name lot_name sec bytes)) (same_number k k) (nothing_yet readings xs t kept).no_reception (same_itself k)
 
   -- the tables afterwards
   module _ (u : Tables) (envelopes_are : (r : ℕ) → envelope_at r u ≡ added k new (λ r. envelope_at r t) r)
@@ -145,7 +145,7 @@ module _ (readings : Readings) (name lot_name : List ℕ) (bytes : List ℕ) (xs
         by true = refl
         by false = refl
 
-    new_stands : EnvelopeStands readings.digest k (came (x ∷ xs) k) (fate_of_tender (x ∷ xs) k) new (seal_at k u)
+    new_stands : EnvelopeStands readings.digest k (received_at (x ∷ xs) k) (fate_of_tender (x ∷ xs) k) new (seal_at k u)
     new_stands = record {
       came = presented x name lot_name sec bytes;
       came_is = came_new;
@@ -158,30 +158,30 @@ module _ (readings : Readings) (name lot_name : List ℕ) (bytes : List ℕ) (xs
         length_is = refl;
         digest_is = refl;
         fate_is =
-            ap (λ o. fate_after o (came (x ∷ xs) k) (tender_decided (Present name lot_name sec bytes) x (came xs) k)) (nothing_yet readings xs t kept).no_fate
+            ap (λ o. fate_after o (received_at (x ∷ xs) k) (tender_decided (Present name lot_name sec bytes) x (received_at xs) k)) (nothing_yet readings xs t kept).no_fate
             ∙ ap (option_map first_state) came_new
             ∙ ap (λ b. Some (cond b envelope.Sealed envelope.Returned)) b_is;
         seal_is = here_seal;
       };
     }
 
-    tenders_after : EnvelopesMatch readings.digest (came (x ∷ xs)) (fate_of_tender (x ∷ xs)) (λ r. seal_at r u) k (added k new (λ r. option_map (λ e. e) (envelope_at r t)))
+    tenders_after : EnvelopesMatch readings.digest (received_at (x ∷ xs)) (fate_of_tender (x ∷ xs)) (λ r. seal_at r u) k (added k new (λ r. option_map (λ e. e) (envelope_at r t)))
     tenders_after =
-        envelopes_received readings.digest (came xs) (came (x ∷ xs)) (fate_of_tender xs) (fate_of_tender (x ∷ xs)) (λ r. seal_at r t) (λ r. seal_at r u) t.clock.receipts (λ r. envelope_at r t)
+        envelopes_received readings.digest (received_at xs) (received_at (x ∷ xs)) (fate_of_tender xs) (fate_of_tender (x ∷ xs)) (λ r. seal_at r t) (λ r. seal_at r u) t.clock.receipts (λ r. envelope_at r t)
         kept.tenders (λ r e. e) (all_keep readings.digest) new
-        (λ r other. came_other (came xs r) (brought (Present name lot_name sec bytes) x (λ q. came xs q)) (same_number r k) other)
+        (λ r other. came_other (received_at xs r) (received_by (Present name lot_name sec bytes) x (λ q. received_at xs q)) (same_number r k) other)
         (λ r d other at a came_is is. record {
           fate_is =
-              fate_goes (fate_of_tender xs r) d.state (came (x ∷ xs) r) (tender_decided (Present name lot_name sec bytes) x (came xs) r) is.fate_is
+              fate_goes (fate_of_tender xs r) d.state (received_at (x ∷ xs) r) (tender_decided (Present name lot_name sec bytes) x (received_at xs) r) is.fate_is
               ∙ sym (ap Some (still_sealed d.state));
           seal_is = other_seal r other ∙ is.seal_is;
         })
         (λ r other at was.
-        let none = came_other (came xs r) (brought (Present name lot_name sec bytes) x (λ q. came xs q)) (same_number r k) other ∙ was.no_reception in
+        let none = came_other (received_at xs r) (received_by (Present name lot_name sec bytes) x (λ q. received_at xs q)) (same_number r k) other ∙ was.no_reception in
         record {
           no_reception = none;
           no_fate =
-              none_fate (fate_of_tender xs r) (came (x ∷ xs) r) (tender_decided (Present name lot_name sec bytes) x (came xs) r) was.no_fate none;
+              none_fate (fate_of_tender xs r) (received_at (x ∷ xs) r) (tender_decided (Present name lot_name sec bytes) x (received_at xs) r) was.no_fate none;
           no_seal = other_seal r other ∙ was.no_seal;
         })
         new_stands
@@ -189,12 +189,12 @@ module _ (readings : Readings) (name lot_name : List ℕ) (bytes : List ℕ) (xs
     envelopes_same : (r : ℕ) → added k new (λ r. option_map (λ e. e) (envelope_at r t)) r ≡ envelope_at r u
     envelopes_same r = ap (cond (eq_by_cmp nat_cmp r k) (Some new)) (sym (map_same (envelope_at r t))) ∙ sym (envelopes_are r)
 
-    pub tenders_are : EnvelopesMatch readings.digest (came (x ∷ xs)) (fate_of_tender (x ∷ xs)) (λ r. seal_at r u) k (λ r. envelope_at r u)
+    pub tenders_are : EnvelopesMatch readings.digest (received_at (x ∷ xs)) (fate_of_tender (x ∷ xs)) (λ r. seal_at r u) k (λ r. envelope_at r u)
     tenders_are =
-        subst (EnvelopesMatch readings.digest (came (x ∷ xs)) (fate_of_tender (x ∷ xs)) (λ r. seal_at r u) k) (λ i r. envelopes_same r i) tenders_after
+        subst (EnvelopesMatch readings.digest (received_at (x ∷ xs)) (fate_of_tender (x ∷ xs)) (λ r. seal_at r u) k) (λ i r. envelopes_same r i) tenders_after
 
 -- with no security, and with one
-module _ (readings : Readings) (name lot_name : List ℕ) (bytes : List ℕ) (xs : List Given) (t : Tables) (m : ℕ) (caller : Caller) (kept : IsKept readings xs t)
+module _ (readings : Readings) (name lot_name : List ℕ) (bytes : List ℕ) (xs : List Given) (t : Tables) (m : ℕ) (caller : Caller) (kept : FatesStand readings xs t)
     (notice_there : is_some (notice_at name t) ≡ true) (lot_there : is_some (lot_at (name, lot_name) t) ≡ true)
     (unended : holds_of (λ (n : NoticeRow). is_cancelled n.state) (notice_at name t) ≡ false) where
   abbrev given_present : Option NamedSecurity → Given
@@ -230,23 +230,23 @@ module _ (readings : Readings) (name lot_name : List ℕ) (bytes : List ℕ) (xs
     no_number : {A : Type 0} (s : ℕ) → (let o : Option ℕ = None in o) ≡ Some s → A
     no_number s h = absurd (let no : (let o : Option ℕ = None in o) ≡ Some s = h in cc)
 
-    unnamed_kept : IsKept readings (given_present None ∷ xs) u
+    unnamed_kept : FatesStand readings (given_present None ∷ xs) u
     unnamed_kept = record {
       sound =
           subst IsSound (ap (λ (E : ℕ → Option EnvelopeRow). record (seen t) { envelope_at = E }) (sym (λ i r. envelopes_are r i)) ∙ sym rest)
           (sound_new readings name lot_name bytes xs t m caller kept None b b_is notice_there lot_there unended (λ s. security_at s t) kept.sound (λ s h. no_number s h));
       tenders =
-          subst (λ (n : ℕ). EnvelopesMatch readings.digest (came (given_present None ∷ xs)) (fate_of_tender (given_present None ∷ xs)) (λ r. seal_at r u) n (λ r. envelope_at r u)) (sym receipts_are)
+          subst (λ (n : ℕ). EnvelopesMatch readings.digest (received_at (given_present None ∷ xs)) (fate_of_tender (given_present None ∷ xs)) (λ r. seal_at r u) n (λ r. envelope_at r u)) (sym receipts_are)
           (tenders_are readings name lot_name bytes xs t m caller kept None b b_is notice_there lot_there unended u envelopes_are seals_are);
       named =
-          subst (λ (rows : List SecurityRow). SecuritiesMatch (came (given_present None ∷ xs)) (fate_of_security (given_present None ∷ xs)) (λ s. Rattle.office_base.specs.Tables.find_security rows s)) (sym securities_same)
+          subst (λ (rows : List SecurityRow). SecuritiesMatch (received_at (given_present None ∷ xs)) (fate_of_security (given_present None ∷ xs)) (λ s. Rattle.office_base.specs.Tables.find_security rows s)) (sym securities_same)
           (securities_stay readings xs t kept (given_present None) refl (λ s. refl));
       lines = lines;
       order = order;
     }
 
   unnamed : (b : Bool) → holds_of (is_in_time (max m t.clock.moment)) (notice_at name t) ≡ b
-      → IsKept readings (given_present None ∷ xs) (after_puts (ps None b) t)
+      → FatesStand readings (given_present None ∷ xs) (after_puts (ps None b) t)
   unnamed true b_is =
       unnamed_kept true b_is (after_puts (ps None true) t) (envelopes_put None true) seals_put refl refl refl kept.lines (order-puts (ps None true) t kept.order)
   unnamed false b_is =
@@ -286,10 +286,10 @@ module _ (readings : Readings) (name lot_name : List ℕ) (bytes : List ℕ) (xs
       of_lot = refl;
     }
 
-    came_is : came (given_present (Some named) ∷ xs) next ≡ Some (presented (given_present (Some named)) name lot_name (Some named) bytes)
+    came_is : received_at (given_present (Some named) ∷ xs) next ≡ Some (presented (given_present (Some named)) name lot_name (Some named) bytes)
     came_is = came_new readings name lot_name bytes xs t m caller kept (Some named) b b_is notice_there lot_there unended
 
-    security_stands : SecurityStands next (came (given_present (Some named) ∷ xs) next) (fate_of_security (given_present (Some named) ∷ xs) next) w
+    security_stands : SecurityStands next (received_at (given_present (Some named) ∷ xs) next) (fate_of_security (given_present (Some named) ∷ xs) next) w
     security_stands = record {
       came_with = presented (given_present (Some named)) name lot_name (Some named) bytes;
       came_is = came_is;
@@ -303,28 +303,28 @@ module _ (readings : Readings) (name lot_name : List ℕ) (bytes : List ℕ) (xs
         reference_is = refl;
         amount_is = refl;
         fate_is =
-            ap (λ o. security_after o (came (given_present (Some named) ∷ xs) next) (security_decided (Present name lot_name (Some named) bytes) (given_present (Some named)) (came xs) next))
+            ap (λ o. security_after o (received_at (given_present (Some named) ∷ xs) next) (security_decided (Present name lot_name (Some named) bytes) (given_present (Some named)) (received_at xs) next))
             (nothing_named (kept.named.none next (no_security_yet readings xs t kept)))
             ∙ ap security_received came_is
             ∙ ap (λ b. Some (cond b security.Held security.Returned)) b_is;
       };
     } where
-      nothing_named : Rattle.office_machine.proofs.FateLaws.Matched.NoSecurity (came xs next) (fate_of_security xs next) → fate_of_security xs next ≡ None
+      nothing_named : Rattle.office_machine.proofs.FateLaws.Matched.NoSecurity (received_at xs next) (fate_of_security xs next) → fate_of_security xs next ≡ None
       nothing_named was = was.no_fate
 
-    securities_after : SecuritiesMatch (came (given_present (Some named) ∷ xs)) (fate_of_security (given_present (Some named) ∷ xs)) S
+    securities_after : SecuritiesMatch (received_at (given_present (Some named) ∷ xs)) (fate_of_security (given_present (Some named) ∷ xs)) S
     securities_after =
-        securities_added (came xs) (came (given_present (Some named) ∷ xs)) (fate_of_security xs) (fate_of_security (given_present (Some named) ∷ xs)) (λ s. security_at s t) kept.named next w
-        (λ s other. came_other (came xs s) (Some (presented (given_present (Some named)) name lot_name (Some named) bytes)) (same_number s next) other)
+        securities_added (received_at xs) (received_at (given_present (Some named) ∷ xs)) (fate_of_security xs) (fate_of_security (given_present (Some named) ∷ xs)) (λ s. security_at s t) kept.named next w
+        (λ s other. came_other (received_at xs s) (Some (presented (given_present (Some named)) name lot_name (Some named) bytes)) (same_number s next) other)
         (λ s v other found fate_is.
-        security_goes (fate_of_security xs s) v.state (came (given_present (Some named) ∷ xs) s) security.Held fate_is ∙ ap Some (sym (still_held v.state)))
+        security_goes (fate_of_security xs s) v.state (received_at (given_present (Some named) ∷ xs) s) security.Held fate_is ∙ ap Some (sym (still_held v.state)))
         (λ s other found was.
-        let same = came_other (came xs s) (Some (presented (given_present (Some named)) name lot_name (Some named) bytes)) (same_number s next) other in
+        let same = came_other (received_at xs s) (Some (presented (given_present (Some named)) name lot_name (Some named) bytes)) (same_number s next) other in
         let none = ap named_in same ∙ was.none_named in
-        record { none_named = none; no_fate = none_security (fate_of_security xs s) (came (given_present (Some named) ∷ xs) s) security.Held was.no_fate none })
+        record { none_named = none; no_fate = none_security (fate_of_security xs s) (received_at (given_present (Some named) ∷ xs) s) security.Held was.no_fate none })
         security_stands
 
-    named_kept : IsKept readings (given_present (Some named) ∷ xs) u
+    named_kept : FatesStand readings (given_present (Some named) ∷ xs) u
     named_kept = record {
       sound =
           subst IsSound
@@ -333,10 +333,10 @@ module _ (readings : Readings) (name lot_name : List ℕ) (bytes : List ℕ) (xs
           ∙ sym rest)
           (sound_new readings name lot_name bytes xs t m caller kept (Some named) b b_is notice_there lot_there unended S sound_N secured);
       tenders =
-          subst (λ (n : ℕ). EnvelopesMatch readings.digest (came (given_present (Some named) ∷ xs)) (fate_of_tender (given_present (Some named) ∷ xs)) (λ r. seal_at r u) n (λ r. envelope_at r u)) (sym receipts_are)
+          subst (λ (n : ℕ). EnvelopesMatch readings.digest (received_at (given_present (Some named) ∷ xs)) (fate_of_tender (given_present (Some named) ∷ xs)) (λ r. seal_at r u) n (λ r. envelope_at r u)) (sym receipts_are)
           (tenders_are readings name lot_name bytes xs t m caller kept (Some named) b b_is notice_there lot_there unended u envelopes_are seals_are);
       named =
-          subst (SecuritiesMatch (came (given_present (Some named) ∷ xs)) (fate_of_security (given_present (Some named) ∷ xs))) (sym (λ i s. securities_are s i)) securities_after;
+          subst (SecuritiesMatch (received_at (given_present (Some named) ∷ xs)) (fate_of_security (given_present (Some named) ∷ xs))) (sym (λ i s. securities_are s i)) securities_after;
       lines = lines;
       order = order;
     }
@@ -347,14 +347,14 @@ module _ (readings : Readings) (name lot_name : List ℕ) (bytes : List ℕ) (xs
   securities_put named b s = row_at-row_put nat_cmp_total security_key t.securities (security_row t.clock caller name lot_name b named) s
 
   with_security : (named : NamedSecurity) (b : Bool) → holds_of (is_in_time (max m t.clock.moment)) (notice_at name t) ≡ b
-      → IsKept readings (given_present (Some named) ∷ xs) (after_puts (ps (Some named) b) t)
+      → FatesStand readings (given_present (Some named) ∷ xs) (after_puts (ps (Some named) b) t)
   with_security named true b_is =
       named_kept named true b_is (after_puts (ps (Some named) true) t) (envelopes_put (Some named) true) seals_put (securities_put named true) refl refl kept.lines (order-puts (ps (Some named) true) t kept.order)
   with_security named false b_is =
       named_kept named false b_is (after_puts (ps (Some named) false) t) (envelopes_put (Some named) false) (λ r. refl) (securities_put named false) refl refl kept.lines (order-puts (ps (Some named) false) t kept.order)
 
   presented_kept : (sec : Option NamedSecurity) (b : Bool) → holds_of (is_in_time (max m t.clock.moment)) (notice_at name t) ≡ b
-      → IsKept readings (given_present sec ∷ xs) (after_puts (ps sec b) t)
+      → FatesStand readings (given_present sec ∷ xs) (after_puts (ps sec b) t)
   presented_kept None b b_is = unnamed b b_is
   presented_kept (Some named) b b_is = with_security named b b_is
 

@@ -4,10 +4,10 @@ use Rattle.std.specs.Prelude.{IsSome}
 use Rattle.std.specs.List.{AllByRecursion, list_any}
 use Rattle.std.specs.Ordering.{eq_by_cmp}
 use Rattle.office_values.specs.Ids.{same_id}
-use Rattle.office_acts.specs.declared.command.Caller.{Caller}
+use Rattle.office_commands.specs.declared.command.Caller.{Caller}
 use Rattle.office_values.specs.declared.refusal.Refusal.{Refusal}
-use Rattle.office_acts.specs.declared.notice.LateWithdrawal.{LateWithdrawal}
-use Rattle.office_acts.specs.declared.notice.LateWithdrawal.TheVariants.{Refused, Forfeits}
+use Rattle.office_commands.specs.declared.notice.LateWithdrawal.{LateWithdrawal}
+use Rattle.office_commands.specs.declared.notice.LateWithdrawal.TheVariants.{Refused, Forfeits}
 use Rattle.office_machine.proofs.Accounts.Aside.{AreAside, kept_aside, after-append}
 use Rattle.office_base.specs.Rules.{first_of}
 use Rattle.office_base.specs.declared.records.LineRow.{LineRow}
@@ -17,22 +17,22 @@ use Rattle.office_base.specs.Tables.{Tables, IsSorted, notice_at, find_line, fin
 use Rattle.office_base.specs.Joined.{plus, minus, paid_under}
 use Rattle.office_machine.specs.Machine.{Given, time_of, command_tests, effect}
 use Rattle.office_machine.specs.Readings.{Readings}
-use Rattle.office_machine.specs.Moves.{Move, Outside, Free, Reserved, Contracted, Paid, moves, held_for, Pot, came, went, same_pot, move_of_lot, estimate_in}
-use Rattle.office_acts.specs.declared.commands.Command.TheVariants as commands
+use Rattle.office_machine.specs.Moves.{Move, Outside, Free, Reserved, Contracted, Paid, moves, reserved_for, Pot, inflow, outflow, same_pot, move_of_lot, estimate_in}
+use Rattle.office_commands.specs.declared.commands.Command.TheVariants as commands
 use Rattle.office_base.specs.declared.puts.Put.TheVariants as puts
 use Rattle.office_base.proofs.ExactKeys.{equal_keys, lots_exact, equal_ids, same_itself}
 use Rattle.office_machine.proofs.Rows.Keyed.{found, found_put, still_there, sum-found_agree}
 use Rattle.office_machine.proofs.Rows.Keyed as keyed
-use Rattle.office_machine.proofs.Accounts.Kept.{IsKept, PotsAre, LotIs, over_contracts}
+use Rattle.office_machine.proofs.Accounts.Kept.{AccountsStand, PotsAre, LotIs, over_contracts}
 use Rattle.office_machine.proofs.Passed.{none_holds, neither, not_false, witness}
 use Rattle.std.specs.Cmp.Lexicographic.{nat_list_cmp_total}
-use Rattle.office_acts.specs.Identified.{repeats_id}
-use Rattle.office_acts.specs.declared.lot.NewLot.{NewLot}
-use Rattle.office_acts.specs.declared.notice.NewNotice.{NewNotice}
-use Rattle.office_acts.specs.Lots.{lot_id}
+use Rattle.office_commands.specs.Identified.{repeats_id}
+use Rattle.office_commands.specs.declared.lot.NewLot.{NewLot}
+use Rattle.office_commands.specs.declared.notice.NewNotice.{NewNotice}
+use Rattle.office_commands.specs.Lots.{lot_id}
 use Rattle.office_base.specs.Sums.{sum_over}
 use Rattle.office_base.specs.declared.puts.Put.{Put}
-use Rattle.tender_core.specs.Rules.Publish.{is_on_no_line, line_row, line_put, lot_row, lot_put, notice_row, notice_put, publish_parts, late_puts}
+use Rattle.tender_core.specs.Rules.Publish.{is_on_no_line, reserving_line, reserving_line_put, lot_row, new_lot_put, notice_row, notice_put, publish_parts, late_puts}
 use Rattle.office_base.proofs.Orders.{lots_total}
 use Rattle.office_machine.proofs.Commands.Publish.Rows.{taken_after, enough, AreAbsent, lots_new, reserved_after}
 use Rattle.office_machine.proofs.Rows.RowsPut.{lines_put, lots_put, AreNew, after_lines, after_lots, found_after, there_after}
@@ -40,10 +40,10 @@ use Rattle.office_machine.proofs.Accounts.Joins.{is_of}
 use Rattle.office_base.proofs.SumsOver.{sum_over-append_map, sum_over-zero}
 
 module _ (ms : List Move) (lots : List NewLot) (q : List ℕ) where
-  into : (p : Pot) → came (map move_of_lot lots ++ ms) q p ≡ sum_over (λ (lot : NewLot). cond (same_pot Reserved p && same_id lot.line q) lot.estimate 0) lots + came ms q p
+  into : (p : Pot) → inflow (map move_of_lot lots ++ ms) q p ≡ sum_over (λ (lot : NewLot). cond (same_pot Reserved p && same_id lot.line q) lot.estimate 0) lots + inflow ms q p
   into p = sum_over-append_map (λ (m : Move). cond (same_pot m.to p && same_id m.line q) m.amount 0) move_of_lot lots ms
 
-  out_of : (p : Pot) → went (map move_of_lot lots ++ ms) q p ≡ sum_over (λ (lot : NewLot). cond (same_pot Free p && same_id lot.line q) lot.estimate 0) lots + went ms q p
+  out_of : (p : Pot) → outflow (map move_of_lot lots ++ ms) q p ≡ sum_over (λ (lot : NewLot). cond (same_pot Free p && same_id lot.line q) lot.estimate 0) lots + outflow ms q p
   out_of p = sum_over-append_map (λ (m : Move). cond (same_pot m.from p && same_id m.line q) m.amount 0) move_of_lot lots ms
 
 -- the lines of the lots are there
@@ -77,7 +77,7 @@ estimates_found (lot ∷ lots) own =
     let each = neither _ _ own in
     (λ n. ap (λ b. cond b lot.estimate (estimate_in lots lot.id n)) (same_itself lot.id), found_later lot lots lots each.0 (estimates_found lots each.1))
 
-module _ (readings : Readings) (xs : List Given) (s : Tables) (moment : ℕ) (caller : Caller) (notice : List ℕ) (content : NewNotice) (kept : IsKept xs s) (order : IsSorted s)
+module _ (readings : Readings) (xs : List Given) (s : Tables) (moment : ℕ) (caller : Caller) (notice : List ℕ) (content : NewNotice) (kept : AccountsStand xs s) (order : IsSorted s)
     (own : repeats_id lot_id content.lots ≡ false) where
   abbrev x : Given
   x = record { before = s; moment = moment; caller = caller; command = commands.Publish notice content }
@@ -85,7 +85,7 @@ module _ (readings : Readings) (xs : List Given) (s : Tables) (moment : ℕ) (ca
   module _ (allowed : first_of (command_tests x) ≡ None) where
     -- the lines and the rows of its lots
     abbrev lot_lines : List LineRow
-    lot_lines = map (line_row s.lines content.lots) content.lots
+    lot_lines = map (reserving_line s.lines content.lots) content.lots
 
     abbrev lot_rows : List LotRow
     lot_rows = map (lot_row notice) content.lots
@@ -104,8 +104,8 @@ module _ (readings : Readings) (xs : List Given) (s : Tables) (moment : ℕ) (ca
 
     published_is : after_puts (publish_parts s.clock (time_of x) notice s.lines content) s ≡ published
     published_is =
-        ap (λ ps. after_puts ps s) (append_assoc (map (line_put s.lines content.lots) content.lots) (map (lot_put notice) content.lots) last_puts)
-        ∙ after_lines (line_row s.lines content.lots) content.lots (map (lot_put notice) content.lots ++ last_puts) s
+        ap (λ ps. after_puts ps s) (append_assoc (map (reserving_line_put s.lines content.lots) content.lots) (map (new_lot_put notice) content.lots) last_puts)
+        ∙ after_lines (reserving_line s.lines content.lots) content.lots (map (new_lot_put notice) content.lots ++ last_puts) s
         ∙ after_lots (lot_row notice) content.lots last_puts (record s { lines = lines_put s.lines lot_lines })
 
     passes : AllByRecursion (λ (test : Bool × Refusal). test.0 ≡ false) (command_tests x)
@@ -166,7 +166,7 @@ module _ (readings : Readings) (xs : List Given) (s : Tables) (moment : ℕ) (ca
           held = λ e. by (same_id notice key.0) refl ∙ old.held e;
         }
       where
-        by : (b : Bool) → same_id notice key.0 ≡ b → cond b (estimate_in content.lots key.1 (held_for xs key)) (held_for xs key) ≡ held_for xs key
+        by : (b : Bool) → same_id notice key.0 ≡ b → cond b (estimate_in content.lots key.1 (reserved_for xs key)) (reserved_for xs key) ≡ reserved_for xs key
         by true e =
             let there : is_some (notice_at notice s) ≡ true = ap (λ n. is_some (notice_at n s)) (equal_ids notice key.0 e) ∙ (kept.lots key lot found).of_notice in
             let none = passes.1.0 in
@@ -178,7 +178,7 @@ module _ (readings : Readings) (xs : List Given) (s : Tables) (moment : ℕ) (ca
     new_lot lot on_line estimated = record {
       of_notice = ap is_some (found_put keyed.notices s.notices (notice_row (time_of x) notice content));
       on_line = line_there lot.line on_line;
-      held = λ e. ap (λ b. cond b (estimate_in content.lots lot.id (held_for xs (notice, lot.id))) (held_for xs (notice, lot.id))) (same_itself notice) ∙ estimated (held_for xs (notice, lot.id));
+      held = λ e. ap (λ b. cond b (estimate_in content.lots lot.id (reserved_for xs (notice, lot.id))) (reserved_for xs (notice, lot.id))) (same_itself notice) ∙ estimated (reserved_for xs (notice, lot.id));
     }
 
     each_new : (key : List ℕ × List ℕ) (lot : LotRow) (lots : List NewLot) → OnLines s.lines lots → AreFound content.lots lots
@@ -192,7 +192,7 @@ module _ (readings : Readings) (xs : List Given) (s : Tables) (moment : ℕ) (ca
       each_new key lot lots there.1 estimated.1,
     )
 
-    keeps : IsKept (x ∷ xs) published
+    keeps : AccountsStand (x ∷ xs) published
     keeps = record {
       pots = pots;
       lots = λ key lot.
@@ -208,10 +208,10 @@ module _ (readings : Readings) (xs : List Given) (s : Tables) (moment : ℕ) (ca
       no_contract = λ c h. let old = kept.no_contract c h in record { came_in = omega (arith, old.came_in); went_out = omega (arith, old.went_out); raised = old.raised; lessened = old.lessened; paid_out = old.paid_out };
     }
 
-    pub publish_keeps : IsKept (x ∷ xs) (after_puts (effect readings x) s)
+    pub publish_keeps : AccountsStand (x ∷ xs) (after_puts (effect readings x) s)
     publish_keeps =
-        subst (IsKept (x ∷ xs)) (sym (after-append (publish_parts s.clock (time_of x) notice s.lines content) (late_puts notice content.late_withdrawal) s))
-        (kept_aside (x ∷ xs) (late_puts notice content.late_withdrawal) (after_puts (publish_parts s.clock (time_of x) notice s.lines content) s) (late_aside _ content.late_withdrawal) (subst (IsKept (x ∷ xs)) (sym published_is) keeps))
+        subst (AccountsStand (x ∷ xs)) (sym (after-append (publish_parts s.clock (time_of x) notice s.lines content) (late_puts notice content.late_withdrawal) s))
+        (kept_aside (x ∷ xs) (late_puts notice content.late_withdrawal) (after_puts (publish_parts s.clock (time_of x) notice s.lines content) s) (late_aside _ content.late_withdrawal) (subst (AccountsStand (x ∷ xs)) (sym published_is) keeps))
       where
         late_aside : (n : ℕ) (late : LateWithdrawal) → AreAside n (late_puts notice late)
         late_aside n Refused = tt

@@ -7,13 +7,13 @@ use Rattle.std.specs.Cmp.Lexicographic.{nat_list_cmp_total}
 use Rattle.std.specs.Ordering.{is_eq, eq_by_cmp}
 use Rattle.std.specs.declared.cmp.Ordering.{Ordering}
 use Rattle.office_values.specs.Ids.{id_cmp}
-use Rattle.office_acts.specs.declared.lot.NewLot.{NewLot}
-use Rattle.office_acts.specs.declared.notice.NewNotice.{NewNotice}
-use Rattle.office_acts.specs.declared.command.Caller.{Caller}
-use Rattle.office_acts.specs.declared.commands.Command.TheVariants.{Publish}
+use Rattle.office_commands.specs.declared.lot.NewLot.{NewLot}
+use Rattle.office_commands.specs.declared.notice.NewNotice.{NewNotice}
+use Rattle.office_commands.specs.declared.command.Caller.{Caller}
+use Rattle.office_commands.specs.declared.commands.Command.TheVariants.{Publish}
 use Rattle.office_values.specs.declared.refusal.Refusal.{Refusal}
-use Rattle.office_acts.specs.declared.notice.LateWithdrawal.{LateWithdrawal}
-use Rattle.office_acts.specs.declared.notice.LateWithdrawal.TheVariants.{Refused, Forfeits}
+use Rattle.office_commands.specs.declared.notice.LateWithdrawal.{LateWithdrawal}
+use Rattle.office_commands.specs.declared.notice.LateWithdrawal.TheVariants.{Refused, Forfeits}
 use Rattle.office_base.specs.Rows.{row_at, row_put}
 use Rattle.office_base.specs.declared.records.LineRow.{LineRow}
 use Rattle.office_base.specs.declared.records.LotRow.{LotRow}
@@ -23,7 +23,7 @@ use Rattle.office_base.specs.declared.records.NoticeState.TheVariants as notice
 use Rattle.office_base.specs.declared.records.NoticeState.{NoticeState}
 use Rattle.office_base.specs.declared.puts.Put.TheVariants as puts
 use Rattle.office_base.specs.declared.puts.Put.{Put}
-use Rattle.tender_core.specs.Rules.Publish.{is_on_no_line, line_row, line_put, lot_row, lot_put, notice_row, notice_put, publish_parts, late_puts, publish_puts, publish_rows, publish_tests}
+use Rattle.tender_core.specs.Rules.Publish.{is_on_no_line, reserving_line, reserving_line_put, lot_row, new_lot_put, notice_row, notice_put, publish_parts, late_puts, publish_puts, publish_rows, publish_tests}
 use Rattle.office_base.specs.Tables.{Tables, lot_cmp, line_key, lot_key, notice_key, find_line, put_notice, envelope_at, seal_at, security_at, lot_at, notice_at, after_puts}
 use Rattle.office_machine.specs.Machine.{Given}
 use Rattle.office_machine.specs.Readings.{Readings}
@@ -34,7 +34,7 @@ use Rattle.office_base.proofs.RowLaws.{row_at-row_put}
 use Rattle.office_machine.proofs.Rows.RowsChanged.{rows_put}
 use Rattle.office_machine.proofs.FateLaws.Added.{sound_published}
 use Rattle.office_machine.proofs.FateLaws.Seen.{seen, lot_state, notice_state, LotFits, AreInOrder, OnLines, lines-puts, order-puts, after-append, after_lines, after_lots, IsQuiet}
-use Rattle.office_machine.proofs.FateLaws.FatesHold.{IsKept, Keeps, given, tenders_same, named_same}
+use Rattle.office_machine.proofs.FateLaws.FatesHold.{FatesStand, Keeps, given, tenders_same, named_same}
 use Rattle.office_machine.proofs.FateLaws.QuietFates.{all_append, all_of_map, kept_after}
 
 -- what holds of each row put at a key, and where there is none of what was there, holds of what is found
@@ -51,7 +51,7 @@ module _ {K X : Type 0} {R : K → K → Ordering} (o : IsTotalOrder R) (key : X
       (subst P (sym (row_at-row_put o key xs r q)) (one_put P r (row_at R key xs q) (eq_by_cmp R q (key r)) here.0 there))
 
 all_fit : (lines : List LineRow) (name : List ℕ) (lots : List NewLot) → list_any (is_on_no_line lines) lots ≡ false
-    → AllByRecursion (LotFits lines) (map (lot_put name) lots)
+    → AllByRecursion (LotFits lines) (map (new_lot_put name) lots)
 all_fit lines name [] none = tt
 all_fit lines name (l ∷ lots) none =
     let each = neither (is_on_no_line lines l) (list_any (is_on_no_line lines) lots) none in
@@ -61,7 +61,7 @@ is_none : {X : Type 0} (o : Option X) → is_some o ≡ false → o ≡ None
 is_none None h = refl
 is_none (Some y) h = cc
 
-module _ (readings : Readings) (name : List ℕ) (content : NewNotice) (xs : List Given) (t : Tables) (m : ℕ) (caller : Caller) (kept : IsKept readings xs t)
+module _ (readings : Readings) (name : List ℕ) (content : NewNotice) (xs : List Given) (t : Tables) (m : ℕ) (caller : Caller) (kept : FatesStand readings xs t)
     (on_lines : list_any (is_on_no_line t.lines) content.lots ≡ false) (absent : is_some (notice_at name t) ≡ false) where
   abbrev T : ℕ
   T = max m t.clock.moment
@@ -80,7 +80,7 @@ module _ (readings : Readings) (name : List ℕ) (content : NewNotice) (xs : Lis
 
   abbrev after : Tables
   after = record t {
-    lines = rows_put id_cmp line_key t.lines (map (line_row t.lines content.lots) content.lots);
+    lines = rows_put id_cmp line_key t.lines (map (reserving_line t.lines content.lots) content.lots);
     lots = rows_put lot_cmp lot_key t.lots new_lots;
     notices = put_notice t.notices (notice_row T name content);
     clock = record t.clock { moment = T };
@@ -88,11 +88,11 @@ module _ (readings : Readings) (name : List ℕ) (content : NewNotice) (xs : Lis
 
   after_is : after_puts ps t ≡ after
   after_is =
-      after-append (map (line_put t.lines content.lots) content.lots ++ map (lot_put name) content.lots) last_puts t
+      after-append (map (reserving_line_put t.lines content.lots) content.lots ++ map (new_lot_put name) content.lots) last_puts t
       ∙ ap (after_puts last_puts)
-      (after-append (map (line_put t.lines content.lots) content.lots) (map (lot_put name) content.lots) t
-      ∙ ap (after_puts (map (lot_put name) content.lots)) (after_lines (line_row t.lines content.lots) content.lots t)
-      ∙ after_lots (lot_row name) content.lots (record t { lines = rows_put id_cmp line_key t.lines (map (line_row t.lines content.lots) content.lots) }))
+      (after-append (map (reserving_line_put t.lines content.lots) content.lots) (map (new_lot_put name) content.lots) t
+      ∙ ap (after_puts (map (new_lot_put name) content.lots)) (after_lines (reserving_line t.lines content.lots) content.lots t)
+      ∙ after_lots (lot_row name) content.lots (record t { lines = rows_put id_cmp line_key t.lines (map (reserving_line t.lines content.lots) content.lots) }))
 
   abbrev N : List ℕ → Option NoticeState
   N q = option_map notice_state (notice_at q after)
@@ -147,13 +147,13 @@ module _ (readings : Readings) (name : List ℕ) (content : NewNotice) (xs : Lis
 
   fit : AllByRecursion (LotFits t.lines) ps
   fit =
-      all_append (LotFits t.lines) (map (line_put t.lines content.lots) content.lots ++ map (lot_put name) content.lots) last_puts
-      (all_append (LotFits t.lines) (map (line_put t.lines content.lots) content.lots) (map (lot_put name) content.lots)
-      (all_of_map (LotFits t.lines) (line_put t.lines content.lots) content.lots (λ l. tt))
+      all_append (LotFits t.lines) (map (reserving_line_put t.lines content.lots) content.lots ++ map (new_lot_put name) content.lots) last_puts
+      (all_append (LotFits t.lines) (map (reserving_line_put t.lines content.lots) content.lots) (map (new_lot_put name) content.lots)
+      (all_of_map (LotFits t.lines) (reserving_line_put t.lines content.lots) content.lots (λ l. tt))
       (all_fit t.lines name content.lots on_lines))
       (tt, (tt, tt))
 
-  after_kept : IsKept readings (x ∷ xs) after
+  after_kept : FatesStand readings (x ∷ xs) after
   after_kept = record {
     sound = sound_published name N L (seen t) kept.sound no_notice here elsewhere lots_here lots_elsewhere;
     tenders =
@@ -168,11 +168,11 @@ module _ (readings : Readings) (name : List ℕ) (content : NewNotice) (xs : Lis
   late_quiet Refused u = tt
   late_quiet Forfeits u = (tt, tt)
 
-  published_kept : IsKept readings (x ∷ xs) (after_puts (publish_puts (record { notice = None; lines = t.lines; clock = t.clock }) T name content) t)
+  published_kept : FatesStand readings (x ∷ xs) (after_puts (publish_puts (record { notice = None; lines = t.lines; clock = t.clock }) T name content) t)
   published_kept =
-      subst (IsKept readings (x ∷ xs)) (sym (after-append ps (late_puts name content.late_withdrawal) t))
+      subst (FatesStand readings (x ∷ xs)) (sym (after-append ps (late_puts name content.late_withdrawal) t))
       (kept_after readings (x ∷ xs) (late_puts name content.late_withdrawal) (after_puts ps t) (late_quiet content.late_withdrawal (after_puts ps t))
-      (subst (IsKept readings (x ∷ xs)) (sym after_is) after_kept))
+      (subst (FatesStand readings (x ∷ xs)) (sym after_is) after_kept))
 
 pub publish_keeps : (readings : Readings) (notice : List ℕ) (content : NewNotice) → Keeps readings (Publish notice content)
 publish_keeps readings name content xs t m caller kept _ allowed =

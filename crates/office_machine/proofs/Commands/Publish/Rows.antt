@@ -4,13 +4,13 @@ use Rattle.std.proofs.Common.{refl, sym, ap, ◌∙◌, subst, arith, inl, inr}
 use Rattle.std.specs.List.{list_any, AllByRecursion}
 use Rattle.std.specs.Cmp.Lexicographic.{nat_list_cmp_total}
 use Rattle.std.specs.Ordering.{eq_by_cmp}
-use Rattle.office_acts.specs.Identified.{repeats_id}
+use Rattle.office_commands.specs.Identified.{repeats_id}
 use Rattle.office_values.specs.Ids.{id_cmp, same_id}
-use Rattle.office_acts.specs.Lots.{lot_id}
-use Rattle.office_acts.specs.declared.lot.NewLot.{NewLot}
+use Rattle.office_commands.specs.Lots.{lot_id}
+use Rattle.office_commands.specs.declared.lot.NewLot.{NewLot}
 use Rattle.office_base.specs.Sums.{sum_over}
 use Rattle.office_base.specs.Tables.{line_key, find_line, lot_key, lot_cmp, find_lot, put_lot}
-use Rattle.tender_core.specs.Rules.Publish.{wanted, is_short, no_line, line_row, lot_row}
+use Rattle.tender_core.specs.Rules.Publish.{wanted, is_short, no_line, reserving_line, lot_row}
 use Rattle.office_base.specs.Joined.{appropriation_in, free_in}
 use Rattle.office_base.specs.declared.records.LineRow.{LineRow}
 use Rattle.office_base.specs.declared.records.LotRow.{LotRow}
@@ -32,19 +32,19 @@ own_line None q amount = record { appropriation_is = refl; free_is = refl }
 own_line (Some row) q amount = record { appropriation_is = refl; free_is = refl }
 
 each_taken : (lines : List LineRow) (all lots : List NewLot) (q : List ℕ)
-    → AllByRecursion (λ (r : LineRow). eq_by_cmp id_cmp q r.line ≡ true → IsTaken (find_line lines q) (Some r) (wanted q all)) (map (line_row lines all) lots)
+    → AllByRecursion (λ (r : LineRow). eq_by_cmp id_cmp q r.line ≡ true → IsTaken (find_line lines q) (Some r) (wanted q all)) (map (reserving_line lines all) lots)
 each_taken lines all [] q = tt
 each_taken lines all (lot ∷ lots) q = (
-  λ e. subst (λ p. IsTaken (find_line lines p) (Some (line_row lines all lot)) (wanted p all)) (sym (equal_keys ids_exact q lot.line e))
+  λ e. subst (λ p. IsTaken (find_line lines p) (Some (reserving_line lines all lot)) (wanted p all)) (sym (equal_keys ids_exact q lot.line e))
       (own_line (find_line lines lot.line) lot.line (wanted lot.line all)),
   each_taken lines all lots q,
 )
 
 -- of a line that no lot names they want nothing
-wanted_of_none : (lines : List LineRow) (all lots : List NewLot) (q : List ℕ) → some_has id_cmp line_key q (map (line_row lines all) lots) ≡ false → wanted q lots ≡ 0
+wanted_of_none : (lines : List LineRow) (all lots : List NewLot) (q : List ℕ) → some_has id_cmp line_key q (map (reserving_line lines all) lots) ≡ false → wanted q lots ≡ 0
 wanted_of_none lines all [] q none = refl
 wanted_of_none lines all (lot ∷ lots) q none =
-    let apart = neither (eq_by_cmp id_cmp q lot.line) (some_has id_cmp line_key q (map (line_row lines all) lots)) none in
+    let apart = neither (eq_by_cmp id_cmp q lot.line) (some_has id_cmp line_key q (map (reserving_line lines all) lots)) none in
     omega (arith, ap (λ b. cond b lot.estimate 0) (same_id_is lot.line q ∙ apart.0), wanted_of_none lines all lots q apart.1)
 
 none_taken : (found : Option LineRow) (amount : ℕ) → amount ≡ 0 → IsTaken found found amount
@@ -52,9 +52,9 @@ none_taken found amount none = record { appropriation_is = refl; free_is = omega
 
 -- once the lines of all lots are put, what they want of each is taken
 pub taken_after : (lines : List LineRow) (lots : List NewLot) (q : List ℕ)
-    → IsTaken (find_line lines q) (find_line (lines_put lines (map (line_row lines lots) lots)) q) (wanted q lots)
+    → IsTaken (find_line lines q) (find_line (lines_put lines (map (reserving_line lines lots) lots)) q) (wanted q lots)
 taken_after lines lots q =
-    found_after nat_list_cmp_total line_key (λ found. IsTaken (find_line lines q) found (wanted q lots)) q (map (line_row lines lots) lots) lines
+    found_after nat_list_cmp_total line_key (λ found. IsTaken (find_line lines q) found (wanted q lots)) q (map (reserving_line lines lots) lots) lines
     (each_taken lines lots lots q)
     (λ none. none_taken (find_line lines q) (wanted q lots) (wanted_of_none lines lots lots q none))
 

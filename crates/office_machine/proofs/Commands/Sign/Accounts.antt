@@ -5,12 +5,12 @@ use Rattle.std.specs.Cmp.{nat_cmp_total}
 use Rattle.std.specs.List.{AllByRecursion}
 use Rattle.std.specs.Ordering.{nat_cmp, eq_by_cmp}
 use Rattle.office_values.specs.Ids.{same_id}
-use Rattle.office_acts.specs.declared.tender.NamedSecurity.{NamedSecurity}
+use Rattle.office_commands.specs.declared.tender.NamedSecurity.{NamedSecurity}
 use Rattle.office_base.specs.Tables.{same_number, Tables, IsSorted, notice_at, lot_at, find_lot, find_contract, put_contract, after_puts, find_award, put_award, put_lot, award_at}
-use Rattle.office_acts.specs.declared.command.Caller.{Caller}
+use Rattle.office_commands.specs.declared.command.Caller.{Caller}
 use Rattle.office_values.specs.declared.refusal.Refusal.{Refusal}
 use Rattle.office_base.specs.Rules.{first_of}
-use Rattle.office_base.specs.RuleParts.{released, clock_put, securities_returned, put_if}
+use Rattle.office_base.specs.Transitions.{with_next_release, clock_put, securities_returned, put_if}
 use Rattle.office_base.specs.declared.records.NoticeRow.{NoticeRow}
 use Rattle.office_base.specs.declared.records.LotRow.{LotRow}
 use Rattle.office_base.specs.declared.records.ContractRow.{ContractRow}
@@ -18,15 +18,15 @@ use Rattle.office_base.specs.Joined.{plus, minus, paid_under}
 use Rattle.office_base.specs.Parents.{notice_of_award, lot_of_award, envelope_of_award, securities_of_award}
 use Rattle.office_machine.specs.Machine.{Given, time_of, command_tests, effect}
 use Rattle.office_machine.specs.Readings.{Readings}
-use Rattle.office_machine.specs.Moves.{moves, held_for, line_in, lot_in_award}
-use Rattle.office_acts.specs.declared.commands.Command.TheVariants as commands
+use Rattle.office_machine.specs.Moves.{moves, reserved_for, line_in, lot_in_award}
+use Rattle.office_commands.specs.declared.commands.Command.TheVariants as commands
 use Rattle.office_base.specs.declared.puts.Put.TheVariants as puts
 use Rattle.office_machine.proofs.Accounts.Aside.{kept_aside, aside-securities, aside-append, aside-if}
 use Rattle.office_base.proofs.ExactKeys.{other_keys}
 use Rattle.office_machine.proofs.Rows.Keyed.{found, found_put, still_there, none_before}
 use Rattle.office_base.proofs.RowLaws.Keyed.{found_key, own_key}
 use Rattle.office_machine.proofs.Rows.Keyed as keyed
-use Rattle.office_machine.proofs.Accounts.Kept.{IsKept, PotsAre, LotIs, AwardIs, ContractIs, NoContractIs, over_contracts, is_awarded}
+use Rattle.office_machine.proofs.Accounts.Kept.{AccountsStand, PotsAre, LotIs, AwardIs, ContractIs, NoContractIs, over_contracts, is_awarded}
 use Rattle.office_machine.proofs.Passed.{none_holds, not_false, witness, test_of, is_there, no_zero}
 use Rattle.office_base.specs.declared.records.AwardRow.{AwardRow}
 use Rattle.office_base.specs.States.{is_open, is_active}
@@ -45,7 +45,7 @@ open_too lot_states.Contracted e = cc
 open_too lot_states.Unsuccessful e = cc
 open_too lot_states.Cancelled e = cc
 
-module _ (readings : Readings) (xs : List Given) (s : Tables) (moment : ℕ) (caller : Caller) (a : ℕ) (named : Option NamedSecurity) (kept : IsKept xs s) (order : IsSorted s) where
+module _ (readings : Readings) (xs : List Given) (s : Tables) (moment : ℕ) (caller : Caller) (a : ℕ) (named : Option NamedSecurity) (kept : AccountsStand xs s) (order : IsSorted s) where
   abbrev x : Given
   x = record { before = s; moment = moment; caller = caller; command = commands.Sign a named }
 
@@ -93,15 +93,15 @@ module _ (readings : Readings) (xs : List Given) (s : Tables) (moment : ℕ) (ca
     there_is : LotIs xs s (l.notice, l.lot) l
     there_is = kept.lots _ l lot_here
 
-    held : held_for xs k ≡ l.reserved
+    held : reserved_for xs k ≡ l.reserved
     held = lot_is.held (open_too l.state awarded.0)
 
     -- the lot of the move, and its line
     of_award : lot_in_award (award_at a s) ≡ k
     of_award = ap lot_in_award is
 
-    held_here : held_for xs (lot_in_award (award_at a s)) ≡ l.reserved
-    held_here = ap (held_for xs) of_award ∙ held
+    held_here : reserved_for xs (lot_in_award (award_at a s)) ≡ l.reserved
+    held_here = ap (reserved_for xs) of_award ∙ held
 
     of_lot : line_in (lot_of_award (award_at a s) s) ≡ l.line
     of_lot = ap line_in (ap (λ o. lot_of_award o s) is ∙ lot)
@@ -125,7 +125,7 @@ module _ (readings : Readings) (xs : List Given) (s : Tables) (moment : ℕ) (ca
 
     pots : (q : List ℕ) → PotsAre (moves (x ∷ xs)) s' q
     pots q =
-        let moved : cond (same_id (line_in (lot_of_award (award_at a s) s)) q) (held_for xs (lot_in_award (award_at a s))) 0 ≡ cond (same_id l.line q) l.reserved 0 = (λ i. cond (same_id (of_lot i) q) (held_here i) 0) in
+        let moved : cond (same_id (line_in (lot_of_award (award_at a s) s)) q) (reserved_for xs (lot_in_award (award_at a s))) 0 ≡ cond (same_id l.line q) l.reserved 0 = (λ i. cond (same_id (of_lot i) q) (held_here i) 0) in
         record {
           appropriation_is = omega (arith, old.appropriation_is);
           free_is = omega (arith, old.free_is);
@@ -150,7 +150,7 @@ module _ (readings : Readings) (xs : List Given) (s : Tables) (moment : ℕ) (ca
               of_award = (w', found_put keyed.awards s.awards w', refl);
               running = λ _. refl;
               within = omega (arith, nothing_yet.lessened);
-              came_in = omega (arith, nothing_yet.raised, nothing_yet.came_in, awarded.1, held_here, ap (λ b. cond b (held_for xs (lot_in_award (award_at a s))) 0) (ap (λ n. same_number a n) number ∙ own_key nat_cmp_total a));
+              came_in = omega (arith, nothing_yet.raised, nothing_yet.came_in, awarded.1, held_here, ap (λ b. cond b (reserved_for xs (lot_in_award (award_at a s))) 0) (ap (λ n. same_number a n) number ∙ own_key nat_cmp_total a));
               went_out = omega (arith, nothing_yet.lessened, nothing_yet.went_out);
             }
             in
@@ -160,7 +160,7 @@ module _ (readings : Readings) (xs : List Given) (s : Tables) (moment : ℕ) (ca
           of_award = award_of xs s kept l lot_states.Contracted 0 lot_here w award_states.Signed refl here active at c y p.1;
           running = old.running;
           within = old.within;
-          came_in = omega (arith, old.came_in, ap (λ b. cond b (held_for xs (lot_in_award (award_at a s))) 0) apart);
+          came_in = omega (arith, old.came_in, ap (λ b. cond b (reserved_for xs (lot_in_award (award_at a s))) 0) apart);
           went_out = omega (arith, old.went_out);
         }
           where
@@ -176,14 +176,14 @@ module _ (readings : Readings) (xs : List Given) (s : Tables) (moment : ℕ) (ca
         let old = kept.no_contract c p.1 in
         let apart : same_number a c ≡ false = other_keys nat_cmp-IsAntisymmetric a c (λ e. let i : same_number c w.award ≡ true = ap (λ n. same_number c n) (number ∙ e) ∙ own_key nat_cmp_total c in let f = p.0 in absurd cc) in
         record {
-          came_in = omega (arith, old.came_in, ap (λ b. cond b (held_for xs (lot_in_award (award_at a s))) 0) apart);
+          came_in = omega (arith, old.came_in, ap (λ b. cond b (reserved_for xs (lot_in_award (award_at a s))) 0) apart);
           went_out = omega (arith, old.went_out);
           raised = old.raised;
           lessened = old.lessened;
           paid_out = old.paid_out;
         }
 
-    signed_keeps : IsKept (x ∷ xs) s'
+    signed_keeps : AccountsStand (x ∷ xs) s'
     signed_keeps = record {
       pots = pots;
       lots = lots_are xs s kept l lot_states.Contracted 0 lot_here x s' refl (λ q h. h) (λ q h. h) (λ e. cc) (λ j e. refl);
@@ -196,15 +196,15 @@ module _ (readings : Readings) (xs : List Given) (s : Tables) (moment : ℕ) (ca
     effect_is : sign_puts (record { award = Some w; notice = Some n; lot = Some l; envelope = (envelope_of_award (award_at a s) s); securities = (securities_of_award (award_at a s) s); clock = s.clock }) (time_of x) named ≡ effect readings x
     effect_is = λ i. sign_puts (record { award = sym is i; notice = (sym (ap (λ o. notice_of_award o s) is ∙ notice) i); lot = (sym (ap (λ o. lot_of_award o s) is ∙ lot) i); envelope = (envelope_of_award (award_at a s) s); securities = (securities_of_award (award_at a s) s); clock = s.clock }) (time_of x) named
 
-    keeps : IsKept (x ∷ xs) (after_puts (effect readings x) s)
-    keeps = subst (λ ps. IsKept (x ∷ xs) (after_puts ps s)) effect_is
-        (kept_aside (x ∷ xs) (puts.Notice (released n) ∷ clock_put s.clock (time_of x) ∷ securities_returned (securities_of_award (award_at a s) s) ++ put_if (performance_put w) named) s' (tt, (omega arith, aside-append s.clock.awards (securities_returned (securities_of_award (award_at a s) s)) (put_if (performance_put w) named) (aside-securities s.clock.awards (securities_of_award (award_at a s) s)) (aside-if s.clock.awards (performance_put w) named (λ _. tt)))) signed_keeps)
+    keeps : AccountsStand (x ∷ xs) (after_puts (effect readings x) s)
+    keeps = subst (λ ps. AccountsStand (x ∷ xs) (after_puts ps s)) effect_is
+        (kept_aside (x ∷ xs) (puts.Notice (with_next_release n) ∷ clock_put s.clock (time_of x) ∷ securities_returned (securities_of_award (award_at a s) s) ++ put_if (performance_put w) named) s' (tt, (omega arith, aside-append s.clock.awards (securities_returned (securities_of_award (award_at a s) s)) (put_if (performance_put w) named) (aside-securities s.clock.awards (securities_of_award (award_at a s) s)) (aside-if s.clock.awards (performance_put w) named (λ _. tt)))) signed_keeps)
 
   module _ (allowed : first_of (command_tests x) ≡ None) where
     passes : AllByRecursion (λ (test : Bool × Refusal). test.0 ≡ false) (command_tests x)
     passes = none_holds (command_tests x) allowed
 
-    pub sign_keeps : IsKept (x ∷ xs) (after_puts (effect readings x) s)
+    pub sign_keeps : AccountsStand (x ∷ xs) (after_puts (effect readings x) s)
     sign_keeps =
         let found = witness (award_at a s) (not_false _ passes.0) in
         let w = found.0 in

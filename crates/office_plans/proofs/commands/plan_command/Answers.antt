@@ -1,7 +1,7 @@
 use Rattle.std.specs.Prelude.{◌≡◌, Result}
 use Rattle.std.proofs.Common.{subst, sym}
-use Rattle.office_acts.specs.declared.commands.Command.{Command}
-use Rattle.office_acts.specs.declared.commands.Command.TheVariants.{Import, Register, Present, Modify, Withdraw, Examine}
+use Rattle.office_commands.specs.declared.commands.Command.{Command}
+use Rattle.office_commands.specs.declared.commands.Command.TheVariants.{Import, Register, Present, Modify, Withdraw, Examine}
 use Rattle.office_base.specs.Shelves.{Looks, Meaning}
 use Rattle.office_base.specs.Tables.{Tables}
 use Rattle.office_plans.proofs.commands.plan_command.Goals as goal

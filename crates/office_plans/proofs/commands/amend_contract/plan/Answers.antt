@@ -2,8 +2,8 @@ use Rattle.std.specs.Prelude.{List, ℕ}
 use Rattle.std.proofs.Common.{◌∙◌, ap, refl, sym}
 use Rattle.award_core.specs.Rules.AmendContract.{amend_contract_puts, amend_contract_rows, amend_contract_tests}
 use Rattle.award_core.specs.declared.amend_contract.AmendContractRows.{AmendContractRows}
-use Rattle.office_acts.specs.declared.commands.Command.TheVariants.{AmendContract}
-use Rattle.office_acts.specs.declared.contract.ChangeKind.{ChangeKind}
+use Rattle.office_commands.specs.declared.commands.Command.TheVariants.{AmendContract}
+use Rattle.office_commands.specs.declared.contract.ChangeKind.{ChangeKind}
 use Rattle.office_base.specs.Tables.{Tables}
 use Rattle.office_plans.proofs.Publishing.{IsTested, not_planned, puts_on, refused_on, two_looks}
 use Rattle.office_plans.proofs.commands.amend_contract.plan.Goals as goal

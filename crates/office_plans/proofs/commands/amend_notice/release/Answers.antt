@@ -1,6 +1,6 @@
 use Rattle.std.specs.Prelude.{◌≡◌, ℕ, List, Some, max}
 use Rattle.std.proofs.Common.{◌∙◌, ap, refl, sym}
-use Rattle.office_acts.specs.declared.commands.Command.TheVariants.{AmendNotice}
+use Rattle.office_commands.specs.declared.commands.Command.TheVariants.{AmendNotice}
 use Rattle.ocds_release.specs.declared.event.Event.{Event}
 use Rattle.ocds_release.specs.declared.event.Event.TheVariants as events
 use Rattle.office_base.specs.Tables.{notice_at}

@@ -2,7 +2,7 @@ use Rattle.std.specs.Prelude.{List, ℕ}
 use Rattle.std.proofs.Common.{◌∙◌, refl}
 use Rattle.award_core.specs.Rules.Award.{award_puts, award_rows, award_tests}
 use Rattle.award_core.specs.declared.award.AwardRows.{AwardRows}
-use Rattle.office_acts.specs.declared.commands.Command.TheVariants.{Award}
+use Rattle.office_commands.specs.declared.commands.Command.TheVariants.{Award}
 use Rattle.office_base.specs.Tables.{Tables}
 use Rattle.office_plans.proofs.Publishing.{IsTested, not_planned, puts_on, refused_on, three_looks}
 use Rattle.office_plans.proofs.commands.award.plan.Goals as goal

@@ -1,6 +1,6 @@
 use Rattle.std.specs.Prelude.{◌≡◌, ℕ, ◌+◌, Option, Some, max, refl}
 use Rattle.std.proofs.Common.{◌∙◌, ap, sym}
-use Rattle.office_acts.specs.declared.commands.Command.TheVariants.{Award}
+use Rattle.office_commands.specs.declared.commands.Command.TheVariants.{Award}
 use Rattle.award_core.specs.Rules.Award.{award_rows, price_of, winner}
 use Rattle.award_core.specs.declared.award.AwardRows.{AwardRows}
 use Rattle.ocds_release.specs.declared.event.Event.{Event}
@@ -9,7 +9,7 @@ use Rattle.ocds_release.specs.declared.event.Party.{Party}
 use Rattle.office_base.specs.Tables.{tenderer_at}
 use Rattle.office_base.specs.declared.records.EnvelopeRow.{EnvelopeRow}
 use Rattle.office_base.specs.declared.records.TendererRow.{TendererRow}
-use Rattle.office_publications.specs.AwardEvents.{awarded, name_in}
+use Rattle.office_publications.specs.AwardEvents.{award_event, name_in}
 use Rattle.office_plans.specs.Asking.{given_by}
 use Rattle.office_plans.proofs.Maybe.{if_ok}
 use Rattle.office_plans.proofs.commands.award.won.Goals as goal
@@ -33,7 +33,7 @@ returns-clause-looks g c =
           ≡ Some (told (s.clock.awards + 1) (named (tenderer_at best.tenderer s)) (price_of best)) =
           λ i. Some (told (number i) (party i) (c.price_of.ensures i)) in
           holds (given_by a.asking.now s (Award a.notice a.lot))
-          (ap (λ (w : Option EnvelopeRow). Some (awarded s a.notice a.lot w)) (sym won) ∙ sym event)
+          (ap (λ (w : Option EnvelopeRow). Some (award_event s a.notice a.lot w)) (sym won) ∙ sym event)
           refl
           (ap (λ (rows : AwardRows). rows.notice) are)
           (c.time-t.ensures ∙ ap (λ (rows : AwardRows). max a.asking.now.moment rows.clock.moment) are)),

@@ -1,6 +1,6 @@
 use Rattle.std.specs.Prelude.{List, filter, map, ℕ}
 use Rattle.std.proofs.Common.{◌∙◌, ap, refl, sym}
-use Rattle.office_acts.specs.declared.commands.Command.TheVariants.{Cancel}
+use Rattle.office_commands.specs.declared.commands.Command.TheVariants.{Cancel}
 use Rattle.office_base.specs.Tables.{Tables, lots_of_notice}
 use Rattle.office_machine.specs.Machine.{time_of}
 use Rattle.office_plans.proofs.NamedLines.{lines_agree}

@@ -2,8 +2,8 @@ use Rattle.std.specs.Prelude.{ℕ}
 use Rattle.std.proofs.Common.{◌∙◌, ap, refl, sym}
 use Rattle.award_core.specs.Rules.End.{end_puts, end_rows, end_tests}
 use Rattle.award_core.specs.declared.end.EndRows.{EndRows}
-use Rattle.office_acts.specs.declared.commands.Command.TheVariants.{End}
-use Rattle.office_acts.specs.declared.contract.How.{How}
+use Rattle.office_commands.specs.declared.commands.Command.TheVariants.{End}
+use Rattle.office_commands.specs.declared.contract.How.{How}
 use Rattle.office_base.specs.Tables.{Tables}
 use Rattle.office_plans.proofs.Publishing.{IsTested, not_planned, puts_on, refused_on, two_looks}
 use Rattle.office_plans.proofs.commands.end.plan.Goals as goal

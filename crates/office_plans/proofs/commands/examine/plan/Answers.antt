@@ -2,7 +2,7 @@ use Rattle.std.specs.Prelude.{Bool, Option, ℕ}
 use Rattle.std.proofs.Common.{◌∙◌, ap, refl}
 use Rattle.award_core.specs.Rules.Examine.{examine_puts, examine_rows, examine_tests}
 use Rattle.award_core.specs.declared.examine.ExamineRows.{ExamineRows}
-use Rattle.office_acts.specs.declared.commands.Command.TheVariants.{Examine}
+use Rattle.office_commands.specs.declared.commands.Command.TheVariants.{Examine}
 use Rattle.office_base.specs.Tables.{Tables}
 use Rattle.office_machine.specs.Replies.{Examined}
 use Rattle.office_plans.proofs.Publishing.{IsTested, not_planned, puts_on, refused_on, time_is}

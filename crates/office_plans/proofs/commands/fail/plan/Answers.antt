@@ -2,7 +2,7 @@ use Rattle.std.specs.Prelude.{ℕ}
 use Rattle.std.proofs.Common.{◌∙◌, ap, refl, sym}
 use Rattle.award_core.specs.Rules.Fail.{fail_puts, fail_rows, fail_tests}
 use Rattle.award_core.specs.declared.fail.FailRows.{FailRows}
-use Rattle.office_acts.specs.declared.commands.Command.TheVariants.{Fail}
+use Rattle.office_commands.specs.declared.commands.Command.TheVariants.{Fail}
 use Rattle.office_base.specs.Tables.{Tables}
 use Rattle.office_plans.proofs.Publishing.{IsTested, not_planned, puts_on, refused_on, two_looks}
 use Rattle.office_plans.proofs.commands.fail.plan.Goals as goal

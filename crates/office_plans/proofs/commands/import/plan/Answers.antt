@@ -1,7 +1,7 @@
 use Rattle.std.specs.Prelude.{◌≡◌, ℕ, List, length, map}
 use Rattle.std.proofs.Common.{◌∙◌, ap, refl, sym}
-use Rattle.office_acts.specs.declared.commands.Command.TheVariants.{Import}
-use Rattle.office_acts.specs.declared.budget.BudgetRow.{BudgetRow}
+use Rattle.office_commands.specs.declared.commands.Command.TheVariants.{Import}
+use Rattle.office_commands.specs.declared.budget.BudgetRow.{BudgetRow}
 use Rattle.office_base.specs.RowLaws.{RowsAreKept}
 use Rattle.office_base.specs.Standings.{standing_key, standings}
 use Rattle.office_base.specs.Tables.{Tables}

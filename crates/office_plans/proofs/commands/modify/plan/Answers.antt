@@ -1,6 +1,6 @@
 use Rattle.std.specs.Prelude.{◌≡◌, List, Option, Some, ℕ}
 use Rattle.std.proofs.Common.{◌∙◌, ap, refl, sym}
-use Rattle.office_acts.specs.declared.commands.Command.TheVariants.{Modify}
+use Rattle.office_commands.specs.declared.commands.Command.TheVariants.{Modify}
 use Rattle.office_base.specs.Tables.{Tables, envelope_at}
 use Rattle.office_base.specs.declared.records.EnvelopeRow.{EnvelopeRow}
 use Rattle.office_machine.specs.Machine.{time_of}

@@ -1,6 +1,6 @@
 use Rattle.std.specs.Prelude.{List, ℕ}
 use Rattle.std.proofs.Common.{◌∙◌, ap, refl, sym}
-use Rattle.office_acts.specs.declared.commands.Command.TheVariants.{Open}
+use Rattle.office_commands.specs.declared.commands.Command.TheVariants.{Open}
 use Rattle.office_base.specs.Tables.{Tables, notice_at}
 use Rattle.office_machine.specs.Machine.{time_of}
 use Rattle.office_machine.specs.OfficeMeans.{office_readings}

@@ -2,7 +2,7 @@ use Rattle.std.specs.Prelude.{List, ℕ}
 use Rattle.std.proofs.Common.{◌∙◌, ap, refl, sym}
 use Rattle.award_core.specs.Rules.Pay.{pay_puts, pay_rows, pay_tests}
 use Rattle.award_core.specs.declared.pay.PayRows.{PayRows}
-use Rattle.office_acts.specs.declared.commands.Command.TheVariants.{Pay}
+use Rattle.office_commands.specs.declared.commands.Command.TheVariants.{Pay}
 use Rattle.office_base.specs.Tables.{Tables}
 use Rattle.office_plans.proofs.Publishing.{IsTested, not_planned, puts_on, refused_on, three_looks}
 use Rattle.office_plans.proofs.commands.pay.plan.Goals as goal

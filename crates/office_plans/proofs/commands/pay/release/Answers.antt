@@ -1,6 +1,6 @@
 use Rattle.std.specs.Prelude.{◌≡◌, Option, Some, option_map, max}
 use Rattle.std.proofs.Common.{◌∙◌, ap, sym}
-use Rattle.office_acts.specs.declared.commands.Command.TheVariants.{Pay}
+use Rattle.office_commands.specs.declared.commands.Command.TheVariants.{Pay}
 use Rattle.office_base.specs.Parents.{notice_of_contract}
 use Rattle.office_base.specs.Tables.{contract_at, tenderer_at}
 use Rattle.office_base.specs.declared.records.ContractRow.{ContractRow}
@@ -10,7 +10,7 @@ use Rattle.ocds_release.specs.declared.event.Event.{Event}
 use Rattle.ocds_release.specs.declared.event.Event.TheVariants as events
 use Rattle.ocds_release.specs.declared.event.Party.{Party}
 use Rattle.office_publications.specs.AwardEvents.{name_in}
-use Rattle.office_publications.specs.ContractEvents.{paid}
+use Rattle.office_publications.specs.ContractEvents.{pay_event}
 use Rattle.office_plans.specs.Asking.{given_by}
 use Rattle.office_plans.proofs.Maybe.{if_ok}
 use Rattle.office_plans.proofs.commands.pay.release.Goals as goal
@@ -30,7 +30,7 @@ returns-clause-looks g c =
           (λ made holds number are here.
           let found : contract_at number s ≡ Some row = sym (ap (λ (rows : PayRows). rows.contract) are) ∙ here in
           holds (given_by a.asking.now s (Pay number a.entry a.amount))
-          (ap (option_map (λ (r : ContractRow). paid s r a.entry a.amount)) found ∙ sym (ap (λ p. Some (paid_to p)) payee))
+          (ap (option_map (λ (r : ContractRow). pay_event s r a.entry a.amount)) found ∙ sym (ap (λ p. Some (paid_to p)) payee))
           (ap (option_map (λ (r : ContractRow). r.notice)) found)
           (ap (λ (rows : PayRows). rows.notice) are ∙ ap (λ (r : Option ContractRow). notice_of_contract r s) found)
           (c.time-t.ensures ∙ ap (λ (rows : PayRows). max a.asking.now.moment rows.clock.moment) are)),

@@ -1,9 +1,9 @@
 use Rattle.std.specs.Prelude.{List, Option, ℕ}
 use Rattle.std.proofs.Common.{◌∙◌, refl, sym}
-use Rattle.office_acts.specs.declared.commands.Command.TheVariants.{Present}
-use Rattle.office_acts.specs.declared.tender.NamedSecurity.{NamedSecurity}
+use Rattle.office_commands.specs.declared.commands.Command.TheVariants.{Present}
+use Rattle.office_commands.specs.declared.tender.NamedSecurity.{NamedSecurity}
 use Rattle.office_base.specs.Rows.{holds_of}
-use Rattle.office_base.specs.RuleParts.{is_in_time}
+use Rattle.office_base.specs.Transitions.{is_in_time}
 use Rattle.office_base.specs.Tables.{Tables}
 use Rattle.office_machine.specs.Machine.{time_of}
 use Rattle.office_machine.specs.Replies.{received_reply}

@@ -1,8 +1,8 @@
 use Rattle.std.specs.Prelude.{◌≡◌, List, map, ℕ}
 use Rattle.std.proofs.Common.{◌∙◌, ap, refl, subst, sym}
-use Rattle.office_acts.specs.declared.commands.Command.TheVariants.{Publish}
-use Rattle.office_acts.specs.declared.lot.NewLot.{NewLot}
-use Rattle.office_acts.specs.declared.notice.NewNotice.{NewNotice}
+use Rattle.office_commands.specs.declared.commands.Command.TheVariants.{Publish}
+use Rattle.office_commands.specs.declared.lot.NewLot.{NewLot}
+use Rattle.office_commands.specs.declared.notice.NewNotice.{NewNotice}
 use Rattle.office_base.specs.RowLaws.{RowsAreKept}
 use Rattle.office_base.specs.Shelves.{Looks, Meaning}
 use Rattle.office_base.specs.Tables.{Tables, line_key}

@@ -1,8 +1,8 @@
 use Rattle.std.specs.Prelude.{◌≡◌, ℕ, List, Some, max}
 use Rattle.std.proofs.Common.{◌∙◌, ap, refl, sym}
-use Rattle.office_acts.specs.declared.commands.Command.TheVariants.{Publish}
-use Rattle.office_acts.specs.declared.lot.NewLot.{NewLot}
-use Rattle.office_acts.specs.declared.notice.NewNotice.{NewNotice}
+use Rattle.office_commands.specs.declared.commands.Command.TheVariants.{Publish}
+use Rattle.office_commands.specs.declared.lot.NewLot.{NewLot}
+use Rattle.office_commands.specs.declared.notice.NewNotice.{NewNotice}
 use Rattle.ocds_release.specs.declared.event.Event.{Event}
 use Rattle.ocds_release.specs.declared.event.Event.TheVariants as events
 use Rattle.office_plans.specs.Asking.{given_by}

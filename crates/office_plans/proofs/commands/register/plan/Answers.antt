@@ -1,6 +1,6 @@
 use Rattle.std.specs.Prelude.{List, ℕ}
 use Rattle.std.proofs.Common.{◌∙◌, ap, refl}
-use Rattle.office_acts.specs.declared.commands.Command.TheVariants.{Register}
+use Rattle.office_commands.specs.declared.commands.Command.TheVariants.{Register}
 use Rattle.office_base.specs.Tables.{Tables}
 use Rattle.office_machine.specs.Replies.{Enrolled}
 use Rattle.office_plans.proofs.Publishing.{IsTested, not_planned, puts_on, refused_on, time_is}

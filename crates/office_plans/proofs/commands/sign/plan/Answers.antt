@@ -2,8 +2,8 @@ use Rattle.std.specs.Prelude.{Option, ℕ}
 use Rattle.std.proofs.Common.{◌∙◌, ap, refl, sym}
 use Rattle.award_core.specs.Rules.Sign.{sign_puts, sign_rows, sign_tests}
 use Rattle.award_core.specs.declared.sign.SignRows.{SignRows}
-use Rattle.office_acts.specs.declared.commands.Command.TheVariants.{Sign}
-use Rattle.office_acts.specs.declared.tender.NamedSecurity.{NamedSecurity}
+use Rattle.office_commands.specs.declared.commands.Command.TheVariants.{Sign}
+use Rattle.office_commands.specs.declared.tender.NamedSecurity.{NamedSecurity}
 use Rattle.office_base.specs.Tables.{Tables}
 use Rattle.office_plans.proofs.Publishing.{IsTested, not_planned, puts_on, refused_on, three_looks}
 use Rattle.office_plans.proofs.commands.sign.plan.Goals as goal

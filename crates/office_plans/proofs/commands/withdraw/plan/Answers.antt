@@ -1,7 +1,7 @@
 use Rattle.std.specs.Prelude.{ℕ}
 use Rattle.std.proofs.Common.{◌∙◌, refl}
-use Rattle.office_acts.specs.declared.commands.Command.TheVariants.{Withdraw}
-use Rattle.office_base.specs.RuleParts.{is_late}
+use Rattle.office_commands.specs.declared.commands.Command.TheVariants.{Withdraw}
+use Rattle.office_base.specs.Transitions.{is_late}
 use Rattle.office_base.specs.Tables.{Tables}
 use Rattle.office_machine.specs.Replies.{Withdrew, state_after}
 use Rattle.office_plans.proofs.Publishing.{IsTested, not_planned, on_rows, puts_on, refused_on}

@@ -5,7 +5,7 @@ use Rattle.ocds_merge.specs.Merge.{merge_or_null}
 use Rattle.ocds_release.specs.Texts.{ocid_text}
 use Rattle.office_plans.proofs.KeptObjects.{has_merge_any}
 use Rattle.office_publications.specs.Merges.{bodies}
-use Rattle.office_publications.specs.Standing.{Stands}
+use Rattle.office_publications.specs.Standing.{IsReached}
 use Rattle.office_values.specs.Moments.{moment_text}
 use Rattle.office_desk.proofs.Shown.{made_of}
 use Rattle.office_desk.proofs.queries.packages.texts.load_compiled.Goals as goal
@@ -17,9 +17,9 @@ returns-clause-looks g c =
     let settings = c.args.settings.now in (
       loaded.0,
       λ honest s held.
-          made_of c.compiled.result (Stands settings s) (λ (d : Data). with_head (ocid_text settings.prefix notice) (moment_text c.args.last) d)
+          made_of c.compiled.result (IsReached settings s) (λ (d : Data). with_head (ocid_text settings.prefix notice) (moment_text c.args.last) d)
           (view c.in_ok-merge.merge) (merge_or_null (bodies notice s)) c.compiled.ensures.release
-          (λ (stands : Stands settings s). c.in_ok-merge.ensures.merge notice s (loaded.1 honest s held) (stands.keeps.merged notice)),
+          (λ (stands : IsReached settings s). c.in_ok-merge.ensures.merge notice s (loaded.1 honest s held) (stands.keeps.merged notice)),
     )
 
 pub returns-clause-merge : goal.returns-clause-merge
