@@ -2,9 +2,21 @@
 import { element } from "../draw.js";
 import { language, say } from "./texts.js";
 
+// Each form of numbers and moments, made once: making one takes longer than a hundred uses of it.
+const forms = new Map();
+
+function form(kind, parts) {
+  const tag = language() === "en" ? "en-GB" : language();
+  const name = `${tag} ${kind.name} ${JSON.stringify(parts)}`;
+  if (!forms.has(name)) {
+    forms.set(name, new kind(tag, parts));
+  }
+  return forms.get(name);
+}
+
 /** Whole units with groups of three, in the way of the language. */
 export function number(amount) {
-  return new Intl.NumberFormat(language()).format(amount);
+  return form(Intl.NumberFormat, {}).format(amount);
 }
 
 /** An amount with its currency, which may be unknown. */
@@ -29,7 +41,14 @@ export function typed(text, most) {
 const PARTS = { day: "numeric", month: "long", year: "numeric", hour: "2-digit", minute: "2-digit", second: "2-digit", hourCycle: "h23" };
 
 function formatted(date, more) {
-  return new Intl.DateTimeFormat(language() === "en" ? "en-GB" : language(), { ...PARTS, ...more }).format(date);
+  return form(Intl.DateTimeFormat, { ...PARTS, ...more }).format(date);
+}
+
+/** The day of a moment, in UTC. */
+export function day(text) {
+  const date = new Date(text);
+  const told = form(Intl.DateTimeFormat, { day: "numeric", month: "long", year: "numeric", timeZone: "UTC" });
+  return element("time", { datetime: text }, Number.isNaN(date.getTime()) ? text : told.format(date));
 }
 
 /** A moment of the office: in UTC, as it counts, and where the reader is. */
