@@ -24,9 +24,10 @@ WORDS = ["--headless=new", "--no-sandbox", "--disable-gpu", "--disable-dev-shm-u
 
 
 class Browser:
-    """Chromium with a profile of its own in a folder; ended behind a `with`."""
+    """Chromium with a profile of its own in a folder; ended behind a `with`. Pictures are taken where they are asked for: each costs as much as a view."""
 
-    def __init__(self, program: str, folder: str) -> None:
+    def __init__(self, program: str, folder: str, pictures: bool = False) -> None:
+        self.pictures = pictures
         self.stream, end = socket.socketpair()
         self.stream.settimeout(PATIENCE)
         self.count, self.rest = 0, b""
@@ -198,7 +199,9 @@ class Page:
         return told
 
     def picture(self, path: str) -> None:
-        """A picture of the whole page, also of what one would have to scroll to."""
+        """A picture of the whole page, also of what one would have to scroll to; none where none are asked for."""
+        if not self.browser.pictures:
+            return
         size = self.ask("Page.getLayoutMetrics")["cssContentSize"]
         clip = {"x": 0, "y": 0, "width": size["width"], "height": size["height"], "scale": 1}
         with open(path, "wb") as file:

@@ -2,21 +2,25 @@
 
     python3 scripts/looks_stand_in.py --port 8081 --office 8080 --file office.db --config office.toml
 
-The looks are GET /notices, /notices/{n}/terms, /notices/{n}/tenders, /notices/{n}/evaluation, /notices/{n}/securities, /tenderers and /contracts/{c}. The file
-is opened for reading alone, for each look anew. It is for development and tests, and goes once the program answers these itself.
+The looks are GET /notices, /notices/{n}/terms, /notices/{n}/tenders, /notices/{n}/evaluation, /notices/{n}/securities, /tenderers and /contracts/{c}. The
+program locks its file, so a copy of it and its log is opened, made anew where they changed. It is for development and tests, and goes once the program answers
+these itself.
 """
 import argparse
+import glob
 import hashlib
 import json
+import os
 import re
+import shutil
 import socketserver
 import sqlite3
 import sys
+import tempfile
 import threading
 import time
 import tomllib
 import urllib.parse
-import urllib.request
 from collections.abc import Callable
 from socket import create_connection
 from typing import Any, NamedTuple
@@ -202,9 +206,32 @@ class StandIn:
     """Answers looks over an office's file, and passes all else to the office at a port."""
 
     def __init__(self, file: str, config: str, office: int) -> None:
-        self.file, self.office = f"file:{urllib.request.pathname2url(file)}?mode=ro", office
+        self.file, self.office, self.lock = file, office, threading.Lock()
+        self.folder = tempfile.TemporaryDirectory(prefix="looks-")
+        self.copied: list[tuple[int, int]] | None = None
         with open(config, "rb") as settings:
             self.clerk_key = str(tomllib.load(settings)["clerk_key"]).lower()
+
+    def stamps(self) -> list[tuple[int, int]]:
+        found = [os.stat(path) for path in (self.file, f"{self.file}-wal") if os.path.exists(path)]
+        return [(it.st_size, it.st_mtime_ns) for it in found]
+
+    def copy(self) -> sqlite3.Connection:
+        """The office's tables as they stand: a copy that was made while nobody wrote."""
+        with self.lock:
+            place = os.path.join(self.folder.name, "office.db")
+            while self.copied is None or self.copied != self.stamps():
+                for path in glob.glob(f"{glob.escape(place)}*"):
+                    os.remove(path)
+                self.copied = self.stamps()
+                for end in ("", "-wal"):
+                    if os.path.exists(self.file + end):
+                        shutil.copyfile(self.file + end, place + end)
+            # (The log is read into the copy while nobody else has it open.)
+            file = sqlite3.connect(place, timeout=5)
+            file.row_factory = sqlite3.Row
+            file.execute("SELECT count(*) FROM notices_2").fetchone()
+            return file
 
     def caller(self, file: sqlite3.Connection, head: list[tuple[str, str]]) -> str:
         names, keys = ([value for name, value in head if name == field] for field in ("office-caller", "office-key"))
@@ -230,8 +257,7 @@ class StandIn:
         try:
             if method != "GET":
                 raise Refused("WrongMethod")
-            file = sqlite3.connect(self.file, uri=True, timeout=5)
-            file.row_factory = sqlite3.Row
+            file = self.copy()
             try:
                 body = look(Asked(file, self.caller(file, head), name, query))
             finally:

@@ -10,8 +10,8 @@ STATES = {"receiving": "receives tenders", "opened": "opened", "cancelled": "can
 WORDS = """<p>All that this office published: the procurements below, and files to download. Amounts are whole units of the currency, moments are UTC.</p>
 <p lang="de">Alles, was diese Vergabestelle veröffentlicht hat: unten die Vergaben, dazu Dateien zum Herunterladen. Beträge sind ganze Einheiten der Währung,
 Zeiten UTC.</p>"""
-WITNESS = """<p>The chain has a line for each release that was ever seen here, each with the SHA-256 of all lines before it. Who keeps its last line from today can show
-later whether anything published until now was changed. <code>tools/mirror URL FOLDER</code> keeps such a copy by itself and tells.</p>"""
+WITNESS = """<p>The chain has a line for each release that was ever seen here, each with the SHA-256 of all lines before it. Who keeps its last line from today
+can show later whether anything published until now was changed. <code>tools/mirror URL FOLDER</code> keeps such a copy by itself and tells.</p>"""
 
 
 def page(base: str, moment: str, files: list[tuple[str, int, str]], notices: list[Notice], head: str) -> str:

@@ -87,7 +87,8 @@ def contract_rows(notice: Notice) -> Iterator[Json]:
         award = awards[contract["awardID"]]
         worth = contract["value"]["amount"]
         yield {**award, "contract": contract["id"], "signed": contract["dateSigned"], "price": award["price"], "changes": worth - award["price"],
-               "worth": worth, "paid": sum(it["value"]["amount"] for it in transactions_of(contract)), "status": contract["status"], "ended": ends.get(contract["id"])}
+               "worth": worth, "paid": sum(it["value"]["amount"] for it in transactions_of(contract)), "status": contract["status"],
+               "ended": ends.get(contract["id"])}
 
 
 def payment_rows(notice: Notice) -> Iterator[Json]:
@@ -106,7 +107,8 @@ def lot_rows(notice: Notice) -> Iterator[Json]:
         award, contract = awards.get(lot["id"], {}), contracts.get(lot["id"], {})
         count = sum(row["lot"] == lot["id"] for row in tenders) if "minutes" in notice.texts else None
         yield {"notice": notice.name, "lot": lot["id"], "title": lot["title"], "line": lot["line"], "currency": currency_of(notice),
-               "estimate": lot["estimate"], "security": lot["security"], "status": status[lot["id"]], "items": len(lot["items"]), "tenders": count, "winner": award.get("tenderer"),
+               "estimate": lot["estimate"], "security": lot["security"], "status": status[lot["id"]], "items": len(lot["items"]), "tenders": count,
+               "winner": award.get("tenderer"),
                "winner_name": award.get("name"), "price": award.get("price"), "contract": contract.get("contract"), "worth": contract.get("worth"),
                "paid": contract.get("paid")}
 

@@ -55,6 +55,7 @@ export default {
   "see.outcome.unresponsive": "Erfüllt nicht", "see.why.unresponsive": "Es erfüllt nicht, was verlangt war.",
   "see.outcome.unexamined": "Nicht geprüft", "see.why.unexamined": "Das Los endete vor der Prüfung.",
   "see.outcome.undecided": "Erfüllt das Verlangte", "see.why.undecided": "Das Los endete ohne Entscheidung.",
+  "see.outcome.again": "Wartet", "see.why.again": "Es erfüllt das Verlangte; über das Los wird neu entschieden.",
   "see.outcome.price": "Nicht gewählt", "see.why.price": "Sein Preis war nicht der niedrigste.",
   "see.outcome.later": "Nicht gewählt", "see.why.later": "So niedrig wie der Preis des Gewinners, aber später eingegangen.",
   "see.outcome.points": "Nicht gewählt", "see.why.points": "Es hatte weniger Punkte, oder gleich viele und einen höheren Preis.",

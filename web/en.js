@@ -55,6 +55,7 @@ export default {
   "see.outcome.unresponsive": "Not responsive", "see.why.unresponsive": "It doesn't meet what was asked.",
   "see.outcome.unexamined": "Not examined", "see.why.unexamined": "The lot ended before its examination.",
   "see.outcome.undecided": "Meets what was asked", "see.why.undecided": "The lot ended without a decision.",
+  "see.outcome.again": "Waits", "see.why.again": "It meets what was asked; the lot is decided again.",
   "see.outcome.price": "Not chosen", "see.why.price": "Its price wasn't the lowest.",
   "see.outcome.later": "Not chosen", "see.why.later": "As low a price as the winner's, but it came later.",
   "see.outcome.points": "Not chosen", "see.why.points": "It had fewer points, or as many and a higher price.",

@@ -99,7 +99,7 @@ export function outcomeOf(tender, shown, byPoints) {
     return { active: ["running", "won"], signed: ["done", "signed"], failed: ["stopped", "passed"], cancelled: ["stopped", "awardended"] }[award.state];
   }
   return found.standing === "failed" ? ["stopped", "late"] : found.answer === "unresponsive" ? ["stopped", "unresponsive"]
-    : found.answer === "-" ? ["stopped", "unexamined"] : ["open", notChosen(tender, shown, byPoints)];
+    : found.answer === "-" ? ["stopped", "unexamined"] : shown.state === "undecided" ? ["running", "again"] : ["open", notChosen(tender, shown, byPoints)];
 }
 
 /** Why a tender that could win didn't. */
@@ -127,7 +127,7 @@ export function securityOf(tender, shown, lotState, isForfeited) {
 
 /** The arithmetic of a tender's points: of the price, of quality, and both; null where it has none. */
 export function pointsOf({ points, quality }) {
-  return points === null ? null : { price: points / 1000 - quality, quality, sum: points / 1000 };
+  return points === null ? null : { price: (points - 1000 * quality) / 1000, quality, sum: points / 1000 };
 }
 
 /** The lowest price of the tenders that can win, to which all prices are compared; null where there is none. */

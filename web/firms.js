@@ -52,12 +52,11 @@ export async function drawFirms() {
     element("p", { class: "intro" }, say("see.firms.intro")), firms.length === 0 ? element("p", {}, say("see.firms.none")) : [made, found]] };
 }
 
-const OUTCOMES = { active: ["running", "won"], signed: ["done", "signed"], cancelled: ["stopped", "awardended"] };
 
 /** What became of a tender, by the tables alone: by its award where it had one, else by what was found of it. */
 function outcome(tender, award, contract) {
-  const [kind, name] = contract ? OUTCOMES.signed : award ? OUTCOMES[award.status] ?? OUTCOMES.active
-    : tender.reading !== "priced" ? ["stopped", tender.reading] : tender.standing === "failed" ? ["stopped", "late"]
+  const [kind, name] = contract ? ["done", "signed"] : award?.status === "active" ? ["running", "won"]
+    : award ? ["stopped", tender.standing === "failed" ? "passed" : "awardended"] : tender.reading !== "priced" ? ["stopped", tender.reading] : tender.standing === "failed" ? ["stopped", "late"]
       : tender.answer === "unresponsive" ? ["stopped", "unresponsive"] : tender.standing === "admissible" ? ["open", "notchosen"] : ["running", "waits"];
   return badge(kind, say(`see.outcome.${name}`));
 }

@@ -67,7 +67,7 @@ function drawFound(entries, all) {
   const part = (name, some) => (some.length === 0 ? null : element("section", { "aria-labelledby": name },
     element("h2", { id: name }, say(`see.list.${name}`, { count: some.length })), listOf(some, say(`see.list.${name}`, { count: some.length }))));
   const count = entries.length === all ? say("see.list.all", { count: all }) : say("see.list.some", { some: entries.length, count: all });
-  return [element("p", { class: "count", role: "status" }, count), part("open", open), part("rest", rest),
+  return [element("p", { class: "count", "aria-live": "polite" }, count), part("open", open), part("rest", rest),
     entries.length === 0 ? element("p", {}, say("see.list.none")) : null].flat(Infinity).filter(Boolean);
 }
 

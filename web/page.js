@@ -88,6 +88,7 @@ async function show(takesFocus) {
   }
   main.replaceChildren(...view.content.flat(Infinity).filter(Boolean));
   main.setAttribute("aria-busy", "false");
+  performance.mark("shown");
   document.title = [view.title, await siteName()].filter(Boolean).join(" – ");
   // What came of it is seen below, and so is only read out here.
   byId("status").textContent = view.told;
