@@ -11,7 +11,7 @@ COLUMNS = {
     "notices": ["notice", "title", "buyer", "state", "status", "published", "deadline", "opened", "criteria", "price_weight", "validity_days",
                 "standstill_days", "late_withdrawal", "performance", "currency", "estimate", "lots", "tenderers", "running", "amendments", "releases"],
     "lots": ["notice", "lot", "title", "line", "currency", "estimate", "security", "status", "items", "tenders", "winner", "winner_name", "price", "contract",
-             "worth", "paid"],
+             "contract_status", "worth", "paid"],
     "tenders": ["notice", "lot", "receipt", "tenderer", "name", "address", "currency", "reading", "stated", "corrected", "corrections", "answer", "quality",
                 "points", "standing"],
     "awards": ["award", "notice", "lot", "tenderer", "name", "date", "currency", "price", "status"],
@@ -109,7 +109,8 @@ def lot_rows(notice: Notice) -> Iterator[Json]:
         yield {"notice": notice.name, "lot": lot["id"], "title": lot["title"], "line": lot["line"], "currency": currency_of(notice),
                "estimate": lot["estimate"], "security": lot["security"], "status": status[lot["id"]], "items": len(lot["items"]), "tenders": count,
                "winner": award.get("tenderer"),
-               "winner_name": award.get("name"), "price": award.get("price"), "contract": contract.get("contract"), "worth": contract.get("worth"),
+               "winner_name": award.get("name"), "price": award.get("price"), "contract": contract.get("contract"),
+               "contract_status": contract.get("status"), "worth": contract.get("worth"),
                "paid": contract.get("paid")}
 
 

@@ -83,7 +83,7 @@ def search(scene: Scene) -> None:
     """The search finds words without accents, firms, lines, states and amounts; the address keeps what was asked; a clock runs."""
     page = page_of(scene, "")
     check("open ones come first", page.run(FOUND)[0] == "A footbridge over the river")
-    for address, wanted in {"words=bridge+FOOT": {"A footbridge over the river"}, "words=sohne": 4, "state=cancelled": 2, "line=1800": {"Playgrounds"},
+    for address, wanted in {"words=bridge+FOOT": {"A footbridge over the river"}, "words=sohne": 3, "state=cancelled": 2, "line=1800": {"Playgrounds"},
                             "firm=gamma": 2, "from=600000&to=700000": {"Road repair in the north"}, "year=1999": 0, "words=n6": {"Street lamps"},
                             "words=lamps&line=1500&state=opened": {"Street lamps"}}.items():
         page.go(scene.front.address(f"#list?{address}"))

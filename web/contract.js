@@ -1,17 +1,23 @@
 // A contract: its price against the estimate, what changes added, what was paid, and the security for its performance.
 import { money, moment } from "./common/money.js";
-import { say, sayParts } from "./common/texts.js";
+import { language, say, sayParts } from "./common/texts.js";
 import { badge, bar, element, facts, given, key, listed } from "./draw.js";
 import { addedTo, paidOf } from "./findings.js";
 
-/** An amount beside another one, as `12,000 EUR more (2.5 %)`. */
-export function against(amount, base, currency) {
-  const more = amount - base;
-  if (more === 0) {
-    return say("see.same");
-  }
-  const share = base === 0 ? "" : ` (${new Intl.NumberFormat(document.documentElement.lang, { style: "percent", maximumFractionDigits: 1 }).format(Math.abs(more) / base)})`;
-  return `${say(more > 0 ? "see.above" : "see.below", { amount: money(Math.abs(more), currency) })}${share}`;
+/** A part of an amount, as ` (2.5%)`; nothing where there is none. */
+function share(part, whole) {
+  return whole === 0 ? "" : ` (${new Intl.NumberFormat(language(), { style: "percent", maximumFractionDigits: 1 }).format(Math.abs(part) / whole)})`;
+}
+
+/** A price beside the estimate, as `12,000 EUR above the estimate (2.5%)`. */
+export function against({ amount, currency }, estimate) {
+  const more = amount - estimate.amount;
+  return more === 0 ? say("see.same") : say(more > 0 ? "see.above" : "see.below", { amount: money(Math.abs(more), currency) }) + share(more, estimate.amount);
+}
+
+/** What changes added to a price, as `12,000 EUR (2.5%)`, or took from it, with a minus. */
+function addedText(added, { amount, currency }) {
+  return `${added < 0 ? "−" : "+"}${money(Math.abs(added), currency)}${share(added, amount)}`;
 }
 
 /** What a change of a contract did, as `Raised by 12,000 EUR`: the office tells it in English, without groups and currency. */
@@ -29,14 +35,16 @@ export function contractPart(one, award, lot, terms) {
   const parts = [{ kind: "paid", name: say("see.paid"), amount: paid },
     ended ? { kind: "free", name: say("see.unpaid"), amount: left } : { kind: "contracted", name: say("see.topay"), amount: left }];
   const changes = (one.amendments ?? []).map((it) => [moment(it.date), ": ", changeOf(it, currency), ". ", given(it.rationale)]);
-  const payments = (one.implementation?.transactions ?? []).map(({ id, date, value }) => [moment(date), ": ", money(value.amount, currency), " (", given(id), ")"]);
+  const payments = (one.implementation?.transactions ?? []).map(({ id, date, value }) =>
+    [moment(date), ": ", money(value.amount, currency), " (", given(id), ")"]);
   const name = say("see.contract", { contract: one.id });
-  const told = [[say("see.worth"), money(one.value.amount, currency)], [say("see.price"), [money(award.value.amount, currency), element("span", { class: "quiet below" },
-    against(award.value.amount, lot.value.amount, currency), " ", say("see.estimated"))]],
-  [say("see.added"), changes.length === 0 ? say("see.nothing") : against(award.value.amount + addedTo(one, award), award.value.amount, currency)],
-  [say("see.signed"), moment(one.dateSigned)]];
+  const below = (text) => element("span", { class: "quiet below" }, text);
+  const told = [[say("see.worth"), money(one.value.amount, currency)],
+    [say("see.price"), [money(award.value.amount, currency), below(against(award.value, lot.value))]],
+    [say("see.added"), changes.length === 0 ? say("see.nothing") : addedText(addedTo(one, award), award.value)],
+    [say("see.signed"), moment(one.dateSigned)]];
   if (terms?.performance > 0) {
-    told.push([say("see.performance"), [money(terms.performance, currency), element("span", { class: "quiet below" }, say(ended ? "see.performance.ended" : "see.performance.held"))]]);
+    told.push([say("see.performance"), [money(terms.performance, currency), below(say(ended ? "see.performance.ended" : "see.performance.held"))]]);
   }
   return element("section", { class: "contract", "aria-label": name },
     element("h4", {}, name, " ", ended ? badge("ended", say("see.ended")) : badge("running", say("see.runs"))),

@@ -21,7 +21,8 @@ function byLine(budget, currency) {
     name: element("a", { href: `#line/${encodeURIComponent(line.line)}` }, `${line.line} `, given(line.title)),
     parts: POTS.map((kind) => ({ kind, amount: line[kind] })), told: number(line.appropriation) }));
   const all = POTS.map((kind) => ({ kind, name: say(`see.pot.${kind}`), amount: sum(budget.map((line) => line[kind])) }));
-  return section("by-line", say("see.chart.lines"), element("p", {}, say("see.chart.lines.what", { currency })), key(all, ` ${currency}`), bars(say("see.chart.lines"), rows));
+  return section("by-line", say("see.chart.lines"), element("p", {}, say("see.chart.lines.what", { currency })), key(all, ` ${currency}`),
+    bars(say("see.chart.lines"), rows));
 }
 
 function tendersALot(lots) {
@@ -43,11 +44,13 @@ function daysToContract(notices, contracts) {
 function timeToContract(days) {
   const rows = DAYS.map((most, at) => {
     const count = days.filter((one) => one <= most && one > (DAYS[at - 1] ?? -1)).length;
-    return { name: say(most === Infinity ? "see.chart.days.more" : "see.chart.days.most", { count: most === Infinity ? DAYS[at - 1] : most }),
-      parts: [{ kind: "paid", amount: count }], told: number(count) };
+    const least = at === 0 ? 0 : DAYS[at - 1] + 1;
+    const name = most === Infinity ? say("see.chart.days.more", { most: least - 1 }) : say("see.chart.days.most", { least, most });
+    return { name, parts: [{ kind: "paid", amount: count }], told: number(count) };
   });
-  const middle = days.length === 0 ? "–" : number(days[Math.floor((days.length - 1) / 2)]);
-  return section("how-long", say("see.chart.days"), element("p", {}, say("see.chart.days.what", { count: days.length, middle })), bars(say("see.chart.days"), rows));
+  const middle = days.length === 0 ? "–" : say("span.days", { count: days[Math.floor((days.length - 1) / 2)] });
+  return section("how-long", say("see.chart.days"), element("p", {}, say("see.chart.days.what", { count: days.length, middle })),
+    bars(say("see.chart.days"), rows));
 }
 
 function charts(data, year) {
@@ -66,7 +69,8 @@ export async function drawFigures(text) {
   }
   const years = [...new Set(data.notices.map(({ published }) => published.slice(0, 4)))].sort().reverse();
   const asked = new URLSearchParams(text).get("year") ?? "";
-  const { made, input } = choice("of-year", say("see.figures.year"), [["", say("see.any")], ...years.map((year) => [year, year])], { value: years.includes(asked) ? asked : "" });
+  const choices = [["", say("see.any")], ...years.map((year) => [year, year])];
+  const { made, input } = choice("of-year", say("see.figures.year"), choices, { value: years.includes(asked) ? asked : "" });
   const shown = element("div", {}, charts(data, input.value));
   input.addEventListener("change", () => {
     history.replaceState(history.state, "", input.value ? `#figures?year=${input.value}` : "#figures");

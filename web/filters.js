@@ -29,7 +29,8 @@ export function stateOf(row, known, now) {
   return status === "active" ? "opened" : status === "complete" && known.running > 0 ? "running" : status;
 }
 
-/** All that is known of each notice, newest first and the open ones above: its row, its state, its lines, firms, estimate, and the words by which it is found. */
+/** All that is known of each notice, newest first and the open ones above: its row, its state, its lines, firms and winners, and the words by which it is
+ * found. */
 export function entriesOf(list, data, now) {
   const known = new Map((data?.notices ?? []).map((row) => [row.notice, row]));
   const more = new Map(list.map(({ notice }) => [notice, { lines: new Set(), firms: new Map(), winners: new Set(), words: [] }]));

@@ -5,6 +5,12 @@ export function awardsOf(compiled, lot) {
   return (compiled.awards ?? []).filter((award) => award.relatedLots?.includes(lot.id));
 }
 
+/** The awards that ended since their winner didn't sign: those that a release cancels without cancelling the tender. */
+export function passedOver(releases) {
+  const alone = releases.filter(({ tag }) => tag.includes("awardCancellation") && !tag.includes("tenderCancellation"));
+  return new Set(alone.flatMap((release) => (release.awards ?? []).map(({ id }) => id)));
+}
+
 /** The contract of an award, if it was signed. */
 export function contractOf(compiled, award) {
   return (compiled.contracts ?? []).find(({ awardID }) => awardID === award.id);

@@ -1,6 +1,5 @@
 // Firms: what each tendered for, what it won, and what it was paid; by the tables of the mirror.
-import { field } from "./common/forms.js";
-import { table } from "./common/forms.js";
+import { field, table } from "./common/forms.js";
 import { day, number } from "./common/money.js";
 import { Refused } from "./common/office.js";
 import { say } from "./common/texts.js";
@@ -26,12 +25,13 @@ function firmsOf({ tenders, contracts, payments }) {
 function firmTable(firms, currency) {
   const cells = firms.map((firm) => [[element("a", { href: `#firm/${encodeURIComponent(firm.tenderer)}` }, given(firm.name)),
     element("span", { class: "quiet below" }, given(firm.address))], number(firm.tenders), number(firm.won), number(firm.worth), number(firm.paid)]);
-  return table(say("see.firms.table", { count: firms.length, currency }), [say("see.firm"), say("see.tenders"), say("see.contracts"), say("see.worth"), say("see.paid")],
-    cells, { figures: [1, 2, 3, 4] });
+  const heads = [say("see.firm"), say("see.tenders"), say("see.contracts"), say("see.worth"), say("see.paid")];
+  return table(say("see.firms.table", { count: firms.length, currency }), heads, cells, { figures: [1, 2, 3, 4] });
 }
 
 function without() {
-  return { title: say("see.firms"), told: say("see.nodata"), content: [element("h1", { tabindex: "-1" }, say("see.firms")), element("p", { class: "note" }, say("see.nodata"))] };
+  return { title: say("see.firms"), told: say("see.nodata"),
+    content: [element("h1", { tabindex: "-1" }, say("see.firms")), element("p", { class: "note" }, say("see.nodata"))] };
 }
 
 /** All firms that tendered. */
@@ -48,22 +48,32 @@ export async function drawFirms() {
     const asked = plain(input.value.trim());
     found.replaceChildren(firmTable(firms.filter(({ name, tenderer }) => plain(`${name} ${tenderer}`).includes(asked)), currency));
   });
-  return { title: say("see.firms"), told: say("see.firms.count", { count: firms.length }), content: [element("h1", { tabindex: "-1" }, say("see.firms")),
-    element("p", { class: "intro" }, say("see.firms.intro")), firms.length === 0 ? element("p", {}, say("see.firms.none")) : [made, found]] };
+  return { title: say("see.firms"), told: say("see.firms.count", { count: firms.length }),
+    content: [element("h1", { tabindex: "-1" }, say("see.firms")), element("p", { class: "intro" }, say("see.firms.intro")),
+      firms.length === 0 ? element("p", {}, say("see.firms.none")) : [made, found]] };
 }
 
 
 /** What became of a tender, by the tables alone: by its award where it had one, else by what was found of it. */
-function outcome(tender, award, contract) {
+function outcome(tender, lot, award, contract) {
   const [kind, name] = contract ? ["done", "signed"] : award?.status === "active" ? ["running", "won"]
-    : award ? ["stopped", tender.standing === "failed" ? "passed" : "awardended"] : tender.reading !== "priced" ? ["stopped", tender.reading] : tender.standing === "failed" ? ["stopped", "late"]
-      : tender.answer === "unresponsive" ? ["stopped", "unresponsive"] : tender.standing === "admissible" ? ["open", "notchosen"] : ["running", "waits"];
+    : award ? ["stopped", tender.standing === "failed" ? "passed" : "awardended"] : withoutAward(tender, lot);
   return badge(kind, say(`see.outcome.${name}`));
+}
+
+function withoutAward({ reading, standing, answer }, lot) {
+  if (reading !== "priced" || standing === "failed" || answer === "unresponsive") {
+    return ["stopped", reading !== "priced" ? reading : standing === "failed" ? "late" : answer];
+  }
+  if (standing === "admissible") {
+    return ["open", lot.winner ? "notchosen" : "undecided"];
+  }
+  return lot.status === "active" ? ["running", "waits"] : ["stopped", "unexamined"];
 }
 
 /** A firm, with each of its tenders. */
 export async function drawFirm(tenderer) {
-  const data = await tables("notices", "tenders", "awards", "contracts", "payments");
+  const data = await tables("notices", "lots", "tenders", "awards", "contracts", "payments");
   if (data === null) {
     return without();
   }
@@ -72,19 +82,23 @@ export async function drawFirm(tenderer) {
     throw new Refused({ name: "NoSuch" });
   }
   const notices = new Map(data.notices.map((row) => [row.notice, row]));
+  const lots = new Map(data.lots.map((row) => [`${row.notice}/${row.lot}`, row]));
   const ofTender = (all, { notice, lot }) => all.filter((row) => row.tenderer === tenderer && row.notice === notice && row.lot === lot).at(-1);
   const own = data.tenders.filter((row) => row.tenderer === tenderer).sort((one, other) => other.receipt - one.receipt);
   const cells = own.map((tender) => {
     const contract = ofTender(data.contracts, tender);
     const { title, opened } = notices.get(tender.notice);
-    return [[element("a", { href: `#notice/${encodeURIComponent(tender.notice)}` }, given(title)), element("span", { class: "quiet below" }, say("see.lot", { lot: tender.lot }), " ", day(opened))],
-      amount(tender.corrected), outcome(tender, ofTender(data.awards, tender), contract), amount(contract?.worth ?? null), amount(contract?.paid ?? null)];
+    const found = outcome(tender, lots.get(`${tender.notice}/${tender.lot}`), ofTender(data.awards, tender), contract);
+    return [[element("a", { href: `#notice/${encodeURIComponent(tender.notice)}` }, given(title)),
+      element("span", { class: "quiet below" }, say("see.lot", { lot: tender.lot }), " ", day(opened))],
+    amount(tender.corrected), found, amount(contract?.worth ?? null), amount(contract?.paid ?? null)];
   });
   const currency = data.notices[0].currency;
-  return { title: firm.name, told: firm.name, content: [element("h1", { tabindex: "-1" }, given(firm.name)), element("p", { class: "quiet" }, given(firm.address)),
+  const heads = [say("see.procurement"), say("see.price"), say("see.found"), say("see.worth"), say("see.paid")];
+  return { title: firm.name, told: firm.name, content: [element("h1", { tabindex: "-1" }, given(firm.name)),
+    element("p", { class: "quiet" }, given(firm.address)),
     facts([[say("see.tenders"), number(firm.tenders)], [say("see.contracts"), number(firm.won)], [say("see.worth"), `${number(firm.worth)} ${currency}`],
       [say("see.paid"), `${number(firm.paid)} ${currency}`]]),
-    table(say("see.firm.table", { count: own.length, currency }), [say("see.procurement"), say("see.price"), say("see.found"), say("see.worth"), say("see.paid")], cells,
-      { figures: [1, 3, 4] }),
+    table(say("see.firm.table", { count: own.length, currency }), heads, cells, { figures: [1, 3, 4] }),
     element("p", {}, element("a", { href: "#firms" }, say("see.firms.back")))] };
 }

@@ -28,7 +28,8 @@ function card(line, titles, counts) {
   const heading = element("h3", {}, link);
   addTitle(heading, line.line, titles);
   const count = counts?.get(line.line)?.size ?? 0;
-  return element("li", { class: "card" }, heading, ...pots(name, line), counts ? element("p", { class: "quiet" }, say("see.line.procurements", { count })) : null);
+  return element("li", { class: "card" }, heading, ...pots(name, line),
+    counts ? element("p", { class: "quiet" }, say("see.line.procurements", { count })) : null);
 }
 
 /** A list that shows some lines and, by a button, some more. */
@@ -78,9 +79,10 @@ function lotsOf(lots, entries, currency) {
   const known = new Map(entries.map((one) => [one.notice, one]));
   const cells = lots.filter(({ notice }) => known.has(notice)).map((lot) => {
     const { title, state } = known.get(lot.notice);
+    const own = lot.status === "active" ? state : lot.status === "complete" && lot.contract_status === "active" ? "running" : lot.status;
     const amount = (value) => (value === null ? "–" : number(value));
-    return [element("a", { href: `#notice/${encodeURIComponent(lot.notice)}` }, given(title)), [`${lot.lot} `, given(lot.title)], stateBadge(state), amount(lot.estimate),
-      amount(lot.worth ?? lot.price), amount(lot.paid)];
+    return [element("a", { href: `#notice/${encodeURIComponent(lot.notice)}` }, given(title)), [`${lot.lot} `, given(lot.title)], stateBadge(own),
+      amount(lot.estimate), amount(lot.worth ?? lot.price), amount(lot.paid)];
   });
   return table(say("see.line.table", { currency }), [say("see.procurement"), say("see.lot.short"), say("see.state"), say("see.estimate"), say("see.worth"),
     say("see.paid")], cells, { figures: [3, 4, 5] });
@@ -96,6 +98,7 @@ export async function drawLine(name) {
   return { title, told: title, content: [element("h1", { tabindex: "-1" }, say("see.line.of", { line: name }), ": ", given(line.title)),
     element("section", { class: "card", "aria-label": say("see.pots") }, pots(say("see.line.of", { line: name }), line)),
     element("section", { "aria-labelledby": "bought" }, element("h2", { id: "bought" }, say("see.line.bought")), bought),
-    element("p", {}, element("a", { href: "#ledger" }, say("see.budget.back")), " · ", element("a", { href: `#list?line=${encodeURIComponent(name)}` }, say("see.line.list")))] };
+    element("p", {}, element("a", { href: "#ledger" }, say("see.budget.back")), " · ",
+      element("a", { href: `#list?line=${encodeURIComponent(name)}` }, say("see.line.list")))] };
 }
 

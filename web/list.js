@@ -108,7 +108,8 @@ function search(filters, entries, data) {
   };
   found.append(...drawFound(chosen(entries, filters), entries.length));
   const { words, ...others } = fields;
-  const more = element("details", Object.keys(others).some((name) => filters[name]) ? { open: "" } : {}, element("summary", {}, say("see.filters")),
+  const isOpen = Object.keys(others).some((name) => filters[name]) || matchMedia("(min-width: 64rem)").matches;
+  const more = element("details", isOpen ? { open: "" } : {}, element("summary", {}, say("see.filters")),
     element("div", { class: "fields" }, Object.values(others).map(({ made }) => made)));
   const asks = form([words.made, more], say("see.search"), () => {
     const notice = noticeOf(entries, words.input.value);

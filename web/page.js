@@ -1,6 +1,7 @@
 // Which view is shown, by the address, in the language that is spoken; what stands around the views; and what is put on paper.
+import { decoded, drawLanguages } from "./common/frame.js";
 import { sentenceOf } from "./common/office.js";
-import { addTexts, chooseLanguage, language, languages, say } from "./common/texts.js";
+import { addTexts, say } from "./common/texts.js";
 import { drawAbout, siteName } from "./about.js";
 import { element } from "./draw.js";
 import { drawFigures } from "./figures.js";
@@ -24,33 +25,16 @@ function place() {
   return Object.hasOwn(VIEWS, word ?? "") ? [word, name === undefined ? query ?? "" : decoded(name)] : ["list", ""];
 }
 
-function decoded(text) {
-  try {
-    return decodeURIComponent(text);
-  } catch {
-    return text;
-  }
-}
-
 /** What stands around the views, in the language that is spoken. */
 async function drawFrame(page) {
-  document.documentElement.lang = language();
+  drawLanguages(byId("languages"), () => show(false));
   byId("skip").textContent = say("see.skip");
   byId("foot").textContent = say("see.foot");
   byId("site").textContent = await siteName();
   byId("pages").setAttribute("aria-label", say("see.pages"));
-  byId("pages").replaceChildren(...PAGES.map((name) => element("a", { href: `#${name}`, ...(name === page ? { "aria-current": "page" } : {}) }, say(`see.page.${name}`))),
+  const current = (name) => (name === page ? { "aria-current": "page" } : {});
+  byId("pages").replaceChildren(...PAGES.map((name) => element("a", { href: `#${name}`, ...current(name) }, say(`see.page.${name}`))),
     element("a", { href: "/tender/" }, say("see.page.tender")));
-  byId("languages").setAttribute("aria-label", say("language.choose"));
-  byId("languages").replaceChildren(...languages().map(([tag, name]) => {
-    const made = element("button", { type: "button", lang: tag, "aria-pressed": String(tag === language()) }, name);
-    made.addEventListener("click", async () => {
-      await chooseLanguage(tag).catch((fault) => console.warn(fault));
-      await show(false);
-      byId("languages").querySelector("[aria-pressed='true']").focus();
-    });
-    return made;
-  }));
 }
 
 function refusedView(fault) {

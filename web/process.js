@@ -5,7 +5,7 @@ import { evaluationText, minutesText, noticeTerms, officeNow, record, releases, 
 import { say } from "./common/texts.js";
 import { against, contractPart } from "./contract.js";
 import { badge, element, facts, given, listed } from "./draw.js";
-import { addedTo, awardsOf, contractOf, evaluationOf, paidOf, stateOf, stateOfLot } from "./findings.js";
+import { addedTo, awardsOf, contractOf, evaluationOf, paidOf, passedOver, stateOf, stateOfLot } from "./findings.js";
 import { clock } from "./list.js";
 import { tenderTable } from "./tenders.js";
 import { timeline } from "./timeline.js";
@@ -27,11 +27,11 @@ function items(compiled, lot) {
   return listed(4, say("see.items"), own.map((item) => [`${number(item.quantity)} × `, given(item.description)]));
 }
 
-function awardPart(compiled, lot, award) {
+function awardPart(compiled, lot, award, passed) {
   const active = contractOf(compiled, award) ? ["done", "signed"] : ["running", "unsigned"];
-  const [kind, name] = award.status === "active" ? active : ["stopped", "awardended"];
+  const [kind, name] = award.status === "active" ? active : ["stopped", passed.has(award.id) ? "passed" : "awardended"];
   return [element("b", {}, given(award.suppliers[0].name)), ": ", money(award.value.amount, award.value.currency), " ", badge(kind, say(`see.award.${name}`)),
-    element("span", { class: "below" }, against(award.value.amount, lot.value.amount, award.value.currency), " ", say("see.estimated")),
+    element("span", { class: "below" }, against(award.value, lot.value)),
     element("span", { class: "quiet below" }, say("see.awarded"), " ", moment(award.date))];
 }
 
@@ -60,7 +60,7 @@ function lotPart(compiled, lot, seen, folds) {
   }
   const head = [say("see.lot", { lot: lot.id }), " ", given(lot.title), " ", stateBadge(stateOfLot(compiled, lot))];
   const content = [facts(told), items(compiled, lot),
-    listed(4, say("see.awards", { count: made.length }), made.map((award) => awardPart(compiled, lot, award)), { class: "awards" }),
+    listed(4, say("see.awards", { count: made.length }), made.map((award) => awardPart(compiled, lot, award, seen.passed)), { class: "awards" }),
     element("h4", {}, say("see.tenders")), tenderPart(compiled, lot, seen),
     made.map((award) => [contractOf(compiled, award), award]).filter(([one]) => one).map(([one, award]) => contractPart(one, award, lot, seen.terms))];
   return element("article", { class: "card", id: `lot-${lot.id}`, "aria-label": say("see.lot", { lot: lot.id }) },
@@ -94,28 +94,32 @@ function termsPart(compiled, terms) {
       [say("see.late"), say(`see.late.${terms.late_withdrawal}`)],
       [say("see.performance"), terms.performance > 0 ? money(terms.performance, compiled.tender.value.currency) : say("see.noneasked")]);
   }
-  return section("terms", say("see.terms"), element("dl", { class: "terms" }, told.map(([name, value]) => [element("dt", {}, name), element("dd", {}, value)])));
+  const rows = told.map(([name, value]) => [element("dt", {}, name), element("dd", {}, value)]);
+  return section("terms", say("see.terms"), element("dl", { class: "terms" }, rows));
 }
 
 function factsOf(notice, { tender, buyer }, state) {
   const count = tender.numberOfTenderers;
   const deadline = [moment(tender.tenderPeriod.endDate), state === "open" ? [" ", clock(tender.tenderPeriod.endDate)] : null];
   const tenderers = count !== undefined ? number(count) : say(tender.status === "cancelled" ? "see.tenderers.none" : "see.tenderers.sealed");
-  return facts([[say("see.notice"), notice], [say("see.buyer"), given(buyer.name)], [say("see.estimate"), money(tender.value.amount, tender.value.currency)],
+  return facts([[say("see.notice"), notice], [say("see.buyer"), given(buyer.name)],
+    [say("see.estimate"), money(tender.value.amount, tender.value.currency)],
     [say("see.published"), moment(tender.tenderPeriod.startDate)], [say("see.deadline"), deadline], [say("see.tenderers"), tenderers]]);
 }
 
-/** The whole of a notice. `seen` has its terms, the tenders of its minutes and its evaluation, each null where there is none, and whether it is but a preview. */
+/** The whole of a notice. `seen` has its terms, the tenders of its minutes and its evaluation, each null where there is none, and whether it is but a
+ * preview. */
 export function drawProcess(notice, compiled, all, seen) {
   const { tender } = compiled;
   const state = stateOf(compiled, officeNow());
+  const told = { ...seen, passed: passedOver(all) };
   const names = ["record", "releases", ...(seen.terms ? ["terms"] : []), ...(seen.tenders ? ["minutes"] : []), ...(seen.evaluation ? ["evaluation"] : [])];
   const raw = names.map((name) => `/notices/${notice}/${name}`).map((path) => element("li", {}, element("a", { href: path }, path)));
   const drawn = [
     element("h1", { tabindex: "-1" }, given(tender.title)), element("p", {}, stateBadge(state)), factsOf(notice, compiled, state[1]),
     state[1] === "open" && !seen.isPreview ? element("p", {}, element("a", { class: "button", href: `/tender/#offer/${notice}` }, say("see.offer"))) : null,
     element("div", { class: "process" }, element("div", {}, moneyTable(compiled),
-      section("lots", say("see.lots.title"), tender.lots.map((lot) => lotPart(compiled, lot, seen, tender.lots.length > FEW)))),
+      section("lots", say("see.lots.title"), tender.lots.map((lot) => lotPart(compiled, lot, told, tender.lots.length > FEW)))),
     element("div", {}, termsPart(compiled, seen.terms), section("happened", say("see.happened"), timeline(all, compiled)))),
     section("raw", say("see.raw"), element("ul", {}, raw)),
   ].filter(Boolean);

@@ -10,7 +10,8 @@ function below(...content) {
 }
 
 function who({ name, address, receipt, tenderer }) {
-  return [element("a", { href: `#firm/${encodeURIComponent(tenderer)}` }, given(name)), below(given(address)), below(say("see.tender.receipt", { receipt: String(receipt) }))];
+  return [element("a", { href: `#firm/${encodeURIComponent(tenderer)}` }, given(name)), below(given(address)),
+    below(say("see.tender.receipt", { receipt: String(receipt) }))];
 }
 
 function priceOf({ reading, stated, corrected, corrections }, currency) {
@@ -27,7 +28,8 @@ function pointsShown(found, weight, lowest) {
     return "–";
   }
   const decimals = (value) => new Intl.NumberFormat(document.documentElement.lang, { maximumFractionDigits: 3 }).format(value);
-  const price = found.price === 0 ? say("see.points.free", { weight }) : `${number(weight)} × ${number(lowest)} ÷ ${number(found.price)} = ${decimals(points.price)}`;
+  const price = found.price === 0 ? say("see.points.free", { weight })
+    : `${number(weight)} × ${number(lowest)} ÷ ${number(found.price)} = ${decimals(points.price)}`;
   return [element("b", {}, decimals(points.sum)), below(say("see.points.price"), " ", price), below(say("see.points.quality"), " ", number(points.quality))];
 }
 
@@ -52,6 +54,7 @@ export function tenderTable(compiled, lot, tenders, terms, shown) {
     return [who(tender), priceOf(tender, currency), ...(hasPoints ? [pointsShown(shown.tenders.get(tender.receipt), weight, lowest)] : []),
       [badge(kind, say(`see.outcome.${name}`)), element("span", { class: "below" }, say(`see.why.${name}`))], ...security];
   });
-  const drawn = table(say(hasPoints ? "see.table.points" : "see.table", { count: rows.length, lot: lot.id }), heads, rows, { figures: hasPoints ? [1, 2] : [1] });
-  return [hasPoints && lowest !== null ? element("p", { class: "quiet" }, say("see.points.rule", { weight, lowest: number(lowest), rest: 100 - weight })) : null, drawn];
+  const caption = say(hasPoints ? "see.table.points" : "see.table", { count: rows.length, lot: lot.id });
+  const rule = hasPoints && lowest !== null ? say("see.points.rule", { weight, lowest: number(lowest), rest: 100 - weight }) : null;
+  return [rule ? element("p", { class: "quiet" }, rule) : null, table(caption, heads, rows, { figures: hasPoints ? [1, 2] : [1] })];
 }

@@ -46,7 +46,8 @@ function updated({ tender }, lots) {
 }
 
 function awarded({ awards: [award] }, lots) {
-  return ["awarded", sayParts("see.told.awarded", { lots: names(lots, award.relatedLots), name: given(award.suppliers[0].name), amount: amountOf(award.value) })];
+  const to = given(award.suppliers[0].name);
+  return ["awarded", sayParts("see.told.awarded", { lots: names(lots, award.relatedLots), name: to, amount: amountOf(award.value) })];
 }
 
 function failed({ awards }, lots, compiled) {

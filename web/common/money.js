@@ -38,27 +38,28 @@ export function typed(text, most) {
   return trimmed.length > 16 || Number(trimmed) > most ? { fault: "above" } : { value: Number(trimmed) };
 }
 
-const PARTS = { day: "numeric", month: "long", year: "numeric", hour: "2-digit", minute: "2-digit", second: "2-digit", hourCycle: "h23" };
+const DAY = { day: "numeric", month: "long", year: "numeric" };
+const TIME = { hour: "2-digit", minute: "2-digit", second: "2-digit", hourCycle: "h23" };
 
-function formatted(date, more) {
-  return form(Intl.DateTimeFormat, { ...PARTS, ...more }).format(date);
+function formatted(date, parts) {
+  return form(Intl.DateTimeFormat, parts).format(date);
 }
 
 /** The day of a moment, in UTC. */
 export function day(text) {
   const date = new Date(text);
-  const told = form(Intl.DateTimeFormat, { day: "numeric", month: "long", year: "numeric", timeZone: "UTC" });
-  return element("time", { datetime: text }, Number.isNaN(date.getTime()) ? text : told.format(date));
+  return element("time", { datetime: text }, Number.isNaN(date.getTime()) ? text : formatted(date, { ...DAY, timeZone: "UTC" }));
 }
 
-/** A moment of the office: in UTC, as it counts, and where the reader is. */
+/** A moment of the office: in UTC, as it counts, and where the reader is, there without the day where that is the same. */
 export function moment(text) {
   const date = new Date(text);
   if (Number.isNaN(date.getTime())) {
     return element("span", {}, text);
   }
-  const here = formatted(date, { timeZoneName: "short" });
-  const utc = `${formatted(date, { timeZone: "UTC" })} UTC`;
+  const isSameDay = formatted(date, DAY) === formatted(date, { ...DAY, timeZone: "UTC" });
+  const here = formatted(date, { ...(isSameDay ? {} : DAY), ...TIME, timeZoneName: "short" });
+  const utc = `${formatted(date, { ...DAY, ...TIME, timeZone: "UTC" })} UTC`;
   return element("time", { datetime: text }, date.getTimezoneOffset() === 0 ? utc : say("moment.both", { utc, here }));
 }
 

@@ -60,11 +60,11 @@ function refusalOf(answer, text) {
 }
 
 /** The text of an answer. A caller is `{ caller, key }`, or nothing for the public. */
-async function send(path, { method = "GET", caller = null, body = undefined } = {}) {
+async function send(path, { method = "GET", caller = null, body = undefined, cache = "no-store" } = {}) {
   const headers = caller ? { "Office-Caller": caller.caller, "Office-Key": caller.key } : {};
   let answer, text;
   try {
-    answer = await fetch(path, { method, headers, body, credentials: "omit", cache: "no-store", redirect: "error", signal: AbortSignal.timeout(LONGEST) });
+    answer = await fetch(path, { method, headers, body, credentials: "omit", cache, redirect: "error", signal: AbortSignal.timeout(LONGEST) });
     text = await answer.text();
   } catch {
     throw new Refused({ kind: "away" });
@@ -180,18 +180,14 @@ export function evaluationText(notice) {
 
 /** A file that stands beside the office, as those of its mirror: its text, or null where it isn't there. A browser keeps it, and asks whether it changed. */
 export async function file(path) {
-  let answer, text;
   try {
-    answer = await fetch(path, { credentials: "omit", cache: "no-cache", redirect: "error", signal: AbortSignal.timeout(LONGEST) });
-    text = await answer.text();
-  } catch {
-    throw new Refused({ kind: "away" });
+    return await send(path, { cache: "no-cache" });
+  } catch (fault) {
+    if (fault.status === 404) {
+      return null;
+    }
+    throw fault;
   }
-  hearClock(answer);
-  if (!answer.ok && answer.status !== 404) {
-    throw refusalOf(answer, text);
-  }
-  return answer.ok ? text : null;
 }
 
 /** A notice's releases, in order. */
