@@ -102,10 +102,10 @@ class Office:
                 return found
         raise Unreadable(f"{self.base}: {name} moves on and on")
 
-    def budget(self) -> list[Json]:
-        """The lines of the ledger, each with its title."""
-        rows = [line.split("\t") for line in self.must("/ledger").split("\n")[2:-1]]
-        return [json.loads(self.must(f"/lines/{row[0]}")) for row in rows]
+    def budget(self) -> tuple[str, list[Json]]:
+        """The ledger, and its lines, each with its title."""
+        ledger = self.must("/ledger")
+        return ledger, [json.loads(self.must("/lines/" + line.split("\t")[0])) for line in ledger.split("\n")[2:-1]]
 
 
 class Kept:

@@ -6,7 +6,8 @@ from mirror_office import Json, Notice
 
 # So many entries has the feed, the newest first.
 NEWEST = 100
-STATES = {"receiving": "receives tenders", "opened": "opened", "cancelled": "cancelled"}
+# Where a procurement stands, by the status of its tender; before the opening it receives tenders.
+STATES = {"active": "opened", "complete": "contracted", "cancelled": "cancelled", "unsuccessful": "ended without a contract"}
 WORDS = """<p>All that this office published: the procurements below, and files to download. Amounts are whole units of the currency, moments are UTC.</p>
 <p lang="de">Alles, was diese Vergabestelle veröffentlicht hat: unten die Vergaben, dazu Dateien zum Herunterladen. Beträge sind ganze Einheiten der Währung,
 Zeiten UTC.</p>"""
@@ -60,7 +61,8 @@ the office answered them. In the tables a text that begins with = + - or @ has a
 def notice_row(one: Notice) -> str:
     value = one.compiled["tender"]["value"]
     link = f"<a href={quoteattr(f'records/{one.name}.json')}>{html.escape(one.name)}</a> <bdi>{html.escape(one.row['title'])}</bdi>"
-    return (f"<tr><td>{link}</td><td>{STATES[one.row['state']]}, {html.escape(one.compiled['tender']['status'])}</td><td>{one.row['deadline']}</td>"
+    state = "receives tenders" if one.row["state"] == "receiving" else STATES[one.compiled["tender"]["status"]]
+    return (f"<tr><td>{link}</td><td>{state}</td><td>{one.row['deadline']}</td>"
             f"<td>{value['amount']:,} {html.escape(value['currency'])}</td></tr>\n")
 
 
