@@ -203,6 +203,15 @@ class Page:
         if not self.browser.pictures:
             return
         size = self.ask("Page.getLayoutMetrics")["cssContentSize"]
-        clip = {"x": 0, "y": 0, "width": size["width"], "height": size["height"], "scale": 1}
+        self.take(path, size["width"], size["height"], 1)
+
+    def small_picture(self, path: str) -> None:
+        """A small picture of the top of a page, for README."""
+        if self.browser.pictures:
+            self.shape(1280)
+            self.take(path, 1280, 860, 0.6)
+
+    def take(self, path: str, width: int, height: int, scale: float) -> None:
+        clip = {"x": 0, "y": 0, "width": width, "height": height, "scale": scale}
         with open(path, "wb") as file:
             file.write(base64.b64decode(self.ask("Page.captureScreenshot", format="png", captureBeyondViewport=True, optimizeForSpeed=True, clip=clip)["data"]))

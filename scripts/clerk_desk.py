@@ -124,6 +124,8 @@ class Desk:
 
     def picture(self, name: str) -> None:
         """The screen, narrow and wide, light and dark: within the window, and with contrast."""
+        if name == "evaluation":
+            self.page.small_picture(os.path.join(self.scene.pictures, "clerk.png"))
         for width in WIDTHS:
             self.page.shape(width)
             page_checks.is_within(name, width, self.page)

@@ -79,6 +79,8 @@ def views(scene: Scene) -> None:
         page.go(scene.front.address(place))
         page.wait("[...document.querySelectorAll('.lines h3')].every((heading) => heading.textContent.includes(':'))")
         differences += difference(scene, name, page)
+        if name == "running":
+            page.small_picture(os.path.join(scene.pictures, "portal.png"))
         for shape, width in WIDTHS.items():
             page.shape(width)
             is_read_out(name, page)
