@@ -10,7 +10,7 @@ import { drawJournal } from "./journals.js";
 import { drawKey } from "./key.js";
 import { drawLetter } from "./letters.js";
 import { drawMinutes } from "./minutes.js";
-import { drawEditor, drawPreview } from "./editor.js";
+import { drawEditor } from "./editor.js";
 import { drawProcurement } from "./procurement.js";
 import { caller, forgetKey, who } from "./session.js";
 import { drawTenderers } from "./tenderers.js";
@@ -21,6 +21,8 @@ await addTexts({ en: () => import("./en.js"), de: () => import("./de.js") });
 const byId = (id) => document.getElementById(id);
 const main = byId("content");
 const PAGES = ["today", "budget", "tenderers", "new", "journal"];
+// (The public page's modules are loaded where it is drawn.)
+const drawPreview = async () => (await import("./preview.js")).drawPreview();
 // The screens by the first word of the address; what stands behind it is given to them.
 const SCREENS = { today: drawToday, budget: drawBudget, tenderers: drawTenderers, new: drawEditor, preview: drawPreview, journal: drawJournal, key: drawKey,
   notice: drawProcurement, minutes: drawMinutes, letter: drawLetter };
