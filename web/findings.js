@@ -49,7 +49,8 @@ function stateOfContracts(contracts) {
     return ["ended", "complete"];
   }
   const isPaid = running.every((contract) => paidOf(contract) >= contract.value.amount);
-  return isPaid ? ["done", "paid"] : ["running", contracts.some((contract) => paidOf(contract) > 0) ? "part" : "unpaid"];
+  const allRun = running.length === contracts.length;
+  return isPaid ? [allRun ? "done" : "ended", "paid"] : ["running", contracts.some((contract) => paidOf(contract) > 0) ? "part" : "unpaid"];
 }
 
 /** The state of one lot, likewise. */
@@ -106,6 +107,11 @@ export function outcomeOf(tender, shown, byPoints) {
   }
   return found.standing === "failed" ? ["stopped", "late"] : found.answer === "unresponsive" ? ["stopped", "unresponsive"]
     : found.answer === "-" ? ["stopped", "unexamined"] : shown.state === "undecided" ? ["running", "again"] : ["open", notChosen(tender, shown, byPoints)];
+}
+
+/** The kind of badge of a contract that was signed: green for as long as it runs, since it may have ended by default. */
+export function kindOfSigned(contract) {
+  return contract?.status === "terminated" ? "ended" : "done";
 }
 
 /** Why a tender that could win didn't. */

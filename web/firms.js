@@ -6,6 +6,7 @@ import { say } from "./common/texts.js";
 import { grouped, sum, tables } from "./data.js";
 import { badge, element, facts, given } from "./draw.js";
 import { plain } from "./filters.js";
+import { kindOfSigned } from "./findings.js";
 
 function amount(value) {
   return value === null ? "–" : number(value);
@@ -56,7 +57,7 @@ export async function drawFirms() {
 
 /** What became of a tender, by the tables alone: by its award where it had one, else by what was found of it. */
 function outcome(tender, lot, award, contract) {
-  const [kind, name] = contract ? ["done", "signed"] : award?.status === "active" ? ["running", "won"]
+  const [kind, name] = contract ? [kindOfSigned(contract), "signed"] : award?.status === "active" ? ["running", "won"]
     : award ? ["stopped", tender.standing === "failed" ? "passed" : "awardended"] : withoutAward(tender, lot);
   return badge(kind, say(`see.outcome.${name}`));
 }

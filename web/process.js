@@ -5,7 +5,7 @@ import { evaluationText, minutesText, noticeTerms, officeNow, record, releases, 
 import { say } from "./common/texts.js";
 import { against, contractPart } from "./contract.js";
 import { badge, element, facts, given, listed } from "./draw.js";
-import { addedTo, awardsOf, contractOf, evaluationOf, paidOf, passedOver, stateOf, stateOfLot } from "./findings.js";
+import { addedTo, awardsOf, contractOf, evaluationOf, kindOfSigned, paidOf, passedOver, stateOf, stateOfLot } from "./findings.js";
 import { clock } from "./list.js";
 import { tenderTable } from "./tenders.js";
 import { timeline } from "./timeline.js";
@@ -28,7 +28,8 @@ function items(compiled, lot) {
 }
 
 function awardPart(compiled, lot, award, passed) {
-  const active = contractOf(compiled, award) ? ["done", "signed"] : ["running", "unsigned"];
+  const contract = contractOf(compiled, award);
+  const active = contract ? [kindOfSigned(contract), "signed"] : ["running", "unsigned"];
   const [kind, name] = award.status === "active" ? active : ["stopped", passed.has(award.id) ? "passed" : "awardended"];
   return [element("b", {}, given(award.suppliers[0].name)), ": ", money(award.value.amount, award.value.currency), " ", badge(kind, say(`see.award.${name}`)),
     element("span", { class: "below" }, against(award.value, lot.value)),

@@ -3,7 +3,7 @@ import { table } from "./common/forms.js";
 import { money, number } from "./common/money.js";
 import { say } from "./common/texts.js";
 import { badge, element, given } from "./draw.js";
-import { lowestOf, outcomeOf, pointsOf, securityOf } from "./findings.js";
+import { awardsOf, contractOf, kindOfSigned, lowestOf, outcomeOf, pointsOf, securityOf } from "./findings.js";
 
 function below(...content) {
   return element("span", { class: "quiet below" }, ...content);
@@ -44,12 +44,14 @@ export function tenderTable(compiled, lot, tenders, terms, shown) {
   const byPoints = compiled.tender.awardCriteria !== "priceOnly";
   const { currency } = lot.value;
   const lowest = lowestOf(shown);
+  const contract = awardsOf(compiled, lot).map((award) => contractOf(compiled, award)).find(Boolean);
   const asked = terms?.lots.find(({ id }) => id === lot.id)?.security > 0;
   const weight = terms?.price_weight ?? null;
   const hasPoints = byPoints && shown && weight !== null;
   const heads = [say("see.tenderer"), say("see.price"), ...(hasPoints ? [say("see.points")] : []), say("see.found"), ...(asked ? [say("see.security")] : [])];
   const rows = [...tenders].sort(order(byPoints, shown)).map((tender) => {
-    const [kind, name] = outcomeOf(tender, shown, byPoints);
+    const [found, name] = outcomeOf(tender, shown, byPoints);
+    const kind = name === "signed" ? kindOfSigned(contract) : found;
     const security = asked ? [say(`see.security.${securityOf(tender, shown, lot.status, terms.late_withdrawal === "forfeits")}`)] : [];
     return [who(tender), priceOf(tender, currency), ...(hasPoints ? [pointsShown(shown.tenders.get(tender.receipt), weight, lowest)] : []),
       [badge(kind, say(`see.outcome.${name}`)), element("span", { class: "below" }, say(`see.why.${name}`))], ...security];
