@@ -214,4 +214,4 @@ class Page:
     def take(self, path: str, width: int, height: int, scale: float) -> None:
         clip = {"x": 0, "y": 0, "width": width, "height": height, "scale": scale}
         with open(path, "wb") as file:
-            file.write(base64.b64decode(self.ask("Page.captureScreenshot", format="png", captureBeyondViewport=True, optimizeForSpeed=True, clip=clip)["data"]))
+            file.write(base64.b64decode(self.ask("Page.captureScreenshot", format="png", captureBeyondViewport=True, optimizeForSpeed=scale == 1, clip=clip)["data"]))
