@@ -98,6 +98,9 @@ def views(scene: Scene) -> None:
 def difference(scene: Scene, name: str, page: Page) -> str:
     """Where a view says something else than `page_texts/`; what it says is left with the pictures. Its title is its own, and markup in a text is text."""
     text = without_moments(page.text())
+    if name == "list":
+        # (Which of those that were published within a few seconds come first isn't told beforehand.)
+        text = "".join(sorted(text.splitlines(True)))
     with open(os.path.join(scene.pictures, f"{name}.txt"), "w") as file:
         file.write(text)
     has_its_own(name, page)
