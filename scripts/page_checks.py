@@ -388,9 +388,9 @@ def office_away(scene: Scene) -> None:
     """Where the office is gone, the front says so, and so does the page."""
     scene.office.kill()
     scene.office.wait()
-    answer = scene.front.ask("GET", "/lines/77")
+    answer = scene.front.ask("GET", "/lines/78")
     check(f"a look without an office: {answer}", answer.status == 502 and b"front" in answer.body)
-    said = page_of(scene, "#notice/N77").text()
+    said = page_of(scene, "#notice/N78").text()
     check(f"the page says {said!r}", said == "Not shown\nThe office isn't answering at the moment.\nProcurements\n")
 
 
