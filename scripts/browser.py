@@ -32,6 +32,8 @@ class Browser:
         self.stream.settimeout(PATIENCE)
         self.count, self.rest = 0, b""
         self.events: list[Event] = []
+        # Requests that wait to be answered.
+        self.paused: list[Event] = []
 
         def plumb() -> None:
             # It reads at 3 and writes at 4.
@@ -64,7 +66,8 @@ class Browser:
         number = self.count
         while (message := self.receive()).get("id") != number:
             # (An answer that came too late for its command is none.)
-            self.events += [message] if "method" in message else []
+            if "method" in message:
+                (self.paused if message["method"] == "Fetch.requestPaused" else self.events).append(message)
         if "error" in message:
             fail(f"chromium: {method}: {message['error']['message']}")
         return message["result"]
@@ -130,14 +133,13 @@ class Page:
             self.answer()
             if time.monotonic() > end:
                 fail(f"the page: {what}: doesn't come to hold; it shows {self.text()!r}")
-            time.sleep(0.01)
+            time.sleep(0.02)
             # Events come with the answer to a command.
             self.run("0")
 
     def answer(self) -> None:
         """Answers what the page has asked, where `answers` has it."""
-        paused = [event for event in self.browser.events if event["method"] == "Fetch.requestPaused"]
-        self.browser.events = [event for event in self.browser.events if event not in paused]
+        paused, self.browser.paused = self.browser.paused, []
         for event in paused:
             request = event["params"]["requestId"]
             path = "/" + event["params"]["request"]["url"].split("/", 3)[3]

@@ -1,6 +1,7 @@
 """What `tools/mirror` asks of an office, and what it keeps of it: of each notice its row in the list, its record, terms, minutes and evaluation."""
 import json
 import os
+import re
 import time
 from dataclasses import dataclass, field
 from typing import Any
@@ -9,6 +10,7 @@ from audit_answers import Answers
 from audit_office import Unreadable
 
 Json = dict[str, Any]
+IDENTIFIER = re.compile(r"[A-Za-z0-9_.-]{1,32}")
 # How often a notice is asked for again whose record isn't the list's, since a command came in between.
 TRIES = 5
 # The folders of a mirror, and how their files end: what is kept of each notice as the office wrote it.
@@ -84,8 +86,14 @@ class Office:
         while True:
             page = json.loads(self.must("/notices" + (f"?after={after}" if after else "")))
             found += page["notices"]
+            # (Names become those of files, and what is asked for may be anybody's answer.)
+            names = [after, *(row["notice"] for row in page["notices"])]
+            if not all(IDENTIFIER.fullmatch(name) for name in names[1:]) or names != sorted(set(names)):
+                raise Unreadable(f"{self.base}/notices: these are no notices in their order: {names[:5]}")
             if page["next"] is None:
                 return found
+            if page["next"] != names[-1]:
+                raise Unreadable(f"{self.base}/notices: the next page begins at {page['next']!r}, and this one ends with {names[-1]!r}")
             after = page["next"]
 
     def notice(self, row: Json) -> Notice:

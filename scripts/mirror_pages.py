@@ -62,7 +62,7 @@ def notice_row(one: Notice) -> str:
     value = one.compiled["tender"]["value"]
     link = f"<a href={quoteattr(f'records/{one.name}.json')}>{html.escape(one.name)}</a> <bdi>{html.escape(one.row['title'])}</bdi>"
     state = "receives tenders" if one.row["state"] == "receiving" else STATES[one.compiled["tender"]["status"]]
-    return (f"<tr><td>{link}</td><td>{state}</td><td>{one.row['deadline']}</td>"
+    return (f"<tr><td>{link}</td><td>{state}</td><td>{html.escape(one.row['deadline'])}</td>"
             f"<td>{value['amount']:,} {html.escape(value['currency'])}</td></tr>\n")
 
 
@@ -71,7 +71,7 @@ def feed(base: str, moment: str, notices: list[Notice]) -> str:
     releases = [(release["date"], one, release) for one in notices for release in one.releases]
     newest = sorted(releases, key=lambda it: (it[0], it[2]["id"]), reverse=True)[:NEWEST]
     updated = newest[0][0] if newest else moment
-    head = (f"<id>{escape(base)}/data/feed.atom</id>\n<title>Procurements</title>\n<updated>{updated}</updated>\n"
+    head = (f"<id>{escape(base)}/data/feed.atom</id>\n<title>Procurements</title>\n<updated>{escape(updated)}</updated>\n"
             f"<author><name>{escape(author(notices))}</name></author>\n")
     links = f"<link rel=\"self\" href={quoteattr(base + '/data/feed.atom')}/>\n<link href={quoteattr(base + '/')}/>\n"
     entries = "".join(entry(base, one, release) for _, one, release in newest)
@@ -85,5 +85,5 @@ def author(notices: list[Notice]) -> str:
 def entry(base: str, one: Notice, release: Json) -> str:
     tags = ", ".join(release["tag"])
     return (f"<entry>\n<id>urn:ocds:{escape(release['id'])}</id>\n<title>{escape(one.row['title'])} ({escape(one.name)}): {escape(tags)}</title>\n"
-            f"<updated>{release['date']}</updated>\n<link href={quoteattr(f'{base}/#notice/{one.name}')}/>\n"
+            f"<updated>{escape(release['date'])}</updated>\n<link href={quoteattr(f'{base}/#notice/{one.name}')}/>\n"
             f"<summary>{escape(tags)}</summary>\n</entry>\n")

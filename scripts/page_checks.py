@@ -32,10 +32,12 @@ PALE = """(() => {
   const parts = (text) => text.match(/[\\d.]+/g).map(Number);
   const channel = (value) => value <= 10.31475 ? value / 3294.6 : ((value / 255 + 0.055) / 1.055) ** 2.4;
   const light = ([r, g, b]) => 0.2126 * channel(r) + 0.7152 * channel(g) + 0.0722 * channel(b);
-  const ground = (at) => {
+  const grounds = new Map();
+  const seek = (at) => {
     const own = parts(getComputedStyle(at).backgroundColor);
     return own[3] === 0 ? (at.parentElement ? ground(at.parentElement) : [255, 255, 255]) : own;
   };
+  const ground = (at) => grounds.get(at) ?? grounds.set(at, seek(at)).get(at);
   const ratio = (one, other) => { const [low, high] = [light(one), light(other)].sort((a, b) => a - b); return (high + 0.05) / (low + 0.05); };
   const found = [];
   for (const at of document.querySelectorAll("body *")) {
@@ -81,16 +83,15 @@ def views(scene: Scene) -> None:
         differences += difference(scene, name, page)
         if name == "running":
             page.small_picture(os.path.join(scene.pictures, "portal.png"))
-        for shape, width in WIDTHS.items():
-            page.shape(width)
+        # (Colours go by light and dark, and not by the width: each is looked at once, and wherever pictures are asked for.)
+        for shape, dark in (("narrow", False), ("wide", True), *((("narrow", True), ("wide", False)) if page.browser.pictures else ())):
+            page.shape(WIDTHS[shape], dark=dark)
+            page.picture(os.path.join(scene.pictures, f"{name}-{shape}-{'dark' if dark else 'light'}.png"))
+            has_contrast(f"{name}, {shape}, {'dark' if dark else 'light'}", page)
+            is_within(name, WIDTHS[shape], page)
             is_read_out(name, page)
-            for dark in (False, True):
-                page.shape(width, dark=dark)
-                page.picture(os.path.join(scene.pictures, f"{name}-{shape}-{'dark' if dark else 'light'}.png"))
-                has_contrast(f"{name}, {shape}, {'dark' if dark else 'light'}", page)
-        for width in (*WIDTHS.values(), NARROWEST):
-            page.shape(width)
-            is_within(name, width, page)
+        page.shape(NARROWEST)
+        is_within(name, NARROWEST, page)
     check("what is said is something else than in page_texts:\n" + differences, not differences)
     keeps_nothing(scene, page)
 

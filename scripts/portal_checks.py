@@ -12,7 +12,7 @@ from common import CONFIG, check, free_port
 from front import Front
 from looks_stand_in import Server, StandIn
 from mirror_tables import table
-from page_checks import NARROWEST, VIEWS, WIDTHS, has_contrast, is_quiet, is_within, page_of
+from page_checks import NARROWEST, VIEWS, has_contrast, is_quiet, is_within, page_of
 from scene import Scene
 
 WIDEST = 1920
@@ -34,7 +34,7 @@ def german(scene: Scene) -> None:
         page.go(scene.front.address(place))
         check(f"{name} is in {page.run('document.documentElement.lang')}", page.run("document.documentElement.lang") == "de")
         check(f"{name} shows names of texts", "see." not in page.text())
-        for width in (NARROWEST, WIDTHS["narrow"], WIDEST):
+        for width in (NARROWEST, WIDEST):
             page.shape(width)
             is_within(name, width, page)
         page.picture(os.path.join(scene.pictures, f"{name}-german.png"))
@@ -144,6 +144,28 @@ def many(scene: Scene) -> None:
             is_quiet(page)
 
 
+CITY = {"name": {"en": "Example City", "de": "Beispielstadt"}, "imprint": {"en": ["1 <b>Town</b> Square", "See https://example.org/x, or ask a@example.org."]},
+        "privacy": {"de": ["Nichts wird gespeichert."]}}
+
+
+def city(scene: Scene) -> None:
+    """The city's own words are its file's: the name above, its paragraphs as texts with links, in the language that there is."""
+    os.makedirs(os.path.join(scene.front.folder, "city"), exist_ok=True)
+    path = os.path.join(scene.front.folder, "city", "city.json")
+    with open(path, "w") as file:
+        json.dump(CITY, file)
+    page = page_of(scene, "#about")
+    os.remove(path)
+    text = page.text()
+    check(f"it says {text!r}", "Imprint\n1 <b>Town</b> Square\n" in text and "Privacy\nNichts wird gespeichert.\n" in text and "hasn't filled" in text)
+    names = page.run("[document.getElementById('site').textContent, document.title]")
+    check(f"its name stands above: {names}", names[0] == "Example City" and names[1].endswith("Example City"))
+    links = page.run("[...document.querySelectorAll('section a')].map((at) => at.getAttribute('href'))")
+    check(f"links are {links}", links[:2] == ["https://example.org/x", "mailto:a@example.org"])
+    check("its language is told", page.run("[...document.querySelectorAll('main [lang]')].some((at) => at.lang === 'de')"))
+    is_quiet(page)
+
+
 def on_paper(scene: Scene) -> None:
     """Printed, a view is without menus and buttons; what was folded is there; it says where it comes from and when."""
     page = page_of(scene, "#notice/N1")
@@ -180,4 +202,4 @@ def without_mirror(scene: Scene) -> None:
     is_quiet(page)
 
 
-CHECKS = [german, open_data, search, many, on_paper, without_mirror]
+CHECKS = [german, open_data, search, many, city, on_paper, without_mirror]
