@@ -216,4 +216,5 @@ class Page:
     def take(self, path: str, width: int, height: int, scale: float) -> None:
         clip = {"x": 0, "y": 0, "width": width, "height": height, "scale": scale}
         with open(path, "wb") as file:
-            file.write(base64.b64decode(self.ask("Page.captureScreenshot", format="png", captureBeyondViewport=True, optimizeForSpeed=scale == 1, clip=clip)["data"]))
+            shot = self.ask("Page.captureScreenshot", format="png", captureBeyondViewport=True, optimizeForSpeed=scale == 1, clip=clip)
+            file.write(base64.b64decode(shot["data"]))
