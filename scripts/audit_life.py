@@ -40,6 +40,12 @@ class Life(Client[Answer]):
         for name in names:
             self.register(name, f"Firm {name}", f"{name} Street")
 
+    def enrol_in_time(self, *names: str) -> None:
+        """Registers these, and puts the deadline so far ahead that a program with its checks in, or a busy machine, answers some fifty requests before it."""
+        begun = time.monotonic()
+        self.enrol(*names)
+        self.deadline = int(time.time()) + max(AHEAD, math.ceil(25 * (time.monotonic() - begun)))
+
     def announce(self, name: str, deadline: float, *lots: Mapping[str, Any], **terms: Any) -> None:
         self.publish(name, notice(text_of(deadline), *lots, title=f"Notice {name} <b>Straße</b>", **terms))
 
@@ -82,10 +88,7 @@ class AuditedLife(Life):
     def before_the_deadline(self) -> None:
         """The budget, the tenderers, eight notices and their tenders; N3 is cancelled, N5 goes on receiving, and tenders for N8 may be withdrawn late."""
         self.import_budget("B1", budget("1000,add,100000,Roads", "2000,add,100000,Schools", "2000,cut,5000,Schools", "3000,add,0007,Parks"))
-        begun = time.monotonic()
-        self.enrol(*TENDERERS)
-        # (Some fifty requests follow, which a program with its checks in, or a busy machine, doesn't answer within four seconds.)
-        self.deadline = int(time.time()) + max(AHEAD, math.ceil(5 * len(TENDERERS) * (time.monotonic() - begun)))
+        self.enrol_in_time(*TENDERERS)
         self.announce_all()
         self.submit("dear", "T1", "N1", "L1", offer(90, 30, wrong=20), 50)
         self.submit("first", "T2", "N1", "L1", offer(100, 30), 60)

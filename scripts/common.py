@@ -202,9 +202,9 @@ def timed_exchange(port: int, text: bytes, patience: float = 0) -> tuple[bytes, 
     return response.split(b"\r\n\r\n", 1)[1], took
 
 
-def serve_words(program: str, file: str, port: int | str, count: int | str) -> list[str]:
+def serve_words(program: str, file: str, port: int | str, count: int | str, settings: str = CONFIG) -> list[str]:
     """The command line of a server over a file."""
-    return [program, "serve", CONFIG, file, str(port), str(count)]
+    return [program, "serve", settings, file, str(port), str(count)]
 
 
 @contextlib.contextmanager

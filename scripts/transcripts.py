@@ -1,11 +1,11 @@
-"""Files of transcripts, read by their form, which is told at the head of crates/worked_runs/data/setup.txt."""
+"""Files of transcripts, read by their form, which is told at the head of crates/tests_of_runs/data/setup.txt."""
 import os
 import re
 
 import common
 from common import CLERK, ROOT
 
-CRATE = os.path.join(ROOT, "crates", "worked_runs")
+CRATE = os.path.join(ROOT, "crates", "tests_of_runs")
 PHRASES = {"200": "OK", "400": "Bad Request", "401": "Unauthorized", "403": "Forbidden", "404": "Not Found", "405": "Method Not Allowed",
            "409": "Conflict", "413": "Payload Too Large", "501": "Not Implemented", "503": "Service Unavailable"}
 
@@ -36,7 +36,7 @@ def blocks_of(block: str) -> list[str]:
 
 
 def topics() -> list[Topic]:
-    """The files that crates/worked_runs/args names, in their order."""
+    """The files that crates/tests_of_runs/args names, in their order."""
     with open(os.path.join(CRATE, "args"), encoding="utf-8") as file:
         return [Topic(name) for name in file.read().split()]
 

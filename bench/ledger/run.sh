@@ -9,10 +9,10 @@ root=$(cd "$here/../.." && pwd)
 work=$(mktemp -d)
 trap 'rm -rf "$work"' EXIT
 mkdir -p "$work/crates/program/src"
-for crate in office_values office_acts office_base keyed_table office_memory; do cp -r "$root/crates/$crate" "$work/crates/$crate"; done
+for crate in office_values office_commands office_base keyed_table office_memory; do cp -r "$root/crates/$crate" "$work/crates/$crate"; done
 cp "$here/ratios.rt.in" "$work/crates/program/src/main.rt"
-grep -E '^(office_(values|acts|base|memory)|keyed_table):' "$root/crates.txt" > "$work/crates.txt"
-printf 'program: office_memory office_base office_acts office_values anyhow\n' >> "$work/crates.txt"
+grep -E '^(office_(values|commands|base|memory)|keyed_table):' "$root/crates.txt" > "$work/crates.txt"
+printf 'program: office_memory office_base office_commands office_values anyhow\n' >> "$work/crates.txt"
 printf 'Handles allowed: none.\n' > "$work/HANDLES"
 cd "$work/crates/program"
 "${RT:-rt}" run --jobs 1 2> log || { cat log; exit 1; }

@@ -6,8 +6,9 @@ use Rattle.std.specs.Cmp.{nat_cmp_total, tied_itself}
 use Rattle.std.proofs.lemmas.Bool.Decides.{nat_tests}
 use Rattle.office_base.specs.declared.records.EnvelopeRow.{EnvelopeRow}
 use Rattle.std.specs.declared.cmp.Ordering.TheVariants.{Less, Equal}
-use Rattle.office_base.specs.Rows.{StartsAbove, IsInOrder}
+use Rattle.office_base.specs.Rows.{IsInOrder}
 use Rattle.office_base.specs.Tables.{envelope_key}
+use Rattle.office_base.proofs.RowLaws.Starts.{all_above}
 use Rattle.award_core.specs.Rules.Award.{is_admissible, price_of, lesser, lowest_price, points, is_better, better, best_with, best_of}
 use Rattle.award_core.specs.Best.{lowest_in, IsBest, IsLowest, NoneIsAdmissible, IsAnswer, IsLowestAnswer, receipt_in, IsBestReceipt, BestIsFound}
 
@@ -39,6 +40,12 @@ same_rank : (none : Bool) (s p r s' p' r' : ℕ) → beats none s p r s' p' r' �
 same_rank true s p r s' p' r' h g = same_place p r p' r' h g
 same_rank false s p r s' p' r' h g = grind (arith, nat_tests)
 
+contains_head : (e : EnvelopeRow) (rows : List EnvelopeRow) → Contains (e ∷ rows) e
+contains_head e rows = (0, omega arith, refl)
+
+contains_tail : (f e : EnvelopeRow) (rows : List EnvelopeRow) → Contains rows e → Contains (f ∷ rows) e
+contains_tail f e rows c = (suc c.0, omega (arith, c.1), c.2)
+
 module _ (weight lowest : ℕ) where
   no_better_trans : (x y z : EnvelopeRow) → is_better weight lowest x y ≡ false → is_better weight lowest y z ≡ false → is_better weight lowest x z ≡ false
   no_better_trans x y z h g = not_beaten_trans (nat_eq weight 0) (points weight lowest x) (price_of x) x.receipt (points weight lowest y) (price_of y) y.receipt (points weight lowest z) (price_of z) z.receipt h g
@@ -64,12 +71,6 @@ module _ (weight lowest : ℕ) where
   none_of : (rows : List EnvelopeRow) (e : EnvelopeRow) → NoneIsAdmissible rows → NoneBetter rows e
   none_of [] e none = tt
   none_of (f ∷ rows) e none = (λ a. let h = none.0 in absurd cc, none_of rows e none.1)
-
-  contains_head : (e : EnvelopeRow) (rows : List EnvelopeRow) → Contains (e ∷ rows) e
-  contains_head e rows = (0, omega arith, refl)
-
-  contains_tail : (f e : EnvelopeRow) (rows : List EnvelopeRow) → Contains rows e → Contains (f ∷ rows) e
-  contains_tail f e rows c = (suc c.0, omega (arith, c.1), c.2)
 
   -- what the pass has found of these
   record Found (rows : List EnvelopeRow) (e : EnvelopeRow) : Type 0 where
@@ -127,17 +128,24 @@ none_lower : (rows : List EnvelopeRow) (n : ℕ) → NoneIsAdmissible rows → A
 none_lower [] n none = tt
 none_lower (f ∷ rows) n none = (λ a. let h = none.0 in absurd cc, none_lower rows n none.1)
 
+abbrev IsPriceIn : List EnvelopeRow → ℕ → Type 0
+IsPriceIn rows price = (e : EnvelopeRow) × Contains rows e × (is_admissible e ≡ true) × (price_of e ≡ price)
+
+-- the row that has the price, behind one more
+one_later : (f : EnvelopeRow) (rows : List EnvelopeRow) (m : ℕ) → IsLowest rows m → IsPriceIn (f ∷ rows) m
+one_later f rows m old = (old.of_one.0, contains_tail f old.of_one.0 rows old.of_one.1, old.of_one.2, old.of_one.3)
+
 lesser_found : (e : EnvelopeRow) (rows : List EnvelopeRow) (m : ℕ) → is_admissible e ≡ true → IsLowest rows m → (b : Bool) → nat_lt m (price_of e) ≡ b → IsLowest (e ∷ rows) (cond b m (price_of e))
-lesser_found e rows m a old true h = let le : m ≤ price_of e = grind (arith, nat_tests) in record { of_one = old.of_one; least = (λ _. le, old.least) }
-lesser_found e rows m a old false h = let le : price_of e ≤ m = grind (arith, nat_tests) in record { of_one = (e, a, refl); least = (λ _. omega arith, lower_too rows (price_of e) m le old.least) }
+lesser_found e rows m a old true h = let le : m ≤ price_of e = grind (arith, nat_tests) in record { of_one = one_later e rows m old; least = (λ _. le, old.least) }
+lesser_found e rows m a old false h = let le : price_of e ≤ m = grind (arith, nat_tests) in record { of_one = (e, contains_head e rows, a, refl); least = (λ _. omega arith, lower_too rows (price_of e) m le old.least) }
 
 lowest_with : (e : EnvelopeRow) (rows : List EnvelopeRow) (o : Option ℕ) → is_admissible e ≡ true → IsLowestAnswer rows o → IsLowest (e ∷ rows) (lesser (price_of e) o)
-lowest_with e rows None a old = record { of_one = (e, a, refl); least = (λ _. omega arith, none_lower rows (price_of e) old) }
+lowest_with e rows None a old = record { of_one = (e, contains_head e rows, a, refl); least = (λ _. omega arith, none_lower rows (price_of e) old) }
 lowest_with e rows (Some m) a old = lesser_found e rows m a old (nat_lt m (price_of e)) refl
 
 lowest_without : (e : EnvelopeRow) (rows : List EnvelopeRow) (o : Option ℕ) → is_admissible e ≡ false → IsLowestAnswer rows o → IsLowestAnswer (e ∷ rows) o
 lowest_without e rows None a old = (a, old)
-lowest_without e rows (Some m) a old = record { of_one = old.of_one; least = (λ b. absurd cc, old.least) }
+lowest_without e rows (Some m) a old = record { of_one = one_later e rows m old; least = (λ b. absurd cc, old.least) }
 
 lowest_more : (e : EnvelopeRow) (rows : List EnvelopeRow) (o : Option ℕ) → IsLowestAnswer rows o → (b : Bool) → is_admissible e ≡ b → IsLowestAnswer (e ∷ rows) (cond b (Some (lesser (price_of e) o)) o)
 lowest_more e rows o old true a = lowest_with e rows o a old
@@ -153,12 +161,6 @@ of_one P [] k e all lt is = absurd (let none : k < 0 = lt in omega arith)
 of_one P (f ∷ rows) zero e all lt is = subst P is all.0
 of_one P (f ∷ rows) (suc k) e all lt is = of_one P rows k e all.1 (omega arith) is
 
--- each row stands above the start
-all_above : (k : ℕ) (rows : List EnvelopeRow) → StartsAbove nat_cmp envelope_key k rows → IsInOrder nat_cmp envelope_key rows → AllByRecursion (λ (f : EnvelopeRow). nat_cmp k f.receipt ≡ Less) rows
-all_above k [] start order = tt
-all_above k (x ∷ []) start order = (start, tt)
-all_above k (x ∷ y ∷ rows) start order = (start, all_above k (y ∷ rows) (nat_cmp_total.trans k x.receipt y.receipt start order.0) order.1)
-
 not_below_itself : (m n : ℕ) → m ≡ n → nat_cmp m n ≡ Less → ⊥
 not_below_itself m n same below = let tied : Less ≡ Equal = sym below ∙ (ap (nat_cmp m) (sym same) ∙ tied_itself nat_cmp_total m) in cc
 
@@ -167,9 +169,9 @@ same_row : (rows : List EnvelopeRow) (j k : ℕ) (e f : EnvelopeRow) → IsInOrd
 same_row [] j k e f order lt is lt' is' same = absurd (let none : j < 0 = lt in omega arith)
 same_row (x ∷ rows) zero zero e f order lt is lt' is' same = sym is ∙ is'
 same_row (x ∷ rows) zero (suc k) e f order lt is lt' is' same =
-    absurd (not_below_itself x.receipt f.receipt (ap (λ (g : EnvelopeRow). g.receipt) is ∙ same) (of_one (λ (g : EnvelopeRow). nat_cmp x.receipt g.receipt ≡ Less) rows k f (all_above x.receipt rows order.0 order.1) (omega arith) is'))
+    absurd (not_below_itself x.receipt f.receipt (ap (λ (g : EnvelopeRow). g.receipt) is ∙ same) (of_one (λ (g : EnvelopeRow). nat_cmp x.receipt g.receipt ≡ Less) rows k f (all_above nat_cmp_total envelope_key x.receipt rows order.0 order.1) (omega arith) is'))
 same_row (x ∷ rows) (suc j) zero e f order lt is lt' is' same =
-    absurd (not_below_itself x.receipt e.receipt (ap (λ (g : EnvelopeRow). g.receipt) is' ∙ sym same) (of_one (λ (g : EnvelopeRow). nat_cmp x.receipt g.receipt ≡ Less) rows j e (all_above x.receipt rows order.0 order.1) (omega arith) is))
+    absurd (not_below_itself x.receipt e.receipt (ap (λ (g : EnvelopeRow). g.receipt) is' ∙ sym same) (of_one (λ (g : EnvelopeRow). nat_cmp x.receipt g.receipt ≡ Less) rows j e (all_above nat_cmp_total envelope_key x.receipt rows order.0 order.1) (omega arith) is))
 same_row (x ∷ rows) (suc j) (suc k) e f order lt is lt' is' same = same_row rows j k e f order.1 (omega arith) is (omega arith) is' same
 
 is_only : (weight : ℕ) (rows : List EnvelopeRow) (e f : EnvelopeRow) → IsInOrder nat_cmp envelope_key rows → IsBest weight rows e → IsBest weight rows f → e ≡ f

@@ -17,9 +17,9 @@ pub record IsBest (weight : ℕ) (rows : List EnvelopeRow) (e : EnvelopeRow) : T
   pub admissible : is_admissible e ≡ true
   pub none_better : AllByRecursion (λ (f : EnvelopeRow). is_admissible f ≡ true → is_better weight (lowest_in rows) f e ≡ false) rows
 
--- the price of one admissible row, and at most that of each
+-- the price of an admissible one of the rows, and at most that of each
 pub record IsLowest (rows : List EnvelopeRow) (price : ℕ) : Type 0 where
-  pub of_one : (e : EnvelopeRow) × (is_admissible e ≡ true) × (price_of e ≡ price)
+  pub of_one : (e : EnvelopeRow) × Contains rows e × (is_admissible e ≡ true) × (price_of e ≡ price)
   pub least : AllByRecursion (λ (f : EnvelopeRow). is_admissible f ≡ true → price ≤ price_of f) rows
 
 abbrev pub NoneIsAdmissible : List EnvelopeRow → Type 0

@@ -1,18 +1,20 @@
 //! The decision on the amendment of a contract.
-ghost use Rattle.std.specs.Prelude.{◌≡◌, ◌&&◌, IfSome, nat_lt};
+ghost use Rattle.std.specs.Prelude.{◌≡◌, ◌&&◌, ◌<◌, IfSome, IfNone, nat_lt, IfOk, IfErr, false};
+ghost use Rattle.office_values.specs.Money.{total_limit};
+ghost use Rattle.office_values.specs.declared.refusal.Refusal.TheVariants.{Unavailable};
 ghost use Rattle.office_base.specs.Deciding.{Decides};
 ghost use Rattle.office_base.specs.Joined.{free_in};
 ghost use Rattle.office_base.specs.Rules.{first_of};
-ghost use Rattle.award_core.specs.Rules.AmendContract.{is_running, is_raising, entry_kind, line_after, amend_contract_tests, amend_contract_puts};
+ghost use Rattle.award_core.specs.Rules.AmendContract.{is_running, is_raising, entry_kind, line_after, amend_contract_lacks, amend_contract_tests, amend_contract_puts};
 
-use crate::entries::{has_all_entries, has_entry, is_beyond};
+use crate::entries::{has_all_entries, has_entry, is_beyond, is_overdrawn};
 use crate::lines::{free_on, with_free};
-use office_acts::amounts::EntryAmount;
-use office_acts::contract::ChangeKind;
-use office_base::parts::{at_moment, has_all_releases, released};
 use office_base::puts::Put;
 use office_base::records::{ClockRow, ContractRow, EntryKind, EntryRow, LineRow, NoticeRow};
 use office_base::rows::Rows;
+use office_base::transitions::{at_moment, has_all_releases, with_next_release};
+use office_commands::amounts::EntryAmount;
+use office_commands::contract::ChangeKind;
 use office_values::id::Id;
 use office_values::moment::Moment;
 use office_values::refusal::{Refusal, Thing};
@@ -51,9 +53,10 @@ fn entry_kind(kind: ChangeKind) -> EntryKind
     }
 }
 
-// The line after it: a raise takes what is free, a cut gives it back. None above 10^15.
+// The line after it: a raise takes what is free, a cut gives it back. None exactly where that is above 10^15.
 fn line_after(kind: ChangeKind, amount: EntryAmount, line: LineRow) -> Option<LineRow>
-    ensures { IfSome result (λ row. row ≡ line_after kind amount line) }
+    ensures found { IfSome result (λ row. row ≡ line_after kind amount line) }
+    ensures none { IfNone result (total_limit < (line_after kind amount line).free) }
 {
     let free = line.free.units() as u128;
     let amount = amount.get() as u128;
@@ -63,10 +66,39 @@ fn line_after(kind: ChangeKind, amount: EntryAmount, line: LineRow) -> Option<Li
     }
 }
 
-/// Decides the amendment of a contract: its refusal, or what it puts. `Unavailable` where the office lacks the contract's notice or
-/// line, or the line would have more free than 10^15, as in none that commands reach.
-#[tactic(auto, unfolding(office_base::specs::Deciding::Decides))]
-pub fn decide_amend_contract(
+/// Why the amendment of a contract is refused.
+pub fn refusal(
+    rows: &AmendContractRows,
+    entry: &Id,
+    kind: ChangeKind,
+    amount: EntryAmount,
+) -> Option<Refusal>
+    ensures { result ≡ first_of (amend_contract_tests rows.now entry.now kind amount) }
+{
+    let Some(contract) = &rows.contract else {
+        return Some(Refusal::NoSuch(Thing::Contract));
+    };
+    if has_entry(rows.entries.as_slice(), entry) {
+        return Some(Refusal::Exists);
+    }
+    if is_short(&rows.line, kind, amount, contract) {
+        return Some(Refusal::InsufficientFunds);
+    }
+    if kind == ChangeKind::Cut && is_beyond(rows.entries.as_slice(), amount, contract) {
+        return Some(Refusal::MoreThanOutstanding);
+    }
+    if contract.ended.is_some() {
+        return Some(Refusal::ContractEnded);
+    }
+    if has_all_entries(rows.entries.as_slice()) || has_all_releases(&rows.notice) {
+        return Some(Refusal::LimitReached);
+    }
+    None
+}
+
+/// What the amendment of a contract puts. `Unavailable` where a row isn't there, more was cut and paid than
+/// signed and raised, or the line would have more free than 10^15.
+pub fn puts(
     alloc: Global,
     t: Moment,
     rows: AmendContractRows,
@@ -75,37 +107,17 @@ pub fn decide_amend_contract(
     amount: EntryAmount,
     rationale: TextLine,
 ) -> Result<Vec<Put>, Refusal>
-    ensures { Decides result (first_of (amend_contract_tests rows entry kind amount)) (amend_contract_puts rows t entry kind amount rationale) }
+    ensures puts { IfOk result (λ made. made.items ≡ amend_contract_puts rows t entry kind amount rationale) }
+    ensures whole { IfOk result (λ _. amend_contract_lacks rows ≡ false) }
+    ensures fault { IfErr result (λ e. e ≡ Unavailable) }
 {
-    let AmendContractRows {
-        contract,
-        entries,
-        notice,
-        line,
-        clock,
-    } = rows;
-    let Some(contract) = contract else {
-        return Err(Refusal::NoSuch(Thing::Contract));
-    };
-    if has_entry(entries.as_slice(), &entry) {
-        return Err(Refusal::Exists);
-    }
-    if is_short(&line, kind, amount, &contract) {
-        return Err(Refusal::InsufficientFunds);
-    }
-    if kind == ChangeKind::Cut && is_beyond(entries.as_slice(), amount, &contract) {
-        return Err(Refusal::MoreThanOutstanding);
-    }
-    if contract.ended.is_some() {
-        return Err(Refusal::ContractEnded);
-    }
-    if has_all_entries(entries.as_slice()) || has_all_releases(&notice) {
-        return Err(Refusal::LimitReached);
-    }
-    let (Some(notice), Some(line)) = (notice, line) else {
+    let contract = rows.contract.ok_or(Refusal::Unavailable)?;
+    let notice = rows.notice.ok_or(Refusal::Unavailable)?;
+    let line = rows.line.ok_or(Refusal::Unavailable)?;
+    if is_overdrawn(rows.entries.as_slice(), &contract) {
         return Err(Refusal::Unavailable);
-    };
-    let notice = released(notice).ok_or(Refusal::Unavailable)?;
+    }
+    let notice = with_next_release(notice).ok_or(Refusal::Unavailable)?;
     let line = line_after(kind, amount, line).ok_or(Refusal::Unavailable)?;
     let mut made = Vec::with_capacity(alloc, 4)?;
     made.push(Put::Entry(EntryRow {
@@ -118,6 +130,25 @@ pub fn decide_amend_contract(
     }))?;
     made.push(Put::Line(line))?;
     made.push(Put::Notice(notice))?;
-    made.push(Put::Clock(at_moment(clock, t)))?;
+    made.push(Put::Clock(at_moment(rows.clock, t)))?;
     Ok(made)
+}
+
+/// Decides the amendment of a contract: its refusal, or what it puts.
+#[tactic(auto, unfolding(office_base::specs::Deciding::Decides))]
+pub fn decide_amend_contract(
+    alloc: Global,
+    t: Moment,
+    rows: AmendContractRows,
+    entry: Id,
+    kind: ChangeKind,
+    amount: EntryAmount,
+    rationale: TextLine,
+) -> Result<Vec<Put>, Refusal>
+    ensures { Decides result (first_of (amend_contract_tests rows entry kind amount)) (amend_contract_lacks rows) (amend_contract_puts rows t entry kind amount rationale) }
+{
+    match refusal(&rows, &entry, kind, amount) {
+        Some(why) => Err(why),
+        None => puts(alloc, t, rows, entry, kind, amount, rationale),
+    }
 }

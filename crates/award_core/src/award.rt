@@ -1,24 +1,25 @@
 //! The decision on the award of a lot.
-ghost use Rattle.std.specs.Prelude.{◌≡◌, ◌+◌, ◌-◌, IfOk, IfErr, IfSome, Some, None, [], option_map};
+ghost use Rattle.std.specs.Prelude.{◌≡◌, ◌+◌, ◌-◌, ◌<◌, IfOk, IfErr, IfSome, IfNone, Some, None, [], option_map, false};
 ghost use Rattle.std.specs.List.{list_any};
+ghost use Rattle.office_values.specs.Money.{total_limit};
 ghost use Rattle.office_values.specs.declared.refusal.Refusal.TheVariants.{Unavailable};
 ghost use Rattle.office_base.specs.Deciding.{Decides};
 ghost use Rattle.office_base.specs.Joined.{free_in};
 ghost use Rattle.office_base.specs.declared.records.AwardState.TheVariants as award_states;
 ghost use Rattle.office_base.specs.Rules.{first_of};
-ghost use Rattle.award_core.specs.Rules.Award.{is_admissible, price_of, isnt_examined, is_above, winner, weight_in, decision_puts, award_row, award_tests, award_puts};
+ghost use Rattle.award_core.specs.Rules.Award.{is_admissible, price_of, isnt_examined, is_above, winner, weight_in, decision_puts, award_row, award_lacks, award_tests, award_puts};
 
 use crate::best::{best_row, is_admissible, is_priced, price_of};
 use crate::lines::{free_on, with_free};
 use crate::securities::push_returned;
-use office_acts::notice::Weight;
-use office_base::parts::{at_moment, has_all_releases, is_expired, released};
 use office_base::puts::Put;
 use office_base::records::{
     AwardRow, AwardState, ClockRow, EnvelopeRow, LineRow, LotRow, LotState, NoticeRow, NoticeState,
     SecurityRow,
 };
 use office_base::rows::Rows;
+use office_base::transitions::{at_moment, has_all_releases, is_expired, with_next_release};
+use office_commands::notice::Weight;
 use office_values::given::{GivenNumber, LastNumber};
 use office_values::moment::Moment;
 use office_values::money::Amount;
@@ -60,9 +61,10 @@ fn is_above_funds(lot: &LotRow, line: &Option<LineRow>, winner: &EnvelopeRow) ->
     lot.reserved.units() + free_on(line).units() < price_of(winner).units()
 }
 
-// The line with what the lot had reserved free, but for the price. None above 10^15.
+// The line with what the lot had reserved free, but for the price. None exactly where that is above 10^15.
 fn line_after(line: LineRow, reserved: Amount, price: Amount) -> Option<LineRow>
-    ensures { IfSome result (λ row. row ≡ record line { free = (line.free + reserved) - price }) }
+    ensures found { IfSome result (λ row. row ≡ record line { free = (line.free + reserved) - price }) }
+    ensures none { IfNone result (total_limit < (line.free + reserved) - price) }
 {
     let free = line.free.units() as u128 + reserved.units() as u128;
     with_free(line, free.saturating_sub(price.units() as u128))
@@ -97,7 +99,7 @@ fn won(
     ensures fault { IfErr result (λ e. e ≡ Unavailable) }
 {
     let award = GivenNumber::read(clock.awards.get() + 1).ok_or(Refusal::Unavailable)?;
-    let notice = released(notice).ok_or(Refusal::Unavailable)?;
+    let notice = with_next_release(notice).ok_or(Refusal::Unavailable)?;
     let price = price_of(winner);
     let line = line_after(line, lot.reserved, price).ok_or(Refusal::Unavailable)?;
     let award_row = award_row(award, t, &lot, winner);
@@ -131,7 +133,7 @@ fn lost(
     ensures puts { IfOk result (λ made. made.items ≡ decision_puts clock t notice lot line None securities.now) }
     ensures fault { IfErr result (λ e. e ≡ Unavailable) }
 {
-    let notice = released(notice).ok_or(Refusal::Unavailable)?;
+    let notice = with_next_release(notice).ok_or(Refusal::Unavailable)?;
     let nothing = Amount::read(0).unwrap();
     let line = line_after(line, lot.reserved, nothing).ok_or(Refusal::Unavailable)?;
     let mut made = Vec::with_capacity(alloc, 4)?;
@@ -202,6 +204,7 @@ pub fn refusal(t: Moment, rows: &AwardRows, best: Option<&EnvelopeRow>) -> Optio
 /// there, the notice counts no more releases, or the line would have more free than 10^15.
 pub fn puts(alloc: Global, t: Moment, rows: AwardRows) -> Result<Vec<Put>, Refusal>
     ensures puts { IfOk result (λ made. made.items ≡ award_puts rows t) }
+    ensures whole { IfOk result (λ _. award_lacks rows ≡ false) }
     ensures fault { IfErr result (λ e. e ≡ Unavailable) }
 {
     let AwardRows {
@@ -225,7 +228,7 @@ pub fn puts(alloc: Global, t: Moment, rows: AwardRows) -> Result<Vec<Put>, Refus
 /// office lacks the lot's line, or the line would have more free than 10^15, as in none that commands reach.
 #[tactic(auto, unfolding(office_base::specs::Deciding::Decides))]
 pub fn decide_award(alloc: Global, t: Moment, rows: AwardRows) -> Result<Vec<Put>, Refusal>
-    ensures { Decides result (first_of (award_tests rows t)) (award_puts rows t) }
+    ensures { Decides result (first_of (award_tests rows t)) (award_lacks rows) (award_puts rows t) }
 {
     match refusal(t, &rows, best_tender(&rows)) {
         Some(why) => Err(why),

@@ -4,9 +4,9 @@ ghost use Rattle.office_base.specs.Readings.{is_priced};
 ghost use Rattle.award_core.specs.Rules.Award.{price_of, is_admissible, lesser, lowest_price, price_points, points, is_cheaper, is_better, better, best_with, best_of};
 ghost use Rattle.award_core.specs.Best.{lowest_in, receipt_in, IsBestReceipt};
 
-use office_acts::notice::Weight;
 use office_base::reading::Reading;
 use office_base::records::{EnvelopeRow, EnvelopeState};
+use office_commands::notice::Weight;
 use office_values::given::GivenNumber;
 use office_values::money::Amount;
 

@@ -1,19 +1,22 @@
 //! The decision on the end of a contract.
-ghost use Rattle.std.specs.Prelude.{◌≡◌, ◌++◌, IfSome, OnOk};
+ghost use Rattle.std.specs.Prelude.{◌≡◌, ◌++◌, IfSome, OnOk, IfOk, IfErr, false};
+ghost use Rattle.office_values.specs.declared.refusal.Refusal.TheVariants.{Unavailable};
 ghost use Rattle.office_base.specs.Deciding.{Decides};
-ghost use Rattle.office_base.specs.RuleParts.{performance_settled, put_if};
+ghost use Rattle.office_base.specs.Transitions.{performance_settled, put_if};
 ghost use Rattle.office_base.specs.Rules.{first_of};
-ghost use Rattle.award_core.specs.Rules.End.{end_tests, end_puts, ended_contract, ended_state};
+ghost use Rattle.award_core.specs.Rules.End.{end_lacks, end_tests, end_puts, ended_contract, ended_state, lacks_performance};
 
-use crate::entries::outstanding;
+use crate::entries::{is_overdrawn, outstanding};
 use crate::lines::with_free;
-use office_acts::contract::How;
-use office_base::parts::{at_moment, has_all_releases, released, settled_performance};
 use office_base::puts::Put;
 use office_base::records::{
     ClockRow, ContractRow, EntryRow, LineRow, NoticeRow, PerformanceRow, SecurityState,
 };
 use office_base::rows::Rows;
+use office_base::transitions::{
+    at_moment, has_all_releases, settled_performance, with_next_release,
+};
+use office_commands::contract::How;
 use office_values::moment::Moment;
 use office_values::money::Total;
 use office_values::refusal::{Refusal, Thing};
@@ -29,6 +32,13 @@ pub struct EndRows {
     pub line: Option<LineRow>,
     pub performance: Option<PerformanceRow>,
     pub clock: ClockRow,
+}
+
+// Whether the notice asks for a performance security that isn't there.
+fn lacks_performance(notice: &NoticeRow, performance: &Option<PerformanceRow>) -> bool
+    ensures { result ≡ lacks_performance notice.now performance.now }
+{
+    notice.performance.units() > 0 && performance.is_none()
 }
 
 // What becomes of the performance security where the contract ends so.
@@ -55,35 +65,41 @@ fn push_settled(
     Ok(())
 }
 
-/// Decides the end of a contract: its refusal, or what it puts. `Unavailable` where the office lacks the notice or the line, or holds
-/// sums above their bounds, which none has that commands reach.
-#[tactic(auto, unfolding(office_base::specs::Deciding::Decides))]
-pub fn decide_end(alloc: Global, t: Moment, rows: EndRows, how: How) -> Result<Vec<Put>, Refusal>
-    ensures { Decides result (first_of (end_tests rows)) (end_puts rows t how) }
+/// Why the end of a contract is refused.
+pub fn refusal(rows: &EndRows) -> Option<Refusal>
+    ensures { result ≡ first_of (end_tests rows.now) }
 {
-    let EndRows {
-        contract,
-        entries,
-        notice,
-        line,
-        performance,
-        clock,
-    } = rows;
-    let Some(contract) = contract else {
-        return Err(Refusal::NoSuch(Thing::Contract));
+    let Some(contract) = &rows.contract else {
+        return Some(Refusal::NoSuch(Thing::Contract));
     };
     if contract.ended.is_some() {
-        return Err(Refusal::ContractEnded);
+        return Some(Refusal::ContractEnded);
     }
-    if has_all_releases(&notice) {
-        return Err(Refusal::LimitReached);
+    if has_all_releases(&rows.notice) {
+        return Some(Refusal::LimitReached);
     }
-    let (Some(notice), Some(line)) = (notice, line) else {
+    None
+}
+
+/// What the end of a contract puts. `Unavailable` where a row isn't there, more was cut and paid than signed and raised,
+/// or a sum is above its bound.
+pub fn puts(alloc: Global, t: Moment, rows: EndRows, how: How) -> Result<Vec<Put>, Refusal>
+    ensures puts { IfOk result (λ made. made.items ≡ end_puts rows t how) }
+    ensures whole { IfOk result (λ _. end_lacks rows ≡ false) }
+    ensures fault { IfErr result (λ e. e ≡ Unavailable) }
+{
+    let contract = rows.contract.ok_or(Refusal::Unavailable)?;
+    let notice = rows.notice.ok_or(Refusal::Unavailable)?;
+    let line = rows.line.ok_or(Refusal::Unavailable)?;
+    if lacks_performance(&notice, &rows.performance) {
         return Err(Refusal::Unavailable);
-    };
-    let rest = outstanding(entries.as_slice(), &contract);
+    }
+    if is_overdrawn(rows.entries.as_slice(), &contract) {
+        return Err(Refusal::Unavailable);
+    }
+    let rest = outstanding(rows.entries.as_slice(), &contract);
     let free = line.free.units() as u128 + rest;
-    let notice = released(notice).ok_or(Refusal::Unavailable)?;
+    let notice = with_next_release(notice).ok_or(Refusal::Unavailable)?;
     let line = with_free(line, free).ok_or(Refusal::Unavailable)?;
     let contract = ContractRow {
         ended: Some(t),
@@ -95,7 +111,19 @@ pub fn decide_end(alloc: Global, t: Moment, rows: EndRows, how: How) -> Result<V
     made.push(Put::Contract(contract))?;
     made.push(Put::Line(line))?;
     made.push(Put::Notice(notice))?;
-    made.push(Put::Clock(at_moment(clock, t)))?;
-    push_settled(&mut made, performance, ended_state(how))?;
+    made.push(Put::Clock(at_moment(rows.clock, t)))?;
+    push_settled(&mut made, rows.performance, ended_state(how))?;
     Ok(made)
+}
+
+/// Decides the end of a contract: its refusal, or what it puts. `Unavailable` where the office lacks the notice or the line, or holds
+/// sums above their bounds, which none has that commands reach.
+#[tactic(auto, unfolding(office_base::specs::Deciding::Decides))]
+pub fn decide_end(alloc: Global, t: Moment, rows: EndRows, how: How) -> Result<Vec<Put>, Refusal>
+    ensures { Decides result (first_of (end_tests rows)) (end_lacks rows) (end_puts rows t how) }
+{
+    match refusal(&rows) {
+        Some(why) => Err(why),
+        None => puts(alloc, t, rows, how),
+    }
 }

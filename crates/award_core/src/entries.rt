@@ -2,13 +2,13 @@
 ghost use Rattle.std.specs.Prelude.{◌≡◌, ◌<◌, ◌+◌, ◌-◌, ◌^◌, ◌||◌};
 ghost use Rattle.std.specs.List.{list_any};
 ghost use Rattle.office_base.specs.EntryKinds.{is_raise, is_less};
-ghost use Rattle.office_base.specs.Joined.{entry_sum, minus, outstanding, plus};
-ghost use Rattle.office_base.specs.RuleParts.{has_all_releases};
+ghost use Rattle.office_base.specs.Joined.{entry_sum, is_overdrawn, minus, outstanding, plus};
+ghost use Rattle.office_base.specs.Transitions.{has_all_releases};
 ghost use Rattle.office_base.specs.Tables.{same_number};
 ghost use Rattle.award_core.specs.Rules.AmendContract.{is_beyond, is_taken, has_all_entries};
 
-use office_acts::amounts::EntryAmount;
 use office_base::records::{ContractRow, EntryKind, EntryRow};
+use office_commands::amounts::EntryAmount;
 use office_values::given::GivenNumber;
 use office_values::id::Id;
 
@@ -67,6 +67,15 @@ pub fn outstanding(entries: &[EntryRow], contract: &ContractRow) -> u128
     ensures small { result < 2 ^ 111 }
 {
     left_with(entries, contract, 0, 0)
+}
+
+/// Whether more has gone from the contract than came.
+pub fn is_overdrawn(entries: &[EntryRow], contract: &ContractRow) -> bool
+    ensures { result ≡ is_overdrawn entries.now contract.now }
+{
+    let came = contract.signed.units() as u128 + raised(entries, contract.contract);
+    let gone = lessened(entries, contract.contract) + contract.released.units() as u128;
+    came < gone
 }
 
 // Whether the contract runs, and less than this amount is outstanding.

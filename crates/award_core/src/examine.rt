@@ -1,16 +1,17 @@
 //! The decision on the examination of a tender.
-ghost use Rattle.std.specs.Prelude.{◌≡◌, ◌||◌, not};
+ghost use Rattle.std.specs.Prelude.{◌≡◌, ◌||◌, not, IfOk, IfErr, false};
+ghost use Rattle.office_values.specs.declared.refusal.Refusal.TheVariants.{Unavailable};
 ghost use Rattle.office_base.specs.Rows.{holds_of};
 ghost use Rattle.office_base.specs.States.{is_undecided};
 ghost use Rattle.office_base.specs.Deciding.{Decides};
 ghost use Rattle.office_base.specs.Rules.{first_of};
-ghost use Rattle.award_core.specs.Rules.Examine.{is_bad_quality, cant_be_examined, examined, examine_tests, examine_puts};
+ghost use Rattle.award_core.specs.Rules.Examine.{is_bad_quality, cant_be_examined, examined, examine_lacks, examine_tests, examine_puts};
 
 use crate::best::is_priced;
-use office_acts::tender::Quality;
-use office_base::parts::at_moment;
 use office_base::puts::Put;
 use office_base::records::{ClockRow, EnvelopeRow, EnvelopeState, LotRow, LotState, NoticeRow};
+use office_base::transitions::at_moment;
+use office_commands::tender::Quality;
 use office_values::moment::Moment;
 use office_values::refusal::{BadPart, Field, Refusal, Thing};
 use std::alloc::Global;
@@ -74,6 +75,47 @@ fn examined(responsive: bool, quality: Option<Quality>, envelope: EnvelopeRow) -
     }
 }
 
+/// Why the examination of a tender is refused.
+pub fn refusal(rows: &ExamineRows, responsive: bool, quality: &Option<Quality>) -> Option<Refusal>
+    ensures { result ≡ first_of (examine_tests rows.now responsive quality.now) }
+{
+    let Some(envelope) = &rows.envelope else {
+        return Some(Refusal::NoSuch(Thing::Tender));
+    };
+    if is_refused(responsive, quality, &rows.notice) {
+        return Some(Refusal::BadBody(BadPart::Field(Field::Quality)));
+    }
+    if envelope.state != EnvelopeState::Opened {
+        return Some(Refusal::NotOpened);
+    }
+    if is_decided(envelope, &rows.lot) {
+        return Some(Refusal::AlreadyDecided);
+    }
+    None
+}
+
+/// What the examination of a tender puts. `Unavailable` where a row isn't there.
+pub fn puts(
+    alloc: Global,
+    t: Moment,
+    rows: ExamineRows,
+    responsive: bool,
+    quality: Option<Quality>,
+) -> Result<Vec<Put>, Refusal>
+    ensures puts { IfOk result (λ made. made.items ≡ examine_puts rows t responsive quality) }
+    ensures whole { IfOk result (λ _. examine_lacks rows ≡ false) }
+    ensures fault { IfErr result (λ e. e ≡ Unavailable) }
+{
+    let envelope = rows.envelope.ok_or(Refusal::Unavailable)?;
+    if rows.notice.is_none() || rows.lot.is_none() {
+        return Err(Refusal::Unavailable);
+    }
+    let mut made = Vec::with_capacity(alloc, 2)?;
+    made.push(Put::Envelope(examined(responsive, quality, envelope)))?;
+    made.push(Put::Clock(at_moment(rows.clock, t)))?;
+    Ok(made)
+}
+
 /// Decides the examination of a tender: its refusal, or what it puts.
 #[tactic(auto, unfolding(office_base::specs::Deciding::Decides))]
 pub fn decide_examine(
@@ -83,29 +125,10 @@ pub fn decide_examine(
     responsive: bool,
     quality: Option<Quality>,
 ) -> Result<Vec<Put>, Refusal>
-    ensures { Decides result (first_of (examine_tests rows responsive quality)) (examine_puts rows t responsive quality) }
+    ensures { Decides result (first_of (examine_tests rows responsive quality)) (examine_lacks rows) (examine_puts rows t responsive quality) }
 {
-    let ExamineRows {
-        envelope,
-        notice,
-        lot,
-        clock,
-    } = rows;
-    let Some(envelope) = envelope else {
-        return Err(Refusal::NoSuch(Thing::Tender));
-    };
-    if is_refused(responsive, &quality, &notice) {
-        return Err(Refusal::BadBody(BadPart::Field(Field::Quality)));
+    match refusal(&rows, responsive, &quality) {
+        Some(why) => Err(why),
+        None => puts(alloc, t, rows, responsive, quality),
     }
-    if envelope.state != EnvelopeState::Opened {
-        return Err(Refusal::NotOpened);
-    }
-    if is_decided(&envelope, &lot) {
-        return Err(Refusal::AlreadyDecided);
-    }
-    let envelope = examined(responsive, quality, envelope);
-    let mut made = Vec::with_capacity(alloc, 2)?;
-    made.push(Put::Envelope(envelope))?;
-    made.push(Put::Clock(at_moment(clock, t)))?;
-    Ok(made)
 }

@@ -1,17 +1,20 @@
 //! The decision on an award whose winner doesn't sign.
-ghost use Rattle.std.specs.Prelude.{◌≡◌, ◌++◌, OnOk, Some};
+ghost use Rattle.std.specs.Prelude.{◌≡◌, ◌++◌, OnOk, Some, IfOk, IfErr, false};
+ghost use Rattle.office_values.specs.declared.refusal.Refusal.TheVariants.{Unavailable};
 ghost use Rattle.office_base.specs.Deciding.{Decides};
-ghost use Rattle.office_base.specs.RuleParts.{passed_over, put_if, security_settled};
+ghost use Rattle.office_base.specs.Transitions.{put_if, security_settled};
 ghost use Rattle.office_base.specs.Rules.{first_of};
-ghost use Rattle.office_base.specs.declared.puts.Put.TheVariants as puts;
 ghost use Rattle.office_base.specs.declared.records.SecurityState.TheVariants.{Forfeited};
-ghost use Rattle.award_core.specs.Rules.Fail.{stands_still, fail_tests, fail_puts, fail_conditions, standing_conditions};
+ghost use Rattle.award_core.specs.Rules.Fail.{stands_still, fail_lacks, fail_tests, fail_puts, standing_tests};
 
-use office_base::parts::{at_moment, has_all_releases, is_expired, passed_over, released, settled};
 use office_base::puts::Put;
 use office_base::records::{
     AwardRow, AwardState, ClockRow, EnvelopeRow, LotRow, LotState, NoticeRow, SecurityRow,
     SecurityState,
+};
+use office_base::transitions::{
+    at_moment, has_all_releases, is_expired, lacks_security, passed_over, settled,
+    with_next_release,
 };
 use office_values::moment::Moment;
 use office_values::refusal::{Refusal, Thing};
@@ -45,7 +48,7 @@ pub(crate) fn standing_refusal(
     award: &AwardRow,
     notice: &Option<NoticeRow>,
 ) -> Option<Refusal>
-    ensures { result ≡ first_of (standing_conditions t (Some award.now) notice.now) }
+    ensures { result ≡ first_of (standing_tests t (Some award.now) notice.now) }
 {
     if award.state != AwardState::Active {
         return Some(Refusal::AlreadyDecided);
@@ -65,16 +68,6 @@ pub(crate) fn standing_refusal(
     None
 }
 
-// The tender, passed over from now on.
-fn push_failed(made: &mut Vec<Put>, envelope: Option<EnvelopeRow>) -> Result<(), AllocError>
-    ensures { OnOk result (made.new.items ≡ made.old.items ++ put_if (λ e. puts.Envelope (passed_over e)) envelope) }
-{
-    if let Some(row) = envelope {
-        made.push(Put::Envelope(passed_over(row)))?;
-    }
-    Ok(())
-}
-
 // The tender's security, forfeited.
 fn push_forfeited(made: &mut Vec<Put>, security: Option<SecurityRow>) -> Result<(), AllocError>
     ensures { OnOk result (made.new.items ≡ made.old.items ++ put_if (security_settled Forfeited) security) }
@@ -85,37 +78,30 @@ fn push_forfeited(made: &mut Vec<Put>, security: Option<SecurityRow>) -> Result<
     Ok(())
 }
 
-// Why an award can't fail.
-fn refusal_of(t: Moment, award: &Option<AwardRow>, notice: &Option<NoticeRow>) -> Option<Refusal>
-    ensures { result ≡ first_of (fail_conditions t award.now notice.now) }
+/// Why the failing of an award is refused.
+pub fn refusal(t: Moment, rows: &FailRows) -> Option<Refusal>
+    ensures { result ≡ first_of (fail_tests rows.now t) }
 {
-    match award {
-        Some(row) => standing_refusal(t, row, notice),
+    match &rows.award {
+        Some(row) => standing_refusal(t, row, &rows.notice),
         None => Some(Refusal::NoSuch(Thing::Award)),
     }
 }
 
-/// Decides the failing of an award: its refusal, or what it puts. `Unavailable` where the office lacks the award's notice or lot, which
-/// none does that commands reach.
-#[tactic(auto, unfolding(office_base::specs::Deciding::Decides))]
-pub fn decide_fail(alloc: Global, t: Moment, rows: FailRows) -> Result<Vec<Put>, Refusal>
-    ensures { Decides result (first_of (fail_tests rows t)) (fail_puts rows t) }
+/// What the failing of an award puts. `Unavailable` where a row isn't there.
+pub fn puts(alloc: Global, t: Moment, rows: FailRows) -> Result<Vec<Put>, Refusal>
+    ensures puts { IfOk result (λ made. made.items ≡ fail_puts rows t) }
+    ensures whole { IfOk result (λ _. fail_lacks rows ≡ false) }
+    ensures fault { IfErr result (λ e. e ≡ Unavailable) }
 {
-    let FailRows {
-        award,
-        notice,
-        lot,
-        envelope,
-        security,
-        clock,
-    } = rows;
-    if let Some(why) = refusal_of(t, &award, &notice) {
-        return Err(why);
-    }
-    let (Some(award), Some(notice), Some(lot)) = (award, notice, lot) else {
+    let award = rows.award.ok_or(Refusal::Unavailable)?;
+    let notice = rows.notice.ok_or(Refusal::Unavailable)?;
+    let lot = rows.lot.ok_or(Refusal::Unavailable)?;
+    let envelope = rows.envelope.ok_or(Refusal::Unavailable)?;
+    if lacks_security(&envelope, &rows.security) {
         return Err(Refusal::Unavailable);
-    };
-    let notice = released(notice).ok_or(Refusal::Unavailable)?;
+    }
+    let notice = with_next_release(notice).ok_or(Refusal::Unavailable)?;
     let mut made = Vec::with_capacity(alloc, 6)?;
     made.push(Put::Award(AwardRow {
         state: AwardState::Failed,
@@ -126,8 +112,19 @@ pub fn decide_fail(alloc: Global, t: Moment, rows: FailRows) -> Result<Vec<Put>,
         ..lot
     }))?;
     made.push(Put::Notice(notice))?;
-    made.push(Put::Clock(at_moment(clock, t)))?;
-    push_failed(&mut made, envelope)?;
-    push_forfeited(&mut made, security)?;
+    made.push(Put::Clock(at_moment(rows.clock, t)))?;
+    made.push(Put::Envelope(passed_over(envelope)))?;
+    push_forfeited(&mut made, rows.security)?;
     Ok(made)
+}
+
+/// Decides the failing of an award: its refusal, or what it puts.
+#[tactic(auto, unfolding(office_base::specs::Deciding::Decides))]
+pub fn decide_fail(alloc: Global, t: Moment, rows: FailRows) -> Result<Vec<Put>, Refusal>
+    ensures { Decides result (first_of (fail_tests rows t)) (fail_lacks rows) (fail_puts rows t) }
+{
+    match refusal(t, &rows) {
+        Some(why) => Err(why),
+        None => puts(alloc, t, rows),
+    }
 }

@@ -1,16 +1,16 @@
 //! The decision on a payment under a contract.
-ghost use Rattle.std.specs.Prelude.{◌≡◌, IfOk, IfErr};
+ghost use Rattle.std.specs.Prelude.{◌≡◌, IfOk, IfErr, false};
 ghost use Rattle.office_values.specs.declared.refusal.Refusal.TheVariants.{Unavailable};
 ghost use Rattle.office_base.specs.Deciding.{Decides};
 ghost use Rattle.office_base.specs.Rules.{first_of};
-ghost use Rattle.award_core.specs.Rules.Pay.{pay_tests, pay_puts};
+ghost use Rattle.award_core.specs.Rules.Pay.{pay_lacks, pay_tests, pay_puts};
 
 use crate::entries::{has_all_entries, has_entry, is_beyond};
-use office_acts::amounts::EntryAmount;
-use office_base::parts::{at_moment, has_all_releases, released};
 use office_base::puts::Put;
 use office_base::records::{ClockRow, ContractRow, EntryKind, EntryRow, NoticeRow};
 use office_base::rows::Rows;
+use office_base::transitions::{at_moment, has_all_releases, with_next_release};
+use office_commands::amounts::EntryAmount;
 use office_values::id::Id;
 use office_values::moment::Moment;
 use office_values::refusal::{Refusal, Thing};
@@ -56,11 +56,12 @@ pub fn puts(
     amount: EntryAmount,
 ) -> Result<Vec<Put>, Refusal>
     ensures puts { IfOk result (λ made. made.items ≡ pay_puts rows t entry amount) }
+    ensures whole { IfOk result (λ _. pay_lacks rows ≡ false) }
     ensures fault { IfErr result (λ e. e ≡ Unavailable) }
 {
     let contract = rows.contract.ok_or(Refusal::Unavailable)?;
     let notice = rows.notice.ok_or(Refusal::Unavailable)?;
-    let notice = released(notice).ok_or(Refusal::Unavailable)?;
+    let notice = with_next_release(notice).ok_or(Refusal::Unavailable)?;
     let mut made = Vec::with_capacity(alloc, 3)?;
     made.push(Put::Entry(EntryRow {
         contract: contract.contract,
@@ -85,7 +86,7 @@ pub fn decide_pay(
     entry: Id,
     amount: EntryAmount,
 ) -> Result<Vec<Put>, Refusal>
-    ensures { Decides result (first_of (pay_tests rows entry amount)) (pay_puts rows t entry amount) }
+    ensures { Decides result (first_of (pay_tests rows entry amount)) (pay_lacks rows) (pay_puts rows t entry amount) }
 {
     match refusal(&rows, &entry, amount) {
         Some(why) => Err(why),

@@ -1,6 +1,6 @@
 //! Securities that go back.
 ghost use Rattle.std.specs.Prelude.{◌≡◌, ◌++◌, OnOk};
-ghost use Rattle.office_base.specs.RuleParts.{returned, securities_returned};
+ghost use Rattle.office_base.specs.Transitions.{returned, securities_returned};
 
 use office_base::puts::Put;
 use office_base::records::{SecurityRow, SecurityState};

@@ -1,20 +1,21 @@
 //! The decision on the signing of a contract.
-ghost use Rattle.std.specs.Prelude.{◌≡◌, ◌++◌, OnOk};
+ghost use Rattle.std.specs.Prelude.{◌≡◌, ◌++◌, OnOk, IfOk, IfErr, false};
+ghost use Rattle.office_values.specs.declared.refusal.Refusal.TheVariants.{Unavailable};
 ghost use Rattle.office_base.specs.Deciding.{Decides};
-ghost use Rattle.office_base.specs.RuleParts.{put_if};
+ghost use Rattle.office_base.specs.Transitions.{put_if};
 ghost use Rattle.office_base.specs.Rules.{first_of};
-ghost use Rattle.award_core.specs.Rules.Sign.{contract_row, is_missing, is_too_small, isnt_asked, performance_put, performance_row, sign_conditions, sign_tests, sign_puts};
+ghost use Rattle.award_core.specs.Rules.Sign.{contract_row, is_missing, performance_is_too_small, isnt_asked, performance_put, performance_row, sign_lacks, sign_tests, sign_puts};
 
 use crate::fail::standing_refusal;
 use crate::securities::push_returned;
-use office_acts::tender::NamedSecurity;
-use office_base::parts::{at_moment, released};
 use office_base::puts::Put;
 use office_base::records::{
     AwardRow, AwardState, ClockRow, ContractRow, EnvelopeRow, LotRow, LotState, NoticeRow,
     PerformanceRow, SecurityRow, SecurityState,
 };
 use office_base::rows::Rows;
+use office_base::transitions::{at_moment, with_next_release};
+use office_commands::tender::NamedSecurity;
 use office_values::id::Id;
 use office_values::moment::Moment;
 use office_values::money::{Amount, Total};
@@ -58,8 +59,8 @@ fn is_missing(notice: &NoticeRow, security: &Option<NamedSecurity>) -> bool
 }
 
 // Whether the one that is named is less than the notice asks.
-fn is_too_small(notice: &NoticeRow, security: &Option<NamedSecurity>) -> bool
-    ensures { result ≡ is_too_small security.now notice.now }
+fn performance_is_too_small(notice: &NoticeRow, security: &Option<NamedSecurity>) -> bool
+    ensures { result ≡ performance_is_too_small security.now notice.now }
 {
     match security {
         Some(named) => named.amount.get() < notice.performance.units(),
@@ -74,30 +75,25 @@ fn isnt_asked(notice: &NoticeRow, security: &Option<NamedSecurity>) -> bool
     notice.performance.units() == 0 && security.is_some()
 }
 
-// Why the contract of an award can't be signed with this performance security, or with none.
-fn refusal_of(
-    t: Moment,
-    award: &Option<AwardRow>,
-    notice: &Option<NoticeRow>,
-    security: &Option<NamedSecurity>,
-) -> Option<Refusal>
-    ensures { result ≡ first_of (sign_conditions t award.now notice.now security.now) }
+/// Why the signing of a contract with this performance security, or with none, is refused.
+pub fn refusal(t: Moment, rows: &SignRows, security: &Option<NamedSecurity>) -> Option<Refusal>
+    ensures { result ≡ first_of (sign_tests rows.now t security.now) }
 {
-    let Some(award) = award else {
+    let Some(award) = &rows.award else {
         return Some(Refusal::NoSuch(Thing::Award));
     };
-    if let Some(row) = notice {
+    if let Some(row) = &rows.notice {
         if is_missing(row, security) {
             return Some(Refusal::SecurityMissing);
         }
-        if is_too_small(row, security) {
+        if performance_is_too_small(row, security) {
             return Some(Refusal::SecurityTooSmall);
         }
         if isnt_asked(row, security) {
             return Some(Refusal::SecurityNotAsked);
         }
     }
-    standing_refusal(t, award, notice)
+    standing_refusal(t, award, &rows.notice)
 }
 
 // The performance security of this award's contract, held.
@@ -126,33 +122,22 @@ fn push_performance(
     Ok(())
 }
 
-/// Decides the signing of a contract: its refusal, or what it puts. `Unavailable` where the office lacks the award's notice, lot or
-/// tender, which none does that commands reach.
-#[tactic(auto, unfolding(office_base::specs::Deciding::Decides))]
-pub fn decide_sign(
+/// What the signing of a contract puts. `Unavailable` where a row isn't there.
+pub fn puts(
     alloc: Global,
     t: Moment,
     rows: SignRows,
     security: Option<NamedSecurity>,
 ) -> Result<Vec<Put>, Refusal>
-    ensures { Decides result (first_of (sign_tests rows t security)) (sign_puts rows t security) }
+    ensures puts { IfOk result (λ made. made.items ≡ sign_puts rows t security) }
+    ensures whole { IfOk result (λ _. sign_lacks rows ≡ false) }
+    ensures fault { IfErr result (λ e. e ≡ Unavailable) }
 {
-    let SignRows {
-        award,
-        notice,
-        lot,
-        envelope,
-        securities,
-        clock,
-    } = rows;
-    if let Some(why) = refusal_of(t, &award, &notice, &security) {
-        return Err(why);
-    }
-    let (Some(award), Some(notice), Some(lot), Some(envelope)) = (award, notice, lot, envelope)
-    else {
-        return Err(Refusal::Unavailable);
-    };
-    let notice = released(notice).ok_or(Refusal::Unavailable)?;
+    let award = rows.award.ok_or(Refusal::Unavailable)?;
+    let notice = rows.notice.ok_or(Refusal::Unavailable)?;
+    let lot = rows.lot.ok_or(Refusal::Unavailable)?;
+    let envelope = rows.envelope.ok_or(Refusal::Unavailable)?;
+    let notice = with_next_release(notice).ok_or(Refusal::Unavailable)?;
     let contract = contract_row(t, &award, envelope.tenderer);
     let mut made = Vec::with_capacity(alloc, 6)?;
     made.push(Put::Award(AwardRow {
@@ -166,8 +151,24 @@ pub fn decide_sign(
     }))?;
     made.push(Put::Contract(contract))?;
     made.push(Put::Notice(notice))?;
-    made.push(Put::Clock(at_moment(clock, t)))?;
-    push_returned(&mut made, securities.as_slice())?;
+    made.push(Put::Clock(at_moment(rows.clock, t)))?;
+    push_returned(&mut made, rows.securities.as_slice())?;
     push_performance(&mut made, &award, &security)?;
     Ok(made)
+}
+
+/// Decides the signing of a contract: its refusal, or what it puts.
+#[tactic(auto, unfolding(office_base::specs::Deciding::Decides))]
+pub fn decide_sign(
+    alloc: Global,
+    t: Moment,
+    rows: SignRows,
+    security: Option<NamedSecurity>,
+) -> Result<Vec<Put>, Refusal>
+    ensures { Decides result (first_of (sign_tests rows t security)) (sign_lacks rows) (sign_puts rows t security) }
+{
+    match refusal(t, &rows, &security) {
+        Some(why) => Err(why),
+        None => puts(alloc, t, rows, security),
+    }
 }

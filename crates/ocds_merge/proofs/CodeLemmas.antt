@@ -13,7 +13,7 @@ use Rattle.serde_json.specs.declared.value.Value.{Value, Null, the_lemmas}
 use Rattle.serde_json.proofs.Views.{Entry}
 use Rattle.ocds_merge.specs.Identified.{id_of}
 use Rattle.ocds_merge.specs.Merge.{names_of}
-use Rattle.ocds_merge.specs.Compile.{without}
+use Rattle.ocds_merge.specs.Compile.{members_without}
 use Rattle.ocds_merge.specs.Inside.Step.{find_item, set_item, step, Lacks}
 use Rattle.ocds_merge.proofs.MemberLemmas.{bytes_cmp}
 
@@ -45,7 +45,7 @@ removed_at Less e es rest r h = ap (member (string_bytes e.0) (view e.1)) h
 removed_at Equal e es rest r h = refl
 removed_at Greater e es rest r h = ap (member (string_bytes e.0) (view e.1)) h
 
-pub members_view-remove_entry : (name : List ℕ) (es : List Entry) → members_view (remove_entry (is_at (λ k. slice_cmp nat_cmp name (string_bytes k))) es) ≡ without name (members_view es)
+pub members_view-remove_entry : (name : List ℕ) (es : List Entry) → members_view (remove_entry (is_at (λ k. slice_cmp nat_cmp name (string_bytes k))) es) ≡ members_without name (members_view es)
 members_view-remove_entry name [] = refl
 members_view-remove_entry name (e ∷ es) = removed_at (slice_cmp nat_cmp name (string_bytes e.0)) e es _ _ (members_view-remove_entry name es)
 

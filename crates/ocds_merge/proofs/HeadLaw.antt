@@ -8,14 +8,14 @@ use Rattle.serde_json.specs.View.{items_of}
 use Rattle.serde_json.proofs.Views.{get_member-put, get_member-put_other}
 use Rattle.ocds_merge.specs.Identified.{is_id_list}
 use Rattle.ocds_merge.specs.Merge.{object_run, column_at, names_in, merge_objects, id_list_run, items_in, merge_items, merge_within, deepest_of, merge_newest_first, merge_or_null}
-use Rattle.ocds_merge.specs.Compile.{without, body_of, compiled_tag, put_head, with_head}
+use Rattle.ocds_merge.specs.Compile.{members_without, body_of, compiled_tag, put_head, with_head}
 use Rattle.ocds_merge.proofs.MemberLemmas.{IsSorted, same_members, sorted_put, get_delete_other}
 use Rattle.ocds_merge.proofs.ObjectLaw.{apart, get_objects, sorted_names}
 use Rattle.ocds_merge.proofs.ItemLaw.{empty_to}
 use Rattle.ocds_merge.proofs.MergeLaw.{agree, below_deepest}
 
 abbrev bare : Members → Members
-bare ms = without (codes "id") (without (codes "date") (without (codes "tag") ms))
+bare ms = members_without (codes "id") (members_without (codes "date") (members_without (codes "tag") ms))
 
 -- ---- the runs and columns of bodies
 
@@ -41,8 +41,8 @@ column_of_bodies : (q : List ℕ) (run : List Members) → (q ≡ codes "id" →
 column_of_bodies q [] id date tag = refl
 column_of_bodies q (ms ∷ run) id date tag =
     let here : get_member q (bare ms) ≡ get_member q ms =
-    get_delete_other q (codes "id") (without (codes "date") (without (codes "tag") ms)) id
-    ∙ get_delete_other q (codes "date") (without (codes "tag") ms) date
+    get_delete_other q (codes "id") (members_without (codes "date") (members_without (codes "tag") ms)) id
+    ∙ get_delete_other q (codes "date") (members_without (codes "tag") ms) date
     ∙ get_delete_other q (codes "tag") ms tag in
     ap (λ (o : Option Data). option_to_list o ++ column_at q (map bare run)) here
     ∙ ap (λ (vs : List Data). option_to_list (get_member q ms) ++ vs) (column_of_bodies q run id date tag)

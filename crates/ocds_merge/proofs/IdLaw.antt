@@ -10,7 +10,7 @@ use Rattle.serde_json.specs.declared.value.Value.{Value, Null}
 use Rattle.serde_json.proofs.Views.{get_member-put}
 use Rattle.ocds_merge.specs.Identified.{text_id, id_of}
 use Rattle.ocds_merge.specs.Merge.{names_of, put_present}
-use Rattle.ocds_merge.specs.Compile.{without}
+use Rattle.ocds_merge.specs.Compile.{members_without}
 use Rattle.ocds_merge.specs.Laws.{IsProper}
 use Rattle.ocds_merge.specs.Inside.Step.{step, step_members, object_of}
 use Rattle.ocds_merge.proofs.MemberLemmas.{bytes_cmp, skips, here, get_delete_other, get_put_some_other}
@@ -20,7 +20,7 @@ use Rattle.ocds_merge.proofs.CodeLemmas.{new_view}
 -- ---- a merge leaves the id
 
 abbrev after : List ℕ → Data → Members → Members
-after k d ts = put_present k (step (get_member k ts) d) (without k ts)
+after k d ts = put_present k (step (get_member k ts) d) (members_without k ts)
 
 absent_at : (b : Bool) (q k : List ℕ) (d : Data) (ms ts : Members) → bytes_eq q k ≡ b → get_member q (member k d ms) ≡ None
     → (get_member q ms ≡ None → get_member q (step_members (after k d ts) ms) ≡ get_member q (after k d ts))
@@ -29,7 +29,7 @@ absent_at true q k d ms ts e h later =
     absurd (true≢false (ap is_some (sym (here q d ms) ∙ subst (λ (x : List ℕ). get_member q (member x d ms) ≡ None) (sym ((bytes_eq-Decides q k).0 e)) h)))
 absent_at false q k d ms ts e h later =
     let other = apart q k e in
-    later (sym (skips q k d ms other) ∙ h) ∙ get_put_some_other q k (step (get_member k ts) d) (without k ts) other ∙ get_delete_other q k ts other
+    later (sym (skips q k d ms other) ∙ h) ∙ get_put_some_other q k (step (get_member k ts) d) (members_without k ts) other ∙ get_delete_other q k ts other
 
 absent : (q : List ℕ) (ms ts : Members) → get_member q ms ≡ None → get_member q (step_members ts ms) ≡ get_member q ts
 absent q no_members ts h = refl
@@ -42,8 +42,8 @@ text_at true q k s d ms ts e none h later =
     let same : k ≡ q = sym ((bytes_eq-Decides q k).0 e) in
     let is : Some d ≡ Some (string s) = sym (here q d ms) ∙ subst (λ (x : List ℕ). get_member q (member x d ms) ≡ Some (string s)) same h in
     absent q ms (after k d ts) (subst (λ (x : List ℕ). get_member x ms ≡ None) same none)
-    ∙ ap (λ (o : Option Data). get_member q (put_present k (step (get_member k ts) (unwrap_or o null)) (without k ts))) is
-    ∙ subst (λ (x : List ℕ). get_member q (put x (string s) (without k ts)) ≡ Some (string s)) (sym same) (get_member-put q (string s) (without k ts))
+    ∙ ap (λ (o : Option Data). get_member q (put_present k (step (get_member k ts) (unwrap_or o null)) (members_without k ts))) is
+    ∙ subst (λ (x : List ℕ). get_member q (put x (string s) (members_without k ts)) ≡ Some (string s)) (sym same) (get_member-put q (string s) (members_without k ts))
 text_at false q k s d ms ts e none h later = later (sym (skips q k d ms (apart q k e)) ∙ h)
 
 text : (q s : List ℕ) (ms ts : Members) → IsStrictlySortedBy bytes_cmp (names_of ms) → get_member q ms ≡ Some (string s)

@@ -9,7 +9,7 @@ use Rattle.serde_json.specs.Find.{is_float}
 use Rattle.serde_json.specs.Written.{has_float, items_have_float, members_have_float}
 use Rattle.ocds_merge.specs.Merge.{names_of}
 use Rattle.ocds_merge.specs.Laws.{IsProper, AreItemsProper, AreMembersProper}
-use Rattle.ocds_merge.specs.Inside.Splice.{IsInRange, AllAbove, IsOrdered, IsKept, AreItemsKept, AreMembersKept}
+use Rattle.ocds_merge.specs.Inside.Splice.{IsInRange, AllAbove, IsOrdered, TextIsKept, AreItemsKept, AreMembersKept}
 use Rattle.ocds_merge.proofs.MemberLemmas.{bytes_cmp}
 
 -- ---- no float
@@ -25,7 +25,7 @@ plain_number (negative (negsuc n)) h = refl
 plain_number (float x) h = absurd h
 
 mutual
-  pub kept_plain : (d : Data) → IsKept d → has_float d ≡ false
+  pub kept_plain : (d : Data) → TextIsKept d → has_float d ≡ false
   kept_plain null h = refl
   kept_plain (boolean b) h = refl
   kept_plain (number n) h = plain_number n h
@@ -53,7 +53,7 @@ names_sorted no_members h = tt
 names_sorted (member k d ms) h = (names_above k ms h.0, names_sorted ms h.1)
 
 mutual
-  pub kept_proper : (d : Data) → IsKept d → IsProper d
+  pub kept_proper : (d : Data) → TextIsKept d → IsProper d
   kept_proper null h = tt
   kept_proper (boolean b) h = tt
   kept_proper (number n) h = tt

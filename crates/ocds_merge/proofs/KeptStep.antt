@@ -6,9 +6,9 @@ use Rattle.serde_json.specs.Find.{get_member}
 use Rattle.serde_json.specs.View.{items_of}
 use Rattle.ocds_merge.specs.Identified.{id_of, is_id_list}
 use Rattle.ocds_merge.specs.Merge.{put_present}
-use Rattle.ocds_merge.specs.Compile.{without}
+use Rattle.ocds_merge.specs.Compile.{members_without}
 use Rattle.ocds_merge.specs.Inside.Step.{step, step_items, step_members, object_of, id_list_of, items_list, find_item, set_item}
-use Rattle.ocds_merge.specs.Inside.Splice.{AllAbove, IsOrdered, IsKept, AreItemsKept, AreMembersKept}
+use Rattle.ocds_merge.specs.Inside.Splice.{AllAbove, IsOrdered, TextIsKept, AreItemsKept, AreMembersKept}
 use Rattle.ocds_merge.proofs.MemberLemmas.{bytes_cmp}
 use Rattle.ocds_merge.proofs.KeptLaw.{greater_from_less}
 use Rattle.ocds_merge.proofs.SpliceLaw.{above_after, below_from_above}
@@ -38,27 +38,27 @@ put_present_ordered : (k : List ℕ) (o : Option Data) (ms : Members) → IsOrde
 put_present_ordered k None ms h = h
 put_present_ordered k (Some d) ms h = put_ordered k d ms h
 
-without_above : (l k : List ℕ) (ms : Members) → AllAbove l ms → AllAbove l (without k ms)
+without_above : (l k : List ℕ) (ms : Members) → AllAbove l ms → AllAbove l (members_without k ms)
 without_above l k no_members h = h
 without_above l k (member m e ms) h = go (bytes_cmp k m) (without_above l k ms h.2)
   where
-    go : (o : Ordering) → AllAbove l (without k ms) → AllAbove l (match_ordering o (member m e (without k ms)) ms (member m e (without k ms)))
+    go : (o : Ordering) → AllAbove l (members_without k ms) → AllAbove l (match_ordering o (member m e (members_without k ms)) ms (member m e (members_without k ms)))
     go Less rest = (h.0, h.1, rest)
     go Equal rest = h.2
     go Greater rest = (h.0, h.1, rest)
 
-without_ordered : (k : List ℕ) (ms : Members) → IsOrdered ms → IsOrdered (without k ms)
+without_ordered : (k : List ℕ) (ms : Members) → IsOrdered ms → IsOrdered (members_without k ms)
 without_ordered k no_members h = h
 without_ordered k (member m e ms) h = go (bytes_cmp k m) (without_ordered k ms h.1)
   where
-    go : (o : Ordering) → IsOrdered (without k ms) → IsOrdered (match_ordering o (member m e (without k ms)) ms (member m e (without k ms)))
+    go : (o : Ordering) → IsOrdered (members_without k ms) → IsOrdered (match_ordering o (member m e (members_without k ms)) ms (member m e (members_without k ms)))
     go Less rest = (without_above m k ms h.0, rest)
     go Equal rest = h.1
     go Greater rest = (without_above m k ms h.0, rest)
 
--- ---- a property of each value inside, as `IsKept`
+-- ---- a property of each value inside, as `TextIsKept`
 
-pub put_kept : (k : List ℕ) (d : Data) (ms : Members) → IsKept d → AreMembersKept ms → AreMembersKept (put k d ms)
+pub put_kept : (k : List ℕ) (d : Data) (ms : Members) → TextIsKept d → AreMembersKept ms → AreMembersKept (put k d ms)
 put_kept k d no_members a h = (a, tt)
 put_kept k d (member m e ms) a h = go (bytes_cmp k m) (put_kept k d ms a h.1)
   where
@@ -67,11 +67,11 @@ put_kept k d (member m e ms) a h = go (bytes_cmp k m) (put_kept k d ms a h.1)
     go Equal rest = (a, h.1)
     go Greater rest = (h.0, rest)
 
-without_kept : (k : List ℕ) (ms : Members) → AreMembersKept ms → AreMembersKept (without k ms)
+without_kept : (k : List ℕ) (ms : Members) → AreMembersKept ms → AreMembersKept (members_without k ms)
 without_kept k no_members h = h
 without_kept k (member m e ms) h = go (bytes_cmp k m) (without_kept k ms h.1)
   where
-    go : (o : Ordering) → AreMembersKept (without k ms) → AreMembersKept (match_ordering o (member m e (without k ms)) ms (member m e (without k ms)))
+    go : (o : Ordering) → AreMembersKept (members_without k ms) → AreMembersKept (match_ordering o (member m e (members_without k ms)) ms (member m e (members_without k ms)))
     go Less rest = (h.0, rest)
     go Equal rest = h.1
     go Greater rest = (h.0, rest)
@@ -79,7 +79,7 @@ without_kept k (member m e ms) h = go (bytes_cmp k m) (without_kept k ms h.1)
 -- nothing, or a value that reads back
 abbrev pub IsKeptIfSome : Option Data → Type 0
 IsKeptIfSome None = Unit {0}
-IsKeptIfSome (Some d) = IsKept d
+IsKeptIfSome (Some d) = TextIsKept d
 
 get_kept : (k : List ℕ) (ms : Members) → AreMembersKept ms → IsKeptIfSome (get_member k ms)
 get_kept k no_members h = tt
@@ -94,13 +94,13 @@ put_present_kept : (k : List ℕ) (o : Option Data) (ms : Members) → IsKeptIfS
 put_present_kept k None ms a h = h
 put_present_kept k (Some d) ms a h = put_kept k d ms a h
 
-pub or_null_kept : (o : Option Data) → IsKeptIfSome o → IsKept (unwrap_or o null)
+pub or_null_kept : (o : Option Data) → IsKeptIfSome o → TextIsKept (unwrap_or o null)
 or_null_kept None h = tt
 or_null_kept (Some d) h = h
 
 abbrev AllKept : List Data → Type 0
 AllKept [] = Unit {0}
-AllKept (d ∷ ds) = IsKept d × AllKept ds
+AllKept (d ∷ ds) = TextIsKept d × AllKept ds
 
 find_kept : (i : List ℕ) (ds : List Data) → AllKept ds → IsKeptIfSome (find_item i ds)
 find_kept i [] h = tt
@@ -110,7 +110,7 @@ find_kept i (d ∷ ds) h = go (bytes_eq (id_of d) i) (find_kept i ds h.1)
     go true rest = h.0
     go false rest = rest
 
-set_kept : (i : List ℕ) (x : Data) (ds : List Data) → IsKept x → AllKept ds → AllKept (set_item i x ds)
+set_kept : (i : List ℕ) (x : Data) (ds : List Data) → TextIsKept x → AllKept ds → AllKept (set_item i x ds)
 set_kept i x [] a h = (a, tt)
 set_kept i x (d ∷ ds) a h = go (bytes_eq (id_of d) i) (set_kept i x ds a h.1)
   where
@@ -139,7 +139,7 @@ id_list_kept (Some (array ds)) h = go (is_id_list ds)
     go true = items_list_kept ds h
     go false = tt
 
-object_kept : (t : Option Data) → IsKeptIfSome t → IsKept (object (object_of t))
+object_kept : (t : Option Data) → IsKeptIfSome t → TextIsKept (object (object_of t))
 object_kept None h = (tt, tt)
 object_kept (Some null) h = (tt, tt)
 object_kept (Some (boolean b)) h = (tt, tt)
@@ -155,7 +155,7 @@ array_kept false xs ds h k = k
 -- ---- a step
 
 mutual
-  pub step_kept : (t : Option Data) (v : Data) → IsKeptIfSome t → IsKept v → IsKeptIfSome (step t v)
+  pub step_kept : (t : Option Data) (v : Data) → IsKeptIfSome t → TextIsKept v → IsKeptIfSome (step t v)
   step_kept t null h k = tt
   step_kept t (boolean b) h k = tt
   step_kept t (number n) h k = k
@@ -169,10 +169,10 @@ mutual
       step_items_kept (set_item (id_of d) (unwrap_or (step (find_item (id_of d) ts) d) null) ts) ds
       (set_kept (id_of d) _ ts (or_null_kept _ (step_kept (find_item (id_of d) ts) d (find_kept (id_of d) ts h) k.0)) h) k.1
 
-  step_members_kept : (ts ms : Members) → IsKept (object ts) → AreMembersKept ms → IsKept (object (step_members ts ms))
+  step_members_kept : (ts ms : Members) → TextIsKept (object ts) → AreMembersKept ms → TextIsKept (object (step_members ts ms))
   step_members_kept ts no_members h k = h
   step_members_kept ts (member n d ms) h k =
-      step_members_kept (put_present n (step (get_member n ts) d) (without n ts)) ms (
-        put_present_ordered n (step (get_member n ts) d) (without n ts) (without_ordered n ts h.0),
-        put_present_kept n (step (get_member n ts) d) (without n ts) (step_kept (get_member n ts) d (get_kept n ts h.1) k.0) (without_kept n ts h.1),
+      step_members_kept (put_present n (step (get_member n ts) d) (members_without n ts)) ms (
+        put_present_ordered n (step (get_member n ts) d) (members_without n ts) (without_ordered n ts h.0),
+        put_present_kept n (step (get_member n ts) d) (members_without n ts) (step_kept (get_member n ts) d (get_kept n ts h.1) k.0) (without_kept n ts h.1),
       ) k.1

@@ -10,7 +10,7 @@ use Rattle.serde_json.specs.Find.{get_member, as_str}
 use Rattle.serde_json.specs.Written.{compact_text, items_text, members_text, number_text}
 use Rattle.ocds_merge.specs.Identified.{text_id}
 use Rattle.ocds_merge.specs.Inside.Scan.{scan, between, IsPlain}
-use Rattle.ocds_merge.specs.Inside.Splice.{IsInRange, IsKept, AreItemsKept, EndsBefore, no_comma, StandAt, Searched, FoundAt}
+use Rattle.ocds_merge.specs.Inside.Splice.{IsInRange, TextIsKept, AreItemsKept, EndsBefore, no_comma, StandAt, Searched, FoundAt}
 use Rattle.ocds_merge.proofs.MemberLemmas.{here, skips}
 use Rattle.ocds_merge.proofs.SpliceLaw.{heads, tails, plain_name, no_member_here, member_here, after_member, no_comma_members, scan-members}
 
@@ -43,7 +43,7 @@ number_led (negative (pos n)) r h = absurd h
 number_led (negative (negsuc n)) r h = record { first = 45; after = decimal (suc n) ++ r; is = refl; lead = inl refl }
 number_led (float x) r h = absurd h
 
-pub led : (d : Data) (r : List ℕ) → IsKept d → Led d (compact_text d ++ r)
+pub led : (d : Data) (r : List ℕ) → TextIsKept d → Led d (compact_text d ++ r)
 led null r h = record { first = 110; after = _; is = refl; lead = refl }
 led (boolean true) r h = record { first = 116; after = _; is = refl; lead = refl }
 led (boolean false) r h = record { first = 102; after = _; is = refl; lead = refl }
@@ -136,14 +136,14 @@ pub record Opened (d : Data) (rest inside : List ℕ) : Type 0 where
   pub members : Members
   pub is : d ≡ object members
   pub text : inside ≡ members_text false members ++ rest
-  pub kept : IsKept (object members)
+  pub kept : TextIsKept (object members)
   pub stand : StandAt inside members rest
 
-pub opened : (d : Data) (rest text inside : List ℕ) → IsKept d → text ≡ compact_text d ++ rest → text ≡ 123 ∷ inside → Opened d rest inside
+pub opened : (d : Data) (rest text inside : List ℕ) → TextIsKept d → text ≡ compact_text d ++ rest → text ≡ 123 ∷ inside → Opened d rest inside
 opened d rest text inside h is form =
     let l = led d rest h in
     let o = not_object d l.first l.lead (heads l.first 123 l.after inside (sym l.is ∙ sym is ∙ form)) in
-    let kept : IsKept (object o.0) = subst IsKept o.1 h in
+    let kept : TextIsKept (object o.0) = subst TextIsKept o.1 h in
     let inner : inside ≡ members_text false o.0 ++ rest = tails 123 123 _ _ (sym form ∙ is ∙ ap (λ (x : Data). compact_text x ++ rest) o.1) in
     record { members = o.0; is = o.1; text = inner; kept = kept; stand = record { stands = ap no_comma inner ∙ no_comma_members false o.0 rest; order = kept.0; kept = kept.1 } }
 
@@ -175,11 +175,11 @@ pub record OpenedList (d : Data) (rest inside : List ℕ) : Type 0 where
   pub text : inside ≡ items_text false items ++ rest
   pub kept : AreItemsKept items
 
-pub opened_list : (d : Data) (rest text inside : List ℕ) → IsKept d → text ≡ compact_text d ++ rest → text ≡ 91 ∷ inside → OpenedList d rest inside
+pub opened_list : (d : Data) (rest text inside : List ℕ) → TextIsKept d → text ≡ compact_text d ++ rest → text ≡ 91 ∷ inside → OpenedList d rest inside
 opened_list d rest text inside h is form =
     let l = led d rest h in
     let o = not_array d l.first l.lead (heads l.first 91 l.after inside (sym l.is ∙ sym is ∙ form)) in
-    record { items = o.0; is = o.1; text = tails 91 91 _ _ (sym form ∙ is ∙ ap (λ (x : Data). compact_text x ++ rest) o.1); kept = subst IsKept o.1 h }
+    record { items = o.0; is = o.1; text = tails 91 91 _ _ (sym form ∙ is ∙ ap (λ (x : Data). compact_text x ++ rest) o.1); kept = subst TextIsKept o.1 h }
 
 no_comma_led : (c : ℕ) (s : List ℕ) → c ≢ 44 → no_comma (c ∷ s) ≡ c ∷ s
 no_comma_led c s other = rw (ne_eqb c 44 other) refl

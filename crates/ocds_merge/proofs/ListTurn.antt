@@ -8,7 +8,7 @@ use Rattle.serde_json.specs.Written.{compact_text, items_text, members_text, com
 use Rattle.ocds_merge.specs.Identified.{id_of, text_id, all_have_id, is_id_list}
 use Rattle.ocds_merge.specs.Inside.Step.{Lacks, step, step_items, step_members, items_list, id_list_of}
 use Rattle.ocds_merge.specs.Inside.Pending.{HaveDistinctIds, alone, pending, step_list}
-use Rattle.ocds_merge.specs.Inside.Splice.{IsKept, AreItemsKept, EndsBefore, no_comma, SameItems, ItemsMerged}
+use Rattle.ocds_merge.specs.Inside.Splice.{TextIsKept, AreItemsKept, EndsBefore, no_comma, SameItems, ItemsMerged}
 use Rattle.ocds_merge.proofs.SpliceLaw.{heads, tails}
 use Rattle.ocds_merge.proofs.ListTextLaw.{led, opens_well, item_first, no_comma_items, ends_before_items}
 use Rattle.ocds_merge.proofs.PendingLaw.{KeepIds, keep_ids, keep_pending, distinct_pending, lacks_pending, stays, meets, merged_with, all_new, step_items-list, old_list}
@@ -52,14 +52,14 @@ items_none text ds ps rest old kept is = record { others = ds; stands = ap no_co
 
 pub items_one : (ds : Items) (ps : List Data) (rest old left new : List ℕ) (more : Bool) (pend : List Data) (whole s left' new' : List ℕ) (pend' : List Data)
     → ItemsMerged ds ps rest old left new more pend → no_comma left ≡ whole → whole ≡ 123 ∷ s
-    → ((t : Data) (r : List ℕ) → IsKept t → EndsBefore r → whole ≡ compact_text t ++ r
+    → ((t : Data) (r : List ℕ) → TextIsKept t → EndsBefore r → whole ≡ compact_text t ++ r
     → (left' ≡ r) × (is_some (text_id t) ≡ true) × ((ts : List Data) → SameItems new more (step_list (t ∷ ts) pend) new' true (step_list ts pend')))
     → ItemsMerged ds ps rest old left' new' true pend'
 items_one ds ps rest old left new more pend whole s left' new' pend' m is form = go m.others m.stands m.kept m.ids m.same
   where
     go : (os : Items) → no_comma left ≡ items_text false os ++ rest → AreItemsKept os → (all_have_id os ≡ true → all_have_id ds ≡ true)
         → SameItems old false (step_list (items_list ds) ps) new more (step_list (items_list os) pend)
-        → ((t : Data) (r : List ℕ) → IsKept t → EndsBefore r → whole ≡ compact_text t ++ r
+        → ((t : Data) (r : List ℕ) → TextIsKept t → EndsBefore r → whole ≡ compact_text t ++ r
         → (left' ≡ r) × (is_some (text_id t) ≡ true) × ((ts : List Data) → SameItems new more (step_list (t ∷ ts) pend) new' true (step_list ts pend')))
         → ItemsMerged ds ps rest old left' new' true pend'
     go no_items stands kept ids same turn = absurd (let e : 93 ≡ 123 = heads 93 123 rest s (sym stands ∙ is ∙ form) in omega (arith, e))

@@ -9,7 +9,7 @@ use Rattle.serde_json.specs.Data.{Data, Members, no_members, member, put}
 use Rattle.serde_json.specs.Find.{get_member}
 use Rattle.serde_json.proofs.Views.{get_member-put, get_member-put_other}
 use Rattle.ocds_merge.specs.Merge.{put_present}
-use Rattle.ocds_merge.specs.Compile.{without}
+use Rattle.ocds_merge.specs.Compile.{members_without}
 
 abbrev pub bytes_cmp : List ℕ → List ℕ → Ordering
 bytes_cmp = slice_cmp nat_cmp
@@ -103,43 +103,43 @@ here k e ms = rw (tied_itself nat_list_cmp_total k)
 
 -- ---- after a deletion
 
-delete_same_at : (o : Ordering) (k l : List ℕ) (e : Data) (ms : Members) → bytes_cmp k l ≡ o → T (E.below_all bytes_cmp l (entries ms)) → get_member k (without k ms) ≡ None
-    → get_member k (match_ordering o (member l e (without k ms)) ms (member l e (without k ms))) ≡ None
+delete_same_at : (o : Ordering) (k l : List ℕ) (e : Data) (ms : Members) → bytes_cmp k l ≡ o → T (E.below_all bytes_cmp l (entries ms)) → get_member k (members_without k ms) ≡ None
+    → get_member k (match_ordering o (member l e (members_without k ms)) ms (member l e (members_without k ms))) ≡ None
 delete_same_at Less k l e ms is low later = rw is later
 delete_same_at Equal k l e ms is low later = get_below k ms (subst (λ (x : List ℕ). T (E.below_all bytes_cmp x (entries ms))) (sym (exact_bytes k l is)) low)
 delete_same_at Greater k l e ms is low later = rw is later
 
-pub get_delete : (k : List ℕ) (ms : Members) → IsSorted ms → get_member k (without k ms) ≡ None
+pub get_delete : (k : List ℕ) (ms : Members) → IsSorted ms → get_member k (members_without k ms) ≡ None
 get_delete k no_members h = refl
 get_delete k (member l e ms) h = delete_same_at _ k l e ms refl (first _ _ h) (get_delete k ms (second _ _ h))
 
-delete_other_at : (o : Ordering) (q k l : List ℕ) (e : Data) (ms : Members) → bytes_cmp k l ≡ o → (q ≡ k → ⊥) → get_member q (without k ms) ≡ get_member q ms
-    → get_member q (match_ordering o (member l e (without k ms)) ms (member l e (without k ms))) ≡ get_member q (member l e ms)
+delete_other_at : (o : Ordering) (q k l : List ℕ) (e : Data) (ms : Members) → bytes_cmp k l ≡ o → (q ≡ k → ⊥) → get_member q (members_without k ms) ≡ get_member q ms
+    → get_member q (match_ordering o (member l e (members_without k ms)) ms (member l e (members_without k ms))) ≡ get_member q (member l e ms)
 delete_other_at Less q k l e ms is other later = ap (λ r. match_ordering (bytes_cmp q l) r (Some e) r) later
 delete_other_at Equal q k l e ms is other later = sym (skips q l e ms (λ h. other (h ∙ sym (exact_bytes k l is))))
 delete_other_at Greater q k l e ms is other later = ap (λ r. match_ordering (bytes_cmp q l) r (Some e) r) later
 
-pub get_delete_other : (q k : List ℕ) (ms : Members) → (q ≡ k → ⊥) → get_member q (without k ms) ≡ get_member q ms
+pub get_delete_other : (q k : List ℕ) (ms : Members) → (q ≡ k → ⊥) → get_member q (members_without k ms) ≡ get_member q ms
 get_delete_other q k no_members other = refl
 get_delete_other q k (member l e ms) other = delete_other_at _ q k l e ms refl other (get_delete_other q k ms other)
 
-below_delete_at : (o : Ordering) (x k l : List ℕ) (e : Data) (ms : Members) → T (is_lt (bytes_cmp x l)) → T (E.below_all bytes_cmp x (entries ms)) → T (E.below_all bytes_cmp x (entries (without k ms)))
-    → T (E.below_all bytes_cmp x (entries (match_ordering o (member l e (without k ms)) ms (member l e (without k ms)))))
+below_delete_at : (o : Ordering) (x k l : List ℕ) (e : Data) (ms : Members) → T (is_lt (bytes_cmp x l)) → T (E.below_all bytes_cmp x (entries ms)) → T (E.below_all bytes_cmp x (entries (members_without k ms)))
+    → T (E.below_all bytes_cmp x (entries (match_ordering o (member l e (members_without k ms)) ms (member l e (members_without k ms)))))
 below_delete_at Less x k l e ms a b later = both _ _ a later
 below_delete_at Equal x k l e ms a b later = b
 below_delete_at Greater x k l e ms a b later = both _ _ a later
 
-below_delete : (x k : List ℕ) (ms : Members) → T (E.below_all bytes_cmp x (entries ms)) → T (E.below_all bytes_cmp x (entries (without k ms)))
+below_delete : (x k : List ℕ) (ms : Members) → T (E.below_all bytes_cmp x (entries ms)) → T (E.below_all bytes_cmp x (entries (members_without k ms)))
 below_delete x k no_members h = h
 below_delete x k (member l e ms) h = below_delete_at (bytes_cmp k l) x k l e ms (first _ _ h) (second _ _ h) (below_delete x k ms (second _ _ h))
 
-sorted_delete_at : (o : Ordering) (k l : List ℕ) (e : Data) (ms : Members) → T (E.below_all bytes_cmp l (entries (without k ms))) → IsSorted ms → IsSorted (without k ms)
-    → IsSorted (match_ordering o (member l e (without k ms)) ms (member l e (without k ms)))
+sorted_delete_at : (o : Ordering) (k l : List ℕ) (e : Data) (ms : Members) → T (E.below_all bytes_cmp l (entries (members_without k ms))) → IsSorted ms → IsSorted (members_without k ms)
+    → IsSorted (match_ordering o (member l e (members_without k ms)) ms (member l e (members_without k ms)))
 sorted_delete_at Less k l e ms a b later = both _ _ a later
 sorted_delete_at Equal k l e ms a b later = b
 sorted_delete_at Greater k l e ms a b later = both _ _ a later
 
-pub sorted_delete : (k : List ℕ) (ms : Members) → IsSorted ms → IsSorted (without k ms)
+pub sorted_delete : (k : List ℕ) (ms : Members) → IsSorted ms → IsSorted (members_without k ms)
 sorted_delete k no_members h = h
 sorted_delete k (member l e ms) h = sorted_delete_at (bytes_cmp k l) k l e ms (below_delete l k ms (first _ _ h)) (second _ _ h) (sorted_delete k ms (second _ _ h))
 

@@ -7,7 +7,7 @@ use Rattle.serde_json.specs.Written.{compact_text, members_text, comma_if}
 use Rattle.ocds_merge.specs.Identified.{is_id_list}
 use Rattle.ocds_merge.specs.Inside.Scan.{scan, between, IsPlain}
 use Rattle.ocds_merge.specs.Inside.Step.{step, step_members, step_items, id_list_of}
-use Rattle.ocds_merge.specs.Inside.Splice.{IsKept, AreMembersKept, IsOrdered, AllAbove, EndsBefore, no_comma, StandAt, StartsFrom, StartsWith, SameText, Passed, Merged}
+use Rattle.ocds_merge.specs.Inside.Splice.{TextIsKept, AreMembersKept, IsOrdered, AllAbove, EndsBefore, no_comma, StandAt, StartsFrom, StartsWith, SameText, Passed, Merged}
 use Rattle.ocds_merge.proofs.SpliceLaw.{no_member_here, member_here, no_comma_members, after_member, above_from, with_member, turn_found, turn_absent, heads}
 
 -- ---- which member comes next
@@ -47,7 +47,7 @@ step_some t (object ms) h = refl
 pub others_above : (name value left : List ℕ) (ts : Members) (rest : List ℕ) (w : StartsWith name value ts rest) → StandAt left ts rest → AllAbove name w.others
 others_above name value left ts rest w h = (subst IsOrdered w.is h.order).0
 
-pub old_kept : (name value left : List ℕ) (ts : Members) (rest : List ℕ) (w : StartsWith name value ts rest) → StandAt left ts rest → IsKept w.old
+pub old_kept : (name value left : List ℕ) (ts : Members) (rest : List ℕ) (w : StartsWith name value ts rest) → StandAt left ts rest → TextIsKept w.old
 old_kept name value left ts rest w h = (subst AreMembersKept w.is h.kept).0
 
 -- past the old value of the name
@@ -107,7 +107,7 @@ some_absent name v ts ms old named new later lacks above some a b =
 
 -- ---- the members, one after another
 
-pub merged_none : (text : List ℕ) (ts ms : Members) (rest old new : List ℕ) → new ≡ old → IsKept (object ts) → text ≡ members_text false ts ++ rest → Merged ts ms rest old text new false ms
+pub merged_none : (text : List ℕ) (ts ms : Members) (rest old new : List ℕ) → new ≡ old → TextIsKept (object ts) → text ≡ members_text false ts ++ rest → Merged ts ms rest old text new false ms
 merged_none text ts ms rest old new e kept is = record {
   others = ts;
   stand = record { stands = ap no_comma is ∙ no_comma_members false ts rest; order = kept.0; kept = kept.1 };

@@ -12,7 +12,7 @@ use Rattle.serde_json.specs.Data.{Data, null, boolean, number, string, array, ob
 use Rattle.serde_json.specs.Find.{get_member}
 use Rattle.serde_json.proofs.Views.{get_member-put}
 use Rattle.ocds_merge.specs.Merge.{object_run, column_at, names_of, names_in, put_present, merge_names, merge_objects}
-use Rattle.ocds_merge.specs.Compile.{without}
+use Rattle.ocds_merge.specs.Compile.{members_without}
 use Rattle.ocds_merge.specs.Inside.Step.{step, step_members}
 use Rattle.ocds_merge.specs.Laws.{IsProper, AreMembersProper}
 use Rattle.ocds_merge.proofs.MemberLemmas.{bytes_cmp, IsSorted, same_members, skips, get_delete, get_delete_other, sorted_delete, sorted_put_some, get_put_some, get_put_some_other}
@@ -117,27 +117,27 @@ above k no_members h = refl
 above k (member l e ms) h = rw h.0 (above k ms h.1)
 
 turn_at : (b : Bool) (q k : List ℕ) (d : Data) (ms ts : Members) → bytes_eq q k ≡ b → get_member k ms ≡ None → IsSorted ts
-    → step_at (get_member q ms) (get_member q (put_present k (step (get_member k ts) d) (without k ts))) ≡ step_at (get_member q (member k d ms)) (get_member q ts)
+    → step_at (get_member q ms) (get_member q (put_present k (step (get_member k ts) d) (members_without k ts))) ≡ step_at (get_member q (member k d ms)) (get_member q ts)
 turn_at true q k d ms ts e none s =
     let same : k ≡ q = sym ((bytes_eq-Decides q k).0 e) in
-    subst (λ (x : List ℕ). step_at (get_member x ms) (get_member x (put_present k (step (get_member k ts) d) (without k ts))) ≡ step_at (get_member x (member k d ms)) (get_member x ts)) same
-    (rw (none, get_put_some k (step (get_member k ts) d) (without k ts) (get_delete k ts s), tied_itself nat_list_cmp_total k))
+    subst (λ (x : List ℕ). step_at (get_member x ms) (get_member x (put_present k (step (get_member k ts) d) (members_without k ts))) ≡ step_at (get_member x (member k d ms)) (get_member x ts)) same
+    (rw (none, get_put_some k (step (get_member k ts) d) (members_without k ts) (get_delete k ts s), tied_itself nat_list_cmp_total k))
 turn_at false q k d ms ts e none s =
     let other = apart q k e in
-    rw (skips q k d ms other, get_put_some_other q k (step (get_member k ts) d) (without k ts) other, get_delete_other q k ts other)
+    rw (skips q k d ms other, get_put_some_other q k (step (get_member k ts) d) (members_without k ts) other, get_delete_other q k ts other)
 
-sorted_turn : (k : List ℕ) (d : Data) (ts : Members) → IsSorted ts → IsSorted (put_present k (step (get_member k ts) d) (without k ts))
-sorted_turn k d ts s = sorted_put_some k (step (get_member k ts) d) (without k ts) (sorted_delete k ts s)
+sorted_turn : (k : List ℕ) (d : Data) (ts : Members) → IsSorted ts → IsSorted (put_present k (step (get_member k ts) d) (members_without k ts))
+sorted_turn k d ts s = sorted_put_some k (step (get_member k ts) d) (members_without k ts) (sorted_delete k ts s)
 
 get_step : (q : List ℕ) (ms ts : Members) → IsStrictlySortedBy bytes_cmp (names_of ms) → IsSorted ts → get_member q (step_members ts ms) ≡ step_at (get_member q ms) (get_member q ts)
 get_step q no_members ts p s = refl
 get_step q (member k d ms) ts p s =
-    get_step q ms (put_present k (step (get_member k ts) d) (without k ts)) (sorted_tail bytes_cmp k (names_of ms) p) (sorted_turn k d ts s)
+    get_step q ms (put_present k (step (get_member k ts) d) (members_without k ts)) (sorted_tail bytes_cmp k (names_of ms) p) (sorted_turn k d ts s)
     ∙ turn_at _ q k d ms ts refl (above k ms (sorted_head bytes_cmp k (names_of ms) p)) s
 
 sorted_step : (ms ts : Members) → IsSorted ts → IsSorted (step_members ts ms)
 sorted_step no_members ts s = s
-sorted_step (member k d ms) ts s = sorted_step ms (put_present k (step (get_member k ts) d) (without k ts)) (sorted_turn k d ts s)
+sorted_step (member k d ms) ts s = sorted_step ms (put_present k (step (get_member k ts) d) (members_without k ts)) (sorted_turn k d ts s)
 
 -- ---- one more object
 

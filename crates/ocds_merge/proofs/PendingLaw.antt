@@ -8,7 +8,7 @@ use Rattle.ocds_merge.specs.Identified.{id_of, text_id, all_have_id}
 use Rattle.ocds_merge.specs.Laws.{IsProper}
 use Rattle.ocds_merge.specs.Inside.Step.{Lacks, step, step_items, find_item, set_item, items_list, id_list_of}
 use Rattle.ocds_merge.specs.Inside.Pending.{HaveDistinctIds, alone, unless, pending, with_item, step_list}
-use Rattle.ocds_merge.specs.Inside.Splice.{IsKept, AreItemsKept}
+use Rattle.ocds_merge.specs.Inside.Splice.{TextIsKept, AreItemsKept}
 use Rattle.ocds_merge.proofs.CodeLemmas.{lacks_push, lacks_find, lacks_set}
 use Rattle.ocds_merge.proofs.ItemLaw.{flipped}
 use Rattle.ocds_merge.proofs.IdLaw.{kept_id, first_id, other_ids}
@@ -168,7 +168,7 @@ pending_turn xs done i x is_done a b =
     ∙ ap (λ (bs : List Bool). items_of (map alone (pending (view x ∷ map view (drop (i + 1) xs)) bs))) b
     ∙ pending_item (view x) (map view (drop (i + 1) xs)) is_done (drop (i + 1) done)
 
-pub item_kept : (xs : List Value) (i : ℕ) (x : Value) → i < length xs → x ≡ get_or xs i x → AreItemsKept (items_view xs) → IsKept (view x)
+pub item_kept : (xs : List Value) (i : ℕ) (x : Value) → i < length xs → x ≡ get_or xs i x → AreItemsKept (items_view xs) → TextIsKept (view x)
 item_kept [] i x low e h = absurd (omega arith)
-item_kept (y ∷ xs) zero x low e h = subst (λ (z : Value). IsKept (view z)) (sym e) h.0
+item_kept (y ∷ xs) zero x low e h = subst (λ (z : Value). TextIsKept (view z)) (sym e) h.0
 item_kept (y ∷ xs) (suc i) x low e h = item_kept xs i x (omega arith) e h.1

@@ -8,7 +8,7 @@ use Rattle.serde_json.specs.View.{view}
 use Rattle.serde_json.specs.declared.value.Value.{Value}
 use Rattle.ocds_merge.specs.Identified.{id_of}
 use Rattle.ocds_merge.specs.Inside.Step.{Lacks}
-use Rattle.ocds_merge.specs.Inside.Places.{IsPlaceOf, place_in, IsIndexOf, Serves}
+use Rattle.ocds_merge.specs.Inside.Places.{IsPlaceOf, place_in, IsIndexOf, IndexServes}
 
 -- ---- places
 
@@ -86,21 +86,21 @@ pub index_known : (m : BTreeMap (String Global) ℕ) (ds : List Data) (d : Data)
 index_known m ds d h known = λ i. h i ∙ sym (pushed i ds d ∙ known_at _ i ds d refl known)
 
 -- what serves a list serves it after an item is put in the place of one with the same id
-pub serves_set : (kept : Option (BTreeMap (String Global) ℕ)) (ds : List Data) (p : ℕ) (x : Data) → Serves kept ds → p < length ds
-    → id_of x ≡ id_of (get_or ds p null) → Serves kept (set ds p x)
+pub serves_set : (kept : Option (BTreeMap (String Global) ℕ)) (ds : List Data) (p : ℕ) (x : Data) → IndexServes kept ds → p < length ds
+    → id_of x ≡ id_of (get_or ds p null) → IndexServes kept (set ds p x)
 serves_set None ds p x h low e = tt
 serves_set (Some m) ds p x h low e = λ i. h i ∙ sym (place_set i ds p x low e)
 
 -- ---- the code's items
 
-pub found_serves : (kept : Option (BTreeMap (String Global) ℕ)) (xs : List Value) (p : ℕ) (a b : Value) (id : List ℕ) → Serves kept (map view xs)
-    → p < length xs → bytes_eq (id_of (get_or (map view xs) p null)) id ≡ true → id_of (view b) ≡ id → Serves kept (map view (set (set xs p a) p b))
+pub found_serves : (kept : Option (BTreeMap (String Global) ℕ)) (xs : List Value) (p : ℕ) (a b : Value) (id : List ℕ) → IndexServes kept (map view xs)
+    → p < length xs → bytes_eq (id_of (get_or (map view xs) p null)) id ≡ true → id_of (view b) ≡ id → IndexServes kept (map view (set (set xs p a) p b))
 found_serves kept xs p a b id h low has same =
     let ds : List Data = map view xs in
     let is : map view (set (set xs p a) p b) ≡ set ds p (view b) = ap (map view) (set-set xs p a b) ∙ map-set view xs p b in
     let unchanged : id_of (view b) ≡ id_of (get_or ds p null) = same ∙ sym ((bytes_eq-Decides (id_of (get_or ds p null)) id).0 has) in
-    subst (λ (es : List Data). Serves kept es) (sym is) (serves_set kept ds p (view b) h (omega (arith, length-map xs view)) unchanged)
+    subst (λ (es : List Data). IndexServes kept es) (sym is) (serves_set kept ds p (view b) h (omega (arith, length-map xs view)) unchanged)
 
-pub pushed_serves : (kept : Option (BTreeMap (String Global) ℕ)) (xs : List Value) (b : Value) → Serves kept (map view xs ++ view b ∷ [])
-    → Serves kept (map view (xs ++ b ∷ []))
-pushed_serves kept xs b h = subst (λ (es : List Data). Serves kept es) (sym (map-append view xs (b ∷ []))) h
+pub pushed_serves : (kept : Option (BTreeMap (String Global) ℕ)) (xs : List Value) (b : Value) → IndexServes kept (map view xs ++ view b ∷ [])
+    → IndexServes kept (map view (xs ++ b ∷ []))
+pushed_serves kept xs b h = subst (λ (es : List Data). IndexServes kept es) (sym (map-append view xs (b ∷ []))) h

@@ -17,7 +17,7 @@ pub plain_scan : (n : ℕ) (s r : List ℕ) → AllStandForThemselves s → scan
 plain_scan n [] r h = refl
 plain_scan n (c ∷ s) r h = plain_byte n c (s ++ r) h.0 ∙ plain_scan n s r h.1
 
-plain_escape : (s : List ℕ) → AllStandForThemselves s → escape s ≡ s
+pub plain_escape : (s : List ℕ) → AllStandForThemselves s → escape s ≡ s
 plain_escape [] h = refl
 plain_escape (c ∷ s) h = ap (λ (t : List ℕ). t ++ escape s) (escape_byte_plain c h.0.1 h.0.2 h.0.0) ∙ ap (λ (t : List ℕ). c ∷ t) (plain_escape s h.1)
 

@@ -18,13 +18,13 @@ use Rattle.serde_json.specs.Read.{is_integer, float_of, number_from, number_of, 
 use Rattle.serde_json.specs.Written.{number_text, outline, items_outline, members_outline, compact_text, has_float, items_have_float, members_have_float}
 use Rattle.serde_json.proofs.Numbers.{number_of-decimal, number_of-negative}
 use Rattle.serde_json.proofs.Texts.{print-outline}
-use Rattle.ocds_merge.specs.Inside.Splice.{IsInRange, AllAbove, IsOrdered, IsKept, AreItemsKept, AreMembersKept}
+use Rattle.ocds_merge.specs.Inside.Splice.{IsInRange, AllAbove, IsOrdered, TextIsKept, AreItemsKept, AreMembersKept}
 use Rattle.ocds_merge.proofs.MemberLemmas.{bytes_cmp}
 use Rattle.ocds_merge.proofs.IdLaw.{first_id, other_ids}
 use Rattle.ocds_merge.proofs.KeptStep.{put_ordered}
 use Rattle.ocds_merge.proofs.ReadLaw.{whole_read, item_converts, member_converts}
 
--- ---- what a reader may give: `IsKept`, but for floats
+-- ---- what a reader may give: `TextIsKept`, but for floats
 
 abbrev IsReadNumber : Num → Type 0
 IsReadNumber (unsigned n) = n < 2 ^ 64
@@ -130,7 +130,7 @@ mutual
       holds_and_then WasRead (λ xs. IsOrdered xs × MembersWereRead xs) _ (λ d x. members_read ms (put k d found) (put_ordered k d found h.0, put_read k d found x h.1)) (of_json j) (json_read j)
 
 mutual
-  was_kept : (d : Data) → WasRead d → has_float d ≡ false → IsKept d
+  was_kept : (d : Data) → WasRead d → has_float d ≡ false → TextIsKept d
   was_kept null h p = tt
   was_kept (boolean b) h p = tt
   was_kept (number (unsigned n)) h p = h
@@ -149,7 +149,7 @@ mutual
   members_kept no_members h p = tt
   members_kept (member k d ms) h p = let parts = or_parts (has_float d) (members_have_float ms) p in (was_kept d h.0 parts.0, members_kept ms h.1 parts.1)
 
-pub read_kept : (text : List ℕ) (d : Data) → read text ≡ Some d → has_float d ≡ false → IsKept d
+pub read_kept : (text : List ℕ) (d : Data) → read text ≡ Some d → has_float d ≡ false → TextIsKept d
 read_kept text d e plain =
     was_kept d (subst (Holds WasRead) e (holds_and_then (λ (j : json.Json). ⊤) WasRead of_json (λ j x. json_read j) (option_and_then (λ p. json.if_last p.0 p.1) (json.value max_depth (tokens text))) (anything _))) plain
 
@@ -206,7 +206,7 @@ unfolding join
 whole_object ms = refl
 
 mutual
-  outline_read : (d : Data) → IsKept d → of_json (outline d) ≡ Some d
+  outline_read : (d : Data) → TextIsKept d → of_json (outline d) ≡ Some d
   outline_read null h = refl
   outline_read (boolean b) h = refl
   outline_read (number n) h = outline_number n h
@@ -233,7 +233,7 @@ outline_number_text (negative (negsuc n)) h = IsNumber-signed_decimal (negsuc n)
 outline_number_text (float x) h = absurd h
 
 mutual
-  outline_numbers : (d : Data) → IsKept d → HasNumbers (outline d)
+  outline_numbers : (d : Data) → TextIsKept d → HasNumbers (outline d)
   outline_numbers null h = tt
   outline_numbers (boolean b) h = tt
   outline_numbers (number n) h = outline_number_text n h
@@ -266,7 +266,7 @@ mutual
   members_outline_depth no_members = refl
   members_outline_depth (member k d ms) = ap₂ max (outline_depth d) (members_outline_depth ms)
 
-pub kept_reads : (d : Data) → IsKept d → depth d ≤ max_depth → read (compact_text d) ≡ Some d
+pub kept_reads : (d : Data) → TextIsKept d → depth d ≤ max_depth → read (compact_text d) ≡ Some d
 kept_reads d h shallow =
     let j = outline d in
     let told : tokens (compact_text d) ≡ json_tokens j = ap tokens (sym (print-outline d)) ∙ tokens-print (json_tokens j) (ArePrintable-json_tokens j (outline_numbers d h)) in

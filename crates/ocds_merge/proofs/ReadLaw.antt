@@ -1,11 +1,12 @@
 -- What reads as a value, by its parts.
-use Rattle.std.proofs.Common.{◌≡◌, ℕ, List, [], Option, Some, ap, ◌∙◌, option_map, option_and_then}
+use Rattle.std.proofs.Common.{◌≡◌, ℕ, List, [], ◌∷◌, Option, Some, None, refl, sym, ap, ◌∙◌, subst, length, option_map, option_and_then}
 use Rattle.json.specs.Token.{Token}
-use Rattle.json.specs.Lex.{tokens}
+use Rattle.json.specs.Lex.{tokens, lex, punctuate, between, fresh}
 use Rattle.json.specs.Json as json
-use Rattle.serde_json.specs.Data.{Data, Items, item, Members, put}
+use Rattle.serde_json.specs.Data.{Data, object, Items, item, Members, no_members, put}
 use Rattle.serde_json.specs.Read.{read, max_depth, of_json, of_items, of_members}
 use Rattle.serde_json.proofs.OnLiterals.{serde_json_on_literals}
+use Rattle.ocds_merge.specs.Stored.{IsObjectText}
 
 pub item_converts : (j : json.Json) (js : json.Items) (d : Data) (ds : Items) → of_json j ≡ Some d → of_items js ≡ Some ds → of_items (json.item j js) ≡ Some (item d ds)
 item_converts j js d ds e f = rw e (ap (λ (o : Option Items). option_map (item d) o) f)
@@ -25,3 +26,56 @@ whole_read text j d e is = ap whole e ∙ is
 pub nothing_read : (merge : Data) → read [] ≡ Some merge → ⊥
 unfolding serde_json_on_literals
 nothing_read merge is = cc is
+
+-- ---- what begins with an opening bracket
+
+converted : (o : Option Members) (d : Data) → option_map object o ≡ Some d → (ms : Members) × (d ≡ object ms)
+converted None d is = absurd cc
+converted (Some ms) d is = let same : object ms ≡ d = cc in (ms, sym same)
+
+object_whole : (found : Option (json.Members × List Token)) (d : Data) → whole (json.parse_map json.object found) ≡ Some d → (ms : Members) × (d ≡ object ms)
+unfolding whole
+object_whole None d is = absurd cc
+object_whole (Some (ms, [])) d is = converted (of_members ms no_members) d is
+object_whole (Some (ms, t ∷ ts)) d is = absurd cc
+
+-- the members that follow the bracket, as they are parsed
+members_after : List ℕ → Option (json.Members × List Token)
+members_after rest = let ts = punctuate fresh (lex between rest) in json.members (json.value 126) (length ts) ts
+
+object_begun : (rest : List ℕ) → read (123 ∷ rest) ≡ whole (json.parse_map json.object (members_after rest))
+unfolding serde_json_on_literals whole members_after
+object_begun rest = refl
+
+pub object_read : (text rest : List ℕ) (d : Data) → text ≡ 123 ∷ rest → read text ≡ Some d → IsObjectText text
+object_read text rest d is reads =
+    let found = object_whole (members_after rest) d (sym (object_begun rest) ∙ ap read (sym is) ∙ reads) in
+    (found.0, reads ∙ ap Some found.1)
+
+-- ---- spaces
+
+pub read_past_space : (rest : List ℕ) → read (32 ∷ rest) ≡ read rest
+unfolding serde_json_on_literals
+read_past_space rest = refl
+
+pub read_past_line_feed : (rest : List ℕ) → read (10 ∷ rest) ≡ read rest
+unfolding serde_json_on_literals
+read_past_line_feed rest = refl
+
+pub read_past_carriage_return : (rest : List ℕ) → read (13 ∷ rest) ≡ read rest
+unfolding serde_json_on_literals
+read_past_carriage_return rest = refl
+
+pub read_past_tab : (rest : List ℕ) → read (9 ∷ rest) ≡ read rest
+unfolding serde_json_on_literals
+read_past_tab rest = refl
+
+-- ---- behind spaces, where a text reads as what is left of it
+
+pub past_space : (text left rest : List ℕ) (first : ℕ) → read text ≡ read left → left ≡ first ∷ rest → ((r : List ℕ) → read (first ∷ r) ≡ read r) → read text ≡ read rest
+past_space text left rest first same is space = same ∙ ap read is ∙ space rest
+
+pub begun_object : (text left rest : List ℕ) (first : ℕ) → read text ≡ read left → left ≡ first ∷ rest → first ≡ 123 → (d : Data) → read text ≡ Some d → IsObjectText text
+begun_object text left rest first same is byte d reads =
+    let found = object_read left rest d (is ∙ ap (λ (b : ℕ). b ∷ rest) byte) (sym same ∙ reads) in
+    (found.0, same ∙ found.1)

@@ -14,10 +14,10 @@ use Rattle.serde_json.specs.Find.{get_member}
 use Rattle.serde_json.specs.Written.{compact_text, items_text, members_text, number_text, comma_if, has_float}
 use Rattle.json.proofs.Printed.Strings.{escape_byte_plain}
 use Rattle.ocds_merge.specs.Merge.{put_present}
-use Rattle.ocds_merge.specs.Compile.{without}
+use Rattle.ocds_merge.specs.Compile.{members_without}
 use Rattle.ocds_merge.specs.Inside.Scan.{scan, between, in_string, IsPlain}
 use Rattle.ocds_merge.specs.Inside.Step.{step, step_members}
-use Rattle.ocds_merge.specs.Inside.Splice.{IsInRange, AllAbove, IsOrdered, IsKept, AreItemsKept, AreMembersKept, EndsBefore, no_comma, StandAt, StartsFrom, SameText, Passed}
+use Rattle.ocds_merge.specs.Inside.Splice.{IsInRange, AllAbove, IsOrdered, TextIsKept, AreItemsKept, AreMembersKept, EndsBefore, no_comma, StandAt, StartsFrom, SameText, Passed}
 use Rattle.ocds_merge.proofs.MemberLemmas.{bytes_cmp, here}
 use Rattle.ocds_merge.specs.Laws.{IsProper}
 use Rattle.ocds_merge.proofs.MergeLaw.{merged_law}
@@ -72,7 +72,7 @@ pub group_member : (a q b c r : List ℕ) → (a ++ (q ++ 58 ∷ (b ++ c))) ++ r
 group_member a q b c r = group a q (58 ∷ (b ++ c)) r ∙ ap (λ (s : List ℕ). a ++ (q ++ 58 ∷ s)) (append_assoc b c r)
 
 mutual
-  pub scan-value : (n : ℕ) (d : Data) (r : List ℕ) → IsKept d → scan n between (compact_text d ++ r) ≡ scan n between r
+  pub scan-value : (n : ℕ) (d : Data) (r : List ℕ) → TextIsKept d → scan n between (compact_text d ++ r) ≡ scan n between r
   scan-value n null r h = refl
   scan-value n (boolean true) r h = refl
   scan-value n (boolean false) r h = refl
@@ -105,17 +105,17 @@ passes_over l e no_members ts h = refl
 passes_over l e (member k d ms) ts h =
     let past : bytes_cmp k l ≡ Greater = h.1 in
     let got : get_member k (member l e ts) ≡ get_member k ts = rw past refl in
-    let out : without k (member l e ts) ≡ member l e (without k ts) = rw past refl in
-    ap (λ (o : Option Data). step_members (put_present k (step o d) (without k (member l e ts))) ms) got
+    let out : members_without k (member l e ts) ≡ member l e (members_without k ts) = rw past refl in
+    ap (λ (o : Option Data). step_members (put_present k (step o d) (members_without k (member l e ts))) ms) got
     ∙ ap (λ (r : Members). step_members (put_present k (step (get_member k ts) d) r) ms) out
-    ∙ ap (λ (r : Members). step_members r ms) (put_past k l (step (get_member k ts) d) e (without k ts) past)
-    ∙ passes_over l e ms (put_present k (step (get_member k ts) d) (without k ts)) h.2
+    ∙ ap (λ (r : Members). step_members r ms) (put_past k l (step (get_member k ts) d) e (members_without k ts) past)
+    ∙ passes_over l e ms (put_present k (step (get_member k ts) d) (members_without k ts)) h.2
 
 pub lacks_below : (k : List ℕ) (ts : Members) → AllAbove k ts → get_member k ts ≡ None
 lacks_below k no_members h = refl
 lacks_below k (member l e ts) h = rw (h.0) (lacks_below k ts h.2)
 
-pub without_below : (k : List ℕ) (ts : Members) → AllAbove k ts → without k ts ≡ ts
+pub without_below : (k : List ℕ) (ts : Members) → AllAbove k ts → members_without k ts ≡ ts
 without_below k no_members h = refl
 without_below k (member l e ts) h = rw (h.0) (ap (member l e) (without_below k ts h.2))
 
@@ -207,7 +207,7 @@ no_comma_members false no_members rest = refl
 no_comma_members true (member k d ts) rest = refl
 no_comma_members false (member k d ts) rest = refl
 
-pub after_member : (d : Data) (ts : Members) (rest value : List ℕ) → IsKept d → value ≡ compact_text d ++ (members_text true ts ++ rest)
+pub after_member : (d : Data) (ts : Members) (rest value : List ℕ) → TextIsKept d → value ≡ compact_text d ++ (members_text true ts ++ rest)
     → scan 0 between value ≡ members_text true ts ++ rest
 after_member d ts rest value h is = ap (scan 0 between) is ∙ scan-value 0 d (members_text true ts ++ rest) h ∙ ends_before_members ts rest
 
@@ -333,8 +333,8 @@ present name (Some d) ts ms a b = ap (λ (r : Members). step_members r ms) (put_
 pub turn_found : (name : List ℕ) (e d : Data) (ts ms : Members) → AllAbove name ts → AllAbove name ms
     → step_members (member name e ts) (member name d ms) ≡ with_member name (step (Some e) d) (step_members ts ms)
 turn_found name e d ts ms a b =
-    let out : without name (member name e ts) ≡ ts = rw (tied_itself nat_list_cmp_total name) refl in
-    ap (λ (o : Option Data). step_members (put_present name (step o d) (without name (member name e ts))) ms) (here name e ts)
+    let out : members_without name (member name e ts) ≡ ts = rw (tied_itself nat_list_cmp_total name) refl in
+    ap (λ (o : Option Data). step_members (put_present name (step o d) (members_without name (member name e ts))) ms) (here name e ts)
     ∙ ap (λ (r : Members). step_members (put_present name (step (Some e) d) r) ms) out
     ∙ present name (step (Some e) d) ts ms a b
 
@@ -342,7 +342,7 @@ turn_found name e d ts ms a b =
 pub turn_absent : (name : List ℕ) (d : Data) (ts ms : Members) → AllAbove name ts → AllAbove name ms
     → step_members ts (member name d ms) ≡ with_member name (step None d) (step_members ts ms)
 turn_absent name d ts ms a b =
-    ap (λ (o : Option Data). step_members (put_present name (step o d) (without name ts)) ms) (lacks_below name ts a)
+    ap (λ (o : Option Data). step_members (put_present name (step o d) (members_without name ts)) ms) (lacks_below name ts a)
     ∙ ap (λ (r : Members). step_members (put_present name (step None d) r) ms) (without_below name ts a)
     ∙ present name (step None d) ts ms a b
 

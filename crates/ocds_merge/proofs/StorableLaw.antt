@@ -9,7 +9,7 @@ use Rattle.serde_json.specs.View.{items_of}
 use Rattle.serde_json.specs.Written.{has_float, items_have_float, members_have_float}
 use Rattle.ocds_merge.specs.Identified.{is_id_list}
 use Rattle.ocds_merge.specs.Merge.{object_run, id_list_run, column_at, items_ahead, items_in, ids_in, names_in, put_present, merge_names, merge_item, merge_items, merge_within, deepest_of, merge_of, merge_or_null}
-use Rattle.ocds_merge.specs.Compile.{without, body_of}
+use Rattle.ocds_merge.specs.Compile.{members_without, body_of}
 use Rattle.ocds_merge.specs.Stored.{IsStorable}
 use Rattle.serde_json.specs.Read.{max_depth}
 use Rattle.ocds_merge.proofs.MemberLemmas.{bytes_cmp}
@@ -233,10 +233,10 @@ without_below_at Less n l e ms r h q = max_lt (depth e) (members_depth r) n (ome
 without_below_at Equal n l e ms r h q = omega (arith, le-max_right (depth e) (members_depth ms))
 without_below_at Greater n l e ms r h q = max_lt (depth e) (members_depth r) n (omega (arith, le-max_left (depth e) (members_depth ms))) q
 
-without_below : (n : ℕ) (k : List ℕ) (ms : Members) → members_depth ms < n → members_depth (without k ms) < n
+without_below : (n : ℕ) (k : List ℕ) (ms : Members) → members_depth ms < n → members_depth (members_without k ms) < n
 without_below n k no_members h = h
 without_below n k (member l e ms) h =
-    without_below_at (bytes_cmp k l) n l e ms (without k ms) h (without_below n k ms (omega (arith, le-max_right (depth e) (members_depth ms))))
+    without_below_at (bytes_cmp k l) n l e ms (members_without k ms) h (without_below n k ms (omega (arith, le-max_right (depth e) (members_depth ms))))
 
 without_plain_at : (o : Ordering) (l : List ℕ) (e : Data) (ms r : Members) → (has_float e || members_have_float ms) ≡ false → members_have_float r ≡ false
     → members_have_float (match_ordering o (member l e r) ms (member l e r)) ≡ false
@@ -244,9 +244,9 @@ without_plain_at Less l e ms r h q = either _ _ (or_left _ (members_have_float m
 without_plain_at Equal l e ms r h q = or_right (has_float e) _ h
 without_plain_at Greater l e ms r h q = either _ _ (or_left _ (members_have_float ms) h) q
 
-without_plain : (k : List ℕ) (ms : Members) → members_have_float ms ≡ false → members_have_float (without k ms) ≡ false
+without_plain : (k : List ℕ) (ms : Members) → members_have_float ms ≡ false → members_have_float (members_without k ms) ≡ false
 without_plain k no_members h = h
-without_plain k (member l e ms) h = without_plain_at (bytes_cmp k l) l e ms (without k ms) h (without_plain k ms (or_right (has_float e) _ h))
+without_plain k (member l e ms) h = without_plain_at (bytes_cmp k l) l e ms (members_without k ms) h (without_plain k ms (or_right (has_float e) _ h))
 
 pub body_storable : (v : Data) → IsStorable v → IsStorable (body_of v)
 body_storable null h = h
@@ -255,10 +255,10 @@ body_storable (number b) h = h
 body_storable (string b) h = h
 body_storable (array b) h = h
 body_storable (object ms) h =
-    let untagged : Members = without (codes "tag") ms in
-    let undated : Members = without (codes "date") untagged in
+    let untagged : Members = members_without (codes "tag") ms in
+    let undated : Members = members_without (codes "date") untagged in
     let low : members_depth ms < 127 = (let s : depth (object ms) ≤ 127 = h.shallow in omega (arith, s)) in
-    let less : members_depth (without (codes "id") undated) < 127 =
+    let less : members_depth (members_without (codes "id") undated) < 127 =
     without_below 127 (codes "id") undated (without_below 127 (codes "date") untagged (without_below 127 (codes "tag") ms low)) in
     record {
       no_float = without_plain (codes "id") undated (without_plain (codes "date") untagged (without_plain (codes "tag") ms h.no_float));

@@ -7,7 +7,8 @@ use Rattle.serde_json.specs.Written.{compact_text}
 use Rattle.ocds_merge.specs.Merge.{merge_or_null}
 use Rattle.ocds_merge.specs.Stored.{KeepsMerge, IsStorable}
 use Rattle.ocds_merge.specs.Inside.Step.{step, not_null}
-use Rattle.ocds_merge.specs.Inside.Splice.{IsKept}
+use Rattle.ocds_merge.specs.Inside.Splice.{TextIsKept}
+use Rattle.ocds_merge.specs.Inside.Readable.{Reads}
 use Rattle.ocds_merge.proofs.MergeLaw.{merged_law, merged_not_null}
 use Rattle.ocds_merge.proofs.StorableLaw.{merge_shallow, merge_no_float}
 use Rattle.ocds_merge.proofs.KeptLaw.{kept_proper}
@@ -31,7 +32,7 @@ onto (string s) v = refl
 onto (array ds) v = refl
 onto (object ms) v = refl
 
-one_more : (vs : List Data) (v : Data) → IsKept v → unwrap_or (step (Some (merge_or_null vs)) v) null ≡ merge_or_null (vs ++ v ∷ [])
+one_more : (vs : List Data) (v : Data) → TextIsKept v → unwrap_or (step (Some (merge_or_null vs)) v) null ≡ merge_or_null (vs ++ v ∷ [])
 one_more vs v kept =
     ap (λ (o : Option Data). unwrap_or o null)
     (onto (merge_or_null vs) v ∙ ap (λ (o : Option Data). step o v) (merged_not_null vs) ∙ sym (merged_law vs v (kept_proper v kept)))
@@ -39,13 +40,17 @@ one_more vs v kept =
 all_before : (vs : List Data) (v : Data) → All IsStorable (vs ++ v ∷ []) → All IsStorable vs
 all_before vs v h = λ k d low. subst IsStorable (get_or_append_left vs (v ∷ []) d k low) (h k d (omega (arith, length-append vs (v ∷ []))))
 
-pub merge_kept : (text : List ℕ) (vs : List Data) (v : Data) → KeepsMerge text vs → All IsStorable (vs ++ v ∷ []) → IsKept (merge_or_null vs)
-merge_kept text vs v k storable = read_kept text (merge_or_null vs) k.reads (merge_no_float vs (all_before vs v storable))
+-- a text that reads as a value, and is the compact text of what it reads as, is that of this value
+pub text_of_read : (text : List ℕ) (d : Data) → Reads text → read text ≡ Some d → text ≡ compact_text d
+text_of_read text d p reads = p.is ∙ ap (λ (o : Option Data). compact_text (unwrap_or o null)) (sym p.reads ∙ reads)
 
-pub keeps_more : (text new : List ℕ) (vs : List Data) (v : Data) → KeepsMerge text vs → All IsStorable (vs ++ v ∷ []) → IsKept v
+pub merge_kept : (text : List ℕ) (vs : List Data) (v : Data) → read text ≡ Some (merge_or_null vs) → All IsStorable (vs ++ v ∷ []) → TextIsKept (merge_or_null vs)
+merge_kept text vs v reads storable = read_kept text (merge_or_null vs) reads (merge_no_float vs (all_before vs v storable))
+
+pub keeps_more : (text new : List ℕ) (vs : List Data) (v : Data) → read text ≡ Some (merge_or_null vs) → All IsStorable (vs ++ v ∷ []) → TextIsKept v
     → new ≡ compact_text (unwrap_or (step (Some (merge_or_null vs)) v) null) → KeepsMerge new (vs ++ v ∷ [])
-keeps_more text new vs v k storable kept is =
+keeps_more text new vs v reads storable kept is =
     let more = one_more vs v kept in
-    let merged : IsKept (merge_or_null (vs ++ v ∷ [])) = subst IsKept more (or_null_kept _ (step_kept (Some (merge_or_null vs)) v (merge_kept text vs v k storable) kept)) in
+    let merged : TextIsKept (merge_or_null (vs ++ v ∷ [])) = subst TextIsKept more (or_null_kept _ (step_kept (Some (merge_or_null vs)) v (merge_kept text vs v reads storable) kept)) in
     let whole : new ≡ compact_text (merge_or_null (vs ++ v ∷ [])) = is ∙ ap compact_text more in
     record { is = whole; reads = ap read whole ∙ kept_reads (merge_or_null (vs ++ v ∷ [])) merged (merge_shallow (vs ++ v ∷ []) storable) }

@@ -29,9 +29,9 @@ last_date ds = date_of (get_or ds (length ds - 1) null)
 -- ---- the head of a release: `id`, `date`, `tag`
 
 -- the members but the one under this name
-abbrev pub without : List ℕ → Members → Members
-without k no_members = no_members
-without k (member l e ms) = match_ordering (slice_cmp nat_cmp k l) (member l e (without k ms)) ms (member l e (without k ms))
+abbrev pub members_without : List ℕ → Members → Members
+members_without k no_members = no_members
+members_without k (member l e ms) = match_ordering (slice_cmp nat_cmp k l) (member l e (members_without k ms)) ms (member l e (members_without k ms))
 
 -- "A release without its own `id`, `date` and `tag`." Example: `body`.
 abbrev pub body_of : Data → Data
@@ -40,7 +40,7 @@ body_of (boolean b) = boolean b
 body_of (number n) = number n
 body_of (string s) = string s
 body_of (array ds) = array ds
-body_of (object ms) = object (without (codes "id") (without (codes "date") (without (codes "tag") ms)))
+body_of (object ms) = object (members_without (codes "id") (members_without (codes "date") (members_without (codes "tag") ms)))
 
 -- `["compiled"]`
 abbrev pub compiled_tag : Data

@@ -1,6 +1,6 @@
 -- A merge that is kept as text, and carried on from there.
 use Rattle.std.specs.Prelude.{ℕ, ◌≡◌, ◌≤◌, List, Some, false}
-use Rattle.serde_json.specs.Data.{Data, depth}
+use Rattle.serde_json.specs.Data.{Data, Members, object, depth}
 use Rattle.serde_json.specs.Read.{read, max_depth}
 use Rattle.serde_json.specs.Written.{compact_text, has_float}
 use Rattle.ocds_merge.specs.Merge.{merge_or_null}
@@ -9,6 +9,10 @@ use Rattle.ocds_merge.specs.Merge.{merge_or_null}
 pub record KeepsMerge (text : List ℕ) (vs : List Data) : Type 0 where
   pub is : text ≡ compact_text (merge_or_null vs)
   pub reads : read text ≡ Some (merge_or_null vs)
+
+-- the text reads as a JSON object
+abbrev pub IsObjectText : List ℕ → Type 0
+IsObjectText text = (members : Members) × (read text ≡ Some (object members))
 
 -- no float, and nested no deeper than a JSON text may be (127 levels)
 pub record IsStorable (v : Data) : Type 0 where

@@ -1,7 +1,7 @@
 ghost use Rattle.std.specs.Prelude.{◌≡◌, ◌∷◌, ◌++◌, string_bytes, IfOk, codes};
 ghost use Rattle.serde_json.specs.Data.{string};
 ghost use Rattle.serde_json.specs.View.{view, members_view};
-ghost use Rattle.ocds_merge.specs.Compile.{body_of, with_head, put_head as with_members_of_head, compiled_tag as tag_of_compiled, without};
+ghost use Rattle.ocds_merge.specs.Compile.{body_of, with_head, put_head as with_members_of_head, compiled_tag as tag_of_compiled, members_without};
 
 use crate::members::take_member;
 use crate::merging::NoMemory;
@@ -21,7 +21,7 @@ pub fn without_head(release: Value) -> Value
 
 fn members_without_head(mut members: Map<String, Value>) -> Map<String, Value>
     ensures { members_view result.entries
-        ≡ without (codes "id") (without (codes "date") (without (codes "tag") (members_view members.entries))) }
+        ≡ members_without (codes "id") (members_without (codes "date") (members_without (codes "tag") (members_view members.entries))) }
 {
     let _tag = take_member(&mut members, "tag");
     let _date = take_member(&mut members, "date");

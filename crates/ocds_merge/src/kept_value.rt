@@ -2,7 +2,7 @@
 ghost use Rattle.std.specs.Prelude.{IsTrue};
 ghost use Rattle.serde_json.specs.Data.{object, array, number};
 ghost use Rattle.serde_json.specs.View.{view, items_view, members_view, number_view};
-ghost use Rattle.ocds_merge.specs.Inside.Splice.{IsKept, IsInRange};
+ghost use Rattle.ocds_merge.specs.Inside.Splice.{TextIsKept, IsInRange};
 
 use serde_json::{Map, Number, Value};
 
@@ -22,7 +22,7 @@ fn is_integer(number: &Number) -> bool
 /// Whether no number of a value is a float.
 #[cycle(walking)]
 pub(crate) fn is_kept(value: &Value) -> bool
-    ensures { IsTrue result → IsKept (view value.now) }
+    ensures { IsTrue result → TextIsKept (view value.now) }
 {
     match value {
         Value::Number(number) => is_integer(number),
@@ -34,7 +34,7 @@ pub(crate) fn is_kept(value: &Value) -> bool
 
 #[cycle(walking)]
 fn are_items_kept(items: &Vec<Value>) -> bool
-    ensures { IsTrue result → IsKept (array (items_view items.now.items)) }
+    ensures { IsTrue result → TextIsKept (array (items_view items.now.items)) }
 {
     for item in items {
         if !is_kept(item) {
@@ -46,7 +46,7 @@ fn are_items_kept(items: &Vec<Value>) -> bool
 
 #[cycle(walking)]
 fn are_members_kept(members: &Map<String, Value>) -> bool
-    ensures { IsTrue result → IsKept (object (members_view members.now.entries)) }
+    ensures { IsTrue result → TextIsKept (object (members_view members.now.entries)) }
 {
     for (_name, member) in members.iter() {
         if !is_kept(member) {

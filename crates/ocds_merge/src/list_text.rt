@@ -7,8 +7,8 @@ ghost use Rattle.serde_json.specs.Written.{compact_text, items_text, members_tex
 ghost use Rattle.ocds_merge.specs.Identified.{text_id};
 ghost use Rattle.ocds_merge.specs.Inside.Scan.{scan, between};
 ghost use Rattle.ocds_merge.specs.Inside.Step.{Lacks};
-ghost use Rattle.ocds_merge.specs.Inside.Places.{Serves, IsPlaceOf};
-ghost use Rattle.ocds_merge.specs.Inside.Splice.{IsKept, AreItemsKept, EndsBefore, no_comma, StandAt, FoundAt};
+ghost use Rattle.ocds_merge.specs.Inside.Places.{IndexServes, IsPlaceOf};
+ghost use Rattle.ocds_merge.specs.Inside.Splice.{TextIsKept, AreItemsKept, EndsBefore, no_comma, StandAt, FoundAt};
 ghost use Rattle.ocds_merge.specs.Inside.Pending.{HaveDistinctIds, alone, unless, pending};
 
 use crate::identified::id_of;
@@ -60,7 +60,7 @@ fn id_value(text: &[u8]) -> Result<&[u8], Unspliced>
 
 /// The text id of the object that begins a text, and what comes after the id, inside the object.
 pub(crate) fn id_in(text: &[u8]) -> Result<(&[u8], &[u8]), Unspliced>
-    ensures { IfOk result (λ p. (d : Data) (rest : List ℕ) → IsKept d → EndsBefore rest → text.now ≡ compact_text d ++ rest
+    ensures { IfOk result (λ p. (d : Data) (rest : List ℕ) → TextIsKept d → EndsBefore rest → text.now ≡ compact_text d ++ rest
         → (text_id d ≡ Some p.0.now) × (scan 1 between p.1.now ≡ rest)) }
 {
     let Some(inside) = after_byte(text, b'{') else {
@@ -77,7 +77,7 @@ pub(crate) fn id_in(text: &[u8]) -> Result<(&[u8], &[u8]), Unspliced>
 
 /// Whether no item before this place has this id.
 fn is_new(places: &Places, items: &[Value], id: &str, place: usize) -> bool
-    requires { Serves places.now.by_id (map view items.now) }
+    requires { IndexServes places.now.by_id (map view items.now) }
     ensures { IsTrue result → Lacks id.now (take place (map view items.now)) }
 {
     match places.find(items, id) {
@@ -88,7 +88,7 @@ fn is_new(places: &Places, items: &[Value], id: &str, place: usize) -> bool
 
 /// Where the items stand by id, of which no two may have one id.
 pub(crate) fn distinct_places(alloc: Global, items: &[Value]) -> Result<Places, Unspliced>
-    ensures serves { IfOk result (λ places. Serves places.by_id (map view items.now)) }
+    ensures serves { IfOk result (λ places. IndexServes places.by_id (map view items.now)) }
     ensures distinct { OnOk result (HaveDistinctIds (map view items.now)) }
 {
     let places = Places::new(alloc, items, items.len())?;
@@ -106,7 +106,7 @@ pub(crate) fn place_in(
     items: &[Value],
     id: &[u8],
 ) -> Result<Option<usize>, Unspliced>
-    requires { Serves places.now.by_id (map view items.now) }
+    requires { IndexServes places.now.by_id (map view items.now) }
     ensures { IfOk result (λ found. IsPlaceOf found id.now (map view items.now)) }
 {
     match std::str::from_utf8(id) {
@@ -143,7 +143,7 @@ fn write_unless(
     later: bool,
     out: &mut Vec<u8>,
 ) -> Result<bool, AllocError>
-    ensures { IfOk result (λ more. IsKept (view item.now) → (ds : Items)
+    ensures { IfOk result (λ more. TextIsKept (view item.now) → (ds : Items)
         → out.new.items ++ items_text more ds ≡ out.old.items ++ items_text later (unless is_done (alone (view item.now)) ds)) }
 {
     if is_done {

@@ -2,7 +2,7 @@ ghost use Rattle.std.specs.Prelude.{◌≡◌, option_map, OnOk};
 ghost use Rattle.serde_json.specs.View.{view, members_view};
 ghost use Rattle.serde_json.specs.Find.{get_member};
 ghost use Rattle.ocds_merge.specs.Merge.{put_present as with_present};
-ghost use Rattle.ocds_merge.specs.Compile.{without};
+ghost use Rattle.ocds_merge.specs.Compile.{members_without};
 
 use serde_json::{Map, Value};
 use std::alloc::{AllocError, Global};
@@ -11,7 +11,7 @@ use std::alloc::{AllocError, Global};
 pub(crate) fn take_member(target: &mut Map<String, Value>, name: &str) -> Option<Value>
     ensures found { option_map view result ≡ get_member name.now (members_view target.old.entries) }
     ensures left { members_view target.new.entries
-        ≡ without name.now (members_view target.old.entries) }
+        ≡ members_without name.now (members_view target.old.entries) }
 {
     target.remove(name)
 }

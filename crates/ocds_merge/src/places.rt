@@ -5,7 +5,7 @@ ghost use Rattle.serde_json.specs.Data.{Data};
 ghost use Rattle.serde_json.specs.View.{view};
 ghost use Rattle.ocds_merge.specs.Identified.{id_of as id_named};
 ghost use Rattle.ocds_merge.specs.Inside.Step.{Lacks};
-ghost use Rattle.ocds_merge.specs.Inside.Places.{IsPlaceOf, IsIndexOf, Serves};
+ghost use Rattle.ocds_merge.specs.Inside.Places.{IsPlaceOf, IsIndexOf, IndexServes};
 
 use crate::identified::{id_of, place_of};
 use serde_json::Value;
@@ -25,7 +25,7 @@ pub(crate) struct Places {
 impl Places {
     /// For this list, in which so many items are to be looked for.
     pub(crate) fn new(alloc: Global, items: &[Value], count: usize) -> Result<Places, AllocError>
-        ensures { IfOk result (λ places. Serves places.by_id (map view items.now)) }
+        ensures { IfOk result (λ places. IndexServes places.by_id (map view items.now)) }
     {
         let by_id = if count > FEW {
             Some(index_of(alloc, items)?)
@@ -37,7 +37,7 @@ impl Places {
 
     /// The place of the first item with this id.
     pub(crate) fn find(&self, items: &[Value], id: &str) -> Option<usize>
-        requires { Serves self.now.by_id (map view items.now) }
+        requires { IndexServes self.now.by_id (map view items.now) }
         ensures { IsPlaceOf result id.now (map view items.now) }
     {
         match &self.by_id {
@@ -49,8 +49,8 @@ impl Places {
     /// Takes note of an item with this id, of which there was none, at the list's end.
     pub(crate) fn add(&mut self, alloc: Global, id: &str, place: usize) -> Result<(), AllocError>
         ensures { OnOk result ((items : List Data) (item : Data)
-            → Serves self.old.by_id items → length items ≡ place → Lacks id.now items → id_named item ≡ id.now
-            → Serves self.new.by_id (items ++ item ∷ [])) }
+            → IndexServes self.old.by_id items → length items ≡ place → Lacks id.now items → id_named item ≡ id.now
+            → IndexServes self.new.by_id (items ++ item ∷ [])) }
     {
         if let Some(by_id) = &mut self.by_id {
             put_place(alloc, by_id, id, place)?;

@@ -1,14 +1,17 @@
-//! Whether a text is the compact text of a value, without a tree of it.
+//! Whether a text is the compact text of a value that reads back from it, without a tree of it.
 ghost use Rattle.std.specs.Prelude.{◌≡◌, ◌≤◌, ◌<◌, ◌^◌, ℕ, List, ◌∷◌, ◌++◌, [], length, take, slice_index, decimal, IsTrue, MatchBool, MatchOption, Some, ⊤};
+ghost use Rattle.std.specs.Ordering.{nat_cmp};
+ghost use Rattle.std.specs.Cmp.Lexicographic.{slice_cmp};
 ghost use Rattle.std.specs.Char.{digit_value};
 ghost use Rattle.std.specs.Str.Parse.{AllDigits};
 ghost use Rattle.json.specs.Print.{escape, escape_byte, quoted};
-ghost use Rattle.serde_json.specs.Data.{Data, Members, object};
 ghost use Rattle.serde_json.specs.Read.{read};
 ghost use Rattle.serde_json.specs.Written.{comma_if};
-ghost use Rattle.ocds_merge.specs.Inside.Readable.{Passed, PassedItems, PassedMembers};
+ghost use Rattle.ocds_merge.specs.Stored.{IsObjectText};
+ghost use Rattle.ocds_merge.specs.Inside.Readable.{Passed, PassedItems, PassedMembers, Reads};
 
-use crate::scan::{after_byte, after_plain};
+use crate::scan::{after_byte, after_plain, span_before};
+use std::cmp::Ordering;
 
 /// How deep a text may nest, in levels: no deeper than `Value::from_str` reads.
 const MAX_DEPTH: usize = 127;
@@ -164,14 +167,19 @@ fn passed_members(text: &[u8], depth: usize) -> Option<&[u8]>
 {
     let mut left = text;
     let mut later = false;
+    let mut last: &[u8] = b"";
     // An object has no more members than bytes.
     for _turn in 0..text.len() {
         if let Some(rest) = after_byte(left, b'}') {
             return Some(rest);
         }
-        let value = passed_name(after_comma_if(later, left)?)?;
+        let (name, value) = passed_name(after_comma_if(later, left)?)?;
+        if !is_in_turn(later, last, name) {
+            return None;
+        }
         left = passed_value(value, depth)?;
         later = true;
+        last = name;
     }
     None
 }
@@ -187,13 +195,42 @@ fn after_comma_if(later: bool, text: &[u8]) -> Option<&[u8]>
     }
 }
 
-/// What comes after a name and its colon.
-fn passed_name(text: &[u8]) -> Option<&[u8]>
-    ensures { MatchOption result ⊤ (λ rest. (k : List ℕ) × (text.now ≡ quoted k ++ 58 ∷ rest.now)) }
+/// A name without escapes, and what comes after its colon.
+fn passed_name(text: &[u8]) -> Option<(&[u8], &[u8])>
+    ensures { MatchOption result ⊤ (λ p. text.now ≡ quoted p.0.now ++ 58 ∷ p.1.now) }
 {
     let inside = after_byte(text, b'"')?;
-    let rest = passed_string(inside)?;
-    after_byte(rest, b':')
+    let end = after_plain(inside);
+    let after = after_byte(end, b'"')?;
+    let value = after_byte(after, b':')?;
+    Some((span_before(inside, end), value))
+}
+
+/// Whether a name comes after the last one, where there is a last one.
+fn is_in_turn(later: bool, last: &[u8], name: &[u8]) -> bool
+    ensures { MatchBool result (IsTrue later → slice_cmp nat_cmp name.now last.now ≡ Ordering.Greater) ⊤ }
+{
+    if !later {
+        return true;
+    }
+    match name.cmp(last) {
+        Ordering::Greater => true,
+        Ordering::Less => false,
+        Ordering::Equal => false,
+    }
+}
+
+/// Whether a byte may stand between the values of a text, and before them.
+pub(crate) fn is_space(byte: u8) -> bool
+    ensures { IsTrue result → (rest : List ℕ) → read (byte ∷ rest) ≡ read rest }
+{
+    match byte {
+        b' ' => true,
+        b'\n' => true,
+        b'\r' => true,
+        b'\t' => true,
+        _ => false,
+    }
 }
 
 fn is_end(text: &[u8]) -> bool
@@ -202,9 +239,10 @@ fn is_end(text: &[u8]) -> bool
     text.is_empty()
 }
 
-/// Whether a text is the compact text of a value with natural numbers alone: where it isn't it may still be JSON.
+/// Whether a text is the compact text of a value with natural numbers alone, whose names have no escape and stand in order: where it isn't it may
+/// still be JSON.
 pub(crate) fn is_plain_json(text: &[u8]) -> bool
-    ensures { IsTrue result → (d : Data) × (read text.now ≡ Some d) }
+    ensures { IsTrue result → Reads text.now }
 {
     match passed_value(text, MAX_DEPTH) {
         Some(rest) => is_end(rest),
@@ -212,9 +250,9 @@ pub(crate) fn is_plain_json(text: &[u8]) -> bool
     }
 }
 
-/// Whether a text is the compact text of an object with natural numbers alone: where it isn't it may still be one.
+/// Whether a text is the compact text of such an object: where it isn't it may still be one.
 pub(crate) fn is_plain_object(text: &[u8]) -> bool
-    ensures { IsTrue result → (members : Members) × (read text.now ≡ Some (object members)) }
+    ensures { IsTrue result → IsObjectText text.now }
 {
     let Some(inside) = after_byte(text, b'{') else {
         return false;

@@ -34,6 +34,14 @@ pub(crate) fn after_plain(text: &[u8]) -> &[u8]
     &text[text.len()..]
 }
 
+/// What a text has before the rest of it.
+pub(crate) fn span_before<'a>(text: &'a [u8], rest: &[u8]) -> &'a [u8]
+    ensures { (span : List ℕ) → text.now ≡ span ++ rest.now → result.now ≡ span }
+{
+    let count = text.len().saturating_sub(rest.len());
+    &text[..count]
+}
+
 /// The text without its first byte.
 fn after_one(text: &[u8]) -> &[u8]
     ensures passes { (n : ℕ) → scan n escaped text.now ≡ scan n in_string result.now }

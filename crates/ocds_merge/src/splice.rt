@@ -5,8 +5,8 @@ ghost use Rattle.serde_json.specs.View.{view, items_of, items_view, members_view
 ghost use Rattle.serde_json.specs.Written.{compact_text, members_text, items_text};
 ghost use Rattle.ocds_merge.specs.Identified.{all_have_id, text_id};
 ghost use Rattle.ocds_merge.specs.Inside.Step.{step, step_members, step_items, id_list_of, items_list};
-ghost use Rattle.ocds_merge.specs.Inside.Places.{Serves};
-ghost use Rattle.ocds_merge.specs.Inside.Splice.{IsKept, AreItemsKept, EndsBefore, no_comma, StandAt, AllAbove, StartsFrom, SameText, SameItems};
+ghost use Rattle.ocds_merge.specs.Inside.Places.{IndexServes};
+ghost use Rattle.ocds_merge.specs.Inside.Splice.{TextIsKept, AreItemsKept, EndsBefore, no_comma, StandAt, AllAbove, StartsFrom, SameText, SameItems};
 ghost use Rattle.ocds_merge.specs.Inside.Pending.{HaveDistinctIds, step_list, pending};
 
 use crate::identified::is_id_list;
@@ -38,7 +38,7 @@ pub(crate) fn splice_value<'a>(
     text: &'a [u8],
     out: &mut Vec<u8>,
 ) -> Result<&'a [u8], Unspliced>
-    ensures splices { IfOk result (λ left. IsKept (view value.now) → (d : Data) (rest : List ℕ) → IsKept d → EndsBefore rest
+    ensures splices { IfOk result (λ left. TextIsKept (view value.now) → (d : Data) (rest : List ℕ) → TextIsKept d → EndsBefore rest
         → text.now ≡ compact_text d ++ rest
         → (left.now ≡ rest) × (out.new.items ≡ out.old.items ++ compact_text (unwrap_or (step (Some d) (view value.now)) null))) }
 {
@@ -68,8 +68,8 @@ fn splice_members<'a>(
     text: &'a [u8],
     out: &mut Vec<u8>,
 ) -> Result<&'a [u8], Unspliced>
-    ensures splices { IfOk result (λ left. IsKept (object (members_view members.now.entries)) → (ts : Members) (rest : List ℕ)
-        → IsKept (object ts) → EndsBefore rest → text.now ≡ members_text false ts ++ rest
+    ensures splices { IfOk result (λ left. TextIsKept (object (members_view members.now.entries)) → (ts : Members) (rest : List ℕ)
+        → TextIsKept (object ts) → EndsBefore rest → text.now ≡ members_text false ts ++ rest
         → (left.now ≡ rest) × (out.new.items ≡ out.old.items ++ 123 ∷ members_text false (step_members ts (members_view members.now.entries)))) }
 {
     write_byte(b'{', out)?;
@@ -93,7 +93,7 @@ fn splice_member<'a>(
     later: bool,
     out: &mut Vec<u8>,
 ) -> Result<(&'a [u8], bool), Unspliced>
-    ensures splices { IfOk result (λ p. IsKept (view value.now) → (ms ts : Members) (rest : List ℕ)
+    ensures splices { IfOk result (λ p. TextIsKept (view value.now) → (ms ts : Members) (rest : List ℕ)
         → StandAt text.now ts rest → StartsFrom name.now ts → AllAbove name.now ms
         → (others : Members) × StandAt p.0.now others rest
         × SameText out.old.items later (step_members ts (member name.now (view value.now) ms)) out.new.items p.1 (step_members others ms)) }
@@ -148,7 +148,7 @@ fn splice_old_items<'a>(
     out: &mut Vec<u8>,
 ) -> Result<(&'a [u8], bool), Unspliced>
     requires ids { all_have_id (items_view items.now.items) ≡ true }
-    requires serves { Serves places.now.by_id (map view items.now.items) }
+    requires serves { IndexServes places.now.by_id (map view items.now.items) }
     requires distinct { HaveDistinctIds (map view items.now.items) }
     requires marks { length done.old.items ≡ length items.now.items }
     ensures marks { OnOk result (length done.new.items ≡ length items.now.items) }
@@ -183,12 +183,12 @@ fn splice_item<'a>(
     out: &mut Vec<u8>,
 ) -> Result<&'a [u8], Unspliced>
     requires ids { all_have_id (items_view items.now.items) ≡ true }
-    requires serves { Serves places.now.by_id (map view items.now.items) }
+    requires serves { IndexServes places.now.by_id (map view items.now.items) }
     requires distinct { HaveDistinctIds (map view items.now.items) }
     requires marks { length done.old.items ≡ length items.now.items }
     ensures marks { OnOk result (length done.new.items ≡ length items.now.items) }
     ensures splices { IfOk result (λ left. AreItemsKept (items_view items.now.items) → (t : Data) (rest : List ℕ)
-        → IsKept t → EndsBefore rest → text.now ≡ compact_text t ++ rest
+        → TextIsKept t → EndsBefore rest → text.now ≡ compact_text t ++ rest
         → (left.now ≡ rest) × (is_some (text_id t) ≡ true) × ((ts : List Data)
         → SameItems out.old.items later (step_list (t ∷ ts) (pending (map view items.now.items) done.old.items))
         out.new.items true (step_list ts (pending (map view items.now.items) done.new.items)))) }

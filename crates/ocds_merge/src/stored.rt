@@ -1,17 +1,18 @@
-ghost use Rattle.std.specs.Prelude.{◌≡◌, List, [], ◌∷◌, ◌++◌, Some, None, Err, string_bytes, IsTrue, ◌↔◌, IfOk, OnOk, IfErr, IsErr, All, unwrap_or};
-ghost use Rattle.serde_json.specs.Data.{Data, Members, null, object};
+ghost use Rattle.std.specs.Prelude.{◌≡◌, List, ⊤, MatchBool, [], ◌∷◌, ◌++◌, Some, None, Err, string_bytes, IsTrue, ◌↔◌, IfOk, OnOk, IfErr, IsErr, All, unwrap_or};
+ghost use Rattle.serde_json.specs.Data.{Data, null};
 ghost use Rattle.serde_json.specs.Read.{read};
 ghost use Rattle.serde_json.specs.View.{view};
 ghost use Rattle.serde_json.specs.Written.{compact_text};
 ghost use Rattle.ocds_merge.specs.Merge.{merge_or_null};
-ghost use Rattle.ocds_merge.specs.Stored.{KeepsMerge, IsStorable};
+ghost use Rattle.ocds_merge.specs.Stored.{KeepsMerge, IsObjectText, IsStorable};
 ghost use Rattle.ocds_merge.specs.Inside.Step.{step};
-ghost use Rattle.ocds_merge.specs.Inside.Splice.{IsKept};
+ghost use Rattle.ocds_merge.specs.Inside.Splice.{TextIsKept};
+ghost use Rattle.ocds_merge.specs.Inside.Readable.{Reads};
 ghost use Rattle.ocds_merge.specs.declared.stored.StoredFault.TheVariants.{NoMemory as no_memory};
 
 use crate::kept_value::is_kept;
 use crate::merging::{NoMemory, carried_on};
-use crate::readable::{is_plain_json, is_plain_object};
+use crate::readable::{is_plain_json, is_plain_object, is_space};
 use crate::splice::splice_value;
 use crate::unspliced::Unspliced;
 use serde_json::Value;
@@ -65,7 +66,7 @@ pub fn merge_from_text(alloc: Global, stored: &str) -> Result<Value, StoredFault
 
 /// Whether a text is a JSON object of at most 127 levels, so that it can be merged. No tree is made of it where its numbers are digits alone.
 pub fn is_object(alloc: Global, text: &str) -> Result<bool, NoMemory>
-    ensures { IfOk result (λ is. IsTrue is ↔ ((members : Members) × (read text.now ≡ Some (object members)))) }
+    ensures { IfOk result (λ is. IsTrue is ↔ IsObjectText text.now) }
 {
     if is_plain_object(text.as_bytes()) {
         return Ok(true);
@@ -77,12 +78,31 @@ pub fn is_object(alloc: Global, text: &str) -> Result<bool, NoMemory>
     }
 }
 
-/// The text that keeps the merge of some values, after one value more. A text that is no JSON keeps
-/// no merge, not even that of no values, which is `null`.
+/// Whether a text begins as an object does, perhaps behind spaces: what reads and begins so is one. Only its first bytes are looked at.
+pub fn begins_object(text: &str) -> bool
+    ensures { MatchBool result ((d : Data) → read text.now ≡ Some d → IsObjectText text.now) ⊤ }
+{
+    let mut left = text.as_bytes();
+    while let Some((first, rest)) = left.split_first() {
+        if *first == b'{' {
+            return true;
+        }
+        if !is_space(*first) {
+            return false;
+        }
+        left = rest;
+    }
+    false
+}
+
+/// The text that keeps the merge of some values, after one value more, whatever the form of the stored text that reads as their merge. A text
+/// that is no JSON keeps no merge, not even that of no values, which is `null`. Where the text reads as no merge of any values, as where it has a
+/// member that is null or an id twice in one list, what comes of it isn't stated.
 ///
-/// What the value doesn't touch is copied as it stands, and no tree is made of it.
+/// What the value doesn't touch is copied as it stands, and no tree is made of it, where the stored text is compact, its names without escapes and
+/// in their order.
 pub fn merge_into_text(alloc: Global, stored: &str, value: &Value) -> Result<String, StoredFault>
-    ensures keeps { IfOk result (λ text. (vs : List Data) → KeepsMerge stored.now vs
+    ensures keeps { IfOk result (λ text. (vs : List Data) → read stored.now ≡ Some (merge_or_null vs)
         → All IsStorable (vs ++ view value.now ∷ [])
         → KeepsMerge (string_bytes text) (vs ++ view value.now ∷ [])) }
     ensures memory { IfErr result (λ fault. (merge : Data) → read stored.now ≡ Some merge
@@ -99,7 +119,7 @@ pub fn merge_into_text(alloc: Global, stored: &str, value: &Value) -> Result<Str
 
 /// The same by a tree of the stored merge, whatever the form of its text.
 fn merged_anew(alloc: Global, stored: &str, value: &Value) -> Result<String, StoredFault>
-    ensures keeps { IfOk result (λ text. (vs : List Data) → KeepsMerge stored.now vs
+    ensures keeps { IfOk result (λ text. (vs : List Data) → read stored.now ≡ Some (merge_or_null vs)
         → All IsStorable (vs ++ view value.now ∷ [])
         → KeepsMerge (string_bytes text) (vs ++ view value.now ∷ [])) }
     ensures memory { IfErr result (λ fault. (merge : Data) → read stored.now ≡ Some merge
@@ -114,10 +134,10 @@ fn merged_anew(alloc: Global, stored: &str, value: &Value) -> Result<String, Sto
 
 /// The same by the stored text itself.
 fn spliced(alloc: Global, stored: &str, value: &Value) -> Result<String, Unspliced>
-    ensures keeps { IfOk result (λ text. (vs : List Data) → KeepsMerge stored.now vs
+    ensures keeps { IfOk result (λ text. (vs : List Data) → read stored.now ≡ Some (merge_or_null vs)
         → All IsStorable (vs ++ view value.now ∷ [])
         → KeepsMerge (string_bytes text) (vs ++ view value.now ∷ [])) }
-    ensures readable { OnOk result ((merge : Data) × (read stored.now ≡ Some merge)) }
+    ensures readable { OnOk result (Reads stored.now) }
     ensures empty { stored.now ≡ [] → result ≡ Err Unspliced.Unfit }
 {
     if !is_kept(value) {
@@ -136,7 +156,7 @@ fn spliced(alloc: Global, stored: &str, value: &Value) -> Result<String, Unsplic
 
 /// The bytes of that text.
 fn spliced_bytes(alloc: Global, stored: &[u8], value: &Value) -> Result<Vec<u8>, Unspliced>
-    ensures { IfOk result (λ bytes. IsKept (view value.now) → (merge : Data) → IsKept merge → stored.now ≡ compact_text merge
+    ensures { IfOk result (λ bytes. TextIsKept (view value.now) → (merge : Data) → TextIsKept merge → stored.now ≡ compact_text merge
         → bytes.items ≡ compact_text (unwrap_or (step (Some merge) (view value.now)) null)) }
 {
     let mut out: Vec<u8> = Vec::with_capacity(alloc, stored.len())?;

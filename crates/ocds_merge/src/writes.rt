@@ -5,9 +5,9 @@ ghost use Rattle.serde_json.specs.View.{view};
 ghost use Rattle.serde_json.specs.Written.{compact_text, comma_if, has_float};
 ghost use Rattle.json.specs.Print.{quoted};
 ghost use Rattle.ocds_merge.specs.Inside.Step.{step};
-ghost use Rattle.ocds_merge.specs.Inside.Splice.{IsKept, EndsBefore};
+ghost use Rattle.ocds_merge.specs.Inside.Splice.{TextIsKept, EndsBefore};
 
-use crate::scan::after_value;
+use crate::scan::{after_value, span_before};
 use crate::step::merge_value;
 use serde_json::Value;
 use std::alloc::{AllocError, Global};
@@ -38,8 +38,7 @@ pub(crate) fn copy_span(
         → out.new.items ≡ out.old.items ++ (comma_if later ++ span)) }
 {
     write_comma(later, out)?;
-    let count = text.len().saturating_sub(rest.len());
-    Ok(out.extend_from_slice(&text[..count])?)
+    Ok(out.extend_from_slice(span_before(text, rest))?)
 }
 
 pub(crate) fn write_value(alloc: Global, value: &Value, out: &mut Vec<u8>) -> Result<(), AllocError>
@@ -52,7 +51,7 @@ pub(crate) fn write_value(alloc: Global, value: &Value, out: &mut Vec<u8>) -> Re
 
 /// Writes the merge of this value alone; it isn't null.
 pub(crate) fn write_new(alloc: Global, value: &Value, out: &mut Vec<u8>) -> Result<(), AllocError>
-    ensures { OnOk result (IsKept (view value.now)
+    ensures { OnOk result (TextIsKept (view value.now)
         → out.new.items ≡ out.old.items ++ compact_text (unwrap_or (step None (view value.now)) null)) }
 {
     let merge = merge_value(alloc, value, None)?;
@@ -80,7 +79,7 @@ pub(crate) fn replace_value<'a>(
     text: &'a [u8],
     out: &mut Vec<u8>,
 ) -> Result<&'a [u8], AllocError>
-    ensures { IfOk result (λ left. IsKept (view value.now) → (d : Data) (rest : List ℕ) → IsKept d → EndsBefore rest
+    ensures { IfOk result (λ left. TextIsKept (view value.now) → (d : Data) (rest : List ℕ) → TextIsKept d → EndsBefore rest
         → text.now ≡ compact_text d ++ rest
         → (left.now ≡ rest) × (out.new.items ≡ out.old.items ++ compact_text (unwrap_or (step None (view value.now)) null))) }
 {

@@ -6,7 +6,7 @@ use Rattle.std.proofs.Math.Nat.{le-max_left, le-max_right, max-le}
 use Rattle.serde_json.specs.Data.{Data, number, unsigned, object, Items, Members, no_members, member, put, depth, items_depth, members_depth}
 use Rattle.serde_json.specs.View.{items_of}
 use Rattle.serde_json.specs.Written.{has_float, items_have_float, members_have_float}
-use Rattle.ocds_release.specs.Objects.{Entry, is_empty_list, put_filled, with_entries, object_of, text, array_of, texts, money, reference}
+use Rattle.ocds_release.specs.Objects.{Entry, is_empty_list, put_unless_empty, with_entries, object_of, text, array_of, texts, money, reference}
 
 -- no float, and at most n levels
 pub record IsFlat (n : ℕ) (v : Data) : Type 0 where
@@ -78,12 +78,12 @@ chosen_flat : (b : Bool) (n : ℕ) (ms r : Members) → AreMembersFlat n ms → 
 chosen_flat true n ms r h q = h
 chosen_flat false n ms r h q = q
 
-pub filled_flat : (n : ℕ) (k : List ℕ) (d : Data) (ms : Members) → IsFlat n d → AreMembersFlat n ms → AreMembersFlat n (put_filled k d ms)
+pub filled_flat : (n : ℕ) (k : List ℕ) (d : Data) (ms : Members) → IsFlat n d → AreMembersFlat n ms → AreMembersFlat n (put_unless_empty k d ms)
 filled_flat n k d ms p h = chosen_flat (is_empty_list d) n ms (put k d ms) h (put_flat n k d ms p h)
 
 pub entries_flat : (n : ℕ) (es : List Entry) (ms : Members) → AreEntriesFlat n es → AreMembersFlat n ms → AreMembersFlat n (with_entries es ms)
 entries_flat n [] ms p h = h
-entries_flat n (e ∷ es) ms p h = entries_flat n es (put_filled e.0 e.1 ms) p.1 (filled_flat n e.0 e.1 ms p.0 h)
+entries_flat n (e ∷ es) ms p h = entries_flat n es (put_unless_empty e.0 e.1 ms) p.1 (filled_flat n e.0 e.1 ms p.0 h)
 
 pub members_flat : (n : ℕ) (es : List Entry) → AreEntriesFlat n es → AreMembersFlat n (with_entries es no_members)
 members_flat n es p = entries_flat n es no_members p (none_flat n)

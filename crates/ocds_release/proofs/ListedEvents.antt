@@ -2,8 +2,8 @@
 use Rattle.std.proofs.Common.{ℕ, List, [], ◌∷◌, codes, map, length, refl, arith}
 use Rattle.serde_json.specs.Data.{number, unsigned}
 use Rattle.office_values.specs.declared.settings.Settings.{Settings}
-use Rattle.office_acts.specs.declared.item.Item.{Item}
-use Rattle.office_acts.specs.declared.lot.NewLot.{NewLot}
+use Rattle.office_commands.specs.declared.item.Item.{Item}
+use Rattle.office_commands.specs.declared.lot.NewLot.{NewLot}
 use Rattle.office_base.specs.Sums.{sum_over}
 use Rattle.ocds_release.specs.LotsInOrder.{lots_in_order}
 use Rattle.ocds_release.specs.Amendments.{amendment}
@@ -111,7 +111,7 @@ open_keepable settings seq t e =
 
 -- ---- a cancellation
 
-cancelled_lot_flat : (lot : List ℕ) → IsFlat 4 (cancel.cancelled_lot lot)
+cancelled_lot_flat : (lot : List ℕ) → IsFlat 4 (cancel.cancelled_lot_data lot)
 cancelled_lot_flat lot = record { no_float = refl; shallow = omega arith }
 
 ended_award_flat : (award : ℕ) → IsFlat 5 (ended_award award)
@@ -123,7 +123,7 @@ tag_flat (award ∷ awards) = record { no_float = refl; shallow = omega arith }
 
 cancelled_flat : (seq t : ℕ) (e : NoticeCancelled) → IsFlat 6 (cancel.cancelled_tender seq t e)
 cancelled_flat seq t e =
-    let lots = array_of (map cancel.cancelled_lot e.lots) in
+    let lots = array_of (map cancel.cancelled_lot_data e.lots) in
     let entries : List Entry =
     (codes "id", text e.notice)
     ∷ (codes "status", text (status_code e.status))
@@ -133,7 +133,7 @@ cancelled_flat seq t e =
     inside_flat 5 _ (filled_flat 5 (codes "amendments") amendments (tender_members e.notice e.status lots)
     (record { no_float = refl; shallow = omega arith })
     (members_flat 5 entries
-    (text_flat 5 _, (text_flat 5 _, (list_flat 4 _ (each_flat 4 cancel.cancelled_lot cancelled_lot_flat e.lots), tt)))))
+    (text_flat 5 _, (text_flat 5 _, (list_flat 4 _ (each_flat 4 cancel.cancelled_lot_data cancelled_lot_flat e.lots), tt)))))
 
 pub cancel_keepable : (settings : Settings) (seq t : ℕ) (e : NoticeCancelled) → IsKeepable t (cancel.cancel_release settings seq t e)
 cancel_keepable settings seq t e =

@@ -3,8 +3,8 @@ use Rattle.std.proofs.Common.{◌≡◌, ◌<◌, ◌≤◌, ℕ, zero, suc, Lis
 use Rattle.std.specs.List.{insert}
 use Rattle.std.specs.Ordering.{match_ordering, is_lt}
 use Rattle.office_values.specs.Ids.{id_cmp}
-use Rattle.office_acts.specs.Lots.{lot_id}
-use Rattle.office_acts.specs.declared.lot.NewLot.{NewLot}
+use Rattle.office_commands.specs.Lots.{lot_id}
+use Rattle.office_commands.specs.declared.lot.NewLot.{NewLot}
 use Rattle.ocds_release.specs.LotsInOrder.{insert_by_id}
 use Rattle.ocds_release.specs.Inside.Earlier.{AreEarlier}
 

@@ -8,7 +8,7 @@ use Rattle.ocds_merge.specs.Compile.{date_of}
 use Rattle.ocds_release.specs.Objects.{is_empty_list}
 
 -- a row that keeps this release: its compact text, and the moment of its date
-pub record IsKept (row : ReleaseRow) (release : Data) : Type 0 where
+pub record ReleaseIsKept (row : ReleaseRow) (release : Data) : Type 0 where
   pub text : row.text ≡ compact_text release
   pub date : date_of release ≡ moment_text row.moment
 
@@ -17,7 +17,7 @@ abbrev pub AreKept : List ReleaseRow → List Data → Type 0
 AreKept [] [] = Unit {0}
 AreKept [] (d ∷ ds) = ⊥
 AreKept (r ∷ rs) [] = ⊥
-AreKept (r ∷ rs) (d ∷ ds) = IsKept r d × AreKept rs ds
+AreKept (r ∷ rs) (d ∷ ds) = ReleaseIsKept r d × AreKept rs ds
 
 -- a value that a package shows, and whose text is known: it has no float, and is no list of nothing
 pub record HasText (d : Data) : Type 0 where

@@ -2,7 +2,7 @@
 use Rattle.std.specs.Prelude.{List, [], ◌∷◌}
 use Rattle.std.specs.Ordering.{match_ordering}
 use Rattle.office_values.specs.Ids.{id_cmp}
-use Rattle.office_acts.specs.declared.lot.NewLot.{NewLot}
+use Rattle.office_commands.specs.declared.lot.NewLot.{NewLot}
 
 -- before the first lot whose identifier isn't less
 abbrev pub insert_by_id : NewLot → List NewLot → List NewLot

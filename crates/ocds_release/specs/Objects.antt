@@ -20,13 +20,13 @@ is_empty_list (array (item d ds)) = false
 is_empty_list (object ms) = false
 
 -- the member is put, but for an empty list, which would replace what is there in a merge of releases
-abbrev pub put_filled : List ℕ → Data → Members → Members
-put_filled k d ms = if is_empty_list d then ms else put k d ms
+abbrev pub put_unless_empty : List ℕ → Data → Members → Members
+put_unless_empty k d ms = if is_empty_list d then ms else put k d ms
 
 -- the members with these entries put, one after another
 abbrev pub with_entries : List Entry → Members → Members
 with_entries [] ms = ms
-with_entries (e ∷ es) ms = with_entries es (put_filled e.0 e.1 ms)
+with_entries (e ∷ es) ms = with_entries es (put_unless_empty e.0 e.1 ms)
 
 -- the object with these entries
 abbrev pub object_of : List Entry → Data

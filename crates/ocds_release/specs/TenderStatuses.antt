@@ -33,8 +33,8 @@ is_cancelled_lot lot_states.Unsuccessful = false
 is_cancelled_lot lot_states.Cancelled = true
 
 -- active while a lot is undecided or awarded; else complete if one is contracted, else cancelled if one is cancelled, else unsuccessful
-abbrev pub status_of : List LotState → TenderStatus
-status_of states =
+abbrev pub tender_status_of : List LotState → TenderStatus
+tender_status_of states =
     cond (list_any is_open states) Active (cond (list_any is_contracted states) Complete (cond (list_any is_cancelled_lot states) Cancelled Unsuccessful))
 
 -- the state of a lot after this lot has come to a state

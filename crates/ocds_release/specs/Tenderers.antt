@@ -9,5 +9,5 @@ pub record Tenderer : Type 0 where
   pub address : List ℕ
 
 -- the tenderer of a row, without the key
-abbrev pub tenderer_of : TendererRow → Tenderer
-tenderer_of r = record { id = r.tenderer; name = r.name; address = r.address }
+abbrev pub tenderer_shown : TendererRow → Tenderer
+tenderer_shown r = record { id = r.tenderer; name = r.name; address = r.address }

@@ -23,8 +23,8 @@ abbrev pub tenderer_id : List ℕ → List ℕ
 tenderer_id id = concat (codes "T-" ∷ id ∷ [])
 
 -- an item's identifier among those of all lots
-abbrev pub item_id : List ℕ → List ℕ → List ℕ
-item_id lot id = concat (lot ∷ codes "/" ∷ id ∷ [])
+abbrev pub item_id_text : List ℕ → List ℕ → List ℕ
+item_id_text lot id = concat (lot ∷ codes "/" ∷ id ∷ [])
 
 -- what an amendment did
 abbrev pub moved_text : ℕ → ℕ → List ℕ

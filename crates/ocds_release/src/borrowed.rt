@@ -1,9 +1,9 @@
 //! What an event borrows of the rows that it is told from. Contracts see lists alone.
 ghost use Rattle.std.specs.Prelude.{◌≡◌, ◌≤◌, ℕ, List, length, map, IfSome, IfNone};
-ghost use Rattle.ocds_release.specs.Tenderers.{Tenderer, tenderer_of};
+ghost use Rattle.ocds_release.specs.Tenderers.{Tenderer, tenderer_shown};
 
-use office_acts::lot::NewLot;
 use office_base::records::TendererRow;
+use office_commands::lot::NewLot;
 use office_values::text::TextLine;
 use std::marker::Model;
 
@@ -78,7 +78,7 @@ pub struct PublishedLots<'a> {
 
 impl<'a> Model for PublishedLots<'a> {
     ghost use Rattle.std.specs.Prelude.{◌≤◌, List, length};
-    ghost use Rattle.office_acts.specs.declared.lot.NewLot.{NewLot};
+    ghost use Rattle.office_commands.specs.declared.lot.NewLot.{NewLot};
 
     ghost Value = { List NewLot };
 
@@ -117,17 +117,17 @@ pub struct Tenderers<'a> {
 
 impl<'a> Model for Tenderers<'a> {
     ghost use Rattle.std.specs.Prelude.{List, map};
-    ghost use Rattle.ocds_release.specs.Tenderers.{Tenderer, tenderer_of};
+    ghost use Rattle.ocds_release.specs.Tenderers.{Tenderer, tenderer_shown};
 
     ghost Value = { List Tenderer };
 
-    ghost view = { λ t. map tenderer_of t.rows.now };
+    ghost view = { λ t. map tenderer_shown t.rows.now };
 }
 
 impl<'a> Tenderers<'a> {
     /// The tenderers of these rows. Takes no memory.
     pub fn of(rows: &'a [TendererRow]) -> Tenderers<'a>
-        ensures { result ≡ map tenderer_of rows.now }
+        ensures { result ≡ map tenderer_shown rows.now }
     {
         Tenderers { rows }
     }
@@ -141,7 +141,7 @@ impl<'a> Tenderers<'a> {
 
     /// Their rows, borrowed.
     pub(crate) fn as_slice(&self) -> &'a [TendererRow]
-        ensures { map tenderer_of result.now ≡ self.now }
+        ensures { map tenderer_shown result.now ≡ self.now }
     {
         self.rows
     }

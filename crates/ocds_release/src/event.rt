@@ -1,9 +1,9 @@
 //! What happened to a notice, as far as a release speaks of it. Contracts see an event as plain values, without references.
 use crate::borrowed::{BorrowedLine, Listed, PublishedLots, Tenderers};
 use crate::tender_status::TenderStatus;
-use office_acts::amounts::EntryAmount;
-use office_acts::contract::ChangeKind;
-use office_acts::notice::Criteria;
+use office_commands::amounts::EntryAmount;
+use office_commands::contract::ChangeKind;
+use office_commands::notice::Criteria;
 use office_values::given::GivenNumber;
 use office_values::id::Id;
 use office_values::moment::Moment;

@@ -1,7 +1,7 @@
 //! Worked examples of the definitions: each clause computes. The functions do nothing.
 ghost use Rattle.std.specs.Prelude.{◌≡◌, ◌∷◌, [], codes};
 ghost use Rattle.office_base.specs.declared.records.LotState.TheVariants as lot_states;
-ghost use Rattle.ocds_release.specs.TenderStatuses.{status_of};
+ghost use Rattle.ocds_release.specs.TenderStatuses.{tender_status_of};
 ghost use Rattle.ocds_release.specs.declared.tender_status.TenderStatus.TheVariants as statuses;
 ghost use Rattle.ocds_release.specs.Examples.{text_of, road_repair, more_time, two_tenderers, no_tenderers, alpha_wins, nobody_wins, alpha_fails, no_need, no_need_after_award, alpha_signs, more_paving, first_payment, all_done, first_package, small_release_package, small_record_package};
 
@@ -39,9 +39,9 @@ pub fn worked_packages()
 
 /// The status of a tender by its lots.
 pub fn worked_statuses()
-    ensures undecided { status_of (lot_states.Contracted ∷ lot_states.Undecided ∷ []) ≡ statuses.Active }
-    ensures awarded { status_of (lot_states.Cancelled ∷ lot_states.Awarded ∷ []) ≡ statuses.Active }
-    ensures contracted { status_of (lot_states.Unsuccessful ∷ lot_states.Cancelled ∷ lot_states.Contracted ∷ []) ≡ statuses.Complete }
-    ensures cancelled { status_of (lot_states.Unsuccessful ∷ lot_states.Cancelled ∷ []) ≡ statuses.Cancelled }
-    ensures unsuccessful { status_of (lot_states.Unsuccessful ∷ lot_states.Unsuccessful ∷ []) ≡ statuses.Unsuccessful }
+    ensures undecided { tender_status_of (lot_states.Contracted ∷ lot_states.Undecided ∷ []) ≡ statuses.Active }
+    ensures awarded { tender_status_of (lot_states.Cancelled ∷ lot_states.Awarded ∷ []) ≡ statuses.Active }
+    ensures contracted { tender_status_of (lot_states.Unsuccessful ∷ lot_states.Cancelled ∷ lot_states.Contracted ∷ []) ≡ statuses.Complete }
+    ensures cancelled { tender_status_of (lot_states.Unsuccessful ∷ lot_states.Cancelled ∷ []) ≡ statuses.Cancelled }
+    ensures unsuccessful { tender_status_of (lot_states.Unsuccessful ∷ lot_states.Unsuccessful ∷ []) ≡ statuses.Unsuccessful }
 {}

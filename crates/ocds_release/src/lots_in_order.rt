@@ -5,7 +5,7 @@ ghost use Rattle.office_values.specs.Ids.{id_cmp};
 ghost use Rattle.ocds_release.specs.LotsInOrder.{lots_in_order};
 ghost use Rattle.ocds_release.specs.Inside.Earlier.{AreEarlier};
 
-use office_acts::lot::NewLot;
+use office_commands::lot::NewLot;
 use office_values::id::Id;
 use std::alloc::{AllocError, Global};
 use std::cmp::Ordering;

@@ -2,7 +2,7 @@
 ghost use Rattle.std.specs.Prelude.{◌≡◌, ◌∷◌, [], IfOk, OnOk, map};
 ghost use Rattle.serde_json.specs.Data.{object, no_members};
 ghost use Rattle.serde_json.specs.View.{view};
-ghost use Rattle.ocds_release.specs.Objects.{with_entries, object_of, array_of, put_filled, is_empty_list};
+ghost use Rattle.ocds_release.specs.Objects.{with_entries, object_of, array_of, put_unless_empty, is_empty_list};
 ghost use Rattle.ocds_release.specs.Inside.Parts.{entry_of};
 ghost use Rattle.ocds_release.specs.Inside.Built.{members_in};
 
@@ -43,7 +43,7 @@ impl Object {
         name: &str,
         value: Value,
     ) -> Result<(), AllocError>
-        ensures { OnOk result (members_in self.new ≡ put_filled name.now (view value) (members_in self.old)) }
+        ensures { OnOk result (members_in self.new ≡ put_unless_empty name.now (view value) (members_in self.old)) }
     {
         if is_empty_list(&value) {
             return Ok(());

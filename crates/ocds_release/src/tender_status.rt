@@ -2,7 +2,7 @@
 ghost use Rattle.std.specs.Prelude.{◌≡◌, IfOk, map};
 ghost use Rattle.std.specs.List.{list_any};
 ghost use Rattle.office_base.specs.States.{is_open};
-ghost use Rattle.ocds_release.specs.TenderStatuses.{status_code, status_of, is_contracted, is_cancelled_lot, state_with, state_cancelled};
+ghost use Rattle.ocds_release.specs.TenderStatuses.{status_code, tender_status_of, is_contracted, is_cancelled_lot, state_with, state_cancelled};
 
 use office_base::records::{LotRow, LotState};
 use office_values::id::Id;
@@ -70,7 +70,7 @@ fn some_is_cancelled(states: &[LotState]) -> bool
 
 /// The status of a tender whose lots are in these states. Takes no memory.
 pub fn status_of(states: &[LotState]) -> TenderStatus
-    ensures { result ≡ status_of states.now }
+    ensures { result ≡ tender_status_of states.now }
 {
     if some_is_open(states) {
         TenderStatus::Active

@@ -2,14 +2,12 @@
 use Rattle.std.specs.Prelude.{◌≡◌, ℕ, ◌+◌, ◌-◌, ◌≤◌, Bool, true, false, cond, ◌&&◌, List, [], ◌∷◌, map, filter, Option, Some, None}
 use Rattle.std.proofs.Common.{refl, sym, ap, ◌∙◌, arith}
 use Rattle.std.specs.List.{AllByRecursion}
-use Rattle.std.specs.Cmp.{IsTotalOrder}
 use Rattle.std.specs.Cmp.Lexicographic.{texts_ties}
-use Rattle.std.specs.FinMap.{IsAntisymmetric}
 use Rattle.std.specs.Ordering.{is_eq, eq_by_cmp, ordering_then}
 use Rattle.std.specs.declared.cmp.Ordering.{Ordering}
 use Rattle.std.specs.declared.cmp.Ordering.TheVariants.{Less, Equal, Greater}
 use Rattle.office_values.specs.Ids.{id_cmp, same_id}
-use Rattle.office_base.specs.Rows.{by_order, row_at, StartsAbove, IsInOrder, holds_of}
+use Rattle.office_base.specs.Rows.{IsInOrder, holds_of}
 use Rattle.office_base.specs.Sums.{sum_over}
 use Rattle.office_base.specs.Tables.{Tables, IsSorted, lot_cmp, lot_key, find_lot, of_line, lots_of_line, contracts_of_lot}
 use Rattle.office_base.specs.Joined.{plus, minus, outstanding, paid_under, contracts_of_line, is_on_line, sums_of, sums_under, sums_of_line, reservations, LineFits}
@@ -18,43 +16,8 @@ use Rattle.office_base.specs.declared.records.LineRow.{LineRow}
 use Rattle.office_base.specs.declared.records.LotRow.{LotRow}
 use Rattle.office_base.specs.declared.records.ContractRow.{ContractRow}
 use Rattle.office_base.specs.declared.ledger.ContractSums.{ContractSums}
-use Rattle.office_base.proofs.ExactKeys.{lots_exact}
 use Rattle.office_base.proofs.Orders.{lots_total}
-use Rattle.office_base.proofs.SumsOver.{sum_over-zero, sum_over-ext, sum_over-map, sum_over-append_map, sum_over-filter}
-
--- a sum over the rows at one key
-abbrev weight : {X : Type 0} → (X → ℕ) → Option X → ℕ
-weight f None = 0
-weight f (Some x) = f x
-
-module _ {K X : Type 0} {R : K → K → Ordering} (o : IsTotalOrder R) (exact : IsAntisymmetric R) (key : X → K) where
-  none_below : (k : K) (xs : List X) → StartsAbove R key k xs → row_at R key xs k ≡ None
-  unfolding row_at
-  none_below k [] s = refl
-  none_below k (x ∷ xs) s = ap (λ c. by_order c None (Some x) (row_at R key xs k)) s
-
-  above : (k : K) (x : X) (xs : List X) → R k (key x) ≡ Less → StartsAbove R key (key x) xs → StartsAbove R key k xs
-  above k x [] e s = tt
-  above k x (y ∷ ys) e s = o.trans k (key x) (key y) e s
-
-  level : (k : K) (x : X) (xs : List X) → R k (key x) ≡ Equal → StartsAbove R key (key x) xs → StartsAbove R key k xs
-  level k x [] e s = tt
-  level k x (y ∷ ys) e s = o.congr k (key x) (key y) e ∙ s
-
-  sum_one : (f : X → ℕ) (k : K) (xs : List X) → IsInOrder R key xs → sum_over (λ x. cond (eq_by_cmp R k (key x)) (f x) 0) xs ≡ weight f (row_at R key xs k)
-  unfolding row_at
-  sum_one f k [] h = refl
-  sum_one f k (x ∷ xs) h =
-      let none : StartsAbove R key k xs → sum_over (λ x. cond (eq_by_cmp R k (key x)) (f x) 0) xs ≡ 0 = λ s. sum_one f k xs h.1 ∙ ap (weight f) (none_below k xs s) in
-      elim (R k (key x)) as (λ c. R k (key x) ≡ c → cond (is_eq c) (f x) 0 + sum_over (λ x. cond (eq_by_cmp R k (key x)) (f x) 0) xs ≡ weight f (by_order c None (Some x) (row_at R key xs k))) [
-        | Less ↦ λ e. omega (arith, none (above k x xs e h.0))
-        | Equal ↦ λ e. omega (arith, none (level k x xs e h.0))
-        | Greater ↦ λ e. omega (arith, sum_one f k xs h.1)
-      ] refl
-
-sum_plus : {X : Type 0} (f g : X → ℕ) (xs : List X) → sum_over (λ x. f x + g x) xs ≡ sum_over f xs + sum_over g xs
-sum_plus f g [] = refl
-sum_plus f g (x ∷ xs) = omega (arith, sum_plus f g xs)
+use Rattle.office_base.proofs.SumsOver.{weight, sum_over-zero, sum_over-ext, sum_over-plus, sum_over-map, sum_over-append_map, sum_over-filter, sum_over-one}
 
 swap_conds : (a b : Bool) (n : ℕ) → cond a (cond b n 0) 0 ≡ cond b (cond a n 0) 0
 swap_conds true true n = refl
@@ -92,13 +55,13 @@ module _ (w : ContractRow → ℕ) (q : List ℕ) (lots : List LotRow) (order : 
       ∙ sum_over-filter (λ (lot : LotRow). cond (is_of (lot_key lot) c) (w c) 0) (of_line q) lots
       ∙ sum_over-ext (λ lot. cond (of_line q lot) (cond (is_of (lot_key lot) c) (w c) 0) 0) (λ lot. cond (eq_by_cmp lot_cmp (c.notice, c.lot) (lot_key lot)) (cond (of_line q lot) (w c) 0) 0) lots
       (λ lot. swap_conds (of_line q lot) (is_of (lot_key lot) c) (w c) ∙ ap (λ b. cond b (cond (of_line q lot) (w c) 0) 0) (is_of-compares (lot_key lot) c))
-      ∙ sum_one lots_total lots_exact lot_key (λ (lot : LotRow). cond (of_line q lot) (w c) 0) (c.notice, c.lot) lots order
+      ∙ sum_over-one lots_total lot_key (λ (lot : LotRow). cond (of_line q lot) (w c) 0) (c.notice, c.lot) lots order
       ∙ found_weight c (find_lot lots (c.notice, c.lot))
 
   -- sums over lots of sums over contracts, the other way round
   turned : (ls : List LotRow) (cs : List ContractRow) → sum_over (λ (lot : LotRow). sum_over (λ c. cond (is_of (lot_key lot) c) (w c) 0) cs) ls ≡ sum_over (λ c. at_lots c ls) cs
   turned [] cs = sym (sum_over-zero cs)
-  turned (lot ∷ ls) cs = omega (arith, turned ls cs, sum_plus (λ c. cond (is_of (lot_key lot) c) (w c) 0) (λ c. at_lots c ls) cs)
+  turned (lot ∷ ls) cs = omega (arith, turned ls cs, sum_over-plus (λ c. cond (is_of (lot_key lot) c) (w c) 0) (λ c. at_lots c ls) cs)
 
   joined : (cs : List ContractRow) → sum_over (λ (lot : LotRow). sum_over (λ c. cond (is_of (lot_key lot) c) (w c) 0) cs) (filter (of_line q) lots) ≡ sum_over (λ c. cond (is_on_line lots q c) (w c) 0) cs
   joined cs = turned (filter (of_line q) lots) cs ∙ sum_over-ext (λ c. at_lots c (filter (of_line q) lots)) (λ c. cond (is_on_line lots q c) (w c) 0) cs lot_of

@@ -6,4 +6,5 @@ pub mod PotsFound
 pub mod WithinTests
 pub mod JoinedSums
 pub mod SumsOver
+pub mod EntrySums
 pub mod ExactKeys

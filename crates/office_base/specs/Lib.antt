@@ -3,10 +3,12 @@ pub mod RowLaws
 pub mod Tables
 pub mod Faults
 pub mod Shelves
+pub mod Shutting
 pub mod Sums
 pub mod EntryKinds
 pub mod Joined
 pub mod LineSums
+pub mod EntrySums
 pub mod PotsAnswers
 pub mod WorkedOffice
 pub mod Standings
@@ -14,6 +16,6 @@ pub mod Rules
 pub mod States
 pub mod Limits
 pub mod Readings
-pub mod RuleParts
+pub mod Transitions
 pub mod Parents
 pub mod Deciding

@@ -1,5 +1,5 @@
 -- The rows that a row speaks of, where all of them are there.
-use Rattle.std.specs.Prelude.{List, [], Option, Some, None, option_and_then}
+use Rattle.std.specs.Prelude.{List, [], Option, option_map, option_and_then, unwrap_or}
 use Rattle.office_base.specs.Tables.{Tables, line_at, notice_at, lot_at, envelope_at, security_at, late_at, securities_of_lot}
 use Rattle.office_base.specs.declared.records.LineRow.{LineRow}
 use Rattle.office_base.specs.declared.records.NoticeRow.{NoticeRow}
@@ -12,49 +12,38 @@ use Rattle.office_base.specs.declared.records.ContractRow.{ContractRow}
 
 -- of a tender
 abbrev pub notice_of_envelope : Option EnvelopeRow → Tables → Option NoticeRow
-notice_of_envelope None s = None
-notice_of_envelope (Some e) s = notice_at e.notice s
+notice_of_envelope o s = option_and_then (λ (e : EnvelopeRow). notice_at e.notice s) o
 
 abbrev pub lot_of_envelope : Option EnvelopeRow → Tables → Option LotRow
-lot_of_envelope None s = None
-lot_of_envelope (Some e) s = lot_at (e.notice, e.lot) s
+lot_of_envelope o s = option_and_then (λ (e : EnvelopeRow). lot_at (e.notice, e.lot) s) o
 
 abbrev pub security_of_envelope : Option EnvelopeRow → Tables → Option SecurityRow
-security_of_envelope None s = None
-security_of_envelope (Some e) s = option_and_then (λ n. security_at n s) e.security
+security_of_envelope o s = option_and_then (λ (e : EnvelopeRow). option_and_then (λ n. security_at n s) e.security) o
 
 -- what its notice says of late withdrawals
 abbrev pub late_of_envelope : Option EnvelopeRow → Tables → Option LateRow
-late_of_envelope None s = None
-late_of_envelope (Some e) s = late_at e.notice s
+late_of_envelope o s = option_and_then (λ (e : EnvelopeRow). late_at e.notice s) o
 
 -- of a lot
 abbrev pub line_of_lot : Option LotRow → Tables → Option LineRow
-line_of_lot None s = None
-line_of_lot (Some l) s = line_at l.line s
+line_of_lot o s = option_and_then (λ (l : LotRow). line_at l.line s) o
 
 -- of an award
 abbrev pub notice_of_award : Option AwardRow → Tables → Option NoticeRow
-notice_of_award None s = None
-notice_of_award (Some a) s = notice_at a.notice s
+notice_of_award o s = option_and_then (λ (a : AwardRow). notice_at a.notice s) o
 
 abbrev pub lot_of_award : Option AwardRow → Tables → Option LotRow
-lot_of_award None s = None
-lot_of_award (Some a) s = lot_at (a.notice, a.lot) s
+lot_of_award o s = option_and_then (λ (a : AwardRow). lot_at (a.notice, a.lot) s) o
 
 abbrev pub envelope_of_award : Option AwardRow → Tables → Option EnvelopeRow
-envelope_of_award None s = None
-envelope_of_award (Some a) s = envelope_at a.receipt s
+envelope_of_award o s = option_and_then (λ (a : AwardRow). envelope_at a.receipt s) o
 
 abbrev pub securities_of_award : Option AwardRow → Tables → List SecurityRow
-securities_of_award None s = []
-securities_of_award (Some a) s = securities_of_lot a.notice a.lot s
+securities_of_award o s = unwrap_or (option_map (λ (a : AwardRow). securities_of_lot a.notice a.lot s) o) []
 
 -- of a contract
 abbrev pub notice_of_contract : Option ContractRow → Tables → Option NoticeRow
-notice_of_contract None s = None
-notice_of_contract (Some c) s = notice_at c.notice s
+notice_of_contract o s = option_and_then (λ (c : ContractRow). notice_at c.notice s) o
 
 abbrev pub lot_of_contract : Option ContractRow → Tables → Option LotRow
-lot_of_contract None s = None
-lot_of_contract (Some c) s = lot_at (c.notice, c.lot) s
+lot_of_contract o s = option_and_then (λ (c : ContractRow). lot_at (c.notice, c.lot) s) o

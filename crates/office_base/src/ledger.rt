@@ -1,4 +1,9 @@
 //! What the rows of an office add up to.
+ghost use Rattle.std.specs.Prelude.{◌≡◌, ◌+◌, ◌^◌, ◌<◌, ◌≤◌};
+ghost use Rattle.office_base.specs.EntrySums.{sums_with_entry};
+
+use crate::records::EntryKind;
+use office_commands::amounts::EntryAmount;
 use office_values::id::Id;
 use office_values::money::Total;
 
@@ -25,4 +30,32 @@ pub struct ContractSums {
     pub gained: u128,
     pub lost: u128,
     pub paid: u128,
+}
+
+impl ContractSums {
+    /// The sums with one entry more, of this kind and amount.
+    pub fn with_entry(self, kind: EntryKind, amount: EntryAmount) -> ContractSums
+        requires gained { self.gained + 2 ^ 50 < 2 ^ 128 }
+        requires lost { self.lost + 2 ^ 50 < 2 ^ 128 }
+        requires paid { self.paid + 2 ^ 50 < 2 ^ 128 }
+        ensures sums { result ≡ sums_with_entry kind amount self }
+        ensures bound { amount ≤ 2 ^ 50 }
+    {
+        let units = amount.get() as u128;
+        match kind {
+            EntryKind::Raise => ContractSums {
+                gained: self.gained + units,
+                ..self
+            },
+            EntryKind::Cut => ContractSums {
+                lost: self.lost + units,
+                ..self
+            },
+            EntryKind::Payment => ContractSums {
+                lost: self.lost + units,
+                paid: self.paid + units,
+                ..self
+            },
+        }
+    }
 }

@@ -2,12 +2,12 @@
 use crate::counts::{AmendmentCount, ReleaseCount, RowCount, Sequence, TenderLength};
 use crate::json_text::JsonText;
 use crate::reading::Reading;
-use office_acts::amounts::{EntryAmount, Estimate, SecurityAmount};
-use office_acts::contract::How;
-use office_acts::item::Items;
-use office_acts::notice::{Standstill, Validity, Weight};
-use office_acts::sealed::SealedBytes;
-use office_acts::tender::Quality;
+use office_commands::amounts::{EntryAmount, Estimate, SecurityAmount};
+use office_commands::contract::How;
+use office_commands::item::Items;
+use office_commands::notice::{Standstill, Validity, Weight};
+use office_commands::sealed::SealedBytes;
+use office_commands::tender::Quality;
 use office_values::given::{GivenNumber, LastNumber};
 use office_values::id::Id;
 use office_values::moment::Moment;

@@ -1,18 +1,19 @@
 -- A command that was asked for is done, or nothing is.
 use Rattle.std.specs.Prelude.{◌≡◌, ℕ, ◌⊎◌, List, Result, Ok, Err, IsErr, IfErr}
 use Rattle.std.proofs.Common.{ap, ◌∙◌, subst, inl, inr}
-use Rattle.office_acts.specs.declared.command.Caller.{Caller}
-use Rattle.office_acts.specs.declared.commands.Command.{Command}
+use Rattle.office_commands.specs.declared.command.Caller.{Caller}
+use Rattle.office_commands.specs.declared.commands.Command.{Command}
 use Rattle.office_values.specs.declared.refusal.Refusal.{Refusal}
 use Rattle.office_values.specs.declared.refusal.Refusal.TheVariants.{Unavailable}
 use Rattle.office_values.specs.declared.settings.Settings.{Settings}
 use Rattle.office_base.specs.Tables.{Tables, after_puts}
 use Rattle.office_base.specs.Shelves.{Meaning, Alters, Keeps}
 use Rattle.office_base.specs.declared.puts.Put.{Put}
-use Rattle.office_publications.specs.Keeping.{KeepsReleases, kept_next}
+use Rattle.office_publications.specs.Keeping.{KeepsItsReleases, next_with_merges}
 use Rattle.office_plans.specs.Asking.{given}
 use Rattle.office_plans.specs.Plans.{Plan}
-use Rattle.office_desk.specs.Steps.{Does, IsPlan, IsWholeOf}
+use Rattle.office_plans.specs.Published.{IsPlan}
+use Rattle.office_desk.specs.Steps.{Does, IsOfficeAfter}
 
 module _ {S : Type 0} (M : Meaning S) (settings : Settings) (moment : ℕ) (caller : Caller) (command : Command) where
   -- it was refused
@@ -31,8 +32,8 @@ module _ {S : Type 0} (M : Meaning S) (settings : Settings) (moment : ℕ) (call
   -- it was planned, and then done or not
   module _ (old mid new : S) (planned : Plan) (kept : Keeps M old mid)
       (plan : M.honest mid → (t : Tables) → M.holds old t → IsPlan settings (given t moment caller command) planned) where
-    next_is : (t : Tables) → IsPlan settings (given t moment caller command) planned → KeepsReleases t
-        → after_puts planned.puts t ≡ kept_next settings (given t moment caller command)
+    next_is : (t : Tables) → IsPlan settings (given t moment caller command) planned → KeepsItsReleases (given t moment caller command)
+        → after_puts planned.puts t ≡ next_with_merges settings (given t moment caller command)
     next_is t is keeps = ap (λ (ps : List Put). after_puts ps t) (is.put keeps).puts
 
     pub does_what_was_planned : {T : Type 0} (result : Result T Refusal) → Alters M mid new result (after_puts planned.puts) → IfErr result (λ why. why ≡ Unavailable)
@@ -57,7 +58,7 @@ module _ {S : Type 0} (M : Meaning S) (settings : Settings) (moment : ℕ) (call
     }
       where
         stopped : (u : Tables) → M.honest mid → M.may_leave mid u ⊎ ((t : Tables) → M.holds mid t → u ≡ after_puts planned.puts t)
-            → M.may_leave old u ⊎ ((why ≡ Unavailable) × IsWholeOf M settings old (λ s. given s moment caller command) u)
+            → M.may_leave old u ⊎ ((why ≡ Unavailable) × IsOfficeAfter M settings old (λ s. given s moment caller command) u)
         stopped u honest (inl left) = inl (kept.stop honest u left)
         stopped u honest (inr done) = inr (
           only,

@@ -5,19 +5,19 @@ use Rattle.std.proofs.lemmas.List.{map-append, take_more}
 use Rattle.office_base.specs.declared.records.EnvelopeRow.{EnvelopeRow}
 use Rattle.office_base.specs.declared.records.TendererRow.{TendererRow}
 use Rattle.office_machine.specs.Sights.{minuted}
-use Rattle.office_plans.specs.Replies.{opened_tender}
+use Rattle.office_plans.specs.Replies.{minuted_tender}
 use Rattle.tender_papers.specs.declared.minutes.OpenedTender.{OpenedTender}
 
 -- what minutes say of these tenders
 abbrev pub opened_tenders : List TendererRow → List EnvelopeRow → List OpenedTender
-opened_tenders tenderers rows = map opened_tender (map (minuted tenderers) rows)
+opened_tenders tenderers rows = map minuted_tender (map (minuted tenderers) rows)
 
 -- one tender more
 pub next_opened : (tenderers : List TendererRow) (rows : List EnvelopeRow) (i : ℕ) (row : EnvelopeRow) (old new : List OpenedTender) (tender : OpenedTender)
-    → i < length rows → row ≡ get_or rows i row → old ≡ opened_tenders tenderers (take i rows) → tender ≡ opened_tender (minuted tenderers row)
+    → i < length rows → row ≡ get_or rows i row → old ≡ opened_tenders tenderers (take i rows) → tender ≡ minuted_tender (minuted tenderers row)
     → new ≡ old ++ tender ∷ [] → new ≡ opened_tenders tenderers (take (i + 1) rows)
 next_opened tenderers rows i row old new tender within is so_far this more =
     more ∙ ap (λ xs. xs ++ tender ∷ []) so_far ∙ ap (λ x. opened_tenders tenderers (take i rows) ++ x ∷ []) this
     ∙ sym (ap (opened_tenders tenderers) (take_more rows i row within ∙ ap (λ r. take i rows ++ r ∷ []) (sym is))
-    ∙ ap (map opened_tender) (map-append (minuted tenderers) (take i rows) (row ∷ []))
-    ∙ map-append opened_tender (map (minuted tenderers) (take i rows)) (minuted tenderers row ∷ []))
+    ∙ ap (map minuted_tender) (map-append (minuted tenderers) (take i rows) (row ∷ []))
+    ∙ map-append minuted_tender (map (minuted tenderers) (take i rows)) (minuted tenderers row ∷ []))

@@ -1,24 +1,25 @@
 -- What a desk answers: the machine's step, or want of memory or of the store.
 use Rattle.std.specs.Prelude.{◌≡◌, ℕ, ◌⊎◌, List, ◌∷◌, Some, None, Result, Ok, Err, IfErr, OnOk, OnErr, Vec}
 use Rattle.std.specs.declared.alloc.Global.{Global}
-use Rattle.office_acts.specs.declared.command.Caller.{Caller}
-use Rattle.office_acts.specs.declared.queries.Query.{Query}
-use Rattle.office_acts.specs.declared.queries.Query.TheVariants as queries
+use Rattle.office_commands.specs.declared.command.Caller.{Caller}
+use Rattle.office_commands.specs.declared.queries.Query.{Query}
+use Rattle.office_commands.specs.declared.queries.Query.TheVariants as queries
 use Rattle.office_values.specs.declared.refusal.Refusal.{Refusal}
 use Rattle.office_values.specs.declared.refusal.Refusal.TheVariants.{Unavailable}
 use Rattle.office_values.specs.declared.settings.Settings.{Settings}
 use Rattle.office_base.specs.Tables.{Tables}
 use Rattle.office_base.specs.Shelves.{Meaning}
-use Rattle.office_machine.specs.Machine.{Given, IsCommand, refusal_of, Reaches}
+use Rattle.office_machine.specs.Machine.{Given, refusal_of, Reaches}
 use Rattle.office_machine.specs.Accounts.{AccountsHold}
 use Rattle.office_machine.specs.Fates.{TendersHaveFates, SecuritiesHaveFates, PerformancesHaveFates}
 use Rattle.office_machine.specs.Sights.{Packages, told}
-use Rattle.office_publications.specs.Keeping.{KeepsReleases, PublicationReadsBack, kept_next, kept_puts}
+use Rattle.office_publications.specs.Keeping.{KeepsItsReleases, KeepsReleases, next_with_merges}
+use Rattle.office_publications.specs.Merges.{HasMerge}
 use Rattle.office_publications.specs.Packages.{packages}
 use Rattle.office_publications.specs.Publishing.{publishing}
-use Rattle.office_publications.specs.Standing.{Stands}
-use Rattle.office_plans.specs.Effects.{accepted_reply}
-use Rattle.office_plans.specs.Plans.{Plan}
+use Rattle.office_publications.specs.Standing.{IsReached}
+use Rattle.office_publications.specs.Told.{HasReleases}
+use Rattle.office_plans.specs.Published.{accepted_reply}
 use Rattle.office_plans.specs.Replies.{reply_text, text_of}
 
 -- a text as the list of its bytes
@@ -26,53 +27,44 @@ abbrev pub read_text : Result (Vec ℕ Global) Refusal → Result (List ℕ) Ref
 read_text (Ok text) = Ok text.items
 read_text (Err why) = Err why
 
--- what is planned is what the machine puts, with the merge that the release joins; and what is published can be read again
-pub record IsPut (settings : Settings) (x : Given) (planned : Plan) : Type 0 where
-  pub puts : planned.puts ≡ kept_puts settings x
-  pub reads : PublicationReadsBack settings x
-
--- the command is one that can be given and isn't refused, and this is its reply, and, where the office keeps its releases, what it puts
-pub record IsPlan (settings : Settings) (x : Given) (planned : Plan) : Type 0 where
-  pub given : IsCommand x.command
-  pub allowed : refusal_of x ≡ None
-  pub put : KeepsReleases x.before → IsPut settings x planned
-  pub reply : planned.reply ≡ reply_text (accepted_reply x)
-
--- the plan, or the command's refusal, or Unavailable
-abbrev pub IsPlanned : Settings → Given → Result Plan Refusal → Type 0
-IsPlanned settings x (Ok planned) = IsPlan settings x planned
-IsPlanned settings x (Err why) = (refusal_of x ≡ Some why) ⊎ (why ≡ Unavailable)
-
 -- the reply, or the command's refusal, or Unavailable
-abbrev pub IsAnswered : Settings → Given → Result (List ℕ) Refusal → Type 0
-IsAnswered settings x (Ok reply) = (refusal_of x ≡ None) × (reply ≡ reply_text (accepted_reply x))
-IsAnswered settings x (Err why) = (refusal_of x ≡ Some why) ⊎ (why ≡ Unavailable)
+abbrev pub IsReplyOrRefusal : Settings → Given → Result (List ℕ) Refusal → Type 0
+IsReplyOrRefusal settings x (Ok reply) = (refusal_of x ≡ None) × (reply ≡ reply_text (accepted_reply x))
+IsReplyOrRefusal settings x (Err why) = (refusal_of x ≡ Some why) ⊎ (why ≡ Unavailable)
 
--- these are the tables after the whole command, which isn't refused, of each office that was held with its releases
-abbrev pub IsWholeOf : {S : Type 0} → Meaning S → Settings → S → (Tables → Given) → Tables → Type 0
-IsWholeOf M settings old x u = (t : Tables) → M.holds old t → KeepsReleases t → (refusal_of (x t) ≡ None) × (u ≡ kept_next settings (x t))
+-- these are the tables after the whole command, which isn't refused, of each office that was held where the notice that it publishes for keeps its
+-- releases
+abbrev pub IsOfficeAfter : {S : Type 0} → Meaning S → Settings → S → (Tables → Given) → Tables → Type 0
+IsOfficeAfter M settings old x u = (t : Tables) → M.holds old t → KeepsItsReleases (x t) → (refusal_of (x t) ≡ None) × (u ≡ next_with_merges settings (x t))
 
--- a command that was asked for: it is done where the answer is Ok and the office keeps its releases, and else nothing is. A stop leaves the
--- one or the other whole: after a refusal what it could leave before, and the whole command perhaps where the answer is Unavailable
+-- a command that was asked for: it is done where the answer is Ok and the notice that it publishes for keeps its releases, and else nothing is. A stop
+-- leaves the one or the other whole: after a refusal what it could leave before, and the whole command perhaps where the answer is Unavailable
 pub record Does {S T : Type 0} (M : Meaning S) (settings : Settings) (old new : S) (result : Result T Refusal) (x : Tables → Given) : Type 0 where
   pub before : M.honest new → M.honest old
-  pub all : M.honest new → (t : Tables) → M.holds old t → KeepsReleases t → OnOk result (M.holds new (kept_next settings (x t)))
+  pub all : M.honest new → (t : Tables) → M.holds old t → KeepsItsReleases (x t) → OnOk result (M.holds new (next_with_merges settings (x t)))
   pub none : M.honest new → (t : Tables) → M.holds old t → OnErr result (M.holds new t)
-  pub stop_all : M.honest new → (t : Tables) → M.holds old t → KeepsReleases t
-      → OnOk result ((u : Tables) → M.may_leave new u → u ≡ kept_next settings (x t))
-  pub stop_none : M.honest new → IfErr result (λ why. (u : Tables) → M.may_leave new u → M.may_leave old u ⊎ ((why ≡ Unavailable) × IsWholeOf M settings old x u))
+  pub stop_all : M.honest new → (t : Tables) → M.holds old t → KeepsItsReleases (x t)
+      → OnOk result ((u : Tables) → M.may_leave new u → u ≡ next_with_merges settings (x t))
+  pub stop_none : M.honest new → IfErr result (λ why. (u : Tables) → M.may_leave new u → M.may_leave old u ⊎ ((why ≡ Unavailable) × IsOfficeAfter M settings old x u))
   pub sound : M.honest new → M.leaves_sound old → M.leaves_sound new
 
 -- a look at a package needs an office that commands led to, with its releases kept; any other look needs nothing
 abbrev pub Needs : Settings → Query → Tables → Type 0
-Needs settings (queries.Releases notice) s = Stands settings s
-Needs settings (queries.Record notice) s = Stands settings s
+Needs settings (queries.Releases notice) s = IsReached settings s
+Needs settings (queries.Record notice) s = IsReached settings s
 Needs settings query s = Unit {0}
 
 -- what is seen, or the query's refusal, or Unavailable
 abbrev pub IsSeen : Settings → Caller → Query → Tables → Result (List ℕ) Refusal → Type 0
 IsSeen settings caller query s result =
     Needs settings query s → (result ≡ text_of (told (packages settings) s caller query)) ⊎ (result ≡ Err Unavailable)
+
+-- what a package shows is there, be the office one that no commands lead to: each release that the notice's row counts, and for a record the merge
+-- that is kept, an object
+abbrev pub HasShown : Query → Tables → Type 0
+HasShown (queries.Releases notice) s = HasReleases notice s
+HasShown (queries.Record notice) s = HasReleases notice s × HasMerge notice s
+HasShown query s = Unit {0}
 
 -- what is seen where no packages are asked for
 abbrev pub no_packages : Packages
@@ -82,9 +74,9 @@ abbrev pub IsShown : Caller → Query → Tables → Result (List ℕ) Refusal �
 IsShown caller query s result = (result ≡ text_of (told no_packages s caller query)) ⊎ (result ≡ Err Unavailable)
 
 -- the office after the answer, and the accepted commands
-abbrev pub office_after : Settings → Given → Result (List ℕ) Refusal → Tables
-office_after settings x (Ok reply) = kept_next settings x
-office_after settings x (Err why) = x.before
+abbrev pub office_after_answer : Settings → Given → Result (List ℕ) Refusal → Tables
+office_after_answer settings x (Ok reply) = next_with_merges settings x
+office_after_answer settings x (Err why) = x.before
 
 abbrev pub accepted_after : Given → Result (List ℕ) Refusal → List Given → List Given
 accepted_after x (Ok reply) xs = x ∷ xs
@@ -92,7 +84,7 @@ accepted_after x (Err why) xs = xs
 
 -- where accepted commands lead to an office, its accounts are what they moved, and each tender and each security, a tender's or a contract's,
 -- has the fate that they gave it
-pub record IsKept (settings : Settings) (xs : List Given) (s : Tables) : Type 0 where
+pub record OfficeIsKept (settings : Settings) (xs : List Given) (s : Tables) : Type 0 where
   pub reaches : Reaches (publishing settings) xs s
   pub accounts : AccountsHold xs s
   pub tenders : TendersHaveFates (publishing settings) xs s
@@ -102,6 +94,6 @@ pub record IsKept (settings : Settings) (xs : List Given) (s : Tables) : Type 0 
 -- the shelf holds the office after the answer, which keeps its releases; the commands accepted so far, with this one, lead to it; and so it
 -- is kept
 pub record Joins {S : Type 0} (M : Meaning S) (settings : Settings) (new : S) (x : Given) (result : Result (List ℕ) Refusal) (xs : List Given) : Type 0 where
-  pub holds : M.holds new (office_after settings x result)
-  pub kept : IsKept settings (accepted_after x result xs) (office_after settings x result)
-  pub releases : KeepsReleases (office_after settings x result)
+  pub holds : M.holds new (office_after_answer settings x result)
+  pub kept : OfficeIsKept settings (accepted_after x result xs) (office_after_answer settings x result)
+  pub releases : KeepsReleases (office_after_answer settings x result)

@@ -1,8 +1,8 @@
 //! The desk.
-ghost use Rattle.std.specs.Prelude.{◌≡◌, ◌⊎◌, IfOk, IfErr, Some, None, Ok, Err, true, false, List, option_map, IsSome, IsNone};
-ghost use Rattle.office_acts.specs.Commands as commands;
-ghost use Rattle.office_acts.specs.Queries as queries;
-ghost use Rattle.office_acts.specs.Rights.{may, may_look};
+ghost use Rattle.std.specs.Prelude.{◌≡◌, ◌⊎◌, IfOk, OnOk, IfErr, Some, None, Ok, Err, true, false, List, option_map, IsSome, IsNone};
+ghost use Rattle.office_commands.specs.Commands as commands;
+ghost use Rattle.office_commands.specs.Queries as queries;
+ghost use Rattle.office_commands.specs.Rights.{may, may_look};
 ghost use Rattle.office_base.specs.Tables.{Tables, after_puts};
 ghost use Rattle.office_base.specs.Faults.{HasRisen};
 ghost use Rattle.office_base.specs.Shelves.{Looks, Alters, PutsFail};
@@ -11,18 +11,20 @@ ghost use Rattle.office_publications.specs.Publishing.{publishing};
 ghost use Rattle.office_machine.specs.Machine.{Given, IsRegistered, Reaches};
 ghost use Rattle.office_values.specs.declared.settings.Settings.{Settings as SettingsOf};
 ghost use Rattle.office_plans.specs.Asking.{given};
-ghost use Rattle.stored_shelf.specs.Shutting.{TellsShut};
+ghost use Rattle.office_base.specs.Shutting.{TellsShut};
 ghost use Rattle.office_desk.specs.Callers.{caller_of, names_no_tenderer};
-ghost use Rattle.office_desk.specs.Steps.{Does, IsPlan, IsPlanned, IsAnswered, IsSeen, Joins, read_text};
+ghost use Rattle.office_plans.specs.Published.{IsPlan, IsPlanned};
+ghost use Rattle.office_desk.specs.Steps.{Does, HasShown, IsReplyOrRefusal, IsSeen, Joins, read_text};
 
-use crate::callers::{clerk_by, names_clerk, tenderer_named};
-use crate::published::plan_command;
+use crate::callers::{clerk_with_key, is_clerk_name, tenderer_named};
 use crate::queries::look_at;
-use office_acts::command::{Caller, may, may_look};
-use office_acts::commands::Command;
-use office_acts::queries::Query;
 use office_base::shelf::{Lookups, Shelf, ShelfFault};
+use office_base::stored::StoredShelf;
+use office_commands::command::{Caller, may, may_look};
+use office_commands::commands::Command;
+use office_commands::queries::Query;
 use office_machine::{fates, laws};
+use office_plans::commands::plan_command;
 use office_plans::planned::Planned;
 use office_publications::laws::keeping;
 use office_values::moment::Moment;
@@ -30,7 +32,6 @@ use office_values::refusal::Refusal;
 use office_values::settings::Settings;
 use std::alloc::Global;
 use std::marker::Model;
-use stored_shelf::stored::StoredShelf;
 use tender_core::asking::Asking;
 
 /// A desk: it answers commands and queries from what a shelf holds.
@@ -98,8 +99,8 @@ impl<H: Shelf + Drop> Desk<H> {
         match name {
             Some(name) => match key {
                 Some(key) => {
-                    if names_clerk(name) {
-                        clerk_by(&self.settings, key)
+                    if is_clerk_name(name) {
+                        clerk_with_key(&self.settings, key)
                     } else {
                         tenderer_named(&mut self.shelf, name, key)
                     }
@@ -134,7 +135,7 @@ impl<H: Shelf + Drop> Desk<H> {
 
     /// Does what was planned, all or nothing, and hands out the reply; `commit` for who wants to know whether memory was wanting or the
     /// store failed. Once it is done nothing is allocated.
-    pub fn carry_out(&mut self, planned: Planned) -> Result<Vec<u8>, ShelfFault>
+    pub fn try_commit(&mut self, planned: Planned) -> Result<Vec<u8>, ShelfFault>
         ensures alters { Alters H.meaning self.old.shelf self.new.shelf result (after_puts planned.puts) }
         ensures settings { self.new.settings ≡ self.old.settings }
         ensures reply { IfOk result (λ reply. reply.items ≡ planned.reply) }
@@ -165,7 +166,7 @@ impl<H: Shelf + Drop> Desk<H> {
         fates::tenders();
         fates::securities();
         fates::performances();
-        match self.carry_out(planned) {
+        match self.try_commit(planned) {
             Ok(reply) => Ok(reply),
             Err(_) => Err(Refusal::Unavailable),
         }
@@ -181,7 +182,7 @@ impl<H: Shelf + Drop> Desk<H> {
         ensures does { Does H.meaning self.old.settings self.old.shelf self.new.shelf result (λ s. given s moment caller.now command.entry) }
         ensures settings { self.new.settings ≡ self.old.settings }
         ensures answered { H.meaning.honest self.new.shelf → (s : Tables) → H.meaning.holds self.old.shelf s
-            → IsAnswered self.old.settings (given s moment caller.now command.entry) (read_text result) }
+            → IsReplyOrRefusal self.old.settings (given s moment caller.now command.entry) (read_text result) }
         ensures joins { H.meaning.honest self.new.shelf → (s : Tables) → IsRegistered caller.now s.tenderers → H.meaning.holds self.old.shelf s → KeepsReleases s
             → (xs : List Given) → Reaches (publishing self.old.settings) xs s
             → Joins H.meaning self.old.settings self.new.shelf (given s moment caller.now command.entry) (read_text result) xs }
@@ -195,11 +196,12 @@ impl<H: Shelf + Drop> Desk<H> {
         self.commit(planned)
     }
 
-    /// Answers a query. Nothing changes.
+    /// Answers a query. Nothing changes. A package is shown only where each release that its notice's row counts is there, and can be merged.
     pub fn look(&mut self, caller: &Caller, query: Query) -> Result<Vec<u8>, Refusal>
         ensures looks { Looks H.meaning self.old.shelf self.new.shelf (λ s. IsSeen self.old.settings caller.now query s (read_text result)) }
+        ensures shown { H.meaning.honest self.new.shelf → (s : Tables) → H.meaning.holds self.old.shelf s → OnOk result (HasShown query s) }
         ensures settings { self.new.settings ≡ self.old.settings }
-        ensures forbidden { may_look caller.now (queries.kind_of query) ≡ false → result ≡ Err Refusal.Forbidden }
+        ensures forbidden { may_look caller.now (queries.query_kind_of query) ≡ false → result ≡ Err Refusal.Forbidden }
     {
         if !may_look(caller, query.kind()) {
             return Err(Refusal::Forbidden);

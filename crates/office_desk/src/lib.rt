@@ -3,5 +3,4 @@
 
 mod callers;
 pub mod desk;
-mod published;
 mod queries;

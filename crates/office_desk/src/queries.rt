@@ -1,9 +1,10 @@
 //! Queries, answered over any shelf.
-ghost use Rattle.std.specs.Prelude.{◌≡◌, true};
-ghost use Rattle.office_acts.specs.Queries.{kind_of};
-ghost use Rattle.office_acts.specs.Rights.{may_look};
+ghost use Rattle.std.specs.Prelude.{◌≡◌, true, OnOk};
+ghost use Rattle.office_commands.specs.Queries.{query_kind_of};
+ghost use Rattle.office_commands.specs.Rights.{may_look};
 ghost use Rattle.office_base.specs.Shelves.{Looks};
-ghost use Rattle.office_desk.specs.Steps.{IsSeen, read_text};
+ghost use Rattle.office_base.specs.Tables.{Tables};
+ghost use Rattle.office_desk.specs.Steps.{HasShown, IsSeen, read_text};
 
 mod ledger;
 mod line;
@@ -14,9 +15,9 @@ mod register;
 mod security;
 mod tender;
 
-use office_acts::command::Caller;
-use office_acts::queries::Query;
 use office_base::shelf::Lookups;
+use office_commands::command::Caller;
+use office_commands::queries::Query;
 use office_values::refusal::Refusal;
 use office_values::settings::Settings;
 use std::alloc::Global;
@@ -29,8 +30,9 @@ pub(crate) fn look_at<H: Lookups>(
     caller: &Caller,
     query: Query,
 ) -> Result<Vec<u8>, Refusal>
-    requires { may_look caller.now (kind_of query) ≡ true }
-    ensures { Looks H.meaning shelf.old shelf.new (λ s. IsSeen settings.now caller.now query s (read_text result)) }
+    requires { may_look caller.now (query_kind_of query) ≡ true }
+    ensures looks { Looks H.meaning shelf.old shelf.new (λ s. IsSeen settings.now caller.now query s (read_text result)) }
+    ensures shown { H.meaning.honest shelf.new → (s : Tables) → H.meaning.holds shelf.old s → OnOk result (HasShown query s) }
 {
     match query {
         Query::Line { line } => line::look(alloc, shelf, caller, line),

@@ -1,11 +1,11 @@
 -- One answer to what is meant: a refusal, or the response, or Unavailable.
 use Rattle.std.proofs.Common.{◌≡◌, ℕ, ◌⊎◌, inl, inr, true, false, List, ◌∷◌, Option, Some, None, Result, Ok, Err, refl, sym, ap, ◌∙◌, subst}
 use Rattle.std.specs.Prelude.{is_none}
-use Rattle.office_acts.specs.Queries.{kind_of}
-use Rattle.office_acts.specs.declared.command.Caller.{Caller}
-use Rattle.office_acts.specs.declared.commands.Command.{Command}
-use Rattle.office_acts.specs.declared.queries.Query.{Query}
-use Rattle.office_acts.specs.declared.queries.Query.TheVariants as queries
+use Rattle.office_commands.specs.Queries.{query_kind_of}
+use Rattle.office_commands.specs.declared.command.Caller.{Caller}
+use Rattle.office_commands.specs.declared.commands.Command.{Command}
+use Rattle.office_commands.specs.declared.queries.Query.{Query}
+use Rattle.office_commands.specs.declared.queries.Query.TheVariants as queries
 use Rattle.office_values.specs.declared.refusal.Refusal.{Refusal}
 use Rattle.office_values.specs.declared.refusal.Refusal.TheVariants.{Unavailable}
 use Rattle.office_values.specs.declared.settings.Settings.{Settings}
@@ -15,17 +15,18 @@ use Rattle.office_base.specs.declared.puts.Put.{Put}
 use Rattle.office_machine.specs.Machine.{Given, IsRegistered, refusal_of}
 use Rattle.office_machine.specs.Requests.{reply_by}
 use Rattle.office_machine.specs.Sights.{told}
-use Rattle.office_publications.specs.Keeping.{KeptStepsReach, ReleasesStayKept, kept_next}
+use Rattle.office_publications.specs.Keeping.{KeepsItsReleases, KeepsReleases, KeptStepsReach, ReleasesStayKept, next_with_merges}
 use Rattle.office_publications.specs.Packages.{packages}
 use Rattle.office_publications.specs.Publishing.{publishing}
-use Rattle.office_publications.specs.Standing.{Stands, office_kept}
+use Rattle.office_publications.specs.Standing.{IsReached, office_kept}
 use Rattle.office_plans.specs.Asking.{given}
 use Rattle.office_plans.specs.Plans.{Plan}
 use Rattle.office_plans.specs.Replies.{text_of}
-use Rattle.office_desk.specs.Steps.{IsPlan, IsPut, IsSeen, Needs}
+use Rattle.office_plans.specs.Published.{IsPlan, IsPut}
+use Rattle.office_desk.specs.Steps.{IsSeen, Needs}
 use Rattle.office_requests.specs.declared.route.Allow.{Allow}
 use Rattle.office_http.specs.Meaning.{Meant, Gives, Sees}
-use Rattle.office_http.specs.Answering.{IsWholeAfter, StopsAfter, is_accepted, told_as, seen_as, reply_to, tables_after, unavailable_text}
+use Rattle.office_http.specs.Answering.{IsWholeAfter, StopsAfter, is_accepted, told_as, seen_as, reply_to_meant, tables_after, unavailable_text}
 use Rattle.office_http.specs.Inside.Meant.{Answered, HoldsStanding}
 use Rattle.office_http.specs.Response.{response_of}
 use Rattle.office_http.specs.declared.reply.Reply as replies
@@ -43,7 +44,7 @@ tells_unavailable why text is (inl tells) = tells ∙ ap (λ (w : Refusal). resp
 tells_unavailable why text is (inr tells) = tells
 
 -- an office that stands has what a query needs
-has_needed : (settings : Settings) (s : Tables) → Stands settings s → (query : Query) → Needs settings query s
+has_needed : (settings : Settings) (s : Tables) → IsReached settings s → (query : Query) → Needs settings query s
 has_needed settings s stands (queries.Line line) = tt
 has_needed settings s stands queries.Ledger = tt
 has_needed settings s stands (queries.Minutes notice) = tt
@@ -53,6 +54,10 @@ has_needed settings s stands (queries.Record notice) = stands
 has_needed settings s stands (queries.Tender receipt) = tt
 has_needed settings s stands (queries.Security security) = tt
 has_needed settings s stands (queries.Performance contract) = tt
+
+-- an office that keeps its releases keeps those of each command's notice
+its_own : (x : Given) → KeepsReleases x.before → KeepsItsReleases x
+its_own x keeps notice is = record { releases = keeps.releases notice; merged = keeps.merged notice }
 
 -- what a look of such an office says
 abbrev IsSaid : Settings → Caller → Query → Tables → Result (List ℕ) Refusal → Type 0
@@ -68,13 +73,13 @@ module _ {S : Type 0} (M : Meaning S) (settings : Settings) (old new : S) (s : T
   is_unavailable m is held stays = (true, is, held, stays_unavailable M settings old new s moment m stays)
 
   -- a reply is told, and the office after it is held
-  pub is_told : (t : Tables) (m : Meant) (reply : replies.Reply) → reply_to settings s moment m ≡ reply → tables_after settings s moment m ≡ t
+  pub is_told : (t : Tables) (m : Meant) (reply : replies.Reply) → reply_to_meant settings s moment m ≡ reply → tables_after settings s moment m ≡ t
       → text ≡ response_of reply → HoldsStanding M settings new t → StopsAfter M settings old new false s moment m → Answered M settings old new s moment m text
   is_told t m reply replies after is held stops =
       (false, is ∙ ap response_of (sym replies), subst (λ (u : Tables). HoldsStanding M settings new u) (sym after) held, stops)
 
   -- a refusal is answered, and the office stays
-  pub is_refused : (m : Meant) (why : Refusal) (method : Option Allow) → reply_to settings s moment m ≡ Refused why method
+  pub is_refused : (m : Meant) (why : Refusal) (method : Option Allow) → reply_to_meant settings s moment m ≡ Refused why method
       → tables_after settings s moment m ≡ s → is_accepted s moment m ≡ false → TellsRefusal why method text → HoldsStanding M settings new s → Stays
       → Answered M settings old new s moment m text
   is_refused m why method replies stands refused (inl is) held stays =
@@ -95,48 +100,48 @@ module _ {S : Type 0} (M : Meaning S) (settings : Settings) (old new : S) (s : T
   command_refused caller command why (inr is) tells held stays = is_unavailable (Gives caller command) (tells_unavailable why text is tells) held stays
 
   -- the tables after a command that was planned
-  planned_after : (caller : Caller) (command : Command) (planned : Plan) → IsPlan settings (given s moment caller command) planned → Stands settings s
+  planned_after : (caller : Caller) (command : Command) (planned : Plan) → IsPlan settings (given s moment caller command) planned → IsReached settings s
       → after_puts planned.puts s ≡ tables_after settings s moment (Gives caller command)
   planned_after caller command planned plan stands =
       let x : Given = given s moment caller command in
-      ap (λ (ps : List Put). after_puts ps s) (plan.put stands.keeps).puts ∙ ap (λ (o : Option Refusal). office_kept o settings x) (sym plan.allowed)
+      ap (λ (ps : List Put). after_puts ps s) (plan.put (its_own x stands.keeps)).puts ∙ ap (λ (o : Option Refusal). office_kept o settings x) (sym plan.allowed)
 
   -- the office after a command that was planned: the command joins those that led to the office before it, and its release is kept
   stands_after : KeptStepsReach → ReleasesStayKept → (caller : Caller) (command : Command) (planned : Plan)
-      → IsPlan settings (given s moment caller command) planned → IsRegistered caller s.tenderers → Stands settings s
-      → Stands settings (kept_next settings (given s moment caller command))
+      → IsPlan settings (given s moment caller command) planned → IsRegistered caller s.tenderers → IsReached settings s
+      → IsReached settings (next_with_merges settings (given s moment caller command))
   stands_after reach stay caller command planned plan registered stands =
       let x : Given = given s moment caller command in
       record {
         commands = x ∷ stands.commands;
         reaches = reach settings stands.commands x stands.reaches (plan.given, registered) plan.allowed;
-        keeps = stay settings stands.commands x stands.reaches (plan.given, registered) plan.allowed (plan.put stands.keeps).reads stands.keeps;
+        keeps = stay settings stands.commands x stands.reaches (plan.given, registered) plan.allowed (plan.put (its_own x stands.keeps)).reads stands.keeps;
       }
 
   -- and it is what a stop leaves of it
   whole_after : KeptStepsReach → ReleasesStayKept → (caller : Caller) (command : Command) (planned : Plan)
-      → IsPlan settings (given s moment caller command) planned → IsRegistered caller s.tenderers → Stands settings s
+      → IsPlan settings (given s moment caller command) planned → IsRegistered caller s.tenderers → IsReached settings s
       → (u : Tables) → u ≡ after_puts planned.puts s → IsWholeAfter settings s moment (Gives caller command) u
   whole_after reach stay caller command planned plan registered stands u is =
       let x : Given = given s moment caller command in
-      let same : u ≡ kept_next settings x = is ∙ ap (λ (ps : List Put). after_puts ps s) (plan.put stands.keeps).puts in (
+      let same : u ≡ next_with_merges settings x = is ∙ ap (λ (ps : List Put). after_puts ps s) (plan.put (its_own x stands.keeps)).puts in (
         is ∙ planned_after caller command planned plan stands,
-        subst (Stands settings) (sym same) (stands_after reach stay caller command planned plan registered stands),
+        subst (IsReached settings) (sym same) (stands_after reach stay caller command planned plan registered stands),
       )
 
   -- a command that is done
   pub command_done : KeptStepsReach → ReleasesStayKept → (caller : Caller) (command : Command) (planned : Plan)
-      → IsPlan settings (given s moment caller command) planned → IsRegistered caller s.tenderers → Stands settings s
+      → IsPlan settings (given s moment caller command) planned → IsRegistered caller s.tenderers → IsReached settings s
       → text ≡ response_of (Json planned.reply) → M.holds new (after_puts planned.puts s) → ((u : Tables) → M.may_leave new u → u ≡ after_puts planned.puts s)
       → Answered M settings old new s moment (Gives caller command) text
   command_done reach stay caller command planned plan registered stands is held leaves =
       let x : Given = given s moment caller command in
-      let put : IsPut settings x planned = plan.put stands.keeps in
-      let after : HoldsStanding M settings new (kept_next settings x) = (
+      let put : IsPut settings x planned = plan.put (its_own x stands.keeps) in
+      let after : HoldsStanding M settings new (next_with_merges settings x) = (
         subst (λ (ps : List Put). M.holds new (after_puts ps s)) put.puts held,
         stands_after reach stay caller command planned plan registered stands,
       ) in
-      is_told (kept_next settings x) (Gives caller command) (Json planned.reply)
+      is_told (next_with_merges settings x) (Gives caller command) (Json planned.reply)
       (ap (λ (o : Option Refusal). told_as (reply_by o (publishing settings) x)) plan.allowed ∙ accepted_as x plan.allowed ∙ ap Json (sym plan.reply))
       (ap (λ (o : Option Refusal). office_kept o settings x) plan.allowed)
       is after
@@ -168,11 +173,11 @@ module _ {S : Type 0} (M : Meaning S) (settings : Settings) (old new : S) (s : T
 
   -- a query that is answered
   seen_told : (caller : Caller) (query : Query) (shown : List ℕ) → IsSaid settings caller query s (Ok shown)
-      → text ≡ response_of (seen_as (kind_of query) shown) → HoldsStanding M settings new s → Stays → Answered M settings old new s moment (Sees caller query) text
+      → text ≡ response_of (seen_as (query_kind_of query) shown) → HoldsStanding M settings new s → Stays → Answered M settings old new s moment (Sees caller query) text
   seen_told caller query shown (inl said) is held stays =
-      is_told s (Sees caller query) (seen_as (kind_of query) shown) (told_seen (packages settings) s caller query shown said) refl is held stays
+      is_told s (Sees caller query) (seen_as (query_kind_of query) shown) (told_seen (packages settings) s caller query shown said) refl is held stays
   seen_told caller query shown (inr never) is held stays = absurd (cc)
 
   pub query_told : (caller : Caller) (query : Query) (shown : List ℕ) → IsSeen settings caller query s (Ok shown)
-      → text ≡ response_of (seen_as (kind_of query) shown) → HoldsStanding M settings new s → Stays → Answered M settings old new s moment (Sees caller query) text
+      → text ≡ response_of (seen_as (query_kind_of query) shown) → HoldsStanding M settings new s → Stays → Answered M settings old new s moment (Sees caller query) text
   query_told caller query shown seen is held stays = seen_told caller query shown (seen (has_needed settings s held.1 query)) is held stays

@@ -7,31 +7,31 @@ use Rattle.office_values.specs.declared.refusal.Refusal.{Refusal}
 use Rattle.office_values.specs.declared.refusal.Refusal.TheVariants.{BadKey, Forbidden}
 use Rattle.office_values.specs.declared.settings.Settings.{Settings}
 use Rattle.office_values.specs.Fields.{is_id}
-use Rattle.office_acts.specs.Identified.{repeats_id}
-use Rattle.office_acts.specs.Lots.{lot_id}
-use Rattle.office_acts.specs.declared.budget.BudgetRow.{BudgetRow}
-use Rattle.office_acts.specs.declared.command.Caller.{Caller}
-use Rattle.office_acts.specs.declared.command.Caller.TheVariants.{Clerk, Tenderer}
-use Rattle.office_acts.specs.declared.command.CommandKind.{CommandKind}
-use Rattle.office_acts.specs.declared.command.CommandKind.TheVariants as kinds
-use Rattle.office_acts.specs.declared.commands.Command.TheVariants as commands
-use Rattle.office_acts.specs.declared.lot.NewLot.{NewLot}
-use Rattle.office_acts.specs.declared.notice.Criteria.{Criteria}
-use Rattle.office_acts.specs.declared.notice.LateWithdrawal.{LateWithdrawal}
-use Rattle.office_acts.specs.declared.notice.NewNotice.{NewNotice}
+use Rattle.office_commands.specs.Identified.{repeats_id}
+use Rattle.office_commands.specs.Lots.{lot_id}
+use Rattle.office_commands.specs.declared.budget.BudgetRow.{BudgetRow}
+use Rattle.office_commands.specs.declared.command.Caller.{Caller}
+use Rattle.office_commands.specs.declared.command.Caller.TheVariants.{Clerk, Tenderer}
+use Rattle.office_commands.specs.declared.command.CommandKind.{CommandKind}
+use Rattle.office_commands.specs.declared.command.CommandKind.TheVariants as kinds
+use Rattle.office_commands.specs.declared.commands.Command.TheVariants as commands
+use Rattle.office_commands.specs.declared.lot.NewLot.{NewLot}
+use Rattle.office_commands.specs.declared.notice.Criteria.{Criteria}
+use Rattle.office_commands.specs.declared.notice.LateWithdrawal.{LateWithdrawal}
+use Rattle.office_commands.specs.declared.notice.NewNotice.{NewNotice}
 use Rattle.office_base.specs.Tables.{Tables, find_tenderer, tenderer_at}
 use Rattle.office_base.specs.declared.records.TendererRow.{TendererRow}
 use Rattle.office_machine.specs.Machine.{IsCommand, IsRegistered}
-use Rattle.office_desk.specs.Callers.{caller_of, clerk_by, fits_key, names_clerk, tenderer_by, tenderer_of}
+use Rattle.office_desk.specs.Callers.{caller_of, clerk_with_key, fits_key, is_clerk_name, tenderer_with_key, tenderer_named}
 use Rattle.office_wire.specs.Request.{RequestView}
-use Rattle.office_requests.specs.Asking.{asked, asked_by, command_at, lot_command, may_ask, named_command, numbered_command}
+use Rattle.office_requests.specs.Asking.{asked_by_route, asked_by, command_at, lot_command, may_ask, named_command, numbered_command}
 use Rattle.office_requests.specs.Bodies.{import_of, registration_in, notice_amendment_in, cancellation_in, examination_in}
 use Rattle.office_requests.specs.Bodies.{contract_amendment_in, payment_in, ending_in, sealed_in}
-use Rattle.office_requests.specs.Fields.{◌>>=◌, needed, text_in, line_in, flag_in, number_in, perhaps_number_in}
-use Rattle.office_requests.specs.Forms.{id_of, digest_of, change_of}
+use Rattle.office_requests.specs.Fields.{◌>>=◌, field_or_refusal, text_in, text_line_in, flag_in, number_in, perhaps_number_in}
+use Rattle.office_requests.specs.Forms.{identifier_of, digest_of, change_of}
 use Rattle.office_requests.specs.Moments.{moment_of}
 use Rattle.office_requests.specs.Parameters.{query_of, security_in}
-use Rattle.office_requests.specs.Publications.{criteria_in, late_in, performance_in, distinct, lots_in, notice_in, publication_in}
+use Rattle.office_requests.specs.Publications.{criteria_in, late_in, performance_in, distinct, lots_in, new_notice_in, publication_in}
 use Rattle.office_requests.specs.declared.asked.Asked.{Asked}
 use Rattle.office_requests.specs.declared.asked.Asked.TheVariants.{Does, Looks}
 use Rattle.office_requests.specs.declared.route.Endpoint.{Endpoint}
@@ -101,8 +101,8 @@ abbrev AreDistinct : List NewLot → Type 0
 AreDistinct lots = repeats_id lot_id lots ≡ false
 
 distinct_if : (lots : List NewLot) (some repeats : Bool) → repeats_id lot_id lots ≡ repeats
-    → IsRead AreDistinct (needed fields.Lots (if some && not repeats then Some lots else None))
-unfolding needed
+    → IsRead AreDistinct (field_or_refusal fields.Lots (if some && not repeats then Some lots else None))
+unfolding field_or_refusal
 distinct_if lots true true is = why_read AreDistinct _
 distinct_if lots true false is = value_read AreDistinct lots is
 distinct_if lots false repeats is = why_read AreDistinct _
@@ -129,10 +129,10 @@ lots_distinct body title deadline validity standstill criteria late performance 
     (λ lots. Ok (record { title = title; deadline = deadline; validity = validity; standstill = standstill; criteria = criteria; late_withdrawal = late; performance = performance; lots = lots }))
     (lots_read body) (λ lots distinct. value_read HasDistinct _ distinct)
 
-notice_read : (body : Data) → IsRead HasDistinct (notice_in body)
-unfolding notice_in
+notice_read : (body : Data) → IsRead HasDistinct (new_notice_in body)
+unfolding new_notice_in
 notice_read body =
-    bound_five HasDistinct (line_in fields.Title body) (text_in moment_of fields.Deadline body) (number_in 1 365 fields.ValidityDays body)
+    bound_five HasDistinct (text_line_in fields.Title body) (text_in moment_of fields.Deadline body) (number_in 1 365 fields.ValidityDays body)
     (number_in 0 90 fields.StandstillDays body) (criteria_in body)
     (λ title deadline validity standstill criteria. late_in body >>= λ late. performance_in body >>= with_lots body title deadline validity standstill criteria late)
     (λ title deadline validity standstill criteria.
@@ -150,14 +150,14 @@ import_read batch (Err number) = why_read IsCommand _
 registration_read : (tenderer : List ℕ) (body : Data) → IsRead IsCommand (registration_in tenderer body)
 unfolding registration_in
 registration_read tenderer body =
-    bound_three IsCommand (line_in fields.Name body) (line_in fields.Address body) (text_in digest_of fields.Key body)
+    bound_three IsCommand (text_line_in fields.Name body) (text_line_in fields.Address body) (text_in digest_of fields.Key body)
     (λ name address key. Ok (commands.Register tenderer name address key))
     (λ name address key. value_read IsCommand (commands.Register tenderer name address key) tt)
 
 notice_amendment_read : (notice : List ℕ) (body : Data) → IsRead IsCommand (notice_amendment_in notice body)
 unfolding notice_amendment_in
 notice_amendment_read notice body =
-    bound_two IsCommand (text_in moment_of fields.Deadline body) (line_in fields.Rationale body)
+    bound_two IsCommand (text_in moment_of fields.Deadline body) (text_line_in fields.Rationale body)
     (λ deadline rationale. Ok (commands.AmendNotice notice deadline rationale))
     (λ deadline rationale. value_read IsCommand (commands.AmendNotice notice deadline rationale) tt)
 
@@ -175,15 +175,15 @@ examination_read receipt body =
 contract_amendment_read : (contract : ℕ) (body : Data) → IsRead IsCommand (contract_amendment_in contract body)
 unfolding contract_amendment_in
 contract_amendment_read contract body =
-    bound_four IsCommand (text_in id_of fields.Id body) (text_in change_of fields.Kind body) (number_in 1 (10 ^ 12) fields.Amount body)
-    (line_in fields.Rationale body)
+    bound_four IsCommand (text_in identifier_of fields.Id body) (text_in change_of fields.Kind body) (number_in 1 (10 ^ 12) fields.Amount body)
+    (text_line_in fields.Rationale body)
     (λ entry kind amount rationale. Ok (commands.AmendContract contract entry kind amount rationale))
     (λ entry kind amount rationale. value_read IsCommand (commands.AmendContract contract entry kind amount rationale) tt)
 
 payment_read : (contract : ℕ) (body : Data) → IsRead IsCommand (payment_in contract body)
 unfolding payment_in
 payment_read contract body =
-    bound_two IsCommand (text_in id_of fields.Id body) (number_in 1 (10 ^ 12) fields.Amount body)
+    bound_two IsCommand (text_in identifier_of fields.Id body) (number_in 1 (10 ^ 12) fields.Amount body)
     (λ entry amount. Ok (commands.Pay contract entry amount)) (λ entry amount. value_read IsCommand (commands.Pay contract entry amount) tt)
 
 ending_read : (contract : ℕ) (body : Data) → IsRead IsCommand (ending_in contract body)
@@ -267,7 +267,7 @@ unfolding asked_by
 by_read (Commands kind) place query body = bound_by IsCommand IsAsked _ _ (command_read kind place query body) (λ command is. value_read IsAsked _ is)
 by_read (Queries kind) place query body = bound IsAsked _ _ (λ look. value_read IsAsked _ tt)
 
-pub asked_is : (caller : Caller) (route : Route) (request : RequestView) → IsRead IsAsked (asked caller route request)
+pub asked_is : (caller : Caller) (route : Route) (request : RequestView) → IsRead IsAsked (asked_by_route caller route request)
 asked_is caller route request =
     where_so IsAsked (may_ask caller route.endpoint) (asked_by route.endpoint route.place (query_of request.head.target) request.body) Forbidden
     (by_read route.endpoint route.place (query_of request.head.target) request.body)
@@ -277,21 +277,21 @@ asked_is caller route request =
 abbrev pub IsKnown : Tables → Caller → Type 0
 IsKnown s caller = IsRegistered caller s.tenderers
 
-row_known : (s : Tables) (name key : List ℕ) (row : Option TendererRow) → find_tenderer s.tenderers name ≡ row → IsRead (IsKnown s) (tenderer_by name key row)
+row_known : (s : Tables) (name key : List ℕ) (row : Option TendererRow) → find_tenderer s.tenderers name ≡ row → IsRead (IsKnown s) (tenderer_with_key name key row)
 row_known s name key None is = why_read (IsKnown s) BadKey
 row_known s name key (Some row) is =
     where_so (IsKnown s) (fits_key row.key key) (Ok (Tenderer name)) BadKey
     (value_read (IsKnown s) (Tenderer name) (subst (λ (o : Option TendererRow). IsSome o) (sym is) refl))
 
-named_known : (s : Tables) (name key : List ℕ) → IsRead (IsKnown s) (tenderer_of s name key)
-named_known s name key = where_so (IsKnown s) (is_id name) (tenderer_by name key (tenderer_at name s)) BadKey
+named_known : (s : Tables) (name key : List ℕ) → IsRead (IsKnown s) (tenderer_named s name key)
+named_known s name key = where_so (IsKnown s) (is_id name) (tenderer_with_key name key (tenderer_at name s)) BadKey
     (row_known s name key (find_tenderer s.tenderers name) refl)
 
-clerk_known : (settings : Settings) (s : Tables) (key : List ℕ) → IsRead (IsKnown s) (clerk_by settings key)
+clerk_known : (settings : Settings) (s : Tables) (key : List ℕ) → IsRead (IsKnown s) (clerk_with_key settings key)
 clerk_known settings s key = where_so (IsKnown s) (fits_key settings.clerk_key key) (Ok Clerk) BadKey (value_read (IsKnown s) Clerk tt)
 
 pair_known : (settings : Settings) (s : Tables) (name key : List ℕ) (clerk : Bool)
-    → IsRead (IsKnown s) (if clerk then clerk_by settings key else tenderer_of s name key)
+    → IsRead (IsKnown s) (if clerk then clerk_with_key settings key else tenderer_named s name key)
 pair_known settings s name key true = clerk_known settings s key
 pair_known settings s name key false = named_known s name key
 
@@ -299,7 +299,7 @@ caller_known : (settings : Settings) (s : Tables) (name key : Option (List ℕ))
 caller_known settings s None None = value_read (IsKnown s) _ tt
 caller_known settings s None (Some key) = why_read (IsKnown s) BadKey
 caller_known settings s (Some name) None = why_read (IsKnown s) BadKey
-caller_known settings s (Some name) (Some key) = pair_known settings s name key (names_clerk name)
+caller_known settings s (Some name) (Some key) = pair_known settings s name key (is_clerk_name name)
 
 pub who_known : (settings : Settings) (s : Tables) (values : Result (Option (List ℕ) × Option (List ℕ)) Refusal) → IsRead (IsKnown s) (who settings s values)
 who_known settings s (Err why) = why_read (IsKnown s) why

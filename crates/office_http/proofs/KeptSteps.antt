@@ -7,19 +7,19 @@ use Rattle.office_base.specs.Tables.{Tables}
 use Rattle.office_machine.specs.Accounts.{AccountsAreKept}
 use Rattle.office_machine.specs.Fates.{TendersAreKept, SecuritiesAreKept, PerformancesAreKept}
 use Rattle.office_machine.specs.Machine.{CanBeGiven, Given, Reaches, refusal_of}
-use Rattle.office_machine.specs.Requests.{joined_by}
+use Rattle.office_machine.specs.Requests.{accepted_by}
 use Rattle.office_publications.specs.Keeping.{KeptStepsReach}
 use Rattle.office_publications.specs.Publishing.{publishing}
 use Rattle.office_publications.specs.Standing.{office_kept}
 use Rattle.office_plans.specs.Asking.{given}
-use Rattle.office_desk.specs.Steps.{IsKept}
+use Rattle.office_desk.specs.Steps.{OfficeIsKept}
 use Rattle.office_wire.specs.Request.{RequestView}
 use Rattle.office_wire.specs.Runs.{Step, AnswersOne, RefusesOne, Serves, office_left}
 use Rattle.office_wire.specs.declared.fault.RunFault.{RunFault}
 use Rattle.office_wire.specs.declared.fault.RunFault.TheVariants as ends
 use Rattle.office_http.specs.Meaning.{Meant, Refuses, Gives, Sees, meant}
 use Rattle.office_http.specs.Answering.{Held, meant_in, office_answers, tables_after, tables_left}
-use Rattle.office_http.specs.Joined.{AreServed, KeepsServing, RequestsAreKept, StepsAreKept, joined_meant, joined_steps, joined_with}
+use Rattle.office_http.specs.Joined.{AreServed, KeepsServing, RequestsAreKept, StepsAreKept, joined_meant, accepted_steps, joined_with}
 use Rattle.office_http.specs.Inside.Meant.{CanBeMeant}
 use Rattle.office_http.proofs.MeantSteps.{meant_can}
 
@@ -31,7 +31,7 @@ pub record Laws : Type 0 where
   pub performances : PerformancesAreKept
   pub steps : KeptStepsReach
 
-pub kept_by : Laws → (settings : Settings) (xs : List Given) (s : Tables) → Reaches (publishing settings) xs s → IsKept settings xs s
+pub kept_by : Laws → (settings : Settings) (xs : List Given) (s : Tables) → Reaches (publishing settings) xs s → OfficeIsKept settings xs s
 kept_by laws settings xs s reaches = record {
   reaches = reaches;
   accounts = laws.accounts (publishing settings) xs s reaches;
@@ -44,7 +44,7 @@ module _ (laws : Laws) (settings : Settings) where
   -- One request.
 
   given_reaches : (xs : List Given) (x : Given) (refusal : Option Refusal) → refusal_of x ≡ refusal → CanBeGiven x
-      → Reaches (publishing settings) xs x.before → Reaches (publishing settings) (joined_by refusal x xs) (office_kept refusal settings x)
+      → Reaches (publishing settings) xs x.before → Reaches (publishing settings) (accepted_by refusal x xs) (office_kept refusal settings x)
   given_reaches xs x None allowed can reached = laws.steps settings xs x reached can allowed
   given_reaches xs x (Some why) is can reached = reached
 
@@ -72,7 +72,7 @@ requests_kept laws settings xs s reached request moment busy =
 -- All steps of a run.
 
 steps_reach : Laws → (xs : List Given) (h : Held) → Reaches (publishing h.settings) xs h.tables → (steps : List Step)
-    → Reaches (publishing h.settings) (joined_steps h steps xs) (office_left office_answers h steps).tables
+    → Reaches (publishing h.settings) (accepted_steps h steps xs) (office_left office_answers h steps).tables
 steps_reach laws xs h reached [] = reached
 steps_reach laws xs h reached (x ∷ steps) =
     steps_reach laws (joined_with x.busy h.tables x.block.moment (meant_in h x.block) xs) (office_answers.after x.busy h x.block)
@@ -90,7 +90,7 @@ module _ (law : StepsAreKept) (input : List ℕ) (now : Option (List ℕ)) (mome
     steps = steps;
     are = are;
     left = left;
-    kept = subst (λ (o : Held). IsKept h.settings (joined_steps h steps xs) o.tables) (sym left) (law xs h reached steps);
+    kept = subst (λ (o : Held). OfficeIsKept h.settings (accepted_steps h steps xs) o.tables) (sym left) (law xs h reached steps);
   }
 
   one_served : (text : List ℕ) → AnswersOne office_answers input now moment h k text ⊎ RefusesOne office_answers input h k text

@@ -1,11 +1,11 @@
 -- What is meant by a request can be given.
 use Rattle.std.proofs.Common.{Option, Result, Ok, Err}
-use Rattle.office_acts.specs.declared.command.Caller.{Caller}
+use Rattle.office_commands.specs.declared.command.Caller.{Caller}
 use Rattle.office_values.specs.declared.refusal.Refusal.{Refusal}
 use Rattle.office_values.specs.declared.settings.Settings.{Settings}
 use Rattle.office_base.specs.Tables.{Tables}
 use Rattle.office_wire.specs.Request.{RequestView}
-use Rattle.office_requests.specs.Asking.{asked}
+use Rattle.office_requests.specs.Asking.{asked_by_route}
 use Rattle.office_requests.specs.Routing.{routed}
 use Rattle.office_requests.specs.declared.asked.Asked.{Asked}
 use Rattle.office_requests.specs.declared.asked.Asked.TheVariants.{Does, Looks}
@@ -26,7 +26,7 @@ caller_can : (s : Tables) (route : Route) (request : RequestView) (caller : Resu
     → CanBeMeant s (meant_by route request caller)
 unfolding IsRead
 caller_can s route request (Err why) known = tt
-caller_can s route request (Ok caller) known = asked_can s caller (asked caller route request) known (asked_is caller route request)
+caller_can s route request (Ok caller) known = asked_can s caller (asked_by_route caller route request) known (asked_is caller route request)
 
 route_can : (settings : Settings) (request : RequestView) (s : Tables) (route : Result Route (Refusal × Option Allow))
     → CanBeMeant s (meant_at settings request s route)

@@ -1,20 +1,20 @@
 -- From what a request says to its answer: its route, its caller and what is asked.
 use Rattle.std.proofs.Common.{◌≡◌, ℕ, ◌⊎◌, inl, inr, true, false, List, Option, None, Result, Ok, Err, sym, ap, ◌∙◌, subst}
-use Rattle.office_acts.specs.declared.command.Caller.{Caller}
+use Rattle.office_commands.specs.declared.command.Caller.{Caller}
 use Rattle.office_values.specs.declared.refusal.Refusal.{Refusal}
 use Rattle.office_values.specs.declared.refusal.Refusal.TheVariants.{Unavailable}
 use Rattle.office_values.specs.declared.settings.Settings.{Settings}
 use Rattle.office_base.specs.Tables.{Tables}
 use Rattle.office_base.specs.Shelves.{Meaning}
 use Rattle.office_wire.specs.Request.{RequestView}
-use Rattle.office_requests.specs.Asking.{asked}
+use Rattle.office_requests.specs.Asking.{asked_by_route}
 use Rattle.office_requests.specs.Routing.{routed}
 use Rattle.office_requests.specs.declared.asked.Asked.{Asked}
 use Rattle.office_requests.specs.declared.route.Allow.{Allow}
 use Rattle.office_requests.specs.declared.route.Route.{Route}
 use Rattle.office_http.specs.Credentials.{credentials_of}
-use Rattle.office_http.specs.Meaning.{Meant, meant, meant_at, meant_by, meant_asked, who}
-use Rattle.office_http.specs.Answering.{is_accepted, reply_to, tables_after}
+use Rattle.office_http.specs.Meaning.{Meant, Refuses, Gives, Sees, meant, meant_at, meant_by, meant_asked, who}
+use Rattle.office_http.specs.Answering.{IsRefusedText, ShowsMeant, is_accepted, reply_to_meant, tables_after}
 use Rattle.office_http.specs.Inside.Meant.{Answered, CanBeMeant, HoldsStanding}
 use Rattle.office_http.proofs.AnswerSteps.{TellsRefusal, is_refused, is_unavailable, tells_unavailable}
 use Rattle.office_http.proofs.AskedCommands.{IsAsked, IsKnown, IsRead, asked_is, why_read, who_known}
@@ -37,7 +37,7 @@ module _ {S : Type 0} (M : Meaning S) (settings : Settings) (old new : S) (s : T
       → ((u : Tables) → M.may_leave new u → M.may_leave old u) → Answered M settings old new s moment (meant settings request s) text
   route_refused why method is tells held stays =
       is_refused M settings old new s moment text (meant settings request s) why method
-      (ap (λ (r : Result Route (Refusal × Option Allow)). reply_to settings s moment (meant_at settings request s r)) is)
+      (ap (λ (r : Result Route (Refusal × Option Allow)). reply_to_meant settings s moment (meant_at settings request s r)) is)
       (ap (λ (r : Result Route (Refusal × Option Allow)). tables_after settings s moment (meant_at settings request s r)) is)
       (ap (λ (r : Result Route (Refusal × Option Allow)). is_accepted s moment (meant_at settings request s r)) is)
       tells held stays
@@ -54,7 +54,7 @@ module _ {S : Type 0} (M : Meaning S) (settings : Settings) (old new : S) (s : T
   caller_refused route why at (inl by) tells held stays =
       let is = meant_is route (Err why) at (sym by) in
       is_refused M settings old new s moment text (meant settings request s) why None
-      (ap (λ (m : Meant). reply_to settings s moment m) is)
+      (ap (λ (m : Meant). reply_to_meant settings s moment m) is)
       (ap (λ (m : Meant). tables_after settings s moment m) is)
       (ap (λ (m : Meant). is_accepted s moment m) is)
       tells held stays
@@ -65,7 +65,7 @@ module _ {S : Type 0} (M : Meaning S) (settings : Settings) (old new : S) (s : T
   caller_known : (caller : Caller) → Ok caller ≡ asker → IsRead (IsKnown s) (Ok caller)
   caller_known caller by = subst (λ (c : Result Caller Refusal). IsRead (IsKnown s) c) (sym by) (who_known settings s (credentials_of request.head.fields))
 
-  read_can : (route : Route) (caller : Caller) (read : Result Asked Refusal) → (read ≡ asked caller route request) ⊎ (read ≡ Err Unavailable)
+  read_can : (route : Route) (caller : Caller) (read : Result Asked Refusal) → (read ≡ asked_by_route caller route request) ⊎ (read ≡ Err Unavailable)
       → IsRead IsAsked read
   read_can route caller read (inl is) = subst (λ (r : Result Asked Refusal). IsRead IsAsked r) (sym is) (asked_is caller route request)
   read_can route caller read (inr is) = subst (λ (r : Result Asked Refusal). IsRead IsAsked r) (sym is) (why_read IsAsked Unavailable)
@@ -77,7 +77,7 @@ module _ {S : Type 0} (M : Meaning S) (settings : Settings) (old new : S) (s : T
   wanting caller (false, is, held, stops) = is_unavailable M settings old new s moment text (meant settings request s) is held stops
 
   read_answered : (route : Route) (caller : Caller) (read : Result Asked Refusal) → taken ≡ Ok route → Ok caller ≡ asker
-      → (read ≡ asked caller route request) ⊎ (read ≡ Err Unavailable) → Answered M settings old new s moment (meant_asked caller read) text
+      → (read ≡ asked_by_route caller route request) ⊎ (read ≡ Err Unavailable) → Answered M settings old new s moment (meant_asked caller read) text
       → Answered M settings old new s moment (meant settings request s) text
   read_answered route caller read at by (inl is) answered =
       subst (λ (m : Meant). Answered M settings old new s moment m text)
@@ -88,9 +88,39 @@ module _ {S : Type 0} (M : Meaning S) (settings : Settings) (old new : S) (s : T
 
   -- what is asked is answered
   pub asked_answered : (route : Route) (caller : Caller) (read : Result Asked Refusal) → taken ≡ Ok route
-      → (Ok caller ≡ asker) ⊎ (Ok caller ≡ unavailable_caller) → (read ≡ asked caller route request) ⊎ (read ≡ Err Unavailable)
+      → (Ok caller ≡ asker) ⊎ (Ok caller ≡ unavailable_caller) → (read ≡ asked_by_route caller route request) ⊎ (read ≡ Err Unavailable)
       → (CanBeMeant s (meant_asked caller read) → Answered M settings old new s moment (meant_asked caller read) text)
       → Answered M settings old new s moment (meant settings request s) text
   asked_answered route caller read at (inr never) is answered = absurd (cc)
   asked_answered route caller read at (inl by) is answered =
       read_answered route caller read at by is (answered (asked_can s caller read (caller_known caller by) (read_can route caller read is)))
+
+-- ---- what is shown
+
+-- what tells a refusal shows nothing, whatever was meant
+pub refused_shows : (m : Meant) (s : Tables) (text : List ℕ) → IsRefusedText text → ShowsMeant m s text
+refused_shows (Refuses why method) s text refused = refused
+refused_shows (Gives caller command) s text refused = tt
+refused_shows (Sees caller query) s text refused = inr refused
+
+pub tells_some : (why : Refusal) (method : Option Allow) (text : List ℕ) → TellsRefusal why method text → IsRefusedText text
+tells_some why method text (inl is) = (why, method, is)
+tells_some why method text (inr is) = (Unavailable, None, is)
+
+module _ (settings : Settings) (s : Tables) (text : List ℕ) (request : RequestView) (route : Route) (caller : Caller) (read : Result Asked Refusal) where
+  read_shown : routed request.head.method request.head.target ≡ Ok route → Ok caller ≡ who settings s (credentials_of request.head.fields)
+      → (read ≡ asked_by_route caller route request) ⊎ (read ≡ Err Unavailable) → ShowsMeant (meant_asked caller read) s text → ShowsMeant (meant settings request s) s text
+  read_shown at by (inl is) shown =
+      subst (λ (m : Meant). ShowsMeant m s text)
+      (ap (λ (r : Result Asked Refusal). meant_asked caller r) is
+      ∙ sym (ap (λ (r : Result Route (Refusal × Option Allow)). meant_at settings request s r) at ∙ ap (λ (c : Result Caller Refusal). meant_by route request c) (sym by)))
+      shown
+  read_shown at by (inr is) shown =
+      refused_shows (meant settings request s) s text (subst (λ (r : Result Asked Refusal). ShowsMeant (meant_asked caller r) s text) is shown)
+
+  -- what is asked is shown
+  pub asked_shown : routed request.head.method request.head.target ≡ Ok route
+      → (Ok caller ≡ who settings s (credentials_of request.head.fields)) ⊎ (let none : Result Caller Refusal = Err Unavailable in Ok caller ≡ none)
+      → (read ≡ asked_by_route caller route request) ⊎ (read ≡ Err Unavailable) → ShowsMeant (meant_asked caller read) s text → ShowsMeant (meant settings request s) s text
+  asked_shown at (inl by) is shown = read_shown at by is shown
+  asked_shown at (inr never) is shown = absurd (cc)

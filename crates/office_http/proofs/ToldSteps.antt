@@ -1,15 +1,14 @@
 -- What the machine replies, as it is told.
 use Rattle.std.proofs.Common.{◌≡◌, ℕ, Bool, true, false, List, ◌∷◌, Option, Some, None, Ok, Err, refl}
 use Rattle.std.specs.Prelude.{cond, not, map, filter, ◌||◌}
-use Rattle.office_acts.specs.Queries.{kind_of}
-use Rattle.office_acts.specs.Callers.{is_by}
-use Rattle.office_acts.specs.Rights.{is_clerk, may_look}
-use Rattle.office_acts.specs.declared.command.Caller.{Caller}
-use Rattle.office_acts.specs.declared.commands.Command.{Command}
-use Rattle.office_acts.specs.declared.commands.Command.TheVariants.{Import, Register, Publish, AmendNotice, Cancel, Open, Present, Modify}
-use Rattle.office_acts.specs.declared.commands.Command.TheVariants.{Withdraw, Examine, Award, Fail, Sign, AmendContract, Pay, End}
-use Rattle.office_acts.specs.declared.queries.Query.{Query}
-use Rattle.office_acts.specs.declared.queries.Query.TheVariants as queries
+use Rattle.office_commands.specs.Queries.{query_kind_of}
+use Rattle.office_commands.specs.Callers.{is_by}
+use Rattle.office_commands.specs.Rights.{is_clerk, may_look}
+use Rattle.office_commands.specs.declared.command.Caller.{Caller}
+use Rattle.office_commands.specs.declared.commands.Command.{Command}
+use Rattle.office_commands.specs.declared.commands.Command.TheVariants.{Modify}
+use Rattle.office_commands.specs.declared.queries.Query.{Query}
+use Rattle.office_commands.specs.declared.queries.Query.TheVariants as queries
 use Rattle.office_values.specs.declared.refusal.Refusal.{Refusal}
 use Rattle.office_values.specs.declared.refusal.Refusal.TheVariants.{Forbidden, NotOpened, NotYourTender}
 use Rattle.office_base.specs.declared.records.LineRow.{LineRow}
@@ -25,7 +24,7 @@ use Rattle.office_base.specs.Parents.{notice_of_envelope}
 use Rattle.office_base.specs.Rules.{first_of}
 use Rattle.office_base.specs.States.{is_opened}
 use Rattle.office_base.specs.Tables.{Tables, envelope_at, envelopes_of_notice, line_at, lots_of_notice, notice_at, security_at, contract_at, performance_at}
-use Rattle.tender_core.specs.Rules.Modify.{modify_conditions}
+use Rattle.tender_core.specs.Rules.Modify.{modify_tests}
 use Rattle.office_machine.specs.Machine.{Given, done, may_give, refusal_of, reply_for, tests_for, time_of}
 use Rattle.office_machine.specs.Replies.{Reply, Refused, Imported, Enrolled, OfNotice, OpenedAll, Received, Withdrew, Examined}
 use Rattle.office_machine.specs.Replies.{Awarded, Failed, Signed, OfContract, LineSeen, LedgerSeen, Tender}
@@ -33,7 +32,7 @@ use Rattle.office_machine.specs.Replies.{Security, PerformanceSeen, Registry, Mi
 use Rattle.office_machine.specs.OfficeMeans.{office_readings}
 use Rattle.office_machine.specs.Readings.{Readings}
 use Rattle.office_machine.specs.Sights.{Packages, is_read_envelope, line_told, minuted, minutes_told, package_told, register_told, security_told, performance_told, shown, tender_told, told}
-use Rattle.office_plans.specs.Effects.{accepted_reply}
+use Rattle.office_plans.specs.Published.{accepted_reply}
 use Rattle.office_plans.specs.Replies.{reply_text, text_of}
 use Rattle.office_http.specs.Answering.{told_as, seen_as}
 use Rattle.office_http.specs.declared.reply.Reply as replies
@@ -66,7 +65,7 @@ refused_as (Package a) why is = absurd (cc)
 -- The reply to an accepted command.
 
 modified : (readings : Readings) (clock : ClockRow) (t : ℕ) (caller : Caller) (bytes : List ℕ) (given : Bool) (envelope : Option EnvelopeRow) (notice : Option NoticeRow)
-    → first_of ((not given, Forbidden) ∷ modify_conditions clock t caller envelope notice) ≡ None
+    → first_of ((not given, Forbidden) ∷ modify_tests (record { envelope = envelope; notice = notice; clock = clock }) t caller) ≡ None
     → told_as (modify_reply readings clock t bytes envelope) ≡ Json (reply_text (modify_reply readings clock t bytes envelope))
 modified readings clock t caller bytes true None notice allowed = absurd (cc)
 modified readings clock t caller bytes false None notice allowed = absurd (cc)
@@ -75,23 +74,9 @@ modified readings clock t caller bytes given (Some e) notice allowed = refl
 as_json : (readings : Readings) (s u : Tables) (t : ℕ) (caller : Caller) (command : Command)
     → first_of ((not (may_give caller command), Forbidden) ∷ tests_for s t caller command) ≡ None
     → told_as (reply_for readings s u t caller command) ≡ Json (reply_text (reply_for readings s u t caller command))
-as_json readings s u t caller (Import batch rows) allowed = refl
-as_json readings s u t caller (Register tenderer name address key) allowed = refl
-as_json readings s u t caller (Publish notice content) allowed = refl
-as_json readings s u t caller (AmendNotice notice deadline rationale) allowed = refl
-as_json readings s u t caller (Cancel notice rationale) allowed = refl
-as_json readings s u t caller (Open notice) allowed = refl
-as_json readings s u t caller (Present notice lot security bytes) allowed = refl
 as_json readings s u t caller (Modify receipt bytes) allowed =
     modified readings s.clock t caller bytes (may_give caller (Modify receipt bytes)) (envelope_at receipt s) (notice_of_envelope (envelope_at receipt s) s) allowed
-as_json readings s u t caller (Withdraw receipt) allowed = refl
-as_json readings s u t caller (Examine receipt responsive quality) allowed = refl
-as_json readings s u t caller (Award notice lot) allowed = refl
-as_json readings s u t caller (Fail award) allowed = refl
-as_json readings s u t caller (Sign award named) allowed = refl
-as_json readings s u t caller (AmendContract contract entry kind amount rationale) allowed = refl
-as_json readings s u t caller (Pay contract entry amount) allowed = refl
-as_json readings s u t caller (End contract how) allowed = refl
+as_json readings s u t caller _ allowed = refl
 
 -- it is told in JSON
 pub accepted_as : (x : Given) → refusal_of x ≡ None → told_as (accepted_reply x) ≡ Json (reply_text (accepted_reply x))
@@ -148,7 +133,7 @@ performance_seen caller (Some c) (Some w) text is =
     (λ at. cc) is
 
 shown_as : (p : Packages) (s : Tables) (caller : Caller) (query : Query) (text : List ℕ) → Ok text ≡ text_of (shown p s caller query)
-    → told_as (shown p s caller query) ≡ seen_as (kind_of query) text
+    → told_as (shown p s caller query) ≡ seen_as (query_kind_of query) text
 shown_as p s caller (queries.Line line) text is = line_seen s (line_at line s) text is
 shown_as p s caller queries.Ledger text is = cc
 shown_as p s caller (queries.Minutes notice) text is =
@@ -162,6 +147,6 @@ shown_as p s caller (queries.Performance contract) text is = performance_seen ca
 
 -- what is seen is told by the query's kind
 pub told_seen : (p : Packages) (s : Tables) (caller : Caller) (query : Query) (text : List ℕ) → Ok text ≡ text_of (told p s caller query)
-    → told_as (told p s caller query) ≡ seen_as (kind_of query) text
+    → told_as (told p s caller query) ≡ seen_as (query_kind_of query) text
 told_seen p s caller query text is =
-    where_may (may_look caller (kind_of query)) (shown p s caller query) Forbidden (seen_as (kind_of query) text) text (shown_as p s caller query text) is
+    where_may (may_look caller (query_kind_of query)) (shown p s caller query) Forbidden (seen_as (query_kind_of query) text) text (shown_as p s caller query text) is

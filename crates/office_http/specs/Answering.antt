@@ -1,7 +1,7 @@
 -- How an office answers what is meant: the reply, its bytes, and the office after it.
-use Rattle.std.specs.Prelude.{◌≡◌, ℕ, ◌⊎◌, Bool, true, false, List, None, is_none, if◌then◌else◌}
-use Rattle.office_acts.specs.declared.command.QueryKind.{QueryKind}
-use Rattle.office_acts.specs.declared.command.QueryKind.TheVariants as kinds
+use Rattle.std.specs.Prelude.{◌≡◌, ℕ, ◌⊎◌, Bool, true, false, List, Option, None, is_none, if◌then◌else◌}
+use Rattle.office_commands.specs.declared.command.QueryKind.{QueryKind}
+use Rattle.office_commands.specs.declared.command.QueryKind.TheVariants as kinds
 use Rattle.office_values.specs.declared.refusal.Refusal.{Refusal}
 use Rattle.office_values.specs.declared.refusal.Refusal.TheVariants as refusals
 use Rattle.office_values.specs.declared.settings.Settings.{Settings}
@@ -13,10 +13,12 @@ use Rattle.office_machine.specs.Requests.{reply_by}
 use Rattle.office_machine.specs.Sights.{told}
 use Rattle.office_publications.specs.Packages.{packages}
 use Rattle.office_publications.specs.Publishing.{publishing}
-use Rattle.office_publications.specs.Standing.{Stands, office_kept}
+use Rattle.office_publications.specs.Standing.{IsReached, office_kept}
 use Rattle.office_plans.specs.Asking.{given}
 use Rattle.office_desk.specs.Desks.{DeskOf}
+use Rattle.office_desk.specs.Steps.{HasShown}
 use Rattle.office_plans.specs.Replies.{reply_text}
+use Rattle.office_requests.specs.declared.route.Allow.{Allow}
 use Rattle.office_wire.specs.Blocks.{Block}
 use Rattle.office_wire.specs.Request.{RequestView, IsRequest, IsRefused}
 use Rattle.office_wire.specs.Runs.{Answers}
@@ -43,11 +45,11 @@ seen_as kinds.Register text = Text text
 seen_as _ text = Json text
 
 -- the reply to what is meant, at this moment
-abbrev pub reply_to : Settings → Tables → ℕ → Meant → Reply
-reply_to settings s moment (Refuses why method) = Refused why method
-reply_to settings s moment (Gives caller command) =
+abbrev pub reply_to_meant : Settings → Tables → ℕ → Meant → Reply
+reply_to_meant settings s moment (Refuses why method) = Refused why method
+reply_to_meant settings s moment (Gives caller command) =
     told_as (reply_by (refusal_of (given s moment caller command)) (publishing settings) (given s moment caller command))
-reply_to settings s moment (Sees caller query) = told_as (told (packages settings) s caller query)
+reply_to_meant settings s moment (Sees caller query) = told_as (told (packages settings) s caller query)
 
 -- the office after it
 abbrev pub tables_after : Settings → Tables → ℕ → Meant → Tables
@@ -67,7 +69,7 @@ unavailable_text = response_of (Refused refusals.Unavailable None)
 
 -- the response's bytes, and the office after it; what is answered Unavailable changes nothing
 abbrev pub answer_bytes : Settings → Bool → Tables → ℕ → Meant → List ℕ
-answer_bytes settings busy s moment m = if busy then unavailable_text else response_of (reply_to settings s moment m)
+answer_bytes settings busy s moment m = if busy then unavailable_text else response_of (reply_to_meant settings s moment m)
 
 abbrev pub tables_left : Settings → Bool → Tables → ℕ → Meant → Tables
 tables_left settings busy s moment m = if busy then s else tables_after settings s moment m
@@ -81,7 +83,7 @@ LeftAfter true true Before IsAfter = Before ⊎ IsAfter
 
 -- the office after what was meant, which stands as its commands left it
 abbrev pub IsWholeAfter : Settings → Tables → ℕ → Meant → Tables → Type 0
-IsWholeAfter settings s moment m u = (u ≡ tables_after settings s moment m) × Stands settings u
+IsWholeAfter settings s moment m u = (u ≡ tables_after settings s moment m) × IsReached settings u
 
 -- so a stop leaves it of a shelf that is answered from; the test says that the answer is Unavailable
 abbrev pub StopsAfter : {S : Type 0} → Meaning S → Settings → S → S → Bool → Tables → ℕ → Meant → Type 0
@@ -126,21 +128,35 @@ office_answers = record {
 
 -- a desk over a shelf holds this, and it stands as its commands left it
 abbrev pub StandsAs : {S : Type 0} → Meaning S → DeskOf S → Held → Type 0
-StandsAs M desk h = IsHeld M desk h × Stands h.settings h.tables
+StandsAs M desk h = IsHeld M desk h × IsReached h.settings h.tables
 
 -- what is meant was answered with this text, perhaps with Unavailable; the shelf holds the office after it, which stands as its commands left
 -- it. A stop leaves the tables after an accepted command and no others, and nothing new after a refusal or a look; where a command that isn't refused was answered
 -- Unavailable, what it could leave before, or the tables after that command
 abbrev pub IsAnswered : {S : Type 0} → Meaning S → Settings → S → S → ℕ → (Tables → Meant) → List ℕ → Type 0
 IsAnswered M settings old new moment m text =
-    M.honest new → (s : Tables) → M.holds old s → Stands settings s
+    M.honest new → (s : Tables) → M.holds old s → IsReached settings s
     → (busy : Bool) × (text ≡ answer_bytes settings busy s moment (m s)) × M.holds new (tables_left settings busy s moment (m s))
-    × Stands settings (tables_left settings busy s moment (m s)) × StopsAfter M settings old new busy s moment (m s)
+    × IsReached settings (tables_left settings busy s moment (m s)) × StopsAfter M settings old new busy s moment (m s)
 
 -- whatever the shelf held, it holds it still, or the answer is a 200 in JSON, as that to an accepted command and to most queries; what it holds then isn't said here
 abbrev pub ChangesOnlyAccepting : {S : Type 0} → Meaning S → S → S → List ℕ → Type 0
 ChangesOnlyAccepting M old new text =
     M.honest new → (s : Tables) → M.holds old s → M.holds new s ⊎ ((reply : List ℕ) × (text ≡ response_of (Json reply)))
+
+-- the response to a refusal
+abbrev pub IsRefusedText : List ℕ → Type 0
+IsRefusedText text = (why : Refusal) × (method : Option Allow) × (text ≡ response_of (Refused why method))
+
+-- a package is shown only where what it shows is there, and what is refused is told as refused
+abbrev pub ShowsMeant : Meant → Tables → List ℕ → Type 0
+ShowsMeant (Refuses why method) s text = IsRefusedText text
+ShowsMeant (Gives caller command) s text = Unit {0}
+ShowsMeant (Sees caller query) s text = HasShown query s ⊎ IsRefusedText text
+
+-- so it is whatever the shelf held
+abbrev pub ShowsOnlyWhole : {S : Type 0} → Meaning S → S → S → (Tables → Meant) → List ℕ → Type 0
+ShowsOnlyWhole M old new m text = M.honest new → (s : Tables) → M.holds old s → ShowsMeant (m s) s text
 
 -- the request at the front of the bytes was answered
 pub record AnswersRequest {S : Type 0} (M : Meaning S) (settings : Settings) (old new : S) (moment : ℕ) (input text : List ℕ) : Type 0 where
@@ -149,6 +165,7 @@ pub record AnswersRequest {S : Type 0} (M : Meaning S) (settings : Settings) (ol
   pub stands : IsRequest input request rest
   pub answered : IsAnswered M settings old new moment (meant settings request) text
   pub changes : ChangesOnlyAccepting M old new text
+  pub shown : ShowsOnlyWhole M old new (meant settings request) text
 
 -- the bytes were refused, perhaps for want of memory, which may be so of any bytes; and nothing changed
 pub record RefusesBytes {S : Type 0} (M : Meaning S) (old new : S) (input text : List ℕ) : Type 0 where

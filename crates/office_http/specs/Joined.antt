@@ -4,12 +4,12 @@ use Rattle.office_values.specs.declared.settings.Settings.{Settings}
 use Rattle.office_base.specs.Tables.{Tables}
 use Rattle.office_base.specs.Shelves.{Meaning}
 use Rattle.office_machine.specs.Machine.{Given, Reaches, refusal_of}
-use Rattle.office_machine.specs.Requests.{joined_by}
+use Rattle.office_machine.specs.Requests.{accepted_by}
 use Rattle.office_publications.specs.Keeping.{KeepsReleases}
 use Rattle.office_publications.specs.Publishing.{publishing}
 use Rattle.office_plans.specs.Asking.{given}
 use Rattle.office_desk.specs.Desks.{DeskOf}
-use Rattle.office_desk.specs.Steps.{IsKept}
+use Rattle.office_desk.specs.Steps.{OfficeIsKept}
 use Rattle.office_wire.specs.Request.{RequestView, IsRequest, IsRequestRead, IsRefused}
 use Rattle.office_wire.specs.Runs.{Step, IsOneAtMost, office_left}
 use Rattle.office_wire.specs.declared.fault.ReadFault.{ReadFault}
@@ -19,7 +19,7 @@ use Rattle.office_http.specs.Answering.{Held, StandsAs, answer_bytes, fault_text
 -- the accepted commands, the last one first, after what is meant: a refusal and a look add nothing
 abbrev pub joined_meant : Tables → ℕ → Meant → List Given → List Given
 joined_meant s moment (Refuses why method) xs = xs
-joined_meant s moment (Gives caller command) xs = joined_by (refusal_of (given s moment caller command)) (given s moment caller command) xs
+joined_meant s moment (Gives caller command) xs = accepted_by (refusal_of (given s moment caller command)) (given s moment caller command) xs
 joined_meant s moment (Sees caller query) xs = xs
 
 -- nor does what is answered Unavailable
@@ -27,30 +27,30 @@ abbrev pub joined_with : Bool → Tables → ℕ → Meant → List Given → Li
 joined_with busy s moment m xs = if busy then xs else joined_meant s moment m xs
 
 -- after the steps of a run from an office
-abbrev pub joined_steps : Held → List Step → List Given → List Given
-joined_steps h [] xs = xs
-joined_steps h (x ∷ steps) xs =
-    joined_steps (office_answers.after x.busy h x.block) steps (joined_with x.busy h.tables x.block.moment (meant_in h x.block) xs)
+abbrev pub accepted_steps : Held → List Step → List Given → List Given
+accepted_steps h [] xs = xs
+accepted_steps h (x ∷ steps) xs =
+    accepted_steps (office_answers.after x.busy h x.block) steps (joined_with x.busy h.tables x.block.moment (meant_in h x.block) xs)
 
 -- wherever accepted commands lead, they and the command of a request, if it is accepted, are kept: they lead to the office after it, its
 -- accounts are what they moved, and each tender and each security, a tender's or a contract's, has the fate that they gave it
 abbrev pub RequestsAreKept : Type 0
 RequestsAreKept =
     (settings : Settings) (xs : List Given) (s : Tables) → Reaches (publishing settings) xs s → (request : RequestView) (moment : ℕ) (busy : Bool)
-    → IsKept settings (joined_with busy s moment (meant settings request s) xs) (tables_left settings busy s moment (meant settings request s))
+    → OfficeIsKept settings (joined_with busy s moment (meant settings request s) xs) (tables_left settings busy s moment (meant settings request s))
 
 -- so it is of all steps of a run
 abbrev pub StepsAreKept : Type 0
 StepsAreKept =
     (xs : List Given) (h : Held) → Reaches (publishing h.settings) xs h.tables → (steps : List Step)
-    → IsKept h.settings (joined_steps h steps xs) (office_left office_answers h steps).tables
+    → OfficeIsKept h.settings (accepted_steps h steps xs) (office_left office_answers h steps).tables
 
 -- what is meant was answered with this text; the shelf holds the office after it, all accepted commands are kept, and so are their releases
 abbrev pub IsKeptAnswering : {S : Type 0} → Meaning S → Settings → S → S → ℕ → (Tables → Meant) → List ℕ → Type 0
 IsKeptAnswering M settings old new moment m text =
     M.honest new → (s : Tables) → M.holds old s → (xs : List Given) → Reaches (publishing settings) xs s → KeepsReleases s
     → (busy : Bool) × (text ≡ answer_bytes settings busy s moment (m s)) × M.holds new (tables_left settings busy s moment (m s))
-    × IsKept settings (joined_with busy s moment (m s) xs) (tables_left settings busy s moment (m s)) × KeepsReleases (tables_left settings busy s moment (m s))
+    × OfficeIsKept settings (joined_with busy s moment (m s) xs) (tables_left settings busy s moment (m s)) × KeepsReleases (tables_left settings busy s moment (m s))
 
 -- so it is of the request at the front of the bytes
 pub record KeepsAnswering {S : Type 0} (M : Meaning S) (settings : Settings) (old new : S) (moment : ℕ) (input text : List ℕ) : Type 0 where
@@ -64,7 +64,7 @@ pub record KeepsRefusing {S : Type 0} (M : Meaning S) (settings : Settings) (old
   pub why : ReadFault
   pub refused : IsRefused input why
   pub text_is : text ≡ fault_text why
-  pub kept : M.honest new → (s : Tables) → M.holds old s → (xs : List Given) → Reaches (publishing settings) xs s → M.holds new s × IsKept settings xs s
+  pub kept : M.honest new → (s : Tables) → M.holds old s → (xs : List Given) → Reaches (publishing settings) xs s → M.holds new s × OfficeIsKept settings xs s
 
 -- where one request is served there is no step, or one at the moment handed in, of the request that was read
 abbrev pub AreServed : List ℕ → Option (List ℕ) → ℕ → List Step → Type 0
@@ -77,7 +77,7 @@ pub record KeepsServing (input : List ℕ) (now : Option (List ℕ)) (moment : �
   pub steps : List Step
   pub are : AreServed input now moment steps
   pub left : k ≡ office_left office_answers h steps
-  pub kept : IsKept h.settings (joined_steps h steps xs) k.tables
+  pub kept : OfficeIsKept h.settings (accepted_steps h steps xs) k.tables
 
 -- whatever a reader told of its bytes, nothing or one request was answered, at this moment: so the office is left
 abbrev pub IsServedOnce : {S : Type 0} → Meaning S → ℕ → DeskOf S → DeskOf S → Type 0

@@ -1,15 +1,15 @@
 -- What a request means to an office: the first refusal of its route, its caller, the caller's rights, its query and its body, in this
 -- order, or what is asked.
 use Rattle.std.specs.Prelude.{ℕ, List, Option, None, Result, Ok, Err}
-use Rattle.office_acts.specs.declared.command.Caller.{Caller}
-use Rattle.office_acts.specs.declared.commands.Command.{Command}
-use Rattle.office_acts.specs.declared.queries.Query.{Query}
+use Rattle.office_commands.specs.declared.command.Caller.{Caller}
+use Rattle.office_commands.specs.declared.commands.Command.{Command}
+use Rattle.office_commands.specs.declared.queries.Query.{Query}
 use Rattle.office_values.specs.declared.refusal.Refusal.{Refusal}
 use Rattle.office_values.specs.declared.settings.Settings.{Settings}
 use Rattle.office_base.specs.Tables.{Tables}
 use Rattle.office_desk.specs.Callers.{caller_of}
 use Rattle.office_wire.specs.Request.{RequestView}
-use Rattle.office_requests.specs.Asking.{asked}
+use Rattle.office_requests.specs.Asking.{asked_by_route}
 use Rattle.office_requests.specs.Routing.{routed}
 use Rattle.office_requests.specs.declared.asked.Asked.{Asked}
 use Rattle.office_requests.specs.declared.asked.Asked.TheVariants.{Does, Looks}
@@ -37,7 +37,7 @@ who settings s (Ok values) = caller_of settings s values.0 values.1
 -- by a route and this request
 abbrev pub meant_by : Route → RequestView → Result Caller Refusal → Meant
 meant_by route request (Err why) = Refuses why None
-meant_by route request (Ok caller) = meant_asked caller (asked caller route request)
+meant_by route request (Ok caller) = meant_asked caller (asked_by_route caller route request)
 
 abbrev pub meant_at : Settings → RequestView → Tables → Result Route (Refusal × Option Allow) → Meant
 meant_at settings request s (Err why) = Refuses why.0 why.1

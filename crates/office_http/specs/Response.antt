@@ -1,7 +1,7 @@
 -- Responses: a status line, fields, an empty line and a body (RFC 9112, sections 2 to 6). Lines end with CR LF.
 use Rattle.std.specs.Prelude.{◌≡◌, ℕ, ◌==◌, if◌then◌else◌, List, [], ◌++◌, length, codes, decimal, Option, Some, None, is_some, unwrap_or, ⊤}
 use Rattle.http.specs.StatusCode.{reason_phrase}
-use Rattle.office_values.specs.Refusals.{number_of, status_of, name_of, what_of, About, Named, Record}
+use Rattle.office_values.specs.Refusals.{number_of_refusal, status_of_refusal, name_of_refusal, subject_of_refusal, About, Named, Record}
 use Rattle.office_values.specs.declared.refusal.Refusal.{Refusal}
 use Rattle.office_requests.specs.declared.route.Allow.{Allow}
 use Rattle.office_requests.specs.declared.route.Allow.TheVariants as allow
@@ -48,17 +48,17 @@ what_member (Some (Record number)) = codes ",\"what\":\"row " ++ decimal number 
 -- a refusal as a JSON object
 abbrev pub refusal_body : Refusal → List ℕ
 refusal_body refusal =
-    codes "{\"name\":\"" ++ name_of refusal ++ codes "\",\"refusal\":" ++ decimal (number_of refusal) ++ what_member (what_of refusal) ++ codes "}"
+    codes "{\"name\":\"" ++ name_of_refusal refusal ++ codes "\",\"refusal\":" ++ decimal (number_of_refusal refusal) ++ what_member (subject_of_refusal refusal) ++ codes "}"
 
 -- the response to each reply
 abbrev pub response_of : Reply → List ℕ
 response_of (reply.Json body) = response_with 200 json [] body
 response_of (reply.Text body) = response_with 200 plain_text [] body
 response_of (reply.Refused refusal method) =
-    response_with (status_of refusal) json (allow_field method ++ challenge_field (status_of refusal)) (refusal_body refusal)
+    response_with (status_of_refusal refusal) json (allow_field method ++ challenge_field (status_of_refusal refusal)) (refusal_body refusal)
 
 -- a method is named exactly where the path is of another method
 abbrev pub NamesMethod : Reply → Type 0
 NamesMethod (reply.Json body) = ⊤
 NamesMethod (reply.Text body) = ⊤
-NamesMethod (reply.Refused refusal method) = is_some method ≡ (number_of refusal == 5)
+NamesMethod (reply.Refused refusal method) = is_some method ≡ (number_of_refusal refusal == 5)

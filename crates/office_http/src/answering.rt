@@ -4,7 +4,7 @@ ghost use Rattle.office_values.specs.declared.refusal.Refusal.TheVariants.{Unava
 ghost use Rattle.office_base.specs.Shelves.{Looks};
 ghost use Rattle.office_http.specs.Credentials.{credentials_of};
 ghost use Rattle.office_http.specs.Meaning.{Gives, Sees, meant, meant_asked, who};
-ghost use Rattle.office_http.specs.Answering.{AnswersRequest, ChangesOnlyAccepting, IsAnswered, RefusesBytes, fault_text, unavailable_text};
+ghost use Rattle.office_http.specs.Answering.{AnswersRequest, ChangesOnlyAccepting, IsAnswered, RefusesBytes, ShowsOnlyWhole, fault_text, unavailable_text};
 ghost use Rattle.office_http.specs.Inside.Meant.{AnswersMeant};
 ghost use Rattle.office_http.specs.Joined.{IsKeptAnswering, KeepsAnswering, KeepsRefusing};
 ghost use Rattle.office_http.specs.Response.{response_of};
@@ -15,10 +15,10 @@ use crate::laws;
 use crate::response::{
     accepted_response, bad_head, coding, refusal_response, seen_response, too_long, unavailable,
 };
-use office_acts::command::Caller;
-use office_acts::commands::Command;
-use office_acts::queries::Query;
 use office_base::shelf::{Lookups, Shelf};
+use office_commands::command::Caller;
+use office_commands::commands::Command;
+use office_commands::queries::Query;
 use office_desk::desk::Desk;
 use office_publications::laws::keeping;
 use office_requests::asked::{Asked, command_of};
@@ -83,6 +83,7 @@ fn answer_query<H: Shelf + Drop>(
     ensures settings { desk.new.settings ≡ desk.old.settings }
     ensures answered { AnswersMeant H.meaning desk.old.settings desk.old.shelf desk.new.shelf moment (λ s. Sees caller.now query) result }
     ensures changes { ChangesOnlyAccepting H.meaning desk.old.shelf desk.new.shelf result }
+    ensures shown { ShowsOnlyWhole H.meaning desk.old.shelf desk.new.shelf (λ s. Sees caller.now query) result }
 {
     let text = match desk.look(caller, query) {
         Ok(text) => text,
@@ -117,6 +118,7 @@ fn answer_asked<H: Shelf + Drop>(
     ensures settings { desk.new.settings ≡ desk.old.settings }
     ensures answered { AnswersMeant H.meaning desk.old.settings desk.old.shelf desk.new.shelf moment (λ s. meant_asked caller.now asked.entry) result }
     ensures changes { ChangesOnlyAccepting H.meaning desk.old.shelf desk.new.shelf result }
+    ensures shown { ShowsOnlyWhole H.meaning desk.old.shelf desk.new.shelf (λ s. meant_asked caller.now asked.entry) result }
 {
     match asked {
         Ok(Asked::Does(command)) => answer_command(alloc, desk, moment, caller, command),
@@ -138,6 +140,7 @@ fn answer_read<H: Shelf + Drop>(
     ensures settings { desk.new.settings ≡ desk.old.settings }
     ensures answered { IsAnswered H.meaning desk.old.settings desk.old.shelf desk.new.shelf moment (meant desk.old.settings request.now) result }
     ensures changes { ChangesOnlyAccepting H.meaning desk.old.shelf desk.new.shelf result }
+    ensures shown { ShowsOnlyWhole H.meaning desk.old.shelf desk.new.shelf (meant desk.old.settings request.now) result }
 {
     let route = match routes.route_of(request) {
         Ok(route) => route,
@@ -153,7 +156,8 @@ fn answer_read<H: Shelf + Drop>(
 
 /// Answers a request that was read. The response is built whole before anything changes; where memory or the store is wanting, it
 /// is the constant response to `Unavailable`, and the tables stay as they are; a stop right then may leave an accepted command whole. An office
-/// that stands as its commands left it stands so again; whatever the shelf holds, it holds it still unless the answer is a 200 in JSON.
+/// that stands as its commands left it stands so again; whatever the shelf holds, it holds it still unless the answer is a 200 in JSON, and a package is
+/// shown only where each release that its notice's row counts is there.
 pub fn answer_request<H: Shelf + Drop>(
     alloc: Global,
     routes: &Routes,
@@ -166,9 +170,10 @@ pub fn answer_request<H: Shelf + Drop>(
     ensures settings { desk.new.settings ≡ desk.old.settings }
     ensures answered { IsAnswered H.meaning desk.old.settings desk.old.shelf desk.new.shelf moment (meant desk.old.settings request.now) result }
     ensures changes { ChangesOnlyAccepting H.meaning desk.old.shelf desk.new.shelf result }
+    ensures shown { ShowsOnlyWhole H.meaning desk.old.shelf desk.new.shelf (meant desk.old.settings request.now) result }
     ensures kept { IsKeptAnswering H.meaning desk.old.settings desk.old.shelf desk.new.shelf moment (meant desk.old.settings request.now) result }
 {
-    laws::kept();
+    laws::accounts_and_fates();
     answer_read(alloc, routes, desk, moment, request)
 }
 
@@ -201,7 +206,7 @@ pub fn answer<H: Shelf + Drop>(
     ensures kept { KeepsAnswering H.meaning desk.old.settings desk.old.shelf desk.new.shelf moment bytes.now result
         ⊎ KeepsRefusing H.meaning desk.old.settings desk.old.shelf desk.new.shelf bytes.now result }
 {
-    laws::kept();
+    laws::accounts_and_fates();
     let mut reader = CountedReader::new(bytes);
     match read_request(alloc, &mut reader) {
         Ok(request) => answer_request(alloc, routes, desk, moment, &request),

@@ -10,7 +10,7 @@ use office_publications::sealed;
 /// Wherever accepted commands lead from the empty office, those that requests and whole runs accept join them: together they lead to the
 /// office after it, its accounts are what they moved, and each tender and each security, a tender's or a contract's, has the fate that they
 /// gave it.
-pub fn kept()
+pub fn accounts_and_fates()
     ensures requests { RequestsAreKept }
     ensures steps { StepsAreKept }
 {

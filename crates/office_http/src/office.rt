@@ -4,18 +4,19 @@ ghost use Rattle.office_base.specs.Tables.{Tables};
 ghost use Rattle.office_machine.specs.Machine.{Given, Reaches};
 ghost use Rattle.office_publications.specs.Keeping.{KeepsReleases};
 ghost use Rattle.office_publications.specs.Publishing.{publishing};
-ghost use Rattle.office_publications.specs.Standing.{Stands};
-ghost use Rattle.stored_shelf.specs.Shutting.{TellsShut};
-ghost use Rattle.office_desk.specs.Steps.{IsKept};
+ghost use Rattle.office_publications.specs.Standing.{IsReached};
+ghost use Rattle.office_base.specs.Shutting.{TellsShut};
+ghost use Rattle.office_desk.specs.Steps.{OfficeIsKept};
 ghost use Rattle.office_wire.specs.Counting.{HasStopped};
 ghost use Rattle.office_wire.specs.Runs.{Step, Ran, Served, office_left};
 ghost use Rattle.office_http.specs.Answering.{Held, StandsAs, held_by, office_answers};
-ghost use Rattle.office_http.specs.Joined.{IsServedOnce, KeepsServing, joined_steps};
+ghost use Rattle.office_http.specs.Joined.{IsServedOnce, KeepsServing, accepted_steps};
 ghost use Rattle.office_http.specs.Stops.{StopsBy, StopsOnce};
 
 use crate::answering::{answer_request, fault_response};
 use crate::laws;
 use office_base::shelf::{Lookups, Shelf, ShelfFault};
+use office_base::stored::StoredShelf;
 use office_desk::desk::Desk;
 use office_requests::routes::Routes;
 use office_values::moment::Moment;
@@ -29,7 +30,6 @@ use office_wire::watched::WatchedWriter;
 use std::alloc::{AllocError, Global};
 use std::io::{BufRead, Write};
 use std::marker::Model;
-use stored_shelf::stored::StoredShelf;
 
 /// An office that is asked over HTTP: its desk, and the table of its routes.
 pub struct Office<H: Shelf + Drop> {
@@ -111,7 +111,7 @@ pub fn run<H: Shelf + Drop, R: BufRead, W: Write>(
 ) -> Result<u64, RunFault>
     ensures before { H.meaning.honest office.new.shelf → H.meaning.honest office.old.shelf }
     ensures ran { H.meaning.honest office.new.shelf → (input : List ℕ) → reader.old.remaining ≡ Some input → (s : Tables) → H.meaning.holds office.old.shelf s
-        → Stands office.old.settings s
+        → IsReached office.old.settings s
         → (steps : List Step)
         × Ran office_answers result input reader.new.remaining (held_by office.old s) steps writer.old.contents writer.new.contents
         × StandsAs H.meaning office.new (office_left office_answers (held_by office.old s) steps)
@@ -121,14 +121,14 @@ pub fn run<H: Shelf + Drop, R: BufRead, W: Write>(
         → (steps : List Step)
         × Ran office_answers result input reader.new.remaining (held_by office.old s) steps writer.old.contents writer.new.contents
         × StandsAs H.meaning office.new (office_left office_answers (held_by office.old s) steps)
-        × IsKept office.old.settings (joined_steps (held_by office.old s) steps xs) (office_left office_answers (held_by office.old s) steps).tables }
+        × OfficeIsKept office.old.settings (accepted_steps (held_by office.old s) steps xs) (office_left office_answers (held_by office.old s) steps).tables }
     ensures cause { IsErrOf result RunFault.Read → HasStopped reader.new }
     ensures writes { IsErrOf result RunFault.Write → writer.new.has_failed ≡ true }
     ensures all_read { OnOk result (reader.new.has_failed ≡ reader.old.has_failed) }
     ensures all_written { OnOk result (writer.new.has_failed ≡ writer.old.has_failed) }
     ensures spent { reader.new.left ≤ reader.old.left }
 {
-    laws::kept();
+    laws::accounts_and_fates();
     runs::run(alloc, office, reader, writer)
 }
 
@@ -144,7 +144,7 @@ pub fn serve_one<H: Shelf + Drop, R: BufRead, W: Write>(
 ) -> Result<(), RunFault>
     ensures before { H.meaning.honest office.new.shelf → H.meaning.honest office.old.shelf }
     ensures served { H.meaning.honest office.new.shelf → (input : List ℕ) → reader.old.remaining ≡ Some input → (s : Tables) → H.meaning.holds office.old.shelf s
-        → Stands office.old.settings s
+        → IsReached office.old.settings s
         → (h : Held)
         × Served office_answers result input reader.new.remaining moment (held_by office.old s) h writer.old.contents writer.new.contents
         × StandsAs H.meaning office.new h }
@@ -161,6 +161,6 @@ pub fn serve_one<H: Shelf + Drop, R: BufRead, W: Write>(
     ensures all_written { OnOk result (writer.new.has_failed ≡ writer.old.has_failed) }
     ensures spent { reader.new.left ≤ reader.old.left }
 {
-    laws::kept();
+    laws::accounts_and_fates();
     runs::serve_one(alloc, office, moment, reader, writer)
 }

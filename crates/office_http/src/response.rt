@@ -10,7 +10,7 @@ ghost use Rattle.office_http.specs.declared.reply.Reply.TheVariants.{Json, Refus
 use crate::reply::Reply;
 use http::StatusCode;
 use itoa::Buffer;
-use office_acts::command::QueryKind;
+use office_commands::command::QueryKind;
 use office_requests::route::Allow;
 use office_values::refusal::{Refusal, What};
 use std::alloc::{AllocError, Global};

@@ -16,7 +16,8 @@ use Rattle.sqlite_value.specs.declared.value.Value.TheVariants.{Int, Text}
 use Rattle.sqlite_value.specs.Order.{value_cmp}
 use Rattle.sqlite_value.proofs.OrderLemmas.{value_cmp-Text, value_cmp-Int}
 use Rattle.office_values.specs.Ids.{id_cmp}
-use Rattle.office_base.specs.Rows.{StartsAbove, IsInOrder}
+use Rattle.office_base.specs.Rows.{IsInOrder}
+use Rattle.office_base.proofs.RowLaws.Starts.{all_above}
 use Rattle.office_base.specs.Tables.{Tables, IsSorted, line_key, contract_key, entry_key, entry_cmp, lot_cmp, lots_of_line, contracts_of_lot, entries_of_contract}
 use Rattle.office_base.specs.Tables as tables
 use Rattle.office_base.specs.declared.records.LineRow.{LineRow}
@@ -33,14 +34,9 @@ use Rattle.office_joins.specs.Cells.{perhaps, contract_in, entry_in}
 -- ---- a table in the order of its keys
 
 module _ {K X : Type 0} {R : K → K → Ordering} (total : IsTotalOrder R) (key : X → K) where
-  all_above : (k : K) (xs : List X) → StartsAbove R key k xs → IsInOrder R key xs → AllByRecursion (λ x. R k (key x) ≡ Less) xs
-  all_above k [] s o = tt
-  all_above k (x ∷ []) s o = (s, tt)
-  all_above k (x ∷ y ∷ ys) s o = (s, all_above k (y ∷ ys) (total.trans k (key x) (key y) s o.0) o.1)
-
   pub rises : (xs : List X) → IsInOrder R key xs → IsAscending (λ a b. R (key a) (key b) ≡ Less) xs
   rises [] o = tt
-  rises (x ∷ xs) o = (all_above (key x) xs o.0 o.1, rises xs o.1)
+  rises (x ∷ xs) o = (all_above total key (key x) xs o.0 o.1, rises xs o.1)
 
 -- ---- groups, each with a head and rows or none
 

@@ -34,7 +34,7 @@ use Rattle.sqlite_resolve.specs.Compile.{first, compiled, returning}
 use Rattle.sqlite_typing.specs.Types.{accepts_program}
 use Rattle.sqlite_tied.specs.Compute.{everything}
 use Rattle.office_joins.specs.Select.{Trees4, equals, list_joined, of_the_line, of_the_lot, of_the_contract, joined_query}
-use Rattle.office_joins.specs.Means.{Means}
+use Rattle.office_joins.specs.StatementMeans.{StatementMeans}
 use Rattle.office_joins.specs.Known.{HoldsFour, column_of}
 use Rattle.office_joins.proofs.Qualified.{Pick, Finds, AllFound, at_budget, plainly, shown_of, sort_of, equals_e, both_e, outputs_are, sorts_are, equal_is, and_is, outputs_of, keys_of}
 use Rattle.office_joins.proofs.Scoped.{four_bounds, line_of_four, lot_of_four, contract_of_four, contract_key_of_four, entry_of_four}
@@ -395,5 +395,5 @@ module _ (schema : Schema) (at : Trees4) (four : HoldsFour schema at) where
       let p = parsed_in (first list_joined) in
       record { command = command.Select (record { lets = []; body = q }) joined_names; returning = None; names = p.names; formats = []; start = p.start; end = p.end; tail = p.tail }
 
-  pub joined_means : Means schema list_joined (command.Select (record { lets = []; body = joined_query at }) joined_names)
+  pub joined_means : StatementMeans schema list_joined (command.Select (record { lets = []; body = joined_query at }) joined_names)
   joined_means = means_by schema list_joined (meant_by (joined_query at)) (refl, refl) (joined_compiles (subst (λ q. accepts_program schema [] q [] ≡ true) (sym query_is) accepted) ∙ ap (λ q. Ok (meant_by q)) query_is)

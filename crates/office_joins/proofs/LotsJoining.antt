@@ -35,7 +35,7 @@ use Rattle.sqlite_typing.specs.Types.{accepts_program}
 use Rattle.sqlite_tied.specs.Compute.{everything}
 use Rattle.office_joins.specs.Select.{Trees4, equals}
 use Rattle.office_joins.specs.SelectLots.{list_joined_of_line, is_of_line, of_its_lot, of_its_contract, lots_query}
-use Rattle.office_joins.specs.Means.{Means}
+use Rattle.office_joins.specs.StatementMeans.{StatementMeans}
 use Rattle.office_joins.specs.Known.{HoldsFour, column_of}
 use Rattle.office_joins.proofs.Qualified.{Pick, Finds, AllFound, at_budget, plainly, shown_of, sort_of, equals_e, both_e, outputs_are, sorts_are, equal_is, and_is, given_e, given_is, outputs_of, keys_of}
 use Rattle.office_joins.proofs.Scoped.{three_bounds, lot_of_three, contract_of_three, contract_key_of_three, entry_of_three}
@@ -354,5 +354,5 @@ module _ (schema : Schema) (at : Trees4) (four : HoldsFour schema at) where
       let p = parsed_in (first list_joined_of_line) in
       record { command = command.Select (record { lets = []; body = q }) lots_names; returning = None; names = p.names; formats = []; start = p.start; end = p.end; tail = p.tail }
 
-  pub lots_mean : Means schema list_joined_of_line (command.Select (record { lets = []; body = lots_query at }) lots_names)
+  pub lots_mean : StatementMeans schema list_joined_of_line (command.Select (record { lets = []; body = lots_query at }) lots_names)
   lots_mean = means_by schema list_joined_of_line (meant_by (lots_query at)) (refl, refl) (lots_compile (subst (λ q. accepts_program schema [] q [] ≡ true) (sym query_is) accepted) ∙ ap (λ q. Ok (meant_by q)) query_is)

@@ -28,7 +28,7 @@ use Rattle.sqlite_resolve.specs.Program as program
 use Rattle.sqlite_resolve.specs.Compile.{compiled}
 use Rattle.sqlite.specs.Listing.{understood, reads_listing}
 use Rattle.sqlite.proofs.Callers.{IsPlain, command_of}
-use Rattle.office_joins.specs.Means.{Means}
+use Rattle.office_joins.specs.StatementMeans.{StatementMeans}
 use Rattle.office_joins.proofs.Qualified.{at_budget}
 use Rattle.office_joins.proofs.Scoped.{bound_of}
 use Rattle.office_joins.proofs.Whole.{among}
@@ -85,6 +85,6 @@ understands : (schema : Schema) (text : List ℕ) (c : Compiled) → compiled sc
 unfolding understood
 understands schema text c h = rw h
 
-pub means_by : (schema : Schema) (text : List ℕ) (c : Compiled) → IsPlain (Ok c) → compiled schema text ≡ Ok c → Means schema text c.command
+pub means_by : (schema : Schema) (text : List ℕ) (c : Compiled) → IsPlain (Ok c) → compiled schema text ≡ Ok c → StatementMeans schema text c.command
 means_by schema text c plain h =
     let u = understands schema text c h in record { is = ap command_of u; plain = subst IsPlain (sym u) plain; unlisted = unlisted_by schema text c h }

@@ -2,7 +2,7 @@
 use Rattle.std.specs.Prelude.{◌≤◌, IfSome}
 use Rattle.office_values.specs.Ids.{IsId}
 use Rattle.office_values.specs.Money.{amount_limit, total_limit}
-use Rattle.office_rows.specs.Ranges.{IsGiven, IsSum}
+use Rattle.office_rows.specs.Ranges.{IsOfficeNumber, IsSum}
 use Rattle.office_ledger.specs.declared.joined.JoinedRow.{JoinedRow}
 use Rattle.office_ledger.specs.declared.joined.JoinedLot.{JoinedLot}
 use Rattle.office_ledger.specs.declared.joined.JoinedContract.{JoinedContract}
@@ -13,7 +13,7 @@ abbrev pub EntryFits : JoinedEntry → Type 0
 EntryFits x = IsId x.entry × IsSum x.amount
 
 abbrev pub ContractFits : JoinedContract → Type 0
-ContractFits x = IsGiven x.contract × (x.signed ≤ total_limit) × (x.released ≤ total_limit) × IfSome x.entry EntryFits
+ContractFits x = IsOfficeNumber x.contract × (x.signed ≤ total_limit) × (x.released ≤ total_limit) × IfSome x.entry EntryFits
 
 abbrev pub LotFits : JoinedLot → Type 0
 LotFits x = IsId x.notice × IsId x.lot × (x.reserved ≤ amount_limit) × IfSome x.contract ContractFits

@@ -4,7 +4,7 @@ pub mod Cells
 pub mod Parts
 pub mod Fits
 pub mod Known
-pub mod Means
+pub mod StatementMeans
 pub mod Shows
 pub mod Standing
 pub mod Reading

@@ -4,17 +4,18 @@ use Rattle.std.proofs.Common.{refl, ap, ◌∙◌}
 use Rattle.std.specs.Ordering.{nat_cmp, is_eq}
 use Rattle.std.specs.Cmp.{tied_itself, nat_cmp_total}
 use Rattle.office_base.specs.Rows.{StartsAbove, IsInOrder}
+use Rattle.office_base.specs.EntrySums.{bare_sums, sums_with_entry, sums_with_entries}
 use Rattle.office_base.specs.Tables.{Tables, contract_key, same_number, entries_of_contract}
 use Rattle.office_base.specs.Joined.{sums_of}
 use Rattle.office_base.specs.declared.ledger.ContractSums.{ContractSums}
 use Rattle.office_base.specs.declared.records.ContractRow.{ContractRow}
 use Rattle.office_base.specs.declared.records.EntryRow.{EntryRow}
 use Rattle.office_ledger.specs.Joins.{entry_part, with_entry, joined_contract}
-use Rattle.office_ledger.specs.Inside.Adding.{opened, with_sums, settle, settled, is_contract, take_entry, entry_added, enter_contract, take_contract, takes}
+use Rattle.office_ledger.specs.Inside.Adding.{opened, with_sums, settle, settled, is_contract, take_entry, entry_added, enter_contract, take_contract, fold_rows}
 use Rattle.office_ledger.specs.declared.joined.JoinedEntry.{JoinedEntry}
 use Rattle.office_ledger.specs.declared.line_sums.OpenContract.{OpenContract}
 use Rattle.office_ledger.specs.declared.line_sums.LineSums.{LineSums}
-use Rattle.office_ledger.proofs.Entries.{bare_sums, with_entries, sums_are}
+use Rattle.office_base.proofs.EntrySums.{sums_are}
 use Rattle.office_ledger.proofs.Taken.{grouped}
 
 pub same_itself : (n : ℕ) → same_number n n ≡ true
@@ -44,21 +45,21 @@ module _ (t : Tables) (c : ContractRow) where
   open_with sums = record { contract = c.contract; sums = sums }
 
   entries_taken : (es : List EntryRow) (s : LineSums) (sums : ContractSums)
-      → takes take_entry (map entry_part es) (record s { contract = Some (open_with sums) }) ≡ record s { contract = Some (open_with (with_entries sums es)) }
+      → fold_rows take_entry (map entry_part es) (record s { contract = Some (open_with sums) }) ≡ record s { contract = Some (open_with (sums_with_entries sums es)) }
   entries_taken [] s sums = refl
-  entries_taken (e ∷ es) s sums = entries_taken es s (Rattle.office_ledger.specs.Inside.Adding.with_kind e.kind e.amount sums)
+  entries_taken (e ∷ es) s sums = entries_taken es s (sums_with_entry e.kind e.amount sums)
 
   -- the sums once its rows have come
   abbrev pub contract_done : LineSums → LineSums
   contract_done s = record (settled s) { contract = Some (open_with (sums_of t.entries c)) }
 
-  pub contract_taken : (s : LineSums) → is_contract c.contract s.contract ≡ false → takes take_contract (joined_contract t c) s ≡ contract_done s
+  pub contract_taken : (s : LineSums) → is_contract c.contract s.contract ≡ false → fold_rows take_contract (joined_contract t c) s ≡ contract_done s
   contract_taken s new =
       grouped take_contract (with_entry c) enter take_entry IsIn (λ s. refl) (λ e s. refl) (λ s. entered_by (is_contract c.contract s.contract) s refl) (λ e s h. kept_by e s.contract h) stays
       (map entry_part (entries_of_contract c.contract t)) s
-      ∙ ap (λ b. takes take_entry (map entry_part (entries_of_contract c.contract t)) (cond b s (record (settled s) { contract = Some (open_with (bare_sums c)) }))) new
+      ∙ ap (λ b. fold_rows take_entry (map entry_part (entries_of_contract c.contract t)) (cond b s (record (settled s) { contract = Some (open_with (bare_sums c)) }))) new
       ∙ entries_taken (entries_of_contract c.contract t) (settled s) (bare_sums c)
-      ∙ ap (λ sums. record (settled s) { contract = Some (open_with sums) }) (sums_are t c)
+      ∙ ap (λ sums. record (settled s) { contract = Some (open_with sums) }) (sums_are t.entries c)
 
 -- several contracts, in the order of their numbers
 module _ (t : Tables) where
@@ -76,13 +77,13 @@ module _ (t : Tables) where
   not_open (Some current) c cs h = ap is_eq h
 
   abbrev take_all : List ContractRow → LineSums → LineSums
-  take_all cs s = takes (λ c. takes take_contract (joined_contract t c)) cs s
+  take_all cs s = fold_rows (λ c. fold_rows take_contract (joined_contract t c)) cs s
 
   pub contracts_taken : (cs : List ContractRow) (s : LineSums) → IsInOrder nat_cmp contract_key cs → ContractsAbove s.contract cs
       → (settled (take_all cs s) ≡ counted (map (sums_of t.entries) cs) (settled s)) × ((take_all cs s).lot ≡ s.lot)
   contracts_taken [] s order above = (refl, refl)
   contracts_taken (c ∷ cs) s order above =
-      let here : takes take_contract (joined_contract t c) s ≡ contract_done t c s = contract_taken t c s (not_open s.contract c cs above) in
+      let here : fold_rows take_contract (joined_contract t c) s ≡ contract_done t c s = contract_taken t c s (not_open s.contract c cs above) in
       let rest = contracts_taken cs (contract_done t c s) order.1 order.0 in
       (ap (λ z. settled (take_all cs z)) here ∙ rest.0, ap (λ z. (take_all cs z).lot) here ∙ rest.1 ∙ same_lot s.contract)
     where

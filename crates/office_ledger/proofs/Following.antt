@@ -14,7 +14,7 @@ use Rattle.office_ledger.specs.Taking.{AreTooMuch, Summing, HasTaken}
 use Rattle.office_ledger.specs.Inside.Adding.{Added, nothing_added, closed, enter_line, take_row, added}
 use Rattle.office_ledger.specs.declared.joined.JoinedRow.{JoinedRow}
 use Rattle.office_ledger.proofs.Lines.{IsLedger, adds_up, none_fits}
-use Rattle.office_ledger.proofs.Taken.{takes-append}
+use Rattle.office_ledger.proofs.Taken.{fold_rows-append}
 
 pub length-snoc : {X : Type 0} (xs : List X) (x : X) → length (xs ++ x ∷ []) ≡ length xs + 1
 length-snoc [] x = refl
@@ -22,7 +22,7 @@ length-snoc (y ∷ xs) x = omega (arith, length-snoc xs x)
 
 module _ (rows : List JoinedRow) (row : JoinedRow) (old : Summing) where
   added_next : HasTaken rows old → take_row row old.added ≡ added (rows ++ row ∷ [])
-  added_next h = ap (take_row row) h.sums ∙ sym (takes-append take_row rows (row ∷ []) nothing_added)
+  added_next h = ap (take_row row) h.sums ∙ sym (fold_rows-append take_row rows (row ∷ []) nothing_added)
 
   pub taken_next : {T : Type 0} (new : Summing) (result : Result T ShelfFault) → HasTaken rows old
       → OnOk result (new ≡ record { added = take_row row old.added; left = old.left - 1 }) → OnOk result (0 < old.left) → OnOk result (HasTaken (rows ++ row ∷ []) new)

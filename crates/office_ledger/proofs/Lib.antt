@@ -1,5 +1,4 @@
 pub mod Taken
-pub mod Entries
 pub mod Contracts
 pub mod Lots
 pub mod Lines

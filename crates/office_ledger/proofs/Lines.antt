@@ -20,14 +20,16 @@ use Rattle.office_base.specs.declared.ledger.Pots.{Pots}
 use Rattle.office_base.specs.declared.records.LineRow.{LineRow}
 use Rattle.office_base.specs.declared.records.LotRow.{LotRow}
 use Rattle.office_ledger.specs.Joins.{with_lot, joined_lot, joined_line, joined}
-use Rattle.office_ledger.specs.Taking.{NoneFits}
-use Rattle.office_ledger.specs.Inside.Adding.{Added, overdrawn_in, no_sums, nothing_added, settled, sums_fit, pots_by, row_by, and_row, close, closed, is_line, line_opened, enter_line, take_row, take_lot, takes, added}
+use Rattle.office_ledger.specs.Taking.{IsJoinOfNoOffice}
+use Rattle.office_ledger.specs.Inside.Adding.{Added, overdrawn_in, no_sums, nothing_added, settled, sums_fit, pots_by, row_by, and_row, close, closed, is_line, line_opened, enter_line, take_row, take_lot, fold_rows, added}
 use Rattle.office_ledger.specs.declared.joined.JoinedLot.{JoinedLot}
 use Rattle.office_ledger.specs.declared.joined.JoinedRow.{JoinedRow}
 use Rattle.office_ledger.specs.declared.ledger_sums.OpenLine.{OpenLine}
 use Rattle.office_ledger.specs.declared.line_sums.LineSums.{LineSums}
-use Rattle.office_ledger.proofs.Lots.{lots_total, in_order-filter, lots_sums, lots_taken, reserved_are, outstanding_are, overdrawn_are, paid_are}
-use Rattle.office_ledger.proofs.Taken.{takes-append, takes-flat_map, grouped}
+use Rattle.office_base.proofs.Orders.{lots_total}
+use Rattle.office_base.proofs.RowLaws.Filters.{in_order-filter}
+use Rattle.office_ledger.proofs.Lots.{lots_sums, lots_taken, reserved_are, outstanding_are, overdrawn_are, paid_are}
+use Rattle.office_ledger.proofs.Taken.{fold_rows-append, fold_rows-flat_map, grouped}
 
 same_itself : (a : List ℕ) → same_id a a ≡ true
 same_itself a = texts_ties a a ∙ ap is_eq (tied_itself nat_list_cmp_total a)
@@ -150,7 +152,7 @@ module _ (law : JoinedSums) (t : Tables) (sorted : IsSorted t) where
     abbrev inner : JoinedLot → Added → Added
     inner l s = record s { sums = take_lot l s.sums }
 
-    inner_all : (rows : List JoinedLot) (s : Added) → takes inner rows s ≡ record s { sums = takes take_lot rows s.sums }
+    inner_all : (rows : List JoinedLot) (s : Added) → fold_rows inner rows s ≡ record s { sums = fold_rows take_lot rows s.sums }
     inner_all [] s = refl
     inner_all (l ∷ rows) s = inner_all rows (inner l s)
 
@@ -160,15 +162,15 @@ module _ (law : JoinedSums) (t : Tables) (sorted : IsSorted t) where
     lots_in_order : IsInOrder lot_cmp lot_key lots
     lots_in_order = in_order-filter lots_total lot_key _ t.lots sorted.lots
 
-    rows_taken : (s : Added) → is_line r.line s.line ≡ false → takes take_row (joined_line t r) s ≡ record (begun s) { sums = takes (λ l. takes take_lot (joined_lot t l)) lots no_sums }
+    rows_taken : (s : Added) → is_line r.line s.line ≡ false → fold_rows take_row (joined_line t r) s ≡ record (begun s) { sums = fold_rows (λ l. fold_rows take_lot (joined_lot t l)) lots no_sums }
     rows_taken s new =
         grouped take_row (with_lot r) enter inner IsIn (λ s. refl) (λ l s. refl) (λ s. entered_by (is_line r.line s.line) s refl) (λ l s h. h) stays (flat_map (joined_lot t) lots) s
-        ∙ ap (λ b. takes inner (flat_map (joined_lot t) lots) (cond b s (begun s))) new
+        ∙ ap (λ b. fold_rows inner (flat_map (joined_lot t) lots) (cond b s (begun s))) new
         ∙ inner_all (flat_map (joined_lot t) lots) (begun s)
-        ∙ ap (λ z. record (begun s) { sums = z }) (takes-flat_map take_lot (joined_lot t) lots no_sums)
+        ∙ ap (λ z. record (begun s) { sums = z }) (fold_rows-flat_map take_lot (joined_lot t) lots no_sums)
 
     pub line_taken : (s : Added) → is_line r.line s.line ≡ false
-        → (closed (takes take_row (joined_line t r) s) ≡ and_row (closed s) found) × ((takes take_row (joined_line t r) s).line ≡ Some here)
+        → (closed (fold_rows take_row (joined_line t r) s) ≡ and_row (closed s) found) × ((fold_rows take_row (joined_line t r) s).line ≡ Some here)
     line_taken s new = (
       ap closed (rows_taken s new) ∙ ap (λ z. and_row (closed s) (row_by here z)) (lots_taken t sorted lots no_sums lots_in_order tt),
       ap (λ (z : Added). z.line) (rows_taken s new),
@@ -189,13 +191,13 @@ module _ (law : JoinedSums) (t : Tables) (sorted : IsSorted t) where
   not_open (Some current) r rs h = texts_ties current.line r.line ∙ ap is_eq h
 
   abbrev take_all : List LineRow → Added → Added
-  take_all rs s = takes (λ r. takes take_row (joined_line t r)) rs s
+  take_all rs s = fold_rows (λ r. fold_rows take_row (joined_line t r)) rs s
 
   lines_taken : (rs : List LineRow) (s : Added) → IsInOrder id_cmp line_key rs → LinesAbove s.line rs → closed (take_all rs s) ≡ and_rows rs (closed s)
   lines_taken [] s order above = refl
   lines_taken (r ∷ rs) s order above =
       let one = line_taken r s (not_open s.line r rs above) in
-      lines_taken rs (takes take_row (joined_line t r) s) order.1 (above_next (takes take_row (joined_line t r) s).line one.1) ∙ ap (and_rows rs) one.0
+      lines_taken rs (fold_rows take_row (joined_line t r) s) order.1 (above_next (fold_rows take_row (joined_line t r) s).line one.1) ∙ ap (and_rows rs) one.0
     where
       above_next : (current : Option OpenLine) → current ≡ Some (here r) → LinesAbove current rs
       above_next current e = rw e order.0
@@ -229,7 +231,7 @@ module _ (law : JoinedSums) (t : Tables) (sorted : IsSorted t) where
 
   -- the whole join adds up to the ledger
   pub adds_up : IsLedger t (closed (added (joined t)))
-  adds_up = subst (IsLedger t) (sym (ap closed (takes-flat_map take_row (joined_line t) t.lines nothing_added) ∙ lines_taken t.lines nothing_added sorted.lines tt)) (whole (and_rows t.lines (Some [])) (ledger_with t.lines []))
+  adds_up = subst (IsLedger t) (sym (ap closed (fold_rows-flat_map take_row (joined_line t) t.lines nothing_added) ∙ lines_taken t.lines nothing_added sorted.lines tt)) (whole (and_rows t.lines (Some [])) (ledger_with t.lines []))
     where
       whole : (all : Option (List LedgerRow)) → IsLedgerWith [] t.lines all → IsLedger t all
       whole (Some all) h = h
@@ -245,7 +247,7 @@ unfit_row r s none false = unclosed s.line
     unclosed None = none
     unclosed (Some current) = ap (λ rows. and_row rows (row_by current (settled s.sums))) none
 
-unfit : (rows : List JoinedRow) (s : Added) → s.rows ≡ None → (takes take_row rows s).rows ≡ None
+unfit : (rows : List JoinedRow) (s : Added) → s.rows ≡ None → (fold_rows take_row rows s).rows ≡ None
 unfit [] s none = none
 unfit (r ∷ rows) s none = unfit rows (take_row r s) (unfit_row r s none (is_line r.line s.line))
 
@@ -253,8 +255,8 @@ unclosed : (s : Added) (current : Option OpenLine) → s.rows ≡ None → close
 unclosed s None none = none
 unclosed s (Some current) none = ap (λ rows. and_row rows (row_by current (settled s.sums))) none
 
-pub none_fits : JoinedSums → (rows : List JoinedRow) → (added rows).rows ≡ None → NoneFits rows
+pub none_fits : JoinedSums → (rows : List JoinedRow) → (added rows).rows ≡ None → IsJoinOfNoOffice rows
 none_fits law rows none t rest sorted is fit =
-    let whole : (added (joined t)).rows ≡ None = ap (λ z. (added z).rows) is ∙ ap (λ (s : Added). s.rows) (takes-append take_row rows rest nothing_added) ∙ unfit rest (added rows) none in
+    let whole : (added (joined t)).rows ≡ None = ap (λ z. (added z).rows) is ∙ ap (λ (s : Added). s.rows) (fold_rows-append take_row rows rest nothing_added) ∙ unfit rest (added rows) none in
     let all : closed (added (joined t)) ≡ None = unclosed (added (joined t)) (added (joined t)).line whole in
     subst (IsLedger t) all (adds_up law t sorted) fit

@@ -4,8 +4,7 @@ use Rattle.std.proofs.Common.{refl, sym, ap, ◌∙◌, arith}
 use Rattle.std.specs.Ordering.{nat_cmp, is_eq, eq_by_cmp, ordering_then}
 use Rattle.std.specs.declared.cmp.Ordering.{Ordering}
 use Rattle.std.specs.declared.cmp.Ordering.TheVariants.{Less, Equal, Greater}
-use Rattle.std.proofs.lemmas.Cmp.{on_total, then_total}
-use Rattle.std.specs.Cmp.{IsTotalOrder, nat_cmp_total, tied_itself}
+use Rattle.std.specs.Cmp.{nat_cmp_total, tied_itself}
 use Rattle.std.specs.Cmp.Lexicographic.{texts_ties, nat_list_cmp_total}
 use Rattle.office_values.specs.Ids.{id_cmp, same_id}
 use Rattle.office_base.specs.Rows.{StartsAbove, IsInOrder}
@@ -17,39 +16,16 @@ use Rattle.office_base.specs.declared.ledger.ContractSums.{ContractSums}
 use Rattle.office_base.specs.declared.records.ContractRow.{ContractRow}
 use Rattle.office_base.specs.declared.records.LotRow.{LotRow}
 use Rattle.office_ledger.specs.Joins.{with_contract, joined_contract, joined_lot}
-use Rattle.office_ledger.specs.Inside.Adding.{overdrawn_in, with_sums, settle, settled, is_contract, is_lot, take_perhaps, entry_added, take_entry, enter_contract, take_contract, lot_opened, enter_lot, take_lot, takes}
+use Rattle.office_ledger.specs.Inside.Adding.{overdrawn_in, with_sums, settle, settled, is_contract, is_lot, take_perhaps, entry_added, take_entry, enter_contract, take_contract, lot_opened, enter_lot, take_lot, fold_rows}
 use Rattle.office_ledger.specs.declared.joined.JoinedEntry.{JoinedEntry}
 use Rattle.office_ledger.specs.declared.joined.JoinedContract.{JoinedContract}
 use Rattle.office_ledger.specs.declared.line_sums.OpenContract.{OpenContract}
 use Rattle.office_ledger.specs.declared.line_sums.LineSums.{LineSums}
+use Rattle.office_base.proofs.RowLaws.Filters.{in_order-filter}
 use Rattle.office_ledger.proofs.Contracts.{counted, ContractsAbove, contracts_taken}
-use Rattle.office_ledger.proofs.Taken.{takes-flat_map, grouped}
-
--- ---- rows that pass a test stay in order
-
-module _ {K X : Type 0} {R : K → K → Ordering} (total : IsTotalOrder R) (key : X → K) where
-  above_later : (k : K) (x : X) (xs : List X) → R k (key x) ≡ Less → StartsAbove R key (key x) xs → StartsAbove R key k xs
-  above_later k x [] e s = tt
-  above_later k x (y ∷ ys) e s = total.trans k (key x) (key y) e s
-
-  above-filter : (k : K) (p : X → Bool) (xs : List X) → StartsAbove R key k xs → IsInOrder R key xs → StartsAbove R key k (filter p xs)
-  above-filter k p [] s o = tt
-  above-filter k p (x ∷ xs) s o = elim (p x) as (λ b. StartsAbove R key k (cond b (x ∷ filter p xs) (filter p xs))) [
-    | true ↦ s
-    | false ↦ above-filter k p xs (above_later k x xs s o.0) o.1
-  ]
-
-  pub in_order-filter : (p : X → Bool) (xs : List X) → IsInOrder R key xs → IsInOrder R key (filter p xs)
-  in_order-filter p [] o = tt
-  in_order-filter p (x ∷ xs) o = elim (p x) as (λ b. IsInOrder R key (cond b (x ∷ filter p xs) (filter p xs))) [
-    | true ↦ (above-filter (key x) p xs o.0 o.1, in_order-filter p xs o.1)
-    | false ↦ in_order-filter p xs o.1
-  ]
+use Rattle.office_ledger.proofs.Taken.{fold_rows-flat_map, grouped}
 
 -- ---- keys of lots
-
-pub lots_total : IsTotalOrder lot_cmp
-lots_total = then_total (on_total (λ (k : List ℕ × List ℕ). k.0) nat_list_cmp_total) (on_total (λ (k : List ℕ × List ℕ). k.1) nat_list_cmp_total)
 
 then_eq : (a b : Ordering) → is_eq (ordering_then a b) ≡ is_eq a && is_eq b
 then_eq Less b = refl
@@ -122,15 +98,15 @@ module _ (t : Tables) (sorted : IsSorted t) (l : LotRow) where
   abbrev pub lot_sums : LineSums → LineSums
   lot_sums s = counted t (map (sums_of t.entries) contracts) (lot_begun s)
 
-  lot_rows : (s : LineSums) → is_lot (lot_key l) s.lot ≡ false → takes take_lot (joined_lot t l) s ≡ takes (λ c. takes take_contract (joined_contract t c)) contracts (lot_begun (settled s))
+  lot_rows : (s : LineSums) → is_lot (lot_key l) s.lot ≡ false → fold_rows take_lot (joined_lot t l) s ≡ fold_rows (λ c. fold_rows take_contract (joined_contract t c)) contracts (lot_begun (settled s))
   lot_rows s new =
       grouped take_lot (with_contract l) enter take_contract IsIn (λ s. refl) (λ c s. refl) (λ s. entered_by (is_lot (lot_key l) s.lot) s refl) (λ c s h. ap (is_lot (lot_key l)) (contract_lot c s) ∙ h) stays
       (flat_map (joined_contract t) contracts) s
-      ∙ ap (λ b. takes take_contract (flat_map (joined_contract t) contracts) (cond b s (lot_begun (settled s)))) new
-      ∙ takes-flat_map take_contract (joined_contract t) contracts (lot_begun (settled s))
+      ∙ ap (λ b. fold_rows take_contract (flat_map (joined_contract t) contracts) (cond b s (lot_begun (settled s)))) new
+      ∙ fold_rows-flat_map take_contract (joined_contract t) contracts (lot_begun (settled s))
 
   pub lot_taken : (s : LineSums) → is_lot (lot_key l) s.lot ≡ false
-      → (settled (takes take_lot (joined_lot t l) s) ≡ lot_sums (settled s)) × ((takes take_lot (joined_lot t l) s).lot ≡ Some (lot_key l))
+      → (settled (fold_rows take_lot (joined_lot t l) s) ≡ lot_sums (settled s)) × ((fold_rows take_lot (joined_lot t l) s).lot ≡ Some (lot_key l))
   lot_taken s new =
       let none : (lot_begun (settled s)).contract ≡ None = settle_none s.contract s refl in
       let rest = contracts_taken t contracts (lot_begun (settled s)) contracts_in_order (none_above (lot_begun (settled s)).contract none) in
@@ -152,13 +128,13 @@ module _ (t : Tables) (sorted : IsSorted t) where
   not_open (Some current) l ls h = same_key current (lot_key l) ∙ ap is_eq h
 
   abbrev take_all : List LotRow → LineSums → LineSums
-  take_all ls s = takes (λ l. takes take_lot (joined_lot t l)) ls s
+  take_all ls s = fold_rows (λ l. fold_rows take_lot (joined_lot t l)) ls s
 
   pub lots_taken : (ls : List LotRow) (s : LineSums) → IsInOrder lot_cmp lot_key ls → LotsAbove s.lot ls → settled (take_all ls s) ≡ lots_sums ls (settled s)
   lots_taken [] s order above = refl
   lots_taken (l ∷ ls) s order above =
       let here = lot_taken t sorted l s (not_open s.lot l ls above) in
-      lots_taken ls (takes take_lot (joined_lot t l) s) order.1 (subst_above (takes take_lot (joined_lot t l) s).lot here.1) ∙ ap (lots_sums ls) here.0
+      lots_taken ls (fold_rows take_lot (joined_lot t l) s) order.1 (subst_above (fold_rows take_lot (joined_lot t l) s).lot here.1) ∙ ap (lots_sums ls) here.0
     where
       subst_above : (current : Option (List ℕ × List ℕ)) → current ≡ Some (lot_key l) → LotsAbove current ls
       subst_above current e = rw e order.0

@@ -1,10 +1,11 @@
 -- Room for the sums of a line: each row takes at most three amounts of it.
 use Rattle.std.specs.Prelude.{◌≡◌, ℕ, ◌+◌, ◌^◌, ◌≤◌, Some}
 use Rattle.std.proofs.Common.{ap, arith}
+use Rattle.office_base.specs.EntrySums.{sums_with_entry}
 use Rattle.office_base.specs.declared.ledger.ContractSums.{ContractSums}
 use Rattle.office_base.specs.declared.records.EntryKind.{EntryKind}
 use Rattle.office_base.specs.declared.records.EntryKind.TheVariants.{Raise, Cut, Payment}
-use Rattle.office_ledger.specs.Inside.Adding.{with_kind, open_sums, HasRoom}
+use Rattle.office_ledger.specs.Inside.Adding.{open_sums, HasRoom}
 use Rattle.office_ledger.specs.declared.line_sums.OpenContract.{OpenContract}
 use Rattle.office_ledger.specs.declared.line_sums.LineSums.{LineSums}
 
@@ -13,13 +14,13 @@ record IsWithin (x y : ContractSums) : Type 0 where
   lost : y.lost ≤ x.lost + 2 ^ 50
   paid : y.paid ≤ x.paid + 2 ^ 50
 
-kind_within : (k : EntryKind) (amount : ℕ) (x : ContractSums) → amount ≤ 2 ^ 50 → IsWithin x (with_kind k amount x)
+kind_within : (k : EntryKind) (amount : ℕ) (x : ContractSums) → amount ≤ 2 ^ 50 → IsWithin x (sums_with_entry k amount x)
 kind_within Raise amount x h = record { gained = omega (arith, h); lost = omega arith; paid = omega arith }
 kind_within Cut amount x h = record { gained = omega arith; lost = omega (arith, h); paid = omega arith }
 kind_within Payment amount x h = record { gained = omega arith; lost = omega (arith, h); paid = omega (arith, h) }
 
 -- an entry takes one
-pub entry_room : (k : EntryKind) (amount number : ℕ) (s : LineSums) (current : OpenContract) (sums : ContractSums) → s.contract ≡ Some current → sums ≡ with_kind k amount current.sums → amount ≤ 2 ^ 50
+pub entry_room : (k : EntryKind) (amount number : ℕ) (s : LineSums) (current : OpenContract) (sums : ContractSums) → s.contract ≡ Some current → sums ≡ sums_with_entry k amount current.sums → amount ≤ 2 ^ 50
     → (n : ℕ) → HasRoom (n + 1) s → HasRoom n (record s { contract = Some (record { contract = number; sums = sums }) })
 entry_room k amount number s current sums is are bound n h =
     let w = kind_within k amount current.sums bound in

@@ -7,12 +7,12 @@ use Rattle.office_ledger.specs.Inside.Adding.{Added, added}
 use Rattle.office_ledger.specs.declared.joined.JoinedRow.{JoinedRow}
 
 -- no office whose sums are within their ranges has a join that begins with these rows
-abbrev pub NoneFits : List JoinedRow → Type 0
-NoneFits rows = (t : Tables) (rest : List JoinedRow) → IsSorted t → joined t ≡ rows ++ rest → ¬ (LinesFit t)
+abbrev pub IsJoinOfNoOffice : List JoinedRow → Type 0
+IsJoinOfNoOffice rows = (t : Tables) (rest : List JoinedRow) → IsSorted t → joined t ≡ rows ++ rest → ¬ (LinesFit t)
 
 -- a sum of these rows is out of its range, or they are more than can be counted
 abbrev pub AreTooMuch : List JoinedRow → Type 0
-AreTooMuch rows = NoneFits rows ⊎ (2 ^ 64 ≤ length rows)
+AreTooMuch rows = IsJoinOfNoOffice rows ⊎ (2 ^ 64 ≤ length rows)
 
 -- what a ledger is that is added up: the sums so far, and how many rows may still come
 pub record Summing : Type 0 where

@@ -6,11 +6,10 @@ ghost use Rattle.office_base.specs.Tables.{Tables, IsSorted};
 ghost use Rattle.office_base.specs.declared.shelf.ShelfFault.TheVariants.{NoMemory};
 ghost use Rattle.office_ledger.specs.Joins.{joined_lots};
 ghost use Rattle.office_ledger.specs.Listing.{HasListed};
-ghost use Rattle.office_ledger.specs.Inside.Listing.{all_listed, is_coming, enter_listed, list_lot};
+ghost use Rattle.office_ledger.specs.Inside.Listing.{all_listed, is_current, enter_listed, list_lot};
 ghost use Rattle.office_ledger.specs.declared.joined.JoinedLot.{JoinedLot};
 
 use crate::joined::{JoinedContract, JoinedLot};
-use crate::line_sums::sums_with;
 use office_base::ledger::ContractSums;
 use office_base::shelf::ShelfFault;
 use office_values::given::GivenNumber;
@@ -20,7 +19,7 @@ use std::marker::Model;
 
 /// The contract whose rows are coming, and what it comes to so far.
 #[derive(Clone, Copy)]
-pub struct ComingContract {
+pub struct CurrentContract {
     notice: Id,
     lot: Id,
     contract: GivenNumber,
@@ -31,7 +30,7 @@ pub struct ComingContract {
 #[derive(Drop)]
 pub struct ContractList {
     done: Vec<ContractSums>,
-    coming: Option<ComingContract>,
+    current: Option<CurrentContract>,
     left: u64,
 }
 
@@ -41,9 +40,9 @@ impl Model for ContractList {
 
     ghost Value = { Listing };
 
-    ghost view = { λ s. record { listed = record { done = s.done.items; coming = s.coming }; left = s.left } };
+    ghost view = { λ s. record { listed = record { done = s.done.items; current = s.current }; left = s.left } };
 
-    ghost invariant = { λ s. EntriesFit s.left s.coming };
+    ghost invariant = { λ s. EntriesFit s.left s.current };
 }
 
 impl ContractList {
@@ -53,17 +52,19 @@ impl ContractList {
     {
         ContractList {
             done: Vec::new(alloc),
-            coming: None,
+            current: None,
             left: u64::MAX,
         }
     }
 
-    fn is_coming(&self, lot: &JoinedLot, contract: GivenNumber) -> bool
-        ensures { result ≡ is_coming lot.now contract self.now.listed.coming }
+    fn is_current(&self, lot: &JoinedLot, contract: GivenNumber) -> bool
+        ensures { result ≡ is_current lot.now contract self.now.listed.current }
     {
-        match &self.coming {
-            Some(coming) => {
-                coming.notice == lot.notice && coming.lot == lot.lot && coming.contract == contract
+        match &self.current {
+            Some(current) => {
+                current.notice == lot.notice
+                    && current.lot == lot.lot
+                    && current.contract == contract
             }
             None => false,
         }
@@ -71,16 +72,16 @@ impl ContractList {
 
     // Counts the contract whose rows were coming among those that are done.
     fn end_contract(&mut self) -> Result<(), ShelfFault>
-        ensures ended { OnOk result (self.new ≡ record { listed = record { done = all_listed self.old.listed; coming = None }; left = self.old.left }) }
+        ensures ended { OnOk result (self.new ≡ record { listed = record { done = all_listed self.old.listed; current = None }; left = self.old.left }) }
         ensures kept { OnErr result (self.new ≡ self.old) }
         ensures fault { IfErr result (λ e. e ≡ NoMemory) }
     {
-        let Some(coming) = self.coming else {
+        let Some(current) = self.current else {
             return Ok(());
         };
-        match self.done.push(coming.sums) {
+        match self.done.push(current.sums) {
             Ok(()) => {
-                self.coming = None;
+                self.current = None;
                 Ok(())
             }
             Err(_) => Err(ShelfFault::NoMemory),
@@ -93,11 +94,11 @@ impl ContractList {
         ensures kept { OnErr result (self.new ≡ self.old) }
         ensures fault { IfErr result (λ e. e ≡ NoMemory) }
     {
-        if self.is_coming(lot, contract.contract) {
+        if self.is_current(lot, contract.contract) {
             return Ok(());
         }
         self.end_contract()?;
-        self.coming = Some(ComingContract {
+        self.current = Some(CurrentContract {
             notice: lot.notice,
             lot: lot.lot,
             contract: contract.contract,
@@ -123,10 +124,10 @@ impl ContractList {
             self.enter(lot, contract)?;
             // Counted first, so that there is room for the entry.
             self.left = left;
-            if let (Some(entry), Some(coming)) = (&contract.entry, self.coming) {
-                self.coming = Some(ComingContract {
-                    sums: sums_with(entry, coming.sums),
-                    ..coming
+            if let (Some(entry), Some(current)) = (&contract.entry, self.current) {
+                self.current = Some(CurrentContract {
+                    sums: current.sums.with_entry(entry.kind, entry.amount),
+                    ..current
                 });
             }
         }

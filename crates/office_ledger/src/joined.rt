@@ -1,6 +1,6 @@
 //! Rows of budget lines joined with their lots, contracts and entries.
-use office_acts::amounts::EntryAmount;
 use office_base::records::EntryKind;
+use office_commands::amounts::EntryAmount;
 use office_values::given::GivenNumber;
 use office_values::id::Id;
 use office_values::money::{Amount, Total};

@@ -1,10 +1,9 @@
 //! Sums over the lots and contracts of one budget line, as their joined rows come.
 ghost use Rattle.std.specs.Prelude.{◌≡◌, ◌+◌, ◌^◌, ◌<◌, ◌≤◌, ℕ, false, IfSome, IfNone, IsTrue, Some, None};
-ghost use Rattle.office_ledger.specs.Inside.Adding.{no_sums, settled, is_contract, is_lot, joined_lot_key, take_entry, enter_contract, take_contract, enter_lot, take_lot, sums_with, sums_fit, pots_by, opened, HasRoom};
+ghost use Rattle.office_ledger.specs.Inside.Adding.{no_sums, settled, is_contract, is_lot, joined_lot_key, take_entry, enter_contract, take_contract, enter_lot, take_lot, sums_fit, pots_by, opened, HasRoom};
 
 use crate::joined::{JoinedContract, JoinedEntry, JoinedLot};
 use office_base::ledger::{ContractSums, Pots};
-use office_base::records::EntryKind;
 use office_values::given::GivenNumber;
 use office_values::id::Id;
 use office_values::money::Total;
@@ -26,32 +25,6 @@ pub struct LineSums {
     paid: u128,
     lot: Option<(Id, Id)>,
     contract: Option<OpenContract>,
-}
-
-// The sums with one entry more.
-pub(crate) fn sums_with(entry: &JoinedEntry, sums: ContractSums) -> ContractSums
-    requires gained { sums.gained + 2 ^ 50 < 2 ^ 128 }
-    requires lost { sums.lost + 2 ^ 50 < 2 ^ 128 }
-    requires paid { sums.paid + 2 ^ 50 < 2 ^ 128 }
-    ensures sums { result ≡ sums_with entry.now sums }
-    ensures bound { entry.now.amount ≤ 2 ^ 50 }
-{
-    let amount = entry.amount.get() as u128;
-    match entry.kind {
-        EntryKind::Raise => ContractSums {
-            gained: sums.gained + amount,
-            ..sums
-        },
-        EntryKind::Cut => ContractSums {
-            lost: sums.lost + amount,
-            ..sums
-        },
-        EntryKind::Payment => ContractSums {
-            lost: sums.lost + amount,
-            paid: sums.paid + amount,
-            ..sums
-        },
-    }
 }
 
 impl LineSums {
@@ -131,7 +104,7 @@ impl LineSums {
         if let Some(open) = self.contract {
             self.contract = Some(OpenContract {
                 contract: open.contract,
-                sums: sums_with(entry, open.sums),
+                sums: open.sums.with_entry(entry.kind, entry.amount),
             });
         }
     }

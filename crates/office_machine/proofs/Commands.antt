@@ -1,3 +1,22 @@
-pub mod Pay
-pub mod Withdraw
+-- The laws of each command, and what they are made of.
+pub mod AllLawful
+pub mod AmendContract
+pub mod AmendNotice
 pub mod Award
+pub mod Cancel
+pub mod End
+pub mod Examine
+pub mod Fail
+pub mod Footprint
+pub mod Import
+pub mod Lawful
+pub mod Modify
+pub mod Open
+pub mod Ordered
+pub mod Pay
+pub mod Present
+pub mod Publish
+pub mod Register
+pub mod Sign
+pub mod Tail
+pub mod Withdraw

@@ -4,7 +4,7 @@ use Rattle.office_values.specs.Ids.{id_cmp}
 use Rattle.office_base.specs.Rows.{IsInOrder}
 use Rattle.office_base.specs.Tables.{Tables, no_tables, compiled_key}
 use Rattle.office_base.specs.declared.records.CompiledRow.{CompiledRow}
-use Rattle.office_machine.specs.Machine.{Means, Given, CanBeGiven, Reaches, refusal_of, next, with_trees}
+use Rattle.office_machine.specs.Machine.{AreOfNotices, Means, Given, CanBeGiven, Reaches, refusal_of, next, with_merges}
 
 -- a command that is accepted where these lead
 pub record IsAccepted (means : Means) (xs : List Given) (x : Given) : Type 0 where
@@ -13,11 +13,11 @@ pub record IsAccepted (means : Means) (xs : List Given) (x : Given) : Type 0 whe
   pub allowed : refusal_of x ≡ None
 
 module _ (means : Means) (P : List Given → Tables → Type 0) (start : P [] no_tables)
-    (beside : (trees : List CompiledRow) → IsInOrder id_cmp compiled_key trees → (xs : List Given) (t : Tables) → P xs t → P xs (with_trees trees t))
+    (beside : (merges : List CompiledRow) → IsInOrder id_cmp compiled_key merges → (xs : List Given) (t : Tables) → AreOfNotices merges t → P xs t → P xs (with_merges merges t))
     (step : (xs : List Given) (x : Given) → IsAccepted means xs x → P xs x.before → P (x ∷ xs) (next means x)) where
   pub along : (xs : List Given) (t : Tables) → Reaches means xs t → P xs t
   along [] t reached = subst (P []) (sym reached) start
   along (x ∷ xs) t reached =
       subst (P (x ∷ xs)) (sym reached.is)
-      (beside reached.trees reached.in_order (x ∷ xs) (next means x)
+      (beside reached.merges reached.in_order (x ∷ xs) (next means x) reached.of_notices
       (step xs x (record { reached = reached.reached; given = reached.given; allowed = reached.allowed }) (along xs x.before reached.reached)))

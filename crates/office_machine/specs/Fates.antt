@@ -4,10 +4,10 @@ use Rattle.std.specs.Ordering.{nat_cmp}
 use Rattle.std.specs.List.{list_any}
 use Rattle.office_values.specs.Ids.{same_id}
 use Rattle.office_base.specs.Tables.{same_number, Tables, envelope_key, seal_key, security_key, notice_at, envelope_at, seal_at, security_at, award_at, performance_at, envelopes_of_lot}
-use Rattle.office_acts.specs.declared.tender.NamedSecurity.{NamedSecurity}
-use Rattle.office_acts.specs.Callers.{tenderer_of}
-use Rattle.office_acts.specs.declared.commands.Command.{Command}
-use Rattle.office_acts.specs.declared.commands.Command.TheVariants.{Cancel, Open, Present, Modify, Withdraw, Award, Fail, Sign, End}
+use Rattle.office_commands.specs.declared.tender.NamedSecurity.{NamedSecurity}
+use Rattle.office_commands.specs.Callers.{tenderer_of}
+use Rattle.office_commands.specs.declared.commands.Command.{Command}
+use Rattle.office_commands.specs.declared.commands.Command.TheVariants.{Cancel, Open, Present, Modify, Withdraw, Award, Fail, Sign, End}
 use Rattle.office_base.specs.Rows.{holds_of, IsInOrder}
 use Rattle.office_base.specs.declared.records.NoticeRow.{NoticeRow}
 use Rattle.office_base.specs.declared.records.EnvelopeRow.{EnvelopeRow}
@@ -18,19 +18,20 @@ use Rattle.office_base.specs.declared.records.EnvelopeState.TheVariants as envel
 use Rattle.office_base.specs.declared.records.EnvelopeState.{EnvelopeState}
 use Rattle.office_base.specs.declared.records.SecurityState.TheVariants as security_states
 use Rattle.office_base.specs.declared.records.SecurityState.{SecurityState}
-use Rattle.office_base.specs.RuleParts.{is_in_time}
+use Rattle.office_base.specs.Transitions.{is_in_time}
 use Rattle.award_core.specs.Rules.Award.{is_admissible}
-use Rattle.office_acts.specs.declared.contract.How.{How}
-use Rattle.office_acts.specs.declared.contract.How.TheVariants as hows
+use Rattle.office_commands.specs.declared.contract.How.{How}
+use Rattle.office_commands.specs.declared.contract.How.TheVariants as hows
 use Rattle.office_base.specs.declared.records.PerformanceRow.{PerformanceRow}
 use Rattle.office_machine.specs.Machine.{Given, Means, Reaches, time_of}
 
--- what came in with a receipt: for which lot, from whom, its bytes, whether in time, the security that was named with it, and the
--- number of the security that it carries
+-- what came in with a receipt: for which lot, from whom, at which moment, its bytes, whether in time, the security that was named with it,
+-- and the number of the security that it carries
 pub record Reception : Type 0 where
   pub notice : List ℕ
   pub lot : List ℕ
   pub tenderer : List ℕ
+  pub moment : ℕ
   pub bytes : List ℕ
   pub in_time : Bool
   pub named : Option NamedSecurity
@@ -42,6 +43,7 @@ presented x notice lot security bytes = record {
   notice = notice;
   lot = lot;
   tenderer = tenderer_of x.caller;
+  moment = time_of x;
   bytes = bytes;
   in_time = holds_of (is_in_time (time_of x)) (notice_at notice x.before);
   named = security;
@@ -49,32 +51,32 @@ presented x notice lot security bytes = record {
 }
 
 -- one that replaces another carries what that one carried
-abbrev pub replacing : List ℕ → Reception → Reception
-replacing bytes old = record old { bytes = bytes; in_time = true; named = None }
+abbrev pub reception_replacing : Given → List ℕ → Reception → Reception
+reception_replacing x bytes old = record old { moment = time_of x; bytes = bytes; in_time = true; named = None }
 
 -- what a command takes in, after what came in before
-abbrev pub brought : Command → Given → (ℕ → Option Reception) → Option Reception
-brought (Present notice lot security bytes) x earlier = Some (presented x notice lot security bytes)
-brought (Modify receipt bytes) x earlier = option_map (replacing bytes) (earlier receipt)
-brought _ x earlier = None
+abbrev pub received_by : Command → Given → (ℕ → Option Reception) → Option Reception
+received_by (Present notice lot security bytes) x earlier = Some (presented x notice lot security bytes)
+received_by (Modify receipt bytes) x earlier = option_map (reception_replacing x bytes) (earlier receipt)
+received_by _ x earlier = None
 
 -- what came in with a receipt stays
-abbrev pub came_after : Option Reception → Option Reception → Option Reception
-came_after None new = new
-came_after (Some old) new = Some old
+abbrev pub received_after : Option Reception → Option Reception → Option Reception
+received_after None new = new
+received_after (Some old) new = Some old
 
 -- what came in with a receipt, if it was given out: an accepted command takes its tender in under the next number
-abbrev pub came : List Given → ℕ → Option Reception
-came [] r = None
-came (x ∷ xs) r = came_after (came xs r) (cond (same_number r (x.before.clock.receipts + 1)) (brought x.command x (λ q. came xs q)) None)
+abbrev pub received_at : List Given → ℕ → Option Reception
+received_at [] r = None
+received_at (x ∷ xs) r = received_after (received_at xs r) (cond (same_number r (x.before.clock.receipts + 1)) (received_by x.command x (λ q. received_at xs q)) None)
 
 abbrev pub is_of_notice : List ℕ → Option Reception → Bool
 is_of_notice notice None = false
 is_of_notice notice (Some c) = same_id c.notice notice
 
-abbrev pub is_of_lot : List ℕ → List ℕ → Option Reception → Bool
-is_of_lot notice lot None = false
-is_of_lot notice lot (Some c) = same_id c.notice notice && same_id c.lot lot
+abbrev pub is_received_for : List ℕ → List ℕ → Option Reception → Bool
+is_received_for notice lot None = false
+is_received_for notice lot (Some c) = same_id c.notice notice && same_id c.lot lot
 
 -- before the deadline of its notice
 abbrev pub is_before_deadline : ℕ → NoticeRow → Bool
@@ -115,7 +117,7 @@ fate_after (Some envelope_states.Opened) now decided = Some envelope_states.Open
 
 abbrev pub fate_of_tender : List Given → ℕ → Option EnvelopeState
 fate_of_tender [] r = None
-fate_of_tender (x ∷ xs) r = fate_after (fate_of_tender xs r) (came (x ∷ xs) r) (tender_decided x.command x (came xs) r)
+fate_of_tender (x ∷ xs) r = fate_after (fate_of_tender xs r) (received_at (x ∷ xs) r) (tender_decided x.command x (received_at xs) r)
 
 -- The fate of a security.
 
@@ -133,7 +135,7 @@ is_for_nobody x notice lot = not (list_any is_admissible (envelopes_of_lot notic
 -- the lot of an award
 abbrev pub is_of_award : Option AwardRow → Option Reception → Bool
 is_of_award None c = false
-is_of_award (Some w) c = is_of_lot w.notice w.lot c
+is_of_award (Some w) c = is_received_for w.notice w.lot c
 
 -- the tender of an award carries it
 abbrev pub is_award_security : ℕ → (ℕ → Option Reception) → Option AwardRow → Bool
@@ -148,7 +150,7 @@ withdrawn_security x c = cond (is_effective x c) security_states.Returned securi
 abbrev pub security_decided : Command → Given → (ℕ → Option Reception) → ℕ → SecurityState
 security_decided (Withdraw receipt) x earlier s = cond (carries s (earlier receipt)) (withdrawn_security x (earlier receipt)) security_states.Held
 security_decided (Cancel notice rationale) x earlier s = cond (is_of_notice notice (earlier s)) security_states.Returned security_states.Held
-security_decided (Award notice lot) x earlier s = cond (is_of_lot notice lot (earlier s) && is_for_nobody x notice lot) security_states.Returned security_states.Held
+security_decided (Award notice lot) x earlier s = cond (is_received_for notice lot (earlier s) && is_for_nobody x notice lot) security_states.Returned security_states.Held
 security_decided (Sign award named) x earlier s = cond (is_of_award (award_at award x.before) (earlier s)) security_states.Returned security_states.Held
 security_decided (Fail award) x earlier s = cond (is_award_security s earlier (award_at award x.before)) security_states.Forfeited security_states.Held
 security_decided _ x earlier s = security_states.Held
@@ -162,7 +164,7 @@ security_after (Some security_states.Forfeited) now decided = Some security_stat
 
 abbrev pub fate_of_security : List Given → ℕ → Option SecurityState
 fate_of_security [] s = None
-fate_of_security (x ∷ xs) s = security_after (fate_of_security xs s) (came (x ∷ xs) s) (security_decided x.command x (came xs) s)
+fate_of_security (x ∷ xs) s = security_after (fate_of_security xs s) (received_at (x ∷ xs) s) (security_decided x.command x (received_at xs) s)
 
 -- The fate of a performance security.
 
@@ -211,11 +213,13 @@ is_kept envelope_states.Withdrawn = false
 is_kept envelope_states.Returned = false
 is_kept envelope_states.Opened = true
 
--- an envelope is what came in with its receipt, in the state of its fate; and its seal has the bytes, while they are kept
+-- an envelope is what came in with its receipt, at the moment of the command that brought it (Model Law, article 40), in the state of its
+-- fate; and its seal has the bytes, while they are kept
 pub record EnvelopeIs (digest : List ℕ → List ℕ) (r : ℕ) (c : Reception) (fate : Option EnvelopeState) (e : EnvelopeRow) (seal : Option SealRow) : Type 0 where
   pub of_notice : e.notice ≡ c.notice
   pub of_lot : e.lot ≡ c.lot
   pub of_tenderer : e.tenderer ≡ c.tenderer
+  pub moment_is : e.moment ≡ c.moment
   pub security_is : e.security ≡ c.security
   pub length_is : e.length ≡ length c.bytes
   pub digest_is : e.digest ≡ digest c.bytes
@@ -260,12 +264,12 @@ numbers from (suc n) = from ∷ numbers (from + 1) n
 -- the state of its fate
 pub record TendersHaveFates (means : Means) (xs : List Given) (t : Tables) : Type 0 where
   pub numbered : map envelope_key t.envelopes ≡ numbers 1 t.clock.receipts
-  pub each : (r : ℕ) → TenderIs means.readings.digest r (came xs r) (fate_of_tender xs r) (envelope_at r t) (seal_at r t)
+  pub each : (r : ℕ) → TenderIs means.readings.digest r (received_at xs r) (fate_of_tender xs r) (envelope_at r t) (seal_at r t)
   pub seals_in_order : IsInOrder nat_cmp seal_key t.seals
 
 -- the securities are those named at accepted receptions, each in the state of its fate
 pub record SecuritiesHaveFates (xs : List Given) (t : Tables) : Type 0 where
-  pub each : (s : ℕ) → HasFate s (came xs s) (fate_of_security xs s) (security_at s t)
+  pub each : (s : ℕ) → HasFate s (received_at xs s) (fate_of_security xs s) (security_at s t)
   pub in_order : IsInOrder nat_cmp security_key t.securities
 
 -- a performance security is what was named at the signing, in the state of its fate

@@ -9,7 +9,7 @@ use Rattle.office_machine.specs.Accounts.{appropriation, free}
 use Rattle.office_machine.specs.Machine.{Means, Given, Reaches}
 
 -- each sum of the line is within the bound of sums
-pub record LineFits (line : List ℕ) (t : Tables) : Type 0 where
+pub record LineInRange (line : List ℕ) (t : Tables) : Type 0 where
   pub appropriation_fits : appropriation line t ≤ total_limit
   pub free_fits : free line t ≤ total_limit
   pub reserved_fits : reserved line t ≤ total_limit
@@ -23,9 +23,9 @@ pub record ContractFits (t : Tables) (c : ContractRow) : Type 0 where
   pub paid_fits : paid_under t.entries c ≤ total_limit
 
 pub record AllFit (t : Tables) : Type 0 where
-  pub lines : (line : List ℕ) → LineFits line t
+  pub lines : (line : List ℕ) → LineInRange line t
   pub lots : (key : List ℕ × List ℕ) (lot : LotRow) → lot_at key t ≡ Some lot → lot.reserved ≤ total_limit
   pub contracts : (number : ℕ) (c : ContractRow) → contract_at number t ≡ Some c → ContractFits t c
 
-abbrev pub SumsFit : Type 0
-SumsFit = (means : Means) (xs : List Given) (t : Tables) → Reaches means xs t → AllFit t
+abbrev pub SumsInRange : Type 0
+SumsInRange = (means : Means) (xs : List Given) (t : Tables) → Reaches means xs t → AllFit t

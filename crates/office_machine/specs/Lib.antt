@@ -12,6 +12,8 @@ pub mod Moves
 pub mod Accounts
 pub mod Fits
 pub mod Parents
+pub mod Late
+pub mod Lacking
 pub mod Releases
 pub mod Order
 pub mod Worlds

@@ -1,21 +1,21 @@
 -- The office machine: when a command is refused, and the office after it.
 use Rattle.std.specs.Prelude.{◌≡◌, ℕ, ◌+◌, Bool, false, not, List, [], ◌∷◌, ◌++◌, Option, Some, None, IsSome, max, option_map, option_and_then}
-use Rattle.office_acts.specs.Identified.{repeats_id}
-use Rattle.office_acts.specs.declared.command.Caller.{Caller}
-use Rattle.office_acts.specs.declared.command.Caller.TheVariants.{Tenderer}
+use Rattle.office_commands.specs.Identified.{repeats_id}
+use Rattle.office_commands.specs.declared.command.Caller.{Caller}
+use Rattle.office_commands.specs.declared.command.Caller.TheVariants.{Tenderer}
 use Rattle.office_base.specs.declared.records.TendererRow.{TendererRow}
-use Rattle.office_acts.specs.Lots.{lot_id}
-use Rattle.office_acts.specs.declared.commands.Command.{Command}
-use Rattle.office_acts.specs.Rights.{may}
-use Rattle.office_acts.specs.Commands.{kind_of}
-use Rattle.office_acts.specs.declared.commands.Command.TheVariants.{Publish}
+use Rattle.office_commands.specs.Lots.{lot_id}
+use Rattle.office_commands.specs.declared.commands.Command.{Command}
+use Rattle.office_commands.specs.Rights.{may}
+use Rattle.office_commands.specs.Commands.{kind_of}
+use Rattle.office_commands.specs.declared.commands.Command.TheVariants.{Publish}
 use Rattle.office_values.specs.declared.refusal.Refusal.{Refusal}
 use Rattle.office_values.specs.declared.refusal.Refusal.TheVariants.{Forbidden}
 use Rattle.office_base.specs.declared.records.ReleaseRow.{ReleaseRow}
 use Rattle.office_base.specs.declared.records.CompiledRow.{CompiledRow}
 use Rattle.office_base.specs.Rows.{IsInOrder}
 use Rattle.office_values.specs.Ids.{id_cmp}
-use Rattle.office_base.specs.Tables.{Tables, no_tables, compiled_key, find_tenderer, notice_at, after_puts}
+use Rattle.office_base.specs.Tables.{Tables, no_tables, compiled_key, find_compiled, find_tenderer, notice_at, after_puts}
 use Rattle.office_base.specs.declared.puts.Put.TheVariants as puts
 use Rattle.office_base.specs.declared.puts.Put.{Put}
 use Rattle.office_base.specs.Rules.{first_of}
@@ -109,18 +109,23 @@ abbrev pub CanBeGiven : Given → Type 0
 CanBeGiven x = IsCommand x.command × IsRegistered x.caller x.before.tenderers
 
 -- the office with these merges of releases beside it: they stand in the same tables, and are no part of the office
-abbrev pub with_trees : List CompiledRow → Tables → Tables
-with_trees trees s = record s { compiled = trees }
+abbrev pub with_merges : List CompiledRow → Tables → Tables
+with_merges merges s = record s { compiled = merges }
+
+-- each of them is of a notice that is there
+abbrev pub AreOfNotices : List CompiledRow → Tables → Type 0
+AreOfNotices merges s = (key : List ℕ) (r : CompiledRow) → find_compiled merges key ≡ Some r → IsSome (notice_at r.notice s)
 
 -- one accepted command: the office before it was reached, it can be given, it is allowed, and this is the office after it, whatever merges of
--- releases stand beside it
+-- releases of its notices stand beside it
 pub record Steps (means : Means) (Reached : Tables → Type 0) (x : Given) (s : Tables) : Type 0 where
   pub reached : Reached x.before
   pub given : CanBeGiven x
   pub allowed : refusal_of x ≡ None
-  pub trees : List CompiledRow
-  pub in_order : IsInOrder id_cmp compiled_key trees
-  pub is : s ≡ with_trees trees (next means x)
+  pub merges : List CompiledRow
+  pub in_order : IsInOrder id_cmp compiled_key merges
+  pub of_notices : AreOfNotices merges (next means x)
+  pub is : s ≡ with_merges merges (next means x)
 
 -- accepted commands, the last one first, lead from the empty office to this one
 abbrev pub Reaches : Means → List Given → Tables → Type 0

@@ -1,24 +1,24 @@
 -- The merges of releases stand beside the office and are no part of it: nothing that it decides, puts, tells or becomes reads them.
 use Rattle.std.specs.Prelude.{◌≡◌, ℕ, List, [], map}
-use Rattle.office_acts.specs.declared.command.Caller.{Caller}
-use Rattle.office_acts.specs.declared.queries.Query.{Query}
+use Rattle.office_commands.specs.declared.command.Caller.{Caller}
+use Rattle.office_commands.specs.declared.queries.Query.{Query}
 use Rattle.office_base.specs.declared.records.CompiledRow.{CompiledRow}
 use Rattle.office_base.specs.Tables.{Tables}
-use Rattle.office_machine.specs.Fates.{came, fate_of_tender}
-use Rattle.office_machine.specs.Machine.{Given, Means, next, puts_of, refusal_of, with_trees}
+use Rattle.office_machine.specs.Fates.{received_at, fate_of_tender}
+use Rattle.office_machine.specs.Machine.{Given, Means, next, puts_of, refusal_of, with_merges}
 use Rattle.office_machine.specs.Requests.{reply_by}
 use Rattle.office_machine.specs.Sights.{Packages, told}
 
 -- the same command, where these merges stand beside the office
 abbrev pub beside : List CompiledRow → Given → Given
-beside trees x = record { before = with_trees trees x.before; moment = x.moment; caller = x.caller; command = x.command }
+beside merges x = record { before = with_merges merges x.before; moment = x.moment; caller = x.caller; command = x.command }
 
 -- the text of a release tells nothing of them, nor does that of a package
 abbrev pub PublishesNoMerges : Means → Type 0
-PublishesNoMerges means = (trees : List CompiledRow) (x : Given) → means.release (beside trees x) ≡ means.release x
+PublishesNoMerges means = (merges : List CompiledRow) (x : Given) → means.release (beside merges x) ≡ means.release x
 
 abbrev pub ShowsNoMerges : Packages → Type 0
-ShowsNoMerges packages = (trees : List CompiledRow) (query : Query) (s : Tables) → packages query (with_trees trees s) ≡ packages query s
+ShowsNoMerges packages = (merges : List CompiledRow) (query : Query) (s : Tables) → packages query (with_merges merges s) ≡ packages query s
 
 -- commands, each without what stood beside the office before it
 abbrev pub bare : List Given → List Given
@@ -28,26 +28,26 @@ bare xs = map (beside []) xs
 
 -- a command is refused for the same reason, or accepted
 abbrev pub RefusalsReadNoMerges : Type 0
-RefusalsReadNoMerges = (trees : List CompiledRow) (x : Given) → refusal_of (beside trees x) ≡ refusal_of x
+RefusalsReadNoMerges = (merges : List CompiledRow) (x : Given) → refusal_of (beside merges x) ≡ refusal_of x
 
 -- it is told the same
 abbrev pub RepliesReadNoMerges : Type 0
-RepliesReadNoMerges = (means : Means) (trees : List CompiledRow) (x : Given)
-    → reply_by (refusal_of (beside trees x)) means (beside trees x) ≡ reply_by (refusal_of x) means x
+RepliesReadNoMerges = (means : Means) (merges : List CompiledRow) (x : Given)
+    → reply_by (refusal_of (beside merges x)) means (beside merges x) ≡ reply_by (refusal_of x) means x
 
 -- whoever looks sees the same
 abbrev pub LooksReadNoMerges : Type 0
-LooksReadNoMerges = (packages : Packages) → ShowsNoMerges packages → (trees : List CompiledRow) (s : Tables) (caller : Caller) (query : Query)
-    → told packages (with_trees trees s) caller query ≡ told packages s caller query
+LooksReadNoMerges = (packages : Packages) → ShowsNoMerges packages → (merges : List CompiledRow) (s : Tables) (caller : Caller) (query : Query)
+    → told packages (with_merges merges s) caller query ≡ told packages s caller query
 
 -- a command puts the same, and the office after it is the same but for the merges
 abbrev pub PutsReadNoMerges : Type 0
-PutsReadNoMerges = (means : Means) → PublishesNoMerges means → (trees : List CompiledRow) (x : Given) → puts_of means (beside trees x) ≡ puts_of means x
+PutsReadNoMerges = (means : Means) → PublishesNoMerges means → (merges : List CompiledRow) (x : Given) → puts_of means (beside merges x) ≡ puts_of means x
 
 abbrev pub NextReadsNoMerges : Type 0
-NextReadsNoMerges = (means : Means) → PublishesNoMerges means → (trees : List CompiledRow) (x : Given)
-    → next means (beside trees x) ≡ with_trees (next means (beside trees x)).compiled (next means x)
+NextReadsNoMerges = (means : Means) → PublishesNoMerges means → (merges : List CompiledRow) (x : Given)
+    → next means (beside merges x) ≡ with_merges (next means (beside merges x)).compiled (next means x)
 
 -- what came in with a receipt, and what became of it, are told without them
 abbrev pub FatesReadNoMerges : Type 0
-FatesReadNoMerges = (xs : List Given) (r : ℕ) → (came (bare xs) r ≡ came xs r) × (fate_of_tender (bare xs) r ≡ fate_of_tender xs r)
+FatesReadNoMerges = (xs : List Given) (r : ℕ) → (received_at (bare xs) r ≡ received_at xs r) × (fate_of_tender (bare xs) r ≡ fate_of_tender xs r)

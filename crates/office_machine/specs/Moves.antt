@@ -2,12 +2,12 @@
 use Rattle.std.specs.Prelude.{◌≡◌, ℕ, ◌+◌, ◌-◌, Bool, true, false, cond, ◌&&◌, List, [], ◌∷◌, ◌++◌, map, filter, Option, Some, None, nat_le}
 use Rattle.office_values.specs.Ids.{same_id}
 use Rattle.office_base.specs.Tables.{same_number, Tables, notice_at, lot_at, award_at, contract_at, lots_of_notice, envelopes_of_lot}
-use Rattle.office_acts.specs.declared.budget.BudgetRow.{BudgetRow}
-use Rattle.office_acts.specs.declared.lot.NewLot.{NewLot}
-use Rattle.office_acts.specs.declared.commands.Command.{Command}
-use Rattle.office_acts.specs.declared.commands.Command.TheVariants.{Import, Publish, Cancel, Award, Sign, AmendContract, Pay, End}
-use Rattle.office_acts.specs.declared.contract.ChangeKind.{ChangeKind}
-use Rattle.office_acts.specs.declared.contract.ChangeKind.TheVariants as change_kinds
+use Rattle.office_commands.specs.declared.budget.BudgetRow.{BudgetRow}
+use Rattle.office_commands.specs.declared.lot.NewLot.{NewLot}
+use Rattle.office_commands.specs.declared.commands.Command.{Command}
+use Rattle.office_commands.specs.declared.commands.Command.TheVariants.{Import, Publish, Cancel, Award, Sign, AmendContract, Pay, End}
+use Rattle.office_commands.specs.declared.contract.ChangeKind.{ChangeKind}
+use Rattle.office_commands.specs.declared.contract.ChangeKind.TheVariants as change_kinds
 use Rattle.office_base.specs.Sums.{sum_over}
 use Rattle.office_base.specs.declared.records.LotRow.{LotRow}
 use Rattle.office_base.specs.declared.records.EnvelopeRow.{EnvelopeRow}
@@ -64,9 +64,9 @@ holding_after s (Award notice id) lot before =
 holding_after s command lot before = before
 
 -- the price of the lot's last award of a tender, or else its estimate as it was published
-abbrev pub held_for : List Given → List ℕ × List ℕ → ℕ
-held_for [] lot = 0
-held_for (x ∷ xs) lot = holding_after x.before x.command lot (held_for xs lot)
+abbrev pub reserved_for : List Given → List ℕ × List ℕ → ℕ
+reserved_for [] lot = 0
+reserved_for (x ∷ xs) lot = holding_after x.before x.command lot (reserved_for xs lot)
 
 -- the line of a lot; nothing where it isn't there
 abbrev pub line_in : Option LotRow → List ℕ
@@ -103,7 +103,7 @@ taken_by command owed contract = 0
 -- what accepted commands brought into contracted for a contract, and what they took out
 abbrev pub brought : List Given → ℕ → ℕ
 brought [] contract = 0
-brought (x ∷ xs) contract = brought_by x.before x.command (held_for xs) contract + brought xs contract
+brought (x ∷ xs) contract = brought_by x.before x.command (reserved_for xs) contract + brought xs contract
 
 abbrev pub taken : List Given → ℕ → ℕ
 taken [] contract = 0
@@ -141,11 +141,11 @@ move_of_change change_kinds.Cut line amount = record { line = line; from = Contr
 abbrev pub moves_for : Tables → Command → List Given → List Move
 moves_for s (Import batch rows) earlier = map move_of_row rows
 moves_for s (Publish notice content) earlier = map move_of_lot content.lots
-moves_for s (Cancel notice rationale) earlier = map (move_back (held_for earlier)) (filter is_open_lot (lots_of_notice notice s))
+moves_for s (Cancel notice rationale) earlier = map (move_back (reserved_for earlier)) (filter is_open_lot (lots_of_notice notice s))
 moves_for s (Award notice id) earlier =
-    move_of_award (line_in (lot_at (notice, id) s)) (held_for earlier (notice, id)) (winner (notice_at notice s) (envelopes_of_lot notice id s)) ∷ []
+    move_of_award (line_in (lot_at (notice, id) s)) (reserved_for earlier (notice, id)) (winner (notice_at notice s) (envelopes_of_lot notice id s)) ∷ []
 moves_for s (Sign award named) earlier =
-    record { line = line_in (lot_of_award (award_at award s) s); from = Reserved; to = Contracted; amount = held_for earlier (lot_in_award (award_at award s)) } ∷ []
+    record { line = line_in (lot_of_award (award_at award s) s); from = Reserved; to = Contracted; amount = reserved_for earlier (lot_in_award (award_at award s)) } ∷ []
 moves_for s (AmendContract contract entry kind amount rationale) earlier = move_of_change kind (line_in (lot_of_contract (contract_at contract s) s)) amount ∷ []
 moves_for s (Pay contract entry amount) earlier =
     record { line = line_in (lot_of_contract (contract_at contract s) s); from = Contracted; to = Paid; amount = amount } ∷ []
@@ -162,13 +162,13 @@ moves [] = []
 moves (x ∷ xs) = moves_by x xs ++ moves xs
 
 -- what they brought into a pot of a line, and what they took out of it
-abbrev pub came : List Move → List ℕ → Pot → ℕ
-came ms line pot = sum_over (λ (m : Move). cond (same_pot m.to pot && same_id m.line line) m.amount 0) ms
+abbrev pub inflow : List Move → List ℕ → Pot → ℕ
+inflow ms line pot = sum_over (λ (m : Move). cond (same_pot m.to pot && same_id m.line line) m.amount 0) ms
 
-abbrev pub went : List Move → List ℕ → Pot → ℕ
-went ms line pot = sum_over (λ (m : Move). cond (same_pot m.from pot && same_id m.line line) m.amount 0) ms
+abbrev pub outflow : List Move → List ℕ → Pot → ℕ
+outflow ms line pot = sum_over (λ (m : Move). cond (same_pot m.from pot && same_id m.line line) m.amount 0) ms
 
 -- this is what came into the pot, less what went out of it; for outside it is what left it, less what came back
 abbrev pub IsBalance : List Move → List ℕ → Pot → ℕ → Type 0
-IsBalance ms line Outside n = n + came ms line Outside ≡ went ms line Outside
-IsBalance ms line pot n = n + went ms line pot ≡ came ms line pot
+IsBalance ms line Outside n = n + inflow ms line Outside ≡ outflow ms line Outside
+IsBalance ms line pot n = n + outflow ms line pot ≡ inflow ms line pot

@@ -1,9 +1,9 @@
 -- What is outstanding of a contract after a command on it, in terms of the office before.
 use Rattle.std.specs.Prelude.{◌≡◌, ℕ, ◌+◌, ◌-◌, List, Option, Some, None}
-use Rattle.office_acts.specs.declared.commands.Command.{Command}
-use Rattle.office_acts.specs.declared.commands.Command.TheVariants.{AmendContract, Pay, End}
-use Rattle.office_acts.specs.declared.contract.ChangeKind.{ChangeKind}
-use Rattle.office_acts.specs.declared.contract.ChangeKind.TheVariants as change_kinds
+use Rattle.office_commands.specs.declared.commands.Command.{Command}
+use Rattle.office_commands.specs.declared.commands.Command.TheVariants.{AmendContract, Pay, End}
+use Rattle.office_commands.specs.declared.contract.ChangeKind.{ChangeKind}
+use Rattle.office_commands.specs.declared.contract.ChangeKind.TheVariants as change_kinds
 use Rattle.office_base.specs.Joined.{plus, minus, outstanding}
 use Rattle.office_base.specs.Parents.{notice_of_contract, lot_of_contract, line_of_lot}
 use Rattle.office_base.specs.Tables.{Tables, contract_at, entries_of_contract}
@@ -69,12 +69,12 @@ LeftIsKnown = (readings : Readings) (x : Given) → refusal_of x ≡ None → Is
 
 -- in an office that commands reach: a raise adds its amount, a cut or a payment takes its amount off, and at most what is outstanding;
 -- an end leaves nothing
-abbrev pub IsBooked : Readings → Given → Tables → Command → Type 0
-IsBooked readings x s (AmendContract contract entry change_kinds.Raise amount rationale) = left_after readings x contract ≡ left_before s contract + amount
-IsBooked readings x s (AmendContract contract entry change_kinds.Cut amount rationale) = left_after readings x contract + amount ≡ left_before s contract
-IsBooked readings x s (Pay contract entry amount) = left_after readings x contract + amount ≡ left_before s contract
-IsBooked readings x s (End contract how) = left_after readings x contract ≡ 0
-IsBooked readings x s command = Unit {0}
+abbrev pub OutstandingIsKept : Readings → Given → Tables → Command → Type 0
+OutstandingIsKept readings x s (AmendContract contract entry change_kinds.Raise amount rationale) = left_after readings x contract ≡ left_before s contract + amount
+OutstandingIsKept readings x s (AmendContract contract entry change_kinds.Cut amount rationale) = left_after readings x contract + amount ≡ left_before s contract
+OutstandingIsKept readings x s (Pay contract entry amount) = left_after readings x contract + amount ≡ left_before s contract
+OutstandingIsKept readings x s (End contract how) = left_after readings x contract ≡ 0
+OutstandingIsKept readings x s command = Unit {0}
 
 abbrev pub LeftIsBooked : Type 0
-LeftIsBooked = (means : Means) (xs : List Given) (x : Given) → Reaches means xs x.before → refusal_of x ≡ None → IsBooked means.readings x x.before x.command
+LeftIsBooked = (means : Means) (xs : List Given) (x : Given) → Reaches means xs x.before → refusal_of x ≡ None → OutstandingIsKept means.readings x x.before x.command

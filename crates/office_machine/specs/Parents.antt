@@ -1,12 +1,17 @@
 -- The rows that a row speaks of are there, wherever accepted commands lead.
-use Rattle.std.specs.Prelude.{◌≡◌, ℕ, List, Some, IsSome}
+use Rattle.std.specs.Prelude.{◌≡◌, ℕ, ◌<◌, List, Some, IsSome}
+use Rattle.office_base.specs.declared.records.NoticeRow.{NoticeRow}
 use Rattle.office_base.specs.declared.records.LotRow.{LotRow}
 use Rattle.office_base.specs.declared.records.EnvelopeRow.{EnvelopeRow}
 use Rattle.office_base.specs.declared.records.SecurityRow.{SecurityRow}
 use Rattle.office_base.specs.declared.records.AwardRow.{AwardRow}
 use Rattle.office_base.specs.declared.records.ContractRow.{ContractRow}
 use Rattle.office_base.specs.declared.records.EntryRow.{EntryRow}
-use Rattle.office_base.specs.Tables.{Tables, line_at, tenderer_at, notice_at, lot_at, envelope_at, security_at, award_at, contract_at, entry_at}
+use Rattle.office_base.specs.declared.records.ReleaseRow.{ReleaseRow}
+use Rattle.office_base.specs.declared.records.CompiledRow.{CompiledRow}
+use Rattle.office_base.specs.declared.records.LateRow.{LateRow}
+use Rattle.office_base.specs.declared.records.PerformanceRow.{PerformanceRow}
+use Rattle.office_base.specs.Tables.{Tables, line_at, tenderer_at, notice_at, lot_at, envelope_at, security_at, award_at, contract_at, entry_at, release_at, compiled_at, late_at, performance_at}
 use Rattle.office_machine.specs.Machine.{Means, Given, Reaches}
 
 -- a lot's notice and line
@@ -40,6 +45,19 @@ pub record ContractHas (t : Tables) (c : ContractRow) : Type 0 where
 pub record EntryHas (t : Tables) (e : EntryRow) : Type 0 where
   pub contract : IsSome (contract_at e.contract t)
 
+pub record PerformanceHas (t : Tables) (w : PerformanceRow) : Type 0 where
+  pub contract : IsSome (contract_at w.contract t)
+
+-- the notice of a release, of a merge of releases, and of what is said of late withdrawals
+pub record ReleaseHas (t : Tables) (r : ReleaseRow) : Type 0 where
+  pub notice : IsSome (notice_at r.notice t)
+
+pub record MergeHas (t : Tables) (r : CompiledRow) : Type 0 where
+  pub notice : IsSome (notice_at r.notice t)
+
+pub record LateHas (t : Tables) (r : LateRow) : Type 0 where
+  pub notice : IsSome (notice_at r.notice t)
+
 -- the rows of t have theirs in u
 pub record HaveParents (u t : Tables) : Type 0 where
   pub lots : (key : List ℕ × List ℕ) (l : LotRow) → lot_at key t ≡ Some l → LotHas u l
@@ -48,6 +66,18 @@ pub record HaveParents (u t : Tables) : Type 0 where
   pub awards : (n : ℕ) (a : AwardRow) → award_at n t ≡ Some a → AwardHas u a
   pub contracts : (n : ℕ) (c : ContractRow) → contract_at n t ≡ Some c → ContractHas u c
   pub entries : (key : ℕ × List ℕ) (e : EntryRow) → entry_at key t ≡ Some e → EntryHas u e
+  pub performances : (n : ℕ) (w : PerformanceRow) → performance_at n t ≡ Some w → PerformanceHas u w
+  pub releases : (key : List ℕ × ℕ) (r : ReleaseRow) → release_at key t ≡ Some r → ReleaseHas u r
+  pub merges : (key : List ℕ) (r : CompiledRow) → compiled_at key t ≡ Some r → MergeHas u r
+  pub late_rules : (key : List ℕ) (r : LateRow) → late_at key t ≡ Some r → LateHas u r
 
 abbrev pub ParentsAreThere : Type 0
 ParentsAreThere = (means : Means) (xs : List Given) (t : Tables) → Reaches means xs t → HaveParents t t
+
+-- a contract has the performance security that its notice asks for
+abbrev pub HavePerformances : Tables → Type 0
+HavePerformances t = (number : ℕ) (c : ContractRow) (n : NoticeRow) → contract_at number t ≡ Some c → notice_at c.notice t ≡ Some n → 0 < n.performance
+    → IsSome (performance_at number t)
+
+abbrev pub PerformancesAreThere : Type 0
+PerformancesAreThere = (means : Means) (xs : List Given) (t : Tables) → Reaches means xs t → HavePerformances t

@@ -1,6 +1,6 @@
 -- What effects and replies take from elsewhere.
 use Rattle.std.specs.Prelude.{ℕ, List}
-use Rattle.office_acts.specs.declared.item.Item.{Item}
+use Rattle.office_commands.specs.declared.item.Item.{Item}
 use Rattle.office_base.specs.declared.reading.Reading.{Reading}
 
 -- how a tender reads, and the digest of bytes

@@ -73,13 +73,13 @@ pub data Reply : Type 0 where
 abbrev pub release_of : List NoticeRow → List ℕ → ℕ
 release_of notices notice = releases_in (find_notice notices notice) + 1
 
-abbrev pub award_release : Option AwardRow → List NoticeRow → ℕ
-award_release None notices = 0
-award_release (Some a) notices = release_of notices a.notice
+abbrev pub release_of_award : Option AwardRow → List NoticeRow → ℕ
+release_of_award None notices = 0
+release_of_award (Some a) notices = release_of notices a.notice
 
-abbrev pub contract_release : Option ContractRow → List NoticeRow → ℕ
-contract_release None notices = 0
-contract_release (Some c) notices = release_of notices c.notice
+abbrev pub release_of_contract : Option ContractRow → List NoticeRow → ℕ
+release_of_contract None notices = 0
+release_of_contract (Some c) notices = release_of notices c.notice
 
 abbrev pub left_of : Option ContractRow → List EntryRow → ℕ
 left_of None entries = 0

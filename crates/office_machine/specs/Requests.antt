@@ -1,8 +1,8 @@
 -- Requests, each perhaps answered Unavailable, and runs of them.
 use Rattle.std.specs.Prelude.{◌≡◌, ℕ, Bool, cond, List, [], ◌∷◌, Option, Some, None}
-use Rattle.office_acts.specs.declared.command.Caller.{Caller}
-use Rattle.office_acts.specs.declared.commands.Command.{Command}
-use Rattle.office_acts.specs.declared.queries.Query.{Query}
+use Rattle.office_commands.specs.declared.command.Caller.{Caller}
+use Rattle.office_commands.specs.declared.commands.Command.{Command}
+use Rattle.office_commands.specs.declared.queries.Query.{Query}
 use Rattle.office_values.specs.declared.refusal.Refusal.{Refusal}
 use Rattle.office_values.specs.declared.refusal.Refusal.TheVariants.{Unavailable}
 use Rattle.office_base.specs.Tables.{Tables}
@@ -22,8 +22,8 @@ pub record Request : Type 0 where
   pub demand : Demand
   pub unavailable : Bool
 
-abbrev pub asked : Tables → Request → Command → Given
-asked s a command = record { before = s; moment = a.moment; caller = a.caller; command = command }
+abbrev pub given_by_request : Tables → Request → Command → Given
+given_by_request s a command = record { before = s; moment = a.moment; caller = a.caller; command = command }
 
 abbrev pub reply_by : Option Refusal → Means → Given → Reply
 reply_by None means x = reply_for means.readings x.before (done means.readings x) (time_of x) x.caller x.command
@@ -33,21 +33,21 @@ abbrev pub office_by : Option Refusal → Means → Given → Tables
 office_by None means x = next means x
 office_by (Some why) means x = x.before
 
-abbrev pub joined_by : Option Refusal → Given → List Given → List Given
-joined_by None x xs = x ∷ xs
-joined_by (Some why) x xs = xs
+abbrev pub accepted_by : Option Refusal → Given → List Given → List Given
+accepted_by None x xs = x ∷ xs
+accepted_by (Some why) x xs = xs
 
 abbrev pub demand_reply : Means → Packages → Tables → Request → Demand → Reply
-demand_reply means packages s a (Asks command) = reply_by (refusal_of (asked s a command)) means (asked s a command)
+demand_reply means packages s a (Asks command) = reply_by (refusal_of (given_by_request s a command)) means (given_by_request s a command)
 demand_reply means packages s a (Looks query) = told packages s a.caller query
 
 abbrev pub demand_office : Means → Tables → Request → Demand → Tables
-demand_office means s a (Asks command) = office_by (refusal_of (asked s a command)) means (asked s a command)
+demand_office means s a (Asks command) = office_by (refusal_of (given_by_request s a command)) means (given_by_request s a command)
 demand_office means s a (Looks query) = s
 
-abbrev pub demand_joined : Tables → Request → Demand → List Given → List Given
-demand_joined s a (Asks command) xs = joined_by (refusal_of (asked s a command)) (asked s a command) xs
-demand_joined s a (Looks query) xs = xs
+abbrev pub demand_accepted : Tables → Request → Demand → List Given → List Given
+demand_accepted s a (Asks command) xs = accepted_by (refusal_of (given_by_request s a command)) (given_by_request s a command) xs
+demand_accepted s a (Looks query) xs = xs
 
 -- how a request is answered, the office after it, and the accepted commands with it, the last one first
 abbrev pub reply_to : Means → Packages → Tables → Request → Reply
@@ -56,21 +56,21 @@ reply_to means packages s a = cond a.unavailable (Refused Unavailable) (demand_r
 abbrev pub office_after : Means → Tables → Request → Tables
 office_after means s a = cond a.unavailable s (demand_office means s a a.demand)
 
-abbrev pub joined : Tables → Request → List Given → List Given
-joined s a xs = cond a.unavailable xs (demand_joined s a a.demand xs)
+abbrev pub accepted_with : Tables → Request → List Given → List Given
+accepted_with s a xs = cond a.unavailable xs (demand_accepted s a a.demand xs)
 
 -- after all requests of a list
 abbrev pub last_office : Means → Tables → List Request → Tables
 last_office means s [] = s
 last_office means s (a ∷ rest) = last_office means (office_after means s a) rest
 
-abbrev pub all_joined : Means → Tables → List Given → List Request → List Given
-all_joined means s xs [] = xs
-all_joined means s xs (a ∷ rest) = all_joined means (office_after means s a) (joined s a xs) rest
+abbrev pub all_accepted : Means → Tables → List Given → List Request → List Given
+all_accepted means s xs [] = xs
+all_accepted means s xs (a ∷ rest) = all_accepted means (office_after means s a) (accepted_with s a xs) rest
 
 -- each command can be given to the office that the requests before it left
 abbrev pub IsDemand : Tables → Request → Demand → Type 0
-IsDemand s a (Asks command) = CanBeGiven (asked s a command)
+IsDemand s a (Asks command) = CanBeGiven (given_by_request s a command)
 IsDemand s a (Looks query) = Unit {0}
 
 abbrev pub AreRequests : Means → Tables → List Request → Type 0
@@ -83,4 +83,4 @@ StepsReach = (means : Means) (xs : List Given) (x : Given) → Reaches means xs 
 
 -- what a run from a reached office accepts reaches its last office
 abbrev pub RunsReach : Type 0
-RunsReach = (means : Means) (xs : List Given) (s : Tables) → Reaches means xs s → (rest : List Request) → AreRequests means s rest → Reaches means (all_joined means s xs rest) (last_office means s rest)
+RunsReach = (means : Means) (xs : List Given) (s : Tables) → Reaches means xs s → (rest : List Request) → AreRequests means s rest → Reaches means (all_accepted means s xs rest) (last_office means s rest)

@@ -1,12 +1,12 @@
 -- A command's rule, and what rules share.
-use Rattle.std.specs.Prelude.{ℕ, Bool, List, [], map, filter, Option, Some, None}
-use Rattle.office_acts.specs.declared.item.Item.{Item}
-use Rattle.office_acts.specs.declared.command.Caller.{Caller}
+use Rattle.std.specs.Prelude.{ℕ, Bool, List, [], map, filter, Option, Some, None, option_map}
+use Rattle.office_commands.specs.declared.item.Item.{Item}
+use Rattle.office_commands.specs.declared.command.Caller.{Caller}
 use Rattle.office_values.specs.declared.refusal.Refusal.{Refusal}
 use Rattle.office_base.specs.declared.records.LotRow.{LotRow}
 use Rattle.office_base.specs.declared.records.EnvelopeRow.{EnvelopeRow}
 use Rattle.office_base.specs.declared.records.SealRow.{SealRow}
-use Rattle.office_base.specs.Tables.{Tables, lot_at, seal_at, envelopes_of_notice}
+use Rattle.office_base.specs.Tables.{Tables, find_award, find_contract, lot_at, seal_at, envelopes_of_notice}
 use Rattle.office_base.specs.declared.puts.Put.{Put}
 use Rattle.tender_core.specs.Rules.Open.{SealedTender, is_sealed_envelope}
 use Rattle.office_base.specs.declared.records.AwardRow.{AwardRow}
@@ -14,34 +14,51 @@ use Rattle.office_base.specs.declared.records.ContractRow.{ContractRow}
 use Rattle.office_machine.specs.Readings.{Readings}
 use Rattle.office_machine.specs.Replies.{Reply}
 
--- when a command is refused, what it puts, of which notice it publishes a release, and the reply to it
-pub record Rule : Type 0 where
-  -- the conditions of its refusals, in their order
-  pub tests : Tables → ℕ → Caller → List (Bool × Refusal)
-  -- what it puts where it is accepted, but for its publication
-  pub puts : Readings → Tables → ℕ → Caller → List Put
-  pub publishes : Tables → Option (List ℕ)
-  -- with the office before it and the office after it
-  pub reply : Readings → Tables → Tables → ℕ → Caller → Reply
-
+-- the notice of an award, and of a contract
 abbrev pub notice_in_award : AwardRow → List ℕ
 notice_in_award a = a.notice
 
 abbrev pub notice_in_contract : ContractRow → List ℕ
 notice_in_contract c = c.notice
 
+-- of which notice a command publishes a release: of none, of one that it names, of that of an award, or of a contract
+pub data Source : Type 0 where
+  Silent : Source
+  UnderNotice : List ℕ → Source
+  UnderAward : ℕ → Source
+  UnderContract : ℕ → Source
+
+-- that notice, where the award or the contract is there
+abbrev pub notice_of : Source → List AwardRow → List ContractRow → Option (List ℕ)
+notice_of Silent awards contracts = None
+notice_of (UnderNotice notice) awards contracts = Some notice
+notice_of (UnderAward award) awards contracts = option_map notice_in_award (find_award awards award)
+notice_of (UnderContract contract) awards contracts = option_map notice_in_contract (find_contract contracts contract)
+
+-- when a command is refused, what may be lacking to it, what it puts, of which notice it publishes a release, and the reply to it
+pub record Rule : Type 0 where
+  -- the conditions of its refusals, in their order
+  pub tests : Tables → ℕ → Caller → List (Bool × Refusal)
+  -- whether rows are lacking where it isn't refused: none are in an office that accepted commands reach
+  pub lacks : Tables → Bool
+  -- what it puts where it is accepted, but for its publication
+  pub puts : Readings → Tables → ℕ → Caller → List Put
+  pub publishes : Source
+  -- with the office before it and the office after it
+  pub reply : Readings → Tables → Tables → ℕ → Caller → Reply
+
 -- the bytes of a seal, and the items of a lot; none where it isn't there
 abbrev pub bytes_in : Option SealRow → List ℕ
 bytes_in None = []
 bytes_in (Some seal) = seal.bytes
 
-abbrev pub items_in : Option LotRow → List Item
-items_in None = []
-items_in (Some l) = l.items
+abbrev pub items_of_row : Option LotRow → List Item
+items_of_row None = []
+items_of_row (Some l) = l.items
 
 -- the sealed tenders of a notice, each with its bytes and the items of its lot
 abbrev pub sealed_tender : Tables → EnvelopeRow → SealedTender
-sealed_tender s e = record { envelope = e; bytes = bytes_in (seal_at e.receipt s); items = items_in (lot_at (e.notice, e.lot) s) }
+sealed_tender s e = record { envelope = e; bytes = bytes_in (seal_at e.receipt s); items = items_of_row (lot_at (e.notice, e.lot) s) }
 
 abbrev pub sealed_tenders : List ℕ → Tables → List SealedTender
 sealed_tenders notice s = map (sealed_tender s) (filter is_sealed_envelope (envelopes_of_notice notice s))

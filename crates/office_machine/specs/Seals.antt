@@ -1,52 +1,52 @@
 -- Two lists of requests that differ in the bytes that one tenderer seals for one lot alone, and what their runs tell.
 use Rattle.std.specs.Prelude.{◌≡◌, ℕ, Bool, true, false, not, ◌&&◌, List, [], ◌∷◌, Option, Some, None, is_some, ◌⊎◌}
 use Rattle.office_values.specs.Ids.{same_id}
-use Rattle.office_acts.specs.declared.command.Caller.{Caller}
-use Rattle.office_acts.specs.Callers.{is_by}
+use Rattle.office_commands.specs.declared.command.Caller.{Caller}
+use Rattle.office_commands.specs.Callers.{is_by}
 use Rattle.office_base.specs.declared.records.EnvelopeState.TheVariants as envelope_states
 use Rattle.office_base.specs.declared.records.EnvelopeState.{EnvelopeState}
-use Rattle.office_acts.specs.declared.commands.Command.{Command}
-use Rattle.office_acts.specs.declared.commands.Command.TheVariants.{Open}
+use Rattle.office_commands.specs.declared.commands.Command.{Command}
+use Rattle.office_commands.specs.declared.commands.Command.TheVariants.{Open}
 use Rattle.office_base.specs.declared.records.EnvelopeRow.{EnvelopeRow}
 use Rattle.office_base.specs.declared.records.SealRow.{SealRow}
 use Rattle.office_base.specs.Tables.{Tables}
 use Rattle.office_machine.specs.Machine.{Means, Given, Reaches, refusal_of}
-use Rattle.office_machine.specs.Fates.{Reception, came, fate_of_tender}
-use Rattle.office_machine.specs.Worlds.{Theirs, Pairs, SameBut, OpensAlike}
-use Rattle.office_acts.specs.declared.queries.Query.{Query}
+use Rattle.office_machine.specs.Fates.{Reception, received_at, fate_of_tender}
+use Rattle.office_machine.specs.Worlds.{ChosenTender, Pairs, SameBut, OpensAlike}
+use Rattle.office_commands.specs.declared.queries.Query.{Query}
 use Rattle.office_machine.specs.Replies.{Reply, Refused, Imported, Enrolled, OfNotice, OpenedAll, Received, Withdrew, Examined, Awarded, Failed, Signed, OfContract, LineSeen, LedgerSeen, Tender, Security, PerformanceSeen, Registry, Minutes, Package}
 use Rattle.office_machine.specs.Sights.{Packages}
-use Rattle.office_machine.specs.Requests.{Demand, Asks, Looks, Request, asked, reply_to, office_after, all_joined, AreRequests}
+use Rattle.office_machine.specs.Requests.{Demand, Asks, Looks, Request, given_by_request, reply_to, office_after, all_accepted, AreRequests}
 
 -- envelopes with other digests
 abbrev pub ButDigest : EnvelopeRow → EnvelopeRow → Type 0
 ButDigest e e' = e' ≡ record e { digest = e'.digest }
 
 -- the text of a release tells no digest, and of seals those alone that an opening opens
-abbrev pub PublishesBlindly : Means → Type 0
-PublishesBlindly means = (x : Given) (envelopes : List EnvelopeRow) (seals : List SealRow) → Pairs ButDigest x.before.envelopes envelopes
+abbrev pub ReleasesHideSeals : Means → Type 0
+ReleasesHideSeals means = (x : Given) (envelopes : List EnvelopeRow) (seals : List SealRow) → Pairs ButDigest x.before.envelopes envelopes
     → OpensAlike x.command x.before (record x.before { envelopes = envelopes; seals = seals })
     → means.release (record { before = record x.before { envelopes = envelopes; seals = seals }; moment = x.moment; caller = x.caller; command = x.command }) ≡ means.release x
 
 -- packages show no digest and no seal
-abbrev pub SeesBlindly : Packages → Type 0
-SeesBlindly packages = (query : Query) (s : Tables) (envelopes : List EnvelopeRow) (seals : List SealRow) → Pairs ButDigest s.envelopes envelopes
+abbrev pub PackagesHideSeals : Packages → Type 0
+PackagesHideSeals packages = (query : Query) (s : Tables) (envelopes : List EnvelopeRow) (seals : List SealRow) → Pairs ButDigest s.envelopes envelopes
     → packages query (record s { envelopes = envelopes; seals = seals }) ≡ packages query s
 
 -- the same request but for such bytes, of equal length
-abbrev pub SameDemand : Theirs → Tables → Caller → Demand → Demand → Type 0
+abbrev pub SameDemand : ChosenTender → Tables → Caller → Demand → Demand → Type 0
 SameDemand th s caller (Asks command) (Asks command') = SameBut th s caller command command'
 SameDemand th s caller (Looks query) (Looks query') = query ≡ query'
 SameDemand th s caller demand demand' = ⊥
 
-pub record SameRequest (th : Theirs) (s : Tables) (a b : Request) : Type 0 where
+pub record SameRequest (th : ChosenTender) (s : Tables) (a b : Request) : Type 0 where
   pub moment : b.moment ≡ a.moment
   pub caller : b.caller ≡ a.caller
   pub unavailable : b.unavailable ≡ a.unavailable
   pub demand : SameDemand th s a.caller a.demand b.demand
 
 -- request by request; envelopes are those of the first run
-abbrev pub SameButSeals : Means → Theirs → Tables → List Request → List Request → Type 0
+abbrev pub SameButSeals : Means → ChosenTender → Tables → List Request → List Request → Type 0
 SameButSeals means th s [] [] = Unit {0}
 SameButSeals means th s (a ∷ rest) (b ∷ rest') = SameRequest th s a b × SameButSeals means th (office_after means s a) rest rest'
 SameButSeals means th s rest rest' = ⊥
@@ -74,20 +74,20 @@ without_digest (Minutes notice lots rows) = Minutes notice lots rows
 without_digest (Package text) = Package text
 
 -- every other caller is told the same, and this tenderer the same but for the digest
-pub record ToldAlike (th : Theirs) (caller : Caller) (r r' : Reply) : Type 0 where
+pub record ToldAlike (th : ChosenTender) (caller : Caller) (r r' : Reply) : Type 0 where
   pub others : is_by caller th.who ≡ false → r' ≡ r
   pub but_digest : without_digest r' ≡ without_digest r
 
 -- the notice of the lot is opened
-abbrev pub opens_it : Theirs → Command → Bool
+abbrev pub opens_it : ChosenTender → Command → Bool
 opens_it th (Open notice) = same_id notice th.notice
 opens_it th command = false
 
-abbrev pub demand_opens : Theirs → Tables → Request → Demand → Bool
-demand_opens th s a (Asks command) = opens_it th command && not (is_some (refusal_of (asked s a command)))
+abbrev pub demand_opens : ChosenTender → Tables → Request → Demand → Bool
+demand_opens th s a (Asks command) = opens_it th command && not (is_some (refusal_of (given_by_request s a command)))
 demand_opens th s a (Looks query) = false
 
-abbrev pub is_opening : Theirs → Tables → Request → Bool
+abbrev pub is_opening : ChosenTender → Tables → Request → Bool
 is_opening th s a = not a.unavailable && demand_opens th s a a.demand
 
 -- both know the same tenderers, so whoever may call the one may call the other
@@ -95,7 +95,7 @@ abbrev pub KnowAlike : Tables → Tables → Type 0
 KnowAlike s s' = s'.tenderers ≡ s.tenderers
 
 -- request by request, up to one that stops it, its own reply with the rest
-abbrev pub AlikeUntil : Means → Packages → Theirs → (Tables → Request → Bool) → Tables → Tables → List Request → List Request → Type 0
+abbrev pub AlikeUntil : Means → Packages → ChosenTender → (Tables → Request → Bool) → Tables → Tables → List Request → List Request → Type 0
 AlikeUntil means packages th stops s s' [] [] = KnowAlike s s'
 AlikeUntil means packages th stops s s' (a ∷ rest) (b ∷ rest') =
     KnowAlike s s' × ToldAlike th a.caller (reply_to means packages s a) (reply_to means packages s' b)
@@ -103,14 +103,14 @@ AlikeUntil means packages th stops s s' (a ∷ rest) (b ∷ rest') =
 AlikeUntil means packages th stops s s' rest rest' = ⊥
 
 -- up to the opening of the notice
-abbrev pub AlikeUntilOpening : Means → Packages → Theirs → Tables → Tables → List Request → List Request → Type 0
+abbrev pub AlikeUntilOpening : Means → Packages → ChosenTender → Tables → Tables → List Request → List Request → Type 0
 AlikeUntilOpening means packages th s s' rest rest' = AlikeUntil means packages th (is_opening th) s s' rest rest'
 
 -- to the end
 abbrev pub never : Tables → Request → Bool
 never s a = false
 
-abbrev pub AlikeThroughout : Means → Packages → Theirs → Tables → Tables → List Request → List Request → Type 0
+abbrev pub AlikeThroughout : Means → Packages → ChosenTender → Tables → Tables → List Request → List Request → Type 0
 AlikeThroughout means packages th s s' rest rest' = AlikeUntil means packages th never s s' rest rest'
 
 -- the bytes that came in with a receipt
@@ -128,13 +128,13 @@ is_gone (Some envelope_states.Opened) = false
 
 -- each receipt whose bytes differ is withdrawn or returned in the end
 abbrev pub DifferingAreGone : List Given → List Given → Type 0
-DifferingAreGone xs ys = (r : ℕ) → (bytes_of (came xs r) ≡ bytes_of (came ys r)) ⊎ (is_gone (fate_of_tender xs r) ≡ true)
+DifferingAreGone xs ys = (r : ℕ) → (bytes_of (received_at xs r) ≡ bytes_of (received_at ys r)) ⊎ (is_gone (fate_of_tender xs r) ≡ true)
 
 abbrev pub SealsAreKept : Type 0
-SealsAreKept = (means : Means) (packages : Packages) → PublishesBlindly means → SeesBlindly packages → (th : Theirs) (xs : List Given) (s : Tables) → Reaches means xs s
+SealsAreKept = (means : Means) (packages : Packages) → ReleasesHideSeals means → PackagesHideSeals packages → (th : ChosenTender) (xs : List Given) (s : Tables) → Reaches means xs s
     → (rest rest' : List Request) → AreRequests means s rest → SameButSeals means th s rest rest' → AlikeUntilOpening means packages th s s rest rest'
 
 abbrev pub WholeRunsAreAlike : Type 0
-WholeRunsAreAlike = (means : Means) (packages : Packages) → PublishesBlindly means → SeesBlindly packages → (th : Theirs) (xs : List Given) (s : Tables) → Reaches means xs s
-    → (rest rest' : List Request) → AreRequests means s rest → SameButSeals means th s rest rest' → DifferingAreGone (all_joined means s xs rest) (all_joined means s xs rest')
+WholeRunsAreAlike = (means : Means) (packages : Packages) → ReleasesHideSeals means → PackagesHideSeals packages → (th : ChosenTender) (xs : List Given) (s : Tables) → Reaches means xs s
+    → (rest rest' : List Request) → AreRequests means s rest → SameButSeals means th s rest rest' → DifferingAreGone (all_accepted means s xs rest) (all_accepted means s xs rest')
     → AlikeThroughout means packages th s s rest rest'

@@ -1,11 +1,11 @@
 -- What queries see, and who may look.
 use Rattle.std.specs.Prelude.{ℕ, Bool, cond, ◌||◌, List, map, filter, Option, Some, None}
-use Rattle.office_acts.specs.declared.command.Caller.{Caller}
-use Rattle.office_acts.specs.declared.queries.Query.{Query}
-use Rattle.office_acts.specs.declared.queries.Query.TheVariants as queries
-use Rattle.office_acts.specs.Queries.{kind_of}
-use Rattle.office_acts.specs.Callers.{is_by}
-use Rattle.office_acts.specs.Rights.{is_clerk, may_look}
+use Rattle.office_commands.specs.declared.command.Caller.{Caller}
+use Rattle.office_commands.specs.declared.queries.Query.{Query}
+use Rattle.office_commands.specs.declared.queries.Query.TheVariants as queries
+use Rattle.office_commands.specs.Queries.{query_kind_of}
+use Rattle.office_commands.specs.Callers.{is_by}
+use Rattle.office_commands.specs.Rights.{is_clerk, may_look}
 use Rattle.office_values.specs.declared.refusal.Thing.TheVariants as things
 use Rattle.office_values.specs.declared.refusal.Refusal.TheVariants.{Forbidden, NoSuch, NotYourTender, NotOpened}
 use Rattle.office_base.specs.States.{is_read, is_opened}
@@ -85,4 +85,4 @@ shown packages s caller (queries.Security security) = security_told caller (secu
 shown packages s caller (queries.Performance contract) = performance_told caller (contract_at contract s) (performance_at contract s)
 
 abbrev pub told : Packages → Tables → Caller → Query → Reply
-told packages s caller query = cond (may_look caller (kind_of query)) (shown packages s caller query) (Refused Forbidden)
+told packages s caller query = cond (may_look caller (query_kind_of query)) (shown packages s caller query) (Refused Forbidden)

@@ -2,11 +2,11 @@
 use Rattle.std.specs.Prelude.{◌≡◌, ℕ, ◌+◌, Bool, true, false, ◌&&◌, List, [], ◌∷◌, Option, Some, None, length}
 use Rattle.office_values.specs.Ids.{same_id}
 use Rattle.office_base.specs.Rows.{holds_of}
-use Rattle.office_acts.specs.declared.command.Caller.{Caller}
-use Rattle.office_acts.specs.declared.command.Caller.TheVariants.{Tenderer}
-use Rattle.office_acts.specs.declared.tender.NamedSecurity.{NamedSecurity}
-use Rattle.office_acts.specs.declared.commands.Command.{Command}
-use Rattle.office_acts.specs.declared.commands.Command.TheVariants.{Present, Modify, Open}
+use Rattle.office_commands.specs.declared.command.Caller.{Caller}
+use Rattle.office_commands.specs.declared.command.Caller.TheVariants.{Tenderer}
+use Rattle.office_commands.specs.declared.tender.NamedSecurity.{NamedSecurity}
+use Rattle.office_commands.specs.declared.commands.Command.{Command}
+use Rattle.office_commands.specs.declared.commands.Command.TheVariants.{Present, Modify, Open}
 use Rattle.office_base.specs.declared.records.EnvelopeRow.{EnvelopeRow}
 use Rattle.office_base.specs.Tables.{Tables, IsSorted, envelope_at, seal_at, after_puts}
 use Rattle.tender_core.specs.Rules.Open.{is_sealed_envelope}
@@ -14,20 +14,20 @@ use Rattle.office_machine.specs.Readings.{Readings}
 use Rattle.office_machine.specs.Machine.{Given, refusal_of, effect}
 
 -- a tenderer and a lot
-pub record Theirs : Type 0 where
+pub record ChosenTender : Type 0 where
   pub who : List ℕ
   pub notice : List ℕ
   pub lot : List ℕ
 
-abbrev pub is_of_lot : Theirs → EnvelopeRow → Bool
-is_of_lot th e = same_id e.notice th.notice && same_id e.lot th.lot
+abbrev pub is_for_chosen_lot : ChosenTender → EnvelopeRow → Bool
+is_for_chosen_lot th e = same_id e.notice th.notice && same_id e.lot th.lot
 
 -- an envelope of this tenderer for this lot
-abbrev pub is_theirs : Theirs → EnvelopeRow → Bool
-is_theirs th e = same_id e.tenderer th.who && is_of_lot th e
+abbrev pub is_theirs : ChosenTender → EnvelopeRow → Bool
+is_theirs th e = same_id e.tenderer th.who && is_for_chosen_lot th e
 
 -- two envelopes differ in their digests alone, and that only where they are theirs
-pub record AlikeRows (th : Theirs) (e e' : EnvelopeRow) : Type 0 where
+pub record AlikeRows (th : ChosenTender) (e e' : EnvelopeRow) : Type 0 where
   pub but_digest : e' ≡ record e { digest = e'.digest }
   pub digest : is_theirs th e ≡ false → e'.digest ≡ e.digest
 
@@ -38,17 +38,17 @@ Pairs R (x ∷ xs) (y ∷ ys) = R x y × Pairs R xs ys
 Pairs R xs ys = ⊥
 
 -- two offices differ in the digests of such envelopes and in seals of theirs alone
-pub record AlikeOffices (th : Theirs) (s s' : Tables) : Type 0 where
+pub record AlikeOffices (th : ChosenTender) (s s' : Tables) : Type 0 where
   pub but_sealed : s' ≡ record s { envelopes = s'.envelopes; seals = s'.seals }
   pub envelopes : Pairs (AlikeRows th) s.envelopes s'.envelopes
   pub seals : (n : ℕ) → holds_of (is_theirs th) (envelope_at n s) ≡ false → seal_at n s ≡ seal_at n s'
 
 -- two commands by a caller are the same but for bytes that this tenderer presents for this lot, or puts in place of an envelope of it
-pub data SameBut (th : Theirs) (s : Tables) (caller : Caller) (command command' : Command) : Type 0 where
+pub data SameBut (th : ChosenTender) (s : Tables) (caller : Caller) (command command' : Command) : Type 0 where
   Same : command ≡ command' → SameBut th s caller command command'
   Presented : (security : Option NamedSecurity) (bytes bytes' : List ℕ) → length bytes ≡ length bytes' → Tenderer th.who ≡ caller
       → Present th.notice th.lot security bytes ≡ command → Present th.notice th.lot security bytes' ≡ command' → SameBut th s caller command command'
-  Modified : (receipt : ℕ) (bytes bytes' : List ℕ) → length bytes ≡ length bytes' → Tenderer th.who ≡ caller → holds_of (is_of_lot th) (envelope_at receipt s) ≡ true
+  Modified : (receipt : ℕ) (bytes bytes' : List ℕ) → length bytes ≡ length bytes' → Tenderer th.who ≡ caller → holds_of (is_for_chosen_lot th) (envelope_at receipt s) ≡ true
       → Modify receipt bytes ≡ command → Modify receipt bytes' ≡ command' → SameBut th s caller command command'
 
 -- nothing has the next receipt's number yet
@@ -62,12 +62,12 @@ OpensAlike (Open notice) s s' = (r : ℕ) (e : EnvelopeRow) → envelope_at r s 
 OpensAlike command s s' = Unit {0}
 
 -- refused alike, and where accepted, the offices are alike after it
-pub record AcceptedAlike (th : Theirs) (readings : Readings) (x x' : Given) : Type 0 where
+pub record AcceptedAlike (th : ChosenTender) (readings : Readings) (x x' : Given) : Type 0 where
   pub refused : refusal_of x' ≡ refusal_of x
   pub alike : refusal_of x ≡ None → OpensAlike x.command x.before x'.before → AlikeOffices th (after_puts (effect readings x) x.before) (after_puts (effect readings x') x'.before)
 
 -- two commands that differ in such sealed bytes alone are answered alike and leave the two worlds alike, where an opening finds equal seals
 abbrev pub StepsStayAlike : Type 0
-StepsStayAlike = (th : Theirs) (readings : Readings) (s s' : Tables) (moment : ℕ) (caller : Caller) (command command' : Command) → IsSorted s → IsSorted s' → IsNext s → IsNext s' → AlikeOffices th s s'
+StepsStayAlike = (th : ChosenTender) (readings : Readings) (s s' : Tables) (moment : ℕ) (caller : Caller) (command command' : Command) → IsSorted s → IsSorted s' → IsNext s → IsNext s' → AlikeOffices th s s'
     → SameBut th s caller command command'
     → AcceptedAlike th readings (record { before = s; moment = moment; caller = caller; command = command }) (record { before = s'; moment = moment; caller = caller; command = command' })

@@ -1,10 +1,12 @@
 ghost use Rattle.office_machine.specs.Accounts.{AccountsAreKept, TablesAreInOrder};
 ghost use Rattle.office_machine.specs.Clock.{ClockIsSet, ClockNeverRunsBack};
-ghost use Rattle.office_machine.specs.Fits.{SumsFit};
+ghost use Rattle.office_machine.specs.Fits.{SumsInRange};
+ghost use Rattle.office_machine.specs.Lacking.{NothingIsLacking};
+ghost use Rattle.office_machine.specs.Late.{LateRulesAreKept};
 ghost use Rattle.office_machine.specs.MergesApart.{FatesReadNoMerges, LooksReadNoMerges, NextReadsNoMerges, PutsReadNoMerges, RefusalsReadNoMerges, RepliesReadNoMerges};
 ghost use Rattle.office_machine.specs.Order.{LeastIsAnswered, NumbersNeverFall};
 ghost use Rattle.office_machine.specs.Outstanding.{LeftIsBooked, LeftIsKnown};
-ghost use Rattle.office_machine.specs.Parents.{ParentsAreThere};
+ghost use Rattle.office_machine.specs.Parents.{ParentsAreThere, PerformancesAreThere};
 ghost use Rattle.office_machine.specs.Releases.{ReleasesAreCounted, ReleasesAreInTime, ReleasesAreNumbered, ReleasesArePublished};
 ghost use Rattle.office_machine.specs.Requests.{RunsReach, StepsReach};
 ghost use Rattle.office_machine.specs.Worlds.{StepsStayAlike};
@@ -42,7 +44,7 @@ pub fn runs()
 
 /// No sum over the rows that accepted commands lead to is out of its range: not of a line, a lot or a contract.
 pub fn sums()
-    ensures { SumsFit }
+    ensures { SumsInRange }
 {}
 
 /// What is outstanding of a contract after an accepted command on it, by the rows that the command looks at; and wherever accepted
@@ -52,9 +54,23 @@ pub fn outstanding()
     ensures booked { LeftIsBooked }
 {}
 
-/// Of each row that accepted commands lead to, the rows that it speaks of are there.
+/// Of each row that accepted commands lead to, the rows that it speaks of are there; and a contract whose notice asks for a performance
+/// security has one.
 pub fn parents()
-    ensures { ParentsAreThere }
+    ensures there { ParentsAreThere }
+    ensures performances { PerformancesAreThere }
+{}
+
+/// Wherever accepted commands lead, nothing is lacking to a command that isn't refused: the rows that its rule looks at are there once the
+/// named one is, and no more went from a contract, or from what was appropriated, than had come.
+pub fn lacking()
+    ensures { NothingIsLacking }
+{}
+
+/// Wherever accepted commands lead, tenders of a notice may be withdrawn late exactly where its accepted publication said that this forfeits
+/// their security.
+pub fn late_withdrawals()
+    ensures { LateRulesAreKept }
 {}
 
 /// The row of a notice counts the commands that published a release of it, at most as many as there are numbers for; a release of each

@@ -8,6 +8,9 @@ use Rattle.std.specs.declared.cmp.Ordering.TheVariants.{Less, Equal, Greater}
 use Rattle.office_base.specs.RowLaws.{RowsAreKept}
 use Rattle.office_base.specs.Rows.{by_order, row_put, row_drop, StartsAbove, IsInOrder}
 use Rattle.office_base.proofs.Orders.{alike_right}
+use Rattle.office_base.proofs.RowLaws.Starts.{tied}
+use Rattle.office_base.proofs.RowLaws.Puts.{put_first}
+use Rattle.office_base.proofs.RowLaws.Drops.{start-drop}
 use Rattle.office_memory.specs.Inside.Drops.{rows_drop}
 
 cons_cond : {X : Type 0} (b : Bool) (x : X) (xs ys : List X) → x ∷ cond b xs ys ≡ cond b (x ∷ xs) (x ∷ ys)
@@ -15,31 +18,6 @@ cons_cond true x xs ys = refl
 cons_cond false x xs ys = refl
 
 module _ {K X : Type 0} {R : K → K → Ordering} (o : IsTotalOrder R) (key : X → K) where
-  above : (k : K) (x : X) (xs : List X) → R k (key x) ≡ Less → StartsAbove R key (key x) xs → StartsAbove R key k xs
-  above k x [] e h = tt
-  above k x (y ∷ ys) e h = o.trans k (key x) (key y) e h
-
-  level : (k : K) (x : X) (xs : List X) → R k (key x) ≡ Equal → StartsAbove R key (key x) xs → StartsAbove R key k xs
-  level k x [] e h = tt
-  level k x (y ∷ ys) e h = o.congr k (key x) (key y) e ∙ h
-
-  above_step : (j k : K) (x : X) (xs : List X) → R j (key x) ≡ Less → StartsAbove R key (key x) xs → (c : Ordering) → StartsAbove R key j (by_order c (x ∷ xs) xs (x ∷ row_drop R key xs k))
-  above_step j k x xs e h Less = e
-  above_step j k x xs e h Equal = above j x xs e h
-  above_step j k x xs e h Greater = e
-
-  -- rows above a key stay above it
-  above-drop : (j k : K) (xs : List X) → StartsAbove R key j xs → IsInOrder R key xs → StartsAbove R key j (row_drop R key xs k)
-  unfolding row_drop
-  above-drop j k [] s h = tt
-  above-drop j k (x ∷ xs) s h = above_step j k x xs s h.0 (R k (key x))
-
-  -- a row below all comes first
-  put_first : (r : X) (xs : List X) → StartsAbove R key (key r) xs → row_put R key xs r ≡ r ∷ xs
-  unfolding row_put
-  put_first r [] s = refl
-  put_first r (x ∷ xs) s = ap (λ c. by_order c (r ∷ x ∷ xs) (r ∷ xs) (x ∷ row_put R key xs r)) s
-
   after_it : (a b : K) → R a b ≡ Greater → R b a ≡ Less
   after_it a b e = o.antisymm b a ∙ ap ordering_reverse e
 
@@ -58,7 +36,7 @@ module _ {K X : Type 0} {R : K → K → Ordering} (o : IsTotalOrder R) (key : X
   put_before k r x xs e h Equal c =
       ap (λ a. row_put R key (by_order a (x ∷ xs) xs (x ∷ row_drop R key xs k)) r) (o.congr k (key r) (key x) c ∙ e)
       ∙ ap (λ b. by_order b (r ∷ x ∷ xs) (r ∷ xs) (x ∷ row_put R key xs r)) e
-  put_before k r x xs e h Greater c = put_first r (row_drop R key (x ∷ xs) k) (above-drop (key r) k (x ∷ xs) e h)
+  put_before k r x xs e h Greater c = put_first R key r (row_drop R key (x ∷ xs) k) (start-drop o key (key r) (x ∷ xs) k e h)
 
   -- it takes the place of the first
   put_at : (k : K) (r x : X) (xs : List X) → R (key r) (key x) ≡ Equal → IsInOrder R key (x ∷ xs) → (c : Ordering) → R k (key r) ≡ c
@@ -69,7 +47,7 @@ module _ {K X : Type 0} {R : K → K → Ordering} (o : IsTotalOrder R) (key : X
       ∙ ap (λ b. by_order b (r ∷ x ∷ xs) (r ∷ xs) (x ∷ row_put R key xs r)) e
   put_at k r x xs e h Equal c =
       ap (λ a. row_put R key (by_order a (x ∷ xs) xs (x ∷ row_drop R key xs k)) r) (sym (alike_right o k (key r) (key x) e) ∙ c)
-      ∙ put_first r xs (level (key r) x xs e h.0)
+      ∙ put_first R key r xs (tied o key (key r) (key x) xs e h.0)
   put_at k r x xs e h Greater c =
       ap (λ a. row_put R key (by_order a (x ∷ xs) xs (x ∷ row_drop R key xs k)) r) (sym (alike_right o k (key r) (key x) e) ∙ c)
       ∙ ap (λ b. by_order b (r ∷ x ∷ row_drop R key xs k) (r ∷ row_drop R key xs k) (x ∷ row_put R key (row_drop R key xs k) r)) e

@@ -1,5 +1,5 @@
 //! An office in memory.
-ghost use Rattle.std.specs.Prelude.{◌≡◌};
+ghost use Rattle.std.specs.Prelude.{◌≡◌, Ok};
 ghost use Rattle.office_base.specs.Faults.{one_fault_more};
 ghost use Rattle.office_base.specs.Tables.{no_tables};
 ghost use Rattle.office_memory.specs.MemoryMeaning.{memory_meaning};
@@ -63,6 +63,13 @@ impl MemoryShelf {
             tables: tables::empty(alloc),
             faults: 0,
         }
+    }
+
+    /// The clock; moment 0 and no numbers where nothing was accepted yet. Takes no memory.
+    pub fn clock(&self) -> ClockRow
+        ensures clock { result ≡ self.now.0.clock }
+    {
+        self.tables.clock
     }
 
     // Counts a fault.
@@ -207,8 +214,12 @@ impl Lookups for MemoryShelf {
         }
     }
 
-    fn get_clock(&mut self) -> Result<ClockRow, ShelfFault> {
-        Ok(self.tables.clock)
+    // It never refuses.
+    fn get_clock(&mut self) -> Result<ClockRow, ShelfFault>
+        ensures clock { result ≡ Ok self.old.0.clock }
+        ensures kept { self.new ≡ self.old }
+    {
+        Ok(self.clock())
     }
 
     fn list_lines(&mut self) -> Result<Vec<LineRow>, ShelfFault> {

@@ -2,7 +2,7 @@
 ghost use Rattle.std.specs.Prelude.{◌≡◌, ◌+◌, ℕ, ◌++◌, IfOk, OnOk, option_map, map};
 ghost use Rattle.office_base.specs.Joined.{reservations, sums_of, sums_under, sums_of_line};
 ghost use Rattle.office_base.specs.Tables.{IsSorted, contracts_of_lot, lot_key};
-ghost use Rattle.office_memory.specs.Inside.Adding.{with_entry, HasRoom, IsLedgerRow, IsLedger};
+ghost use Rattle.office_memory.specs.Inside.Adding.{IsLedgerRow, IsLedger};
 ghost use Rattle.office_memory.specs.MemoryTables.{tables_of};
 
 use crate::child::rows_of;
@@ -10,7 +10,7 @@ use crate::tables::MemoryTables;
 use keyed_table::table::Table;
 use office_base::ledger::{ContractSums, LedgerRow};
 use office_base::pots::{joined_sums, pots_over};
-use office_base::records::{ContractRow, EntryKind, EntryRow, LineRow, LotRow};
+use office_base::records::{ContractRow, EntryRow, LineRow, LotRow};
 use office_values::id::Id;
 use office_values::money::Amount;
 use std::alloc::{AllocError, Global};
@@ -37,30 +37,6 @@ pub fn reservations_of_line(
     reserved_by(alloc, &tables.lots.rows_of_group(alloc, line)?)
 }
 
-// The sums with one entry more.
-fn with_entry(sums: ContractSums, entry: &EntryRow) -> ContractSums
-    requires { HasRoom 1 sums }
-    ensures sums { result ≡ with_entry sums entry.now }
-    ensures room { (n : ℕ) → HasRoom (n + 1) sums → HasRoom n result }
-{
-    let amount = entry.amount.get() as u128;
-    match entry.kind {
-        EntryKind::Raise => ContractSums {
-            gained: sums.gained + amount,
-            ..sums
-        },
-        EntryKind::Cut => ContractSums {
-            lost: sums.lost + amount,
-            ..sums
-        },
-        EntryKind::Payment => ContractSums {
-            lost: sums.lost + amount,
-            paid: sums.paid + amount,
-            ..sums
-        },
-    }
-}
-
 // What a contract comes to.
 fn sums_of(entries: &Table<EntryRow>, contract: &ContractRow) -> ContractSums
     ensures { result ≡ sums_of entries.now contract.now }
@@ -70,8 +46,9 @@ fn sums_of(entries: &Table<EntryRow>, contract: &ContractRow) -> ContractSums
         lost: contract.released.units() as u128,
         paid: 0,
     };
-    for (_, entry) in rows_of(entries, &contract.contract.get()) {
-        sums = with_entry(sums, entry.get());
+    for (_, kept) in rows_of(entries, &contract.contract.get()) {
+        let entry = kept.get();
+        sums = sums.with_entry(entry.kind, entry.amount);
     }
     sums
 }

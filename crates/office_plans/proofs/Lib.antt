@@ -1,8 +1,15 @@
-pub mod DecidedAlike
+pub mod Decided
+pub mod KeptObjects
 pub mod LookedUp
+pub mod Maybe
 pub mod NamedLines
 pub mod NamedStandings
-pub mod Printed
+pub mod NamedTenderers
+pub mod NextRelease
 pub mod OnContracts
 pub mod OwnTenders
+pub mod Printed
+pub mod Publishing
 pub mod ReadTenders
+pub mod ReleaseJoins
+pub mod Silent

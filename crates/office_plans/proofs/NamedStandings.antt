@@ -7,7 +7,7 @@ use Rattle.std.specs.declared.cmp.Ordering.TheVariants.{Less, Equal, Greater}
 use Rattle.std.proofs.lemmas.Map.Lookups.{exact_bytes}
 use Rattle.office_values.specs.Ids.{id_cmp}
 use Rattle.office_values.specs.Money.{total_limit}
-use Rattle.office_acts.specs.declared.budget.BudgetRow.{BudgetRow}
+use Rattle.office_commands.specs.declared.budget.BudgetRow.{BudgetRow}
 use Rattle.office_base.specs.Rows.{by_order, row_at, row_put}
 use Rattle.office_base.specs.RowLaws.{RowsAreKept}
 use Rattle.office_base.specs.Standings.{find_standing, put_standing, columns_at, standing_key, standings}

@@ -1,5 +1,5 @@
 -- The text of an object of plain values, as it is written.
-use Rattle.std.proofs.Common.{◌≡◌, ℕ, Bool, true, false, ◌&&◌, List, [], ◌∷◌, ◌++◌, map, append_assoc, append-nil, None, Some, refl, sym, ap, ap₂, ◌∙◌}
+use Rattle.std.proofs.Common.{◌≡◌, ℕ, Bool, true, false, List, [], ◌∷◌, ◌++◌, map, append_assoc, append-nil, None, Some, refl, sym, ap, ap₂, ◌∙◌}
 use Rattle.std.proofs.lemmas.Bool.{and_parts}
 use Rattle.std.specs.Borrow.{Bor}
 use Rattle.std.specs.Cmp.Lexicographic.{slice_cmp}
@@ -11,7 +11,7 @@ use Rattle.json.specs.Print.{ends, print, print_from, quoted, token_text}
 use Rattle.json.specs.Token as token
 use Rattle.serde_json.specs.Data.{Members, no_members, member, put}
 use Rattle.serde_json.specs.Written.{compact_text, members_text}
-use Rattle.office_plans.specs.Json.{Entry, data_of, entry_of, names_rise, object_text, token_of, tokens_of, with_entries}
+use Rattle.office_plans.specs.Json.{Member, data_of, entry_of, names_rise, object_text, token_of, tokens_of, with_members}
 use Rattle.office_plans.specs.declared.objects.Plain.{Plain}
 use Rattle.office_plans.specs.declared.objects.Plain.TheVariants.{Number, Count, Truth, Total, Id, Moment, Digest, Text}
 
@@ -45,7 +45,7 @@ value_text (Digest digest) = refl
 value_text (Text text) = refl
 
 -- the members, in the order in which they stand
-abbrev members_of : List Entry → Members
+abbrev members_of : List Member → Members
 members_of [] = no_members
 members_of (e ∷ es) = member e.0 e.1 (members_of es)
 
@@ -74,31 +74,31 @@ greater Equal h = absurd (cc)
 greater Greater h = refl
 
 -- a name above all others comes last
-put_last : (old : List Entry) (e : Entry) → AllByRecursion (λ (o : Entry). slice_cmp nat_cmp e.0 o.0 ≡ Greater) old → put e.0 e.1 (members_of old) ≡ members_of (old ++ e ∷ [])
+put_last : (old : List Member) (e : Member) → AllByRecursion (λ (o : Member). slice_cmp nat_cmp e.0 o.0 ≡ Greater) old → put e.0 e.1 (members_of old) ≡ members_of (old ++ e ∷ [])
 put_last [] e h = refl
 put_last (o ∷ old) e h =
     ap (λ c. match_ordering c (member e.0 e.1 (members_of (o ∷ old))) (member o.0 e.1 (members_of old)) (member o.0 o.1 (put e.0 e.1 (members_of old)))) h.0
     ∙ ap (member o.0 o.1) (put_last old e h.1)
 
-abbrev AreAbove : List Entry → List Entry → Type 0
-AreAbove old es = AllByRecursion (λ (e : Entry). AllByRecursion (λ (o : Entry). slice_cmp nat_cmp e.0 o.0 ≡ Greater) old) es
+abbrev AreAbove : List Member → List Member → Type 0
+AreAbove old es = AllByRecursion (λ (e : Member). AllByRecursion (λ (o : Member). slice_cmp nat_cmp e.0 o.0 ≡ Greater) old) es
 
-one_more : (e : Entry) (old : List Entry) (f : Entry) → AllByRecursion (λ (o : Entry). slice_cmp nat_cmp f.0 o.0 ≡ Greater) old → slice_cmp nat_cmp f.0 e.0 ≡ Greater
-    → AllByRecursion (λ (o : Entry). slice_cmp nat_cmp f.0 o.0 ≡ Greater) (old ++ e ∷ [])
+one_more : (e : Member) (old : List Member) (f : Member) → AllByRecursion (λ (o : Member). slice_cmp nat_cmp f.0 o.0 ≡ Greater) old → slice_cmp nat_cmp f.0 e.0 ≡ Greater
+    → AllByRecursion (λ (o : Member). slice_cmp nat_cmp f.0 o.0 ≡ Greater) (old ++ e ∷ [])
 one_more e [] f h last = (last, tt)
 one_more e (o ∷ old) f h last = (h.0, one_more e old f h.1 last)
 
-above_next : (e : Entry) (old es : List Entry) → list_all (λ (f : Entry). is_gt (slice_cmp nat_cmp f.0 e.0)) es ≡ true → AreAbove old es → AreAbove (old ++ e ∷ []) es
+above_next : (e : Member) (old es : List Member) → list_all (λ (f : Member). is_gt (slice_cmp nat_cmp f.0 e.0)) es ≡ true → AreAbove old es → AreAbove (old ++ e ∷ []) es
 above_next e old [] all h = tt
 above_next e old (f ∷ es) all h = let (here, later) = and_parts _ _ all in (one_more e old f h.0 (greater _ here), above_next e old es later h.1)
 
-put_in_order : (old es : List Entry) → names_rise es ≡ true → AreAbove old es → with_entries es (members_of old) ≡ members_of (old ++ es)
+put_in_order : (old es : List Member) → names_rise es ≡ true → AreAbove old es → with_members es (members_of old) ≡ members_of (old ++ es)
 put_in_order old [] rise h = ap members_of (sym (append-nil old))
 put_in_order old (e ∷ es) rise h =
     let (above, rest) = and_parts _ _ rise in
-    ap (with_entries es) (put_last old e h.0) ∙ put_in_order (old ++ e ∷ []) es rest (above_next e old es above h.1) ∙ ap members_of (append_assoc old (e ∷ []) es)
+    ap (with_members es) (put_last old e h.0) ∙ put_in_order (old ++ e ∷ []) es rest (above_next e old es above h.1) ∙ ap members_of (append_assoc old (e ∷ []) es)
 
-none_below : (es : List Entry) → AreAbove [] es
+none_below : (es : List Member) → AreAbove [] es
 none_below [] = tt
 none_below (e ∷ es) = (tt, none_below es)
 

@@ -1,7 +1,7 @@
 -- A command that somebody gives to an office at a moment.
 use Rattle.std.specs.Prelude.{ℕ}
-use Rattle.office_acts.specs.declared.command.Caller.{Caller}
-use Rattle.office_acts.specs.declared.commands.Command.{Command}
+use Rattle.office_commands.specs.declared.command.Caller.{Caller}
+use Rattle.office_commands.specs.declared.commands.Command.{Command}
 use Rattle.office_base.specs.Tables.{Tables}
 use Rattle.office_machine.specs.Machine.{Given}
 use Rattle.tender_core.specs.declared.asking.Asking.{Asking}

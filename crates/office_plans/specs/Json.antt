@@ -13,8 +13,8 @@ use Rattle.office_plans.specs.declared.objects.Plain.{Plain}
 use Rattle.office_plans.specs.declared.objects.Plain.TheVariants.{Number, Count, Truth, Total, Id, Moment, Digest, Text}
 
 -- a name and its value
-abbrev pub Entry : Type 0
-Entry = List ℕ × Data
+abbrev pub Member : Type 0
+Member = List ℕ × Data
 
 -- a number, or null where there is none
 abbrev pub number_or_null : Option ℕ → Data
@@ -31,24 +31,24 @@ data_of (Moment second) = string (moment_text second)
 data_of (Digest digest) = string (encode_lower digest)
 data_of (Text text) = string text.now
 
-abbrev pub entry_of : Bor (List ℕ) × Plain → Entry
+abbrev pub entry_of : Bor (List ℕ) × Plain → Member
 entry_of m = (m.0.now, data_of m.1)
 
 -- the members with these entries put, one after another
-abbrev pub with_entries : List Entry → Members → Members
-with_entries [] ms = ms
-with_entries (e ∷ es) ms = with_entries es (put e.0 e.1 ms)
+abbrev pub with_members : List Member → Members → Members
+with_members [] ms = ms
+with_members (e ∷ es) ms = with_members es (put e.0 e.1 ms)
 
-abbrev pub object_of : List Entry → Data
-object_of es = object (with_entries es no_members)
+abbrev pub json_object : List Member → Data
+json_object es = object (with_members es no_members)
 
-abbrev pub object_text : List Entry → List ℕ
-object_text es = compact_text (object_of es)
+abbrev pub object_text : List Member → List ℕ
+object_text es = compact_text (json_object es)
 
 -- each name is above those before it
-abbrev pub names_rise : List Entry → Bool
+abbrev pub names_rise : List Member → Bool
 names_rise [] = true
-names_rise (e ∷ es) = list_all (λ (f : Entry). is_gt (slice_cmp nat_cmp f.0 e.0)) es && names_rise es
+names_rise (e ∷ es) = list_all (λ (f : Member). is_gt (slice_cmp nat_cmp f.0 e.0)) es && names_rise es
 
 -- what stands in the text for a value
 abbrev pub token_of : Plain → token.Token
@@ -68,11 +68,11 @@ tokens_of [] = []
 tokens_of (m ∷ ms) = token.key m.0.now ∷ token_of m.1 ∷ tokens_of ms
 
 -- entries of plain values
-abbrev pub text_entry : List ℕ → List ℕ → Entry
+abbrev pub text_entry : List ℕ → List ℕ → Member
 text_entry name text = (name, string text)
 
-abbrev pub number_entry : List ℕ → ℕ → Entry
+abbrev pub number_entry : List ℕ → ℕ → Member
 number_entry name n = (name, number (unsigned n))
 
-abbrev pub count_entry : List ℕ → Option ℕ → Entry
+abbrev pub count_entry : List ℕ → Option ℕ → Member
 count_entry name count = (name, number_or_null count)

@@ -3,7 +3,9 @@ pub mod Replies
 pub mod Plans
 pub mod Asking
 pub mod OwnTenders
-pub mod Effects
 pub mod LookedUp
 pub mod Named
 pub mod Opening
+pub mod Tenderers
+pub mod Published
+pub mod Released

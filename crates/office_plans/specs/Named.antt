@@ -1,7 +1,7 @@
 -- The budget lines that a command names, looked up one after another, each once.
 use Rattle.std.specs.Prelude.{ℕ, cond, List, [], ◌∷◌, Option, is_some, IsSome, option_map, map, filter}
-use Rattle.office_acts.specs.declared.budget.BudgetRow.{BudgetRow}
-use Rattle.office_acts.specs.declared.lot.NewLot.{NewLot}
+use Rattle.office_commands.specs.declared.budget.BudgetRow.{BudgetRow}
+use Rattle.office_commands.specs.declared.lot.NewLot.{NewLot}
 use Rattle.office_values.specs.Ids.{id_cmp}
 use Rattle.office_base.specs.Tables.{Tables, find_line, line_at, line_key, notice_at, lots_of_notice}
 use Rattle.office_base.specs.Standings.{columns_of_row, find_standing, put_standing}

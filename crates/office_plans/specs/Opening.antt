@@ -1,6 +1,6 @@
 -- The sealed tenders of a notice, with what is read in them.
-use Rattle.std.specs.Prelude.{ℕ, cond, List, is_some, map, filter}
-use Rattle.office_base.specs.Tables.{Tables, lot_cmp, lot_key, find_lot, lot_at, envelopes_of_notice}
+use Rattle.std.specs.Prelude.{ℕ, Bool, ◌&&◌, cond, List, is_some, map, filter}
+use Rattle.office_base.specs.Tables.{Tables, lot_cmp, lot_key, find_lot, lot_at, seal_at, envelopes_of_notice}
 use Rattle.office_base.specs.declared.records.EnvelopeRow.{EnvelopeRow}
 use Rattle.office_base.specs.declared.records.LotRow.{LotRow}
 use Rattle.tender_core.specs.Rules.Open.{is_sealed_envelope, with_reading}
@@ -16,6 +16,10 @@ with_lot s lots key = cond (is_some (find_lot lots key)) lots (with_row lot_cmp 
 -- the lot of a tender is among these as it is in the office
 abbrev pub HasLotOf : Tables → List LotRow → EnvelopeRow → Type 0
 HasLotOf s lots e = IsAsIn lot_cmp lot_key s.lots lots (e.notice, e.lot)
+
+-- the seal of a tender is there, and its lot
+abbrev pub has_seal_and_lot : Tables → EnvelopeRow → Bool
+has_seal_and_lot s e = is_some (seal_at e.receipt s) && is_some (lot_at (e.notice, e.lot) s)
 
 -- the tender with what is read in the bytes of its seal
 abbrev pub tender_read : Tables → EnvelopeRow → OpenedTender

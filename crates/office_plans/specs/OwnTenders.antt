@@ -1,7 +1,7 @@
 -- What is looked up of the office when a tender is presented: of the tenders of the lot, the caller's own.
 use Rattle.std.specs.Prelude.{ℕ, List, []}
-use Rattle.office_acts.specs.declared.command.Caller.{Caller}
-use Rattle.office_acts.specs.declared.command.Caller.TheVariants.{Public, Clerk, Tenderer}
+use Rattle.office_commands.specs.declared.command.Caller.{Caller}
+use Rattle.office_commands.specs.declared.command.Caller.TheVariants.{Public, Clerk, Tenderer}
 use Rattle.office_base.specs.Tables.{Tables, notice_at, lot_at, envelopes_of_tenderer}
 use Rattle.office_base.specs.declared.records.EnvelopeRow.{EnvelopeRow}
 use Rattle.tender_core.specs.declared.present.PresentRows.{PresentRows}

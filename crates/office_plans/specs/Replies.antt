@@ -17,10 +17,7 @@ use Rattle.tender_papers.specs.Register.{state_word}
 use Rattle.tender_papers.specs.declared.minutes.OpenedTender.{OpenedTender}
 use Rattle.office_machine.specs.Replies.{Reply, Winning, Registered, Minuted, Refused, Imported, Enrolled, OfNotice, OpenedAll, Received, Withdrew}
 use Rattle.office_machine.specs.Replies.{Examined, Awarded, Failed, Signed, OfContract, LineSeen, LedgerSeen, Tender, Security, PerformanceSeen, Registry, Minutes, Package}
-use Rattle.office_plans.specs.declared.reply.Reply as replies
-use Rattle.office_plans.specs.declared.reply.Reply.TheVariants as variants
-use Rattle.office_plans.specs.declared.reply.Winner.{Winner}
-use Rattle.office_plans.specs.Json.{Entry, text_entry, number_entry, count_entry, object_text}
+use Rattle.office_plans.specs.Json.{Member, text_entry, number_entry, count_entry, object_text}
 
 -- where a security is
 abbrev pub security_word : SecurityState → List ℕ
@@ -29,16 +26,16 @@ security_word securities.Returned = codes "returned"
 security_word securities.Forfeited = codes "forfeited"
 
 -- members that several replies have
-abbrev pub moment_entry : ℕ → Entry
+abbrev pub moment_entry : ℕ → Member
 moment_entry moment = text_entry (codes "moment") (moment_text moment)
 
-abbrev pub release_entry : ℕ → Entry
+abbrev pub release_entry : ℕ → Member
 release_entry release = number_entry (codes "release") release
 
-abbrev pub digest_entry : List ℕ → Entry
+abbrev pub digest_entry : List ℕ → Member
 digest_entry digest = text_entry (codes "digest") (encode_lower digest)
 
-abbrev pub state_entry : EnvelopeState → Entry
+abbrev pub state_entry : EnvelopeState → Member
 state_entry state = text_entry (codes "state") (state_word state)
 
 -- of a winner: the award, the price and the tender; null where nobody wins
@@ -52,7 +49,7 @@ abbrev pub award_tender : Winning → ℕ
 award_tender w = w.tender
 
 -- the members of a reply in JSON
-abbrev pub reply_entries : Reply → List Entry
+abbrev pub reply_entries : Reply → List Member
 reply_entries (Imported batch rows moment) = text_entry (codes "batch") batch ∷ moment_entry moment ∷ number_entry (codes "rows") rows ∷ []
 reply_entries (Enrolled tenderer moment) = moment_entry moment ∷ text_entry (codes "tenderer") tenderer ∷ []
 reply_entries (OfNotice notice release moment) = moment_entry moment ∷ text_entry (codes "notice") notice ∷ release_entry release ∷ []
@@ -92,40 +89,22 @@ abbrev pub registry_text : List ℕ → List Registered → List ℕ
 registry_text notice rows = line (codes "REGISTER" ∷ notice ∷ []) ++ flat_map registered_line rows
 
 -- who presented a tender; in an office that commands lead to, the tenderer is there
-abbrev pub party_of : List ℕ → Option TendererRow → TendererRow
-party_of tenderer None = record { tenderer = tenderer; name = []; address = []; key = [] }
-party_of tenderer (Some row) = row
+abbrev pub presenter_of : List ℕ → Option TendererRow → TendererRow
+presenter_of tenderer None = record { tenderer = tenderer; name = []; address = []; key = [] }
+presenter_of tenderer (Some row) = row
 
 -- a tender of the minutes; each that was opened was read
-abbrev pub opened_tender : Minuted → OpenedTender
-opened_tender m = record { lot = m.lot; receipt = m.receipt; tenderer = party_of m.tenderer m.party; reading = unwrap_or m.reading Unreadable }
+abbrev pub minuted_tender : Minuted → OpenedTender
+minuted_tender m = record { lot = m.lot; receipt = m.receipt; tenderer = presenter_of m.tenderer m.party; reading = unwrap_or m.reading Unreadable }
 
 -- the text of a reply; a refusal has a response of its own
 abbrev pub reply_text : Reply → List ℕ
 reply_text (Refused why) = []
 reply_text (LedgerSeen rows) = ledger_text rows
 reply_text (Registry notice rows) = registry_text notice rows
-reply_text (Minutes notice lots rows) = minutes_text notice (unwrap_or notice.opened 0) lots (map opened_tender rows)
+reply_text (Minutes notice lots rows) = minutes_text notice (unwrap_or notice.opened 0) lots (map minuted_tender rows)
 reply_text (Package text) = text
 reply_text reply = object_text (reply_entries reply)
-
--- the reply that plain values say
-abbrev pub winning : Winner → Winning
-winning w = record { award = w.award; price = w.price; tender = w.tender }
-
-abbrev pub said : replies.Reply → Reply
-said (variants.Refused why) = Refused why
-said (variants.Imported batch rows moment) = Imported batch rows moment
-said (variants.Enrolled tenderer moment) = Enrolled tenderer moment
-said (variants.OfNotice notice release moment) = OfNotice notice release moment
-said (variants.OpenedAll notice count release moment) = OpenedAll notice count release moment
-said (variants.Received digest receipt security state moment) = Received digest receipt security state moment
-said (variants.Withdrew receipt state moment) = Withdrew receipt state moment
-said (variants.Examined receipt responsive moment) = Examined receipt responsive moment
-said (variants.Awarded lot best release moment) = Awarded lot (option_map winning best) release moment
-said (variants.Failed award release moment) = Failed award release moment
-said (variants.Signed contract release moment) = Signed contract release moment
-said (variants.OfContract contract left release moment) = OfContract contract left release moment
 
 -- the refusal, or the text
 abbrev pub text_of : Reply → Result (List ℕ) Refusal

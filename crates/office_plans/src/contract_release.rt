@@ -2,14 +2,14 @@
 ghost use Rattle.std.specs.Prelude.{◌≡◌};
 ghost use Rattle.office_base.specs.Parents.{notice_of_contract};
 ghost use Rattle.office_base.specs.Tables.{Tables};
-ghost use Rattle.office_machine.specs.Replies.{contract_release};
+ghost use Rattle.office_machine.specs.Replies.{release_of_contract};
 
 use crate::releases::next_release;
 use office_base::records::{ContractRow, NoticeRow};
 
 /// The number of the next release of a contract's notice: 0 where the contract isn't there.
 pub fn contract_release(contract: &Option<ContractRow>, notice: &Option<NoticeRow>) -> u64
-    ensures { (s : Tables) → notice.now ≡ notice_of_contract contract.now s → result ≡ contract_release contract.now s.notices }
+    ensures { (s : Tables) → notice.now ≡ notice_of_contract contract.now s → result ≡ release_of_contract contract.now s.notices }
 {
     match contract {
         Some(_) => next_release(notice),

@@ -1,17 +1,20 @@
-//! Commands of an office, planned over any shelf: each loads its rows, is decided on them, and gets its reply.
+//! Commands of an office, planned over any shelf: each loads its rows once, is refused on them or gets its reply, its release and what it puts.
 #![tactic(auto)]
 
 pub mod commands;
-pub mod contract_release;
-pub mod decided;
+mod contract_release;
+mod events;
 mod lines;
 mod looked_up;
 pub mod objects;
 mod of_lot;
-pub mod opened;
+mod opened;
 mod outstanding;
-pub mod parents;
+mod parents;
 pub mod planned;
-pub mod releases;
-pub mod reply;
+mod published;
+mod releases;
+mod replies;
 mod standings;
+mod tenderers;
+pub mod words;

@@ -3,6 +3,7 @@ ghost use Rattle.std.specs.Prelude.{◌≡◌, true, [], ◌∷◌, ◌++◌, If
 ghost use Rattle.office_plans.specs.Json.{entry_of, names_rise, object_text, token_of};
 
 use json::Writer;
+use office_values::given::GivenNumber;
 use office_values::id::Id;
 use office_values::moment::Moment;
 use office_values::money::Total;
@@ -21,6 +22,16 @@ pub enum Plain<'a> {
     /// In hexadecimal digits, lower case.
     Digest([u8; 32]),
     Text(&'a str),
+}
+
+/// A number that may be absent, as a `Count` takes it.
+pub fn number_of(number: Option<GivenNumber>) -> Option<u64>
+    ensures { result ≡ number }
+{
+    match number {
+        Some(number) => Some(number.get()),
+        None => None,
+    }
 }
 
 fn write_value(alloc: Global, out: &mut Writer, value: &Plain) -> Result<(), AllocError>

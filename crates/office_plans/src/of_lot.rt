@@ -5,10 +5,10 @@ ghost use Rattle.office_base.specs.Shelves.{LooksUp};
 ghost use Rattle.office_base.specs.Tables.{Tables, envelopes_of_lot, envelopes_of_notice, securities_of_lot, securities_of_notice};
 ghost use Rattle.office_plans.specs.OwnTenders.{own_envelopes};
 
-use office_acts::command::Caller;
 use office_base::records::{AwardRow, EnvelopeRow, SecurityRow};
 use office_base::rows::Rows;
 use office_base::shelf::{Lookups, ShelfFault};
+use office_commands::command::Caller;
 use office_values::id::Id;
 use std::alloc::Global;
 

@@ -1,15 +1,13 @@
 //! The sealed tenders of a notice, looked up and read.
-ghost use Rattle.std.specs.Prelude.{◌≡◌, IfOk, IfErr, OnOk, map, option_map};
+ghost use Rattle.std.specs.Prelude.{◌≡◌, true, IfOk, IfErr, OnOk, map};
 ghost use Rattle.office_values.specs.declared.refusal.Refusal.TheVariants.{Unavailable};
 ghost use Rattle.office_base.specs.Shelves.{Looks};
-ghost use Rattle.office_plans.specs.Opening.{HasLotOf, tender_read, tenders_read, with_lot};
-ghost use Rattle.office_machine.specs.Rule.{bytes_in, items_in};
+ghost use Rattle.office_plans.specs.Opening.{HasLotOf, has_seal_and_lot, tender_read, tenders_read, with_lot};
 
 use crate::looked_up::put_found;
 use keyed_table::table::Table;
-use office_acts::item::Item;
 use office_base::laws::{looks_follow, rows_are_kept};
-use office_base::records::{EnvelopeRow, LotRow, SealRow};
+use office_base::records::{EnvelopeRow, LotRow};
 use office_base::rows::Rows;
 use office_base::shelf::{Lookups, ShelfFault};
 use office_values::given::asked;
@@ -18,26 +16,6 @@ use office_values::refusal::Refusal;
 use std::alloc::Global;
 use tender_core::opening::{OpenedTender, keep_sealed};
 use tender_papers::tender::read_tender;
-
-// The bytes of a seal; none where it isn't there.
-fn bytes_in(seal: &Option<SealRow>) -> &[u8]
-    ensures { result.now ≡ bytes_in seal.now }
-{
-    match seal {
-        Some(row) => row.bytes.as_slice(),
-        None => &[],
-    }
-}
-
-// The items of a lot; none where it isn't there.
-fn items_in(lot: Option<&LotRow>) -> &[Item]
-    ensures { result.now ≡ items_in (option_map (λ row. row.now) lot.entry) }
-{
-    match lot {
-        Some(row) => row.items.as_slice(),
-        None => &[],
-    }
-}
 
 // Loads a lot, where it isn't loaded yet.
 fn load_lot<H: Lookups>(
@@ -55,7 +33,7 @@ fn load_lot<H: Lookups>(
     put_found(lots, found)
 }
 
-// A sealed tender, with what is read in the bytes of its seal. Its lot was looked up.
+// A sealed tender, with what is read in the bytes of its seal. Its lot was looked up; `Unavailable` where its seal or its lot isn't there.
 fn load_tender<H: Lookups>(
     alloc: Global,
     shelf: &mut H,
@@ -63,11 +41,16 @@ fn load_tender<H: Lookups>(
     envelope: EnvelopeRow,
 ) -> Result<OpenedTender, Refusal>
     ensures looks { Looks H.meaning shelf.old shelf.new (λ s. HasLotOf s lots.now envelope → IfOk result (λ tender. tender ≡ tender_read s envelope)) }
+    ensures whole { Looks H.meaning shelf.old shelf.new (λ s. HasLotOf s lots.now envelope → IfOk result (λ _. has_seal_and_lot s envelope ≡ true)) }
     ensures fault { IfErr result (λ e. e ≡ Unavailable) }
 {
-    let seal = shelf.get_seal(asked(envelope.receipt))?;
-    let items = items_in(lots.get(&(envelope.notice, envelope.lot)));
-    let reading = read_tender(alloc, bytes_in(&seal), items)?;
+    let Some(seal) = shelf.get_seal(asked(envelope.receipt))? else {
+        return Err(Refusal::Unavailable);
+    };
+    let Some(lot) = lots.get(&(envelope.notice, envelope.lot)) else {
+        return Err(Refusal::Unavailable);
+    };
+    let reading = read_tender(alloc, seal.bytes.as_slice(), lot.items.as_slice())?;
     Ok(OpenedTender { envelope, reading })
 }
 
@@ -92,7 +75,7 @@ fn load_each<H: Lookups>(
     Ok(tenders)
 }
 
-/// Loads the sealed tenders of a notice, each with what is read in the bytes of its seal.
+/// Loads the sealed tenders of a notice, each with what is read in the bytes of its seal; `Unavailable` where a seal or a lot of one isn't there.
 pub fn load_tenders<H: Lookups>(
     alloc: Global,
     shelf: &mut H,

@@ -9,9 +9,9 @@ use award_core::amend_contract::AmendContractRows;
 use award_core::end::EndRows;
 use award_core::entries::{left_with, outstanding};
 use award_core::pay::PayRows;
-use office_acts::amounts::EntryAmount;
-use office_acts::contract::ChangeKind;
 use office_base::records::{ContractRow, EntryRow};
+use office_commands::amounts::EntryAmount;
+use office_commands::contract::ChangeKind;
 use office_values::refusal::Refusal;
 
 // The sum in 64 bits.

@@ -3,7 +3,7 @@ ghost use Rattle.std.specs.Prelude.{◌≡◌, ◌+◌};
 ghost use Rattle.office_base.specs.Parents.{notice_of_award};
 ghost use Rattle.office_base.specs.Tables.{Tables};
 ghost use Rattle.office_machine.specs.Counted.{releases_in};
-ghost use Rattle.office_machine.specs.Replies.{award_release};
+ghost use Rattle.office_machine.specs.Replies.{release_of_award};
 
 use office_base::records::{AwardRow, NoticeRow};
 
@@ -18,8 +18,8 @@ pub fn next_release(notice: &Option<NoticeRow>) -> u64
 }
 
 /// The number of the next release of an award's notice: 0 where the award isn't there.
-pub fn award_release(award: &Option<AwardRow>, notice: &Option<NoticeRow>) -> u64
-    ensures { (s : Tables) → notice.now ≡ notice_of_award award.now s → result ≡ award_release award.now s.notices }
+pub fn release_of_award(award: &Option<AwardRow>, notice: &Option<NoticeRow>) -> u64
+    ensures { (s : Tables) → notice.now ≡ notice_of_award award.now s → result ≡ release_of_award award.now s.notices }
 {
     match award {
         Some(_) => next_release(notice),

@@ -8,11 +8,11 @@ ghost use Rattle.office_plans.specs.Named.{StillThere, line_of_row, standing_at,
 ghost use Rattle.tender_core.specs.Walks.{AreNamed, IsAtMost, AreAtMost};
 
 use keyed_table::table::Table;
-use office_acts::budget::BudgetRow;
 use office_base::laws::{looks_follow, rows_are_kept};
 use office_base::records::LineRow;
 use office_base::shelf::{Lookups, ShelfFault};
 use office_base::standing::{Columns, Standing};
+use office_commands::budget::BudgetRow;
 use office_values::id::Id;
 use std::alloc::Global;
 

@@ -13,14 +13,13 @@ use Rattle.office_base.specs.Tables.{Tables, IsSorted, notice_at, release_at, re
 use Rattle.office_base.specs.declared.records.ReleaseRow.{ReleaseRow}
 use Rattle.office_base.proofs.ExactKeys.{equal_ids, same_itself}
 use Rattle.office_base.proofs.Orders.{same_key}
+use Rattle.office_base.proofs.RowLaws.Keyed.{found_key}
+use Rattle.office_base.proofs.RowLaws.Filters.{if_passes, in_order-filter, row_at-filter}
 use Rattle.office_machine.specs.Counted.{releases_in}
 use Rattle.office_machine.specs.Fates.{numbers}
 use Rattle.office_machine.specs.Releases.{AreNumbered}
-use Rattle.office_machine.proofs.Filtered.{if_passes}
-use Rattle.office_machine.proofs.Keyed as keyed
-use Rattle.office_machine.proofs.Keyed.{found_key}
-use Rattle.office_machine.proofs.Lists.{in_order-filter, row_at-filter}
-use Rattle.office_machine.proofs.Numbered.{FindsAll, keys_are}
+use Rattle.office_machine.proofs.Rows.Keyed as keyed
+use Rattle.office_machine.proofs.Rows.Numbered.{FindsAll, keys_are}
 use Rattle.office_publications.specs.Told.{AreInSequence}
 
 abbrev seq_of : ReleaseRow → ℕ
@@ -122,10 +121,11 @@ module _ (notice : List ℕ) where
         within q both = (grind (arith, nat_tests, both), grind (arith, nat_tests, both))
 
     are : map seq_of rows ≡ numbers 1 count
-    are = keys_are seq_of count 1 rows (in_order rows (filtered s.releases) (in_order-filter keyed.releases (is_of notice) s.releases sorted.releases)) finds
+    are = keys_are seq_of count 1 rows (in_order rows (filtered s.releases) (in_order-filter keyed.releases.total release_key (is_of notice) s.releases sorted.releases)) finds
 
     pub in_sequence : count ≤ release_limit → AreInSequence notice s
     in_sequence few = record {
       place = λ k. at_place count 1 rows are k ∙ at_number (1 + k) ∙ ap (λ n. release_at (notice, n) s) (omega arith);
+      counted = sym (as_many count 1 rows are);
       within = let many = as_many count 1 rows are in omega (arith, many, few);
     }

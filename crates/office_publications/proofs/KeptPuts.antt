@@ -7,13 +7,13 @@ use Rattle.office_base.specs.declared.puts.Put.{Put}
 use Rattle.office_base.specs.declared.puts.Put.TheVariants as puts
 use Rattle.office_base.specs.declared.records.ReleaseRow.{ReleaseRow}
 use Rattle.office_base.specs.Tables.{Tables, after_puts}
-use Rattle.office_machine.specs.Machine.{Given, Means, effect, publication, publication_puts, puts_of, release_row, next, with_trees}
+use Rattle.office_machine.specs.Machine.{Given, Means, effect, publication, publication_puts, puts_of, release_row, next, with_merges}
 use Rattle.office_machine.specs.OfficeMeans.{office_readings}
 use Rattle.office_machine.specs.Publications.{published_for}
-use Rattle.office_machine.proofs.Aside.{after-append}
+use Rattle.office_machine.proofs.Accounts.Aside.{after-append}
 use Rattle.ocds_release.specs.declared.event.Event.{Event}
 use Rattle.office_publications.specs.Events.{event_of}
-use Rattle.office_publications.specs.Keeping.{kept_puts, kept_next, merge_puts, merged_row, NoEventPublishesNothing, EventsAreReleased, NoEventPutsItsEffect, EventsPutReleases, MergesStandBeside}
+use Rattle.office_publications.specs.Keeping.{kept_puts, next_with_merges, merge_puts, merged_row, NoEventPublishesNothing, EventsAreReleased, NoEventPutsItsEffect, EventsPutReleases, MergesStandBeside}
 use Rattle.office_publications.specs.Publishing.{publishing, text_by}
 
 module _ (settings : Settings) (x : Given) where
@@ -46,14 +46,14 @@ module _ (settings : Settings) (x : Given) where
       → publication means x ≡ Some (release_row x notice (text_by settings x e))
   published e notice is of = ap (λ n. published_as n (event_of x.before x.command)) of ∙ ap (published_as (Some notice)) is
 
-  merge_beside : (p : Option ReleaseRow) (u : Tables) → after_puts (merge_puts x.before p) u ≡ with_trees (after_puts (merge_puts x.before p) u).compiled u
+  merge_beside : (p : Option ReleaseRow) (u : Tables) → after_puts (merge_puts x.before p) u ≡ with_merges (after_puts (merge_puts x.before p) u).compiled u
   merge_beside None u = refl
   merge_beside (Some r) u = refl
 
-  pub beside : kept_next settings x ≡ with_trees (kept_next settings x).compiled (next means x)
+  pub beside : next_with_merges settings x ≡ with_merges (next_with_merges settings x).compiled (next means x)
   beside =
       let apart = after-append (puts_of means x) (merge_puts x.before (publication means x)) x.before in
-      apart ∙ merge_beside (publication means x) (next means x) ∙ ap (λ (u : Tables). with_trees u.compiled (next means x)) (sym apart)
+      apart ∙ merge_beside (publication means x) (next means x) ∙ ap (λ (u : Tables). with_merges u.compiled (next means x)) (sym apart)
 
 pub no_event_publishes_nothing : NoEventPublishesNothing
 no_event_publishes_nothing settings x = unpublished settings x

@@ -1,36 +1,31 @@
 -- What is kept of releases stays kept.
-use Rattle.std.specs.Prelude.{◌≡◌, ℕ, Bool, true, false, cond, List, [], ◌∷◌, ◌++◌, map, filter, Option, Some, None, option_to_list, All}
-use Rattle.std.proofs.Common.{refl, sym, ◌∙◌, ap, subst}
+use Rattle.std.specs.Prelude.{◌≡◌, ℕ, Bool, true, false, cond, List, [], ◌∷◌, ◌++◌, map, filter, Option, Some, None, IsSome, option_to_list, All}
+use Rattle.std.proofs.Common.{refl, sym, ◌∙◌, ap, subst, inl, inr}
 use Rattle.std.proofs.lemmas.List.{append-nil}
 use Rattle.std.proofs.lemmas.List.Elements.{All-append, All-nil, All-cons}
 use Rattle.ocds_merge.specs.Stored.{KeepsMerge}
 use Rattle.office_values.specs.Ids.{same_id}
 use Rattle.office_values.specs.declared.settings.Settings.{Settings}
 use Rattle.office_base.specs.Rows.{row_at}
-use Rattle.office_base.specs.Tables.{Tables, ChangesKeepOrder, after_puts, find_compiled, put_compiled, releases_of_notice}
+use Rattle.office_base.specs.Tables.{Tables, ChangesKeepOrder, after_puts, find_compiled, notice_at, put_compiled, release_at, releases_of_notice}
 use Rattle.office_base.specs.declared.records.CompiledRow.{CompiledRow}
 use Rattle.office_base.specs.declared.records.ReleaseRow.{ReleaseRow}
 use Rattle.office_machine.specs.Accounts.{TablesAreInOrder}
-use Rattle.office_machine.specs.Machine.{Given, Means, next, publication, puts_of}
+use Rattle.office_machine.specs.Machine.{AreOfNotices, Given, Means, effect, next, publication, publication_puts, puts_of}
+use Rattle.office_machine.specs.OfficeMeans.{office_readings}
+use Rattle.office_machine.specs.Parents.{HaveParents, ParentsAreThere}
 use Rattle.office_machine.specs.Releases.{ReleasesArePublished, published_of}
-use Rattle.office_machine.proofs.Aside.{after-append}
-use Rattle.office_machine.proofs.NextIs.{next_is}
-use Rattle.office_machine.proofs.ParentsThere.{parents_there}
-use Rattle.office_publications.specs.Keeping.{KeepsReleases, PublicationReadsBack, kept_puts, kept_next, merge_puts, merged_row, KeptStepsReach, ReleasesStayKept, NothingIsKeptAtFirst}
+use Rattle.office_machine.specs.Requests.{StepsReach}
+use Rattle.office_machine.proofs.Accounts.Aside.{after-append}
+use Rattle.office_machine.proofs.Releases.NextIs.{next_is}
+use Rattle.office_machine.proofs.Parents.ParentsThere.{parents_there}
+use Rattle.office_machine.proofs.Rows.Keyed.{found, found_put}
+use Rattle.office_machine.proofs.Rows.Keyed as keyed
+use Rattle.office_publications.specs.Keeping.{KeepsReleases, PublicationReadsBack, kept_puts, next_with_merges, merge_puts, merged_row, KeptStepsReach, ReleasesStayKept, NothingIsKeptAtFirst}
 use Rattle.office_publications.specs.Merges.{AreMerged, CanBeMerged, body_in}
 use Rattle.office_publications.specs.Publishing.{publishing}
 use Rattle.office_publications.proofs.KeptPuts.{merges_stand_beside}
 use Rattle.office_publications.proofs.MergesKept.{merges_stay}
-
-pub reaches : ChangesKeepOrder → TablesAreInOrder → KeptStepsReach
-reaches keep sorted settings xs x reached given allowed = record {
-  reached = reached;
-  given = given;
-  allowed = allowed;
-  trees = (kept_next settings x).compiled;
-  in_order = (keep (kept_puts settings x) x.before (sorted (publishing settings) xs x.before reached)).compiled;
-  is = merges_stand_beside settings x;
-}
 
 -- the merges, where this is published
 abbrev with_merge : Tables → Option ReleaseRow → List CompiledRow → List CompiledRow
@@ -41,13 +36,51 @@ put_beside : (s : Tables) (p : Option ReleaseRow) (u : Tables) → (after_puts (
 put_beside s None u = refl
 put_beside s (Some r) u = refl
 
+-- the merges beside the office after a command are of its notices
+module _ (settings : Settings) (x : Given) (have : HaveParents (next (publishing settings) x) (next (publishing settings) x)) where
+  abbrev after : Tables
+  after = next (publishing settings) x
+
+  published_there : (r : ReleaseRow) → publication (publishing settings) x ≡ Some r → IsSome (notice_at r.notice after)
+  published_there r one =
+      let done : Tables = after_puts (effect office_readings x) x.before in
+      let last : after ≡ after_puts (publication_puts (Some r)) done =
+      after-append (effect office_readings x) (publication_puts (publication (publishing settings) x)) x.before ∙ ap (λ p. after_puts (publication_puts p) done) one in
+      (have.releases (r.notice, r.seq) r (ap (release_at (r.notice, r.seq)) last ∙ found_put keyed.releases done.releases r)).notice
+
+  merges_of : (p : Option ReleaseRow) → publication (publishing settings) x ≡ p → AreOfNotices (with_merge x.before p after.compiled) after
+  merges_of None none key c is = (have.merges key c is).notice
+  merges_of (Some r) one key c is =
+      elim (found keyed.compiled after.compiled (merged_row x.before r) key c is) as (λ _. IsSome (notice_at c.notice after)) [
+        | inl p ↦ subst (λ (c : CompiledRow). IsSome (notice_at c.notice after)) (sym p.1) (published_there r one)
+        | inr p ↦ (have.merges key c p.1).notice
+      ]
+
+  of_notices : AreOfNotices (next_with_merges settings x).compiled after
+  of_notices =
+      subst (λ merges. AreOfNotices merges after)
+      (sym (ap (λ (u : Tables). u.compiled) (after-append (puts_of (publishing settings) x) (merge_puts x.before (publication (publishing settings) x)) x.before)
+      ∙ put_beside x.before (publication (publishing settings) x) after))
+      (merges_of (publication (publishing settings) x) refl)
+
+pub reaches : ChangesKeepOrder → TablesAreInOrder → ParentsAreThere → StepsReach → KeptStepsReach
+reaches keep sorted parents steps settings xs x reached given allowed = record {
+  reached = reached;
+  given = given;
+  allowed = allowed;
+  merges = (next_with_merges settings x).compiled;
+  in_order = (keep (kept_puts settings x) x.before (sorted (publishing settings) xs x.before reached)).compiled;
+  of_notices = of_notices settings x (parents (publishing settings) (x ∷ xs) (next (publishing settings) x) (steps (publishing settings) xs x reached given allowed));
+  is = merges_stand_beside settings x;
+}
+
 -- where the machine puts no merge itself
 module _ (settings : Settings) (x : Given) (no_merge : (next (publishing settings) x).compiled ≡ x.before.compiled) where
   abbrev means : Means
   means = publishing settings
 
   abbrev kept : Tables
-  kept = kept_next settings x
+  kept = next_with_merges settings x
 
   merges_are : kept.compiled ≡ with_merge x.before (publication means x) x.before.compiled
   merges_are =
@@ -65,12 +98,12 @@ module _ (settings : Settings) (x : Given) (no_merge : (next (publishing setting
             releases n ∙ ap (λ p. releases_of_notice n x.before ++ filter (λ (r : ReleaseRow). same_id r.notice n) (option_to_list p)) none
             ∙ append-nil (releases_of_notice n x.before)
 
-        trees : kept.compiled ≡ x.before.compiled
-        trees = merges_are ∙ ap (λ p. with_merge x.before p x.before.compiled) none
+        merges : kept.compiled ≡ x.before.compiled
+        merges = merges_are ∙ ap (λ p. with_merge x.before p x.before.compiled) none
 
         merged : AreMerged kept
         merged n c found =
-            subst (λ rows. KeepsMerge c.text (map body_in rows)) (sym (same n)) (keeps.merged n c (ap (λ rows. find_compiled rows n) (sym trees) ∙ found))
+            subst (λ rows. KeepsMerge c.text (map body_in rows)) (sym (same n)) (keeps.merged n c (ap (λ rows. find_compiled rows n) (sym merges) ∙ found))
 
     more : (r : ReleaseRow) → CanBeMerged r → (b : Bool) → All CanBeMerged (cond b (r ∷ []) [])
     more r can true = All-cons CanBeMerged r [] can (All-nil CanBeMerged)
@@ -101,8 +134,8 @@ module _ (settings : Settings) (x : Given) (no_merge : (next (publishing setting
 
 pub stays : KeptStepsReach → ReleasesArePublished → ReleasesStayKept
 stays reach published settings xs x reached given allowed back keeps =
-    let releases : (n : List ℕ) → releases_of_notice n (kept_next settings x) ≡ releases_of_notice n x.before ++ published_of (publishing settings) x n = λ n.
-    published (publishing settings) (x ∷ xs) (kept_next settings x) (reach settings xs x reached given allowed) n
+    let releases : (n : List ℕ) → releases_of_notice n (next_with_merges settings x) ≡ releases_of_notice n x.before ++ published_of (publishing settings) x n = λ n.
+    published (publishing settings) (x ∷ xs) (next_with_merges settings x) (reach settings xs x reached given allowed) n
     ∙ ap (λ rows. rows ++ published_of (publishing settings) x n) (sym (published (publishing settings) xs x.before reached n)) in
     kept_by settings x (next_is (publishing settings) x (parents_there (publishing settings) xs x.before reached) allowed).compiled keeps releases (publication (publishing settings) x) refl back
 

@@ -11,3 +11,4 @@ pub mod KeptPuts
 pub mod KeptReleases
 pub mod NoSealsTold
 pub mod NoMergesTold
+mod KeysMayChange

@@ -1,49 +1,40 @@
 -- Releases and packages are the same whatever merges stand beside the office.
 use Rattle.std.proofs.Common.{◌≡◌, ℕ, List, refl, ◌∙◌, ap}
-use Rattle.office_acts.specs.declared.command.Caller.{Caller}
-use Rattle.office_acts.specs.declared.commands.Command.{Command}
-use Rattle.office_acts.specs.declared.commands.Command.TheVariants.{Publish, AmendNotice, Cancel, Open, Award, Fail, Sign, AmendContract, Pay, End}
-use Rattle.office_acts.specs.declared.queries.Query.TheVariants as queries
+use Rattle.office_commands.specs.declared.command.Caller.{Caller}
+use Rattle.office_commands.specs.declared.commands.Command.{Command}
+use Rattle.office_commands.specs.declared.commands.Command.TheVariants.{Publish, AmendNotice, Cancel, Open, Award, Fail, Sign, AmendContract, Pay, End}
+use Rattle.office_commands.specs.declared.queries.Query.TheVariants as queries
 use Rattle.office_values.specs.declared.settings.Settings.{Settings}
 use Rattle.office_base.specs.declared.records.CompiledRow.{CompiledRow}
 use Rattle.office_base.specs.Tables.{Tables}
-use Rattle.office_machine.specs.Machine.{Given, with_trees}
+use Rattle.office_machine.specs.Machine.{Given, with_merges}
 use Rattle.office_machine.specs.MergesApart.{LooksReadNoMerges, NextReadsNoMerges, beside}
-use Rattle.office_publications.specs.Keeping.{MergesStandBeside, kept_next}
+use Rattle.office_publications.specs.Keeping.{MergesStandBeside, next_with_merges}
 use Rattle.office_publications.specs.MergesApart.{KeptStepsReadNoMerges, PackagesTellNoMerges, PublishedLooksReadNoMerges, ReleasesTellNoMerges}
 use Rattle.office_publications.specs.Packages.{packages}
 use Rattle.office_publications.specs.Publishing.{publishing, release_text}
 
-module _ (settings : Settings) (trees : List CompiledRow) (s : Tables) (moment : ℕ) (caller : Caller) where
+module _ (settings : Settings) (merges : List CompiledRow) (s : Tables) (moment : ℕ) (caller : Caller) where
   abbrev given : Command → Given
   given command = record { before = s; moment = moment; caller = caller; command = command }
 
-  text_apart : (command : Command) → release_text settings (beside trees (given command)) ≡ release_text settings (given command)
+  text_apart : (command : Command) → release_text settings (beside merges (given command)) ≡ release_text settings (given command)
   text_apart (Publish notice content) = refl
-  text_apart (AmendNotice notice deadline rationale) = refl
-  text_apart (Cancel notice rationale) = refl
-  text_apart (Open notice) = refl
-  text_apart (Award notice lot) = refl
-  text_apart (Fail award) = refl
-  text_apart (Sign award named) = refl
-  text_apart (AmendContract contract entry kind amount rationale) = refl
-  text_apart (Pay contract entry amount) = refl
-  text_apart (End contract how) = refl
   text_apart _ = refl
 
 pub releases_tell_no_merges : ReleasesTellNoMerges
-releases_tell_no_merges settings trees x = text_apart settings trees x.before x.moment x.caller x.command
+releases_tell_no_merges settings merges x = text_apart settings merges x.before x.moment x.caller x.command
 
 pub packages_tell_no_merges : PackagesTellNoMerges
-packages_tell_no_merges settings trees (queries.Releases notice) s = refl
-packages_tell_no_merges settings trees (queries.Record notice) s = refl
-packages_tell_no_merges settings trees _ s = refl
+packages_tell_no_merges settings merges (queries.Releases notice) s = refl
+packages_tell_no_merges settings merges (queries.Record notice) s = refl
+packages_tell_no_merges settings merges _ s = refl
 
 pub looks_apart : LooksReadNoMerges → PublishedLooksReadNoMerges
-looks_apart law settings trees s caller query = law (packages settings) (packages_tell_no_merges settings) trees s caller query
+looks_apart law settings merges s caller query = law (packages settings) (packages_tell_no_merges settings) merges s caller query
 
 pub kept_apart : MergesStandBeside → NextReadsNoMerges → KeptStepsReadNoMerges
-kept_apart stand law settings trees x =
-    stand settings (beside trees x)
-    ∙ ap (λ (u : Tables). with_trees (kept_next settings (beside trees x)).compiled u)
-    (law (publishing settings) (releases_tell_no_merges settings) trees x)
+kept_apart stand law settings merges x =
+    stand settings (beside merges x)
+    ∙ ap (λ (u : Tables). with_merges (next_with_merges settings (beside merges x)).compiled u)
+    (law (publishing settings) (releases_tell_no_merges settings) merges x)

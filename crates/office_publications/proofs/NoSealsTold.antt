@@ -5,9 +5,9 @@ use Rattle.std.proofs.Common.{refl, sym, ◌∙◌, ap}
 use Rattle.serde_json.specs.Written.{compact_text}
 use Rattle.office_values.specs.Ids.{same_id}
 use Rattle.office_values.specs.declared.settings.Settings.{Settings}
-use Rattle.office_acts.specs.declared.commands.Command.{Command}
-use Rattle.office_acts.specs.declared.commands.Command.TheVariants.{Import, Register, Publish, AmendNotice, Cancel, Open, Present, Modify, Withdraw, Examine, Award, Fail, Sign, AmendContract, Pay, End}
-use Rattle.office_acts.specs.declared.queries.Query.TheVariants as queries
+use Rattle.office_commands.specs.declared.commands.Command.{Command}
+use Rattle.office_commands.specs.declared.commands.Command.TheVariants.{Import, Register, Publish, AmendNotice, Cancel, Open, Present, Modify, Withdraw, Examine, Award, Fail, Sign, AmendContract, Pay, End}
+use Rattle.office_commands.specs.declared.queries.Query.TheVariants as queries
 use Rattle.office_base.specs.declared.records.EnvelopeRow.{EnvelopeRow}
 use Rattle.office_base.specs.declared.records.NoticeRow.{NoticeRow}
 use Rattle.office_base.specs.declared.records.SealRow.{SealRow}
@@ -16,7 +16,7 @@ use Rattle.office_base.specs.Tables.{Tables, notice_at, envelopes_of_lot}
 use Rattle.tender_core.specs.Rules.Open.{is_sealed_envelope}
 use Rattle.award_core.specs.Rules.Award.{is_admissible, price_of, lesser, lowest_price, is_better, better, best_with, weight_in, winner}
 use Rattle.ocds_release.specs.EventReleases.{release_of_event}
-use Rattle.ocds_release.specs.Tenderers.{tenderer_of}
+use Rattle.ocds_release.specs.Tenderers.{tenderer_shown}
 use Rattle.ocds_release.specs.declared.event.Event.{Event}
 use Rattle.ocds_release.specs.declared.event.Event.TheVariants as events
 use Rattle.office_machine.specs.Machine.{Given, time_of}
@@ -24,9 +24,9 @@ use Rattle.office_machine.specs.Publications.{published_for}
 use Rattle.office_machine.specs.Counted.{releases_in}
 use Rattle.office_machine.specs.Seals.{ButDigest}
 use Rattle.office_machine.specs.Worlds.{Pairs}
-use Rattle.office_publications.specs.AwardEvents.{awarded}
+use Rattle.office_publications.specs.AwardEvents.{award_event}
 use Rattle.office_publications.specs.Events.{event_of}
-use Rattle.office_publications.specs.NoticeEvents.{opened}
+use Rattle.office_publications.specs.NoticeEvents.{open_event}
 use Rattle.office_publications.specs.Sealed.{ReleasesTellNoSeals, PackagesTellNoSeals}
 
 -- an envelope without its digest
@@ -88,26 +88,26 @@ winner_bare n es =
 
 -- the event of an opening, by all envelopes
 abbrev opened_by : List ℕ → List TendererRow → List EnvelopeRow → Event
-opened_by notice tenderers es = opened notice (filter (λ (e : EnvelopeRow). same_id e.notice notice) es) tenderers
+opened_by notice tenderers es = open_event notice (filter (λ (e : EnvelopeRow). same_id e.notice notice) es) tenderers
 
-opened_bare : (notice : List ℕ) (tenderers : List TendererRow) (es : List EnvelopeRow) → opened notice (map bare es) tenderers ≡ opened notice es tenderers
+opened_bare : (notice : List ℕ) (tenderers : List TendererRow) (es : List EnvelopeRow) → open_event notice (map bare es) tenderers ≡ open_event notice es tenderers
 opened_bare notice tenderers es = λ i. events.Open (record {
   notice = notice;
-  tenderers = map tenderer_of
+  tenderers = map tenderer_shown
       (filter (λ (r : TendererRow). any_bare (λ (e : EnvelopeRow). is_sealed_envelope e && same_id e.tenderer r.tenderer) (λ _. refl) es i) tenderers);
 })
 
 opened_blind : (notice : List ℕ) (tenderers : List TendererRow) (es : List EnvelopeRow)
     → opened_by notice tenderers (map bare es) ≡ opened_by notice tenderers es
 opened_blind notice tenderers es =
-    ap (λ fs. opened notice fs tenderers) (filter_bare (λ (e : EnvelopeRow). same_id e.notice notice) (λ _. refl) es)
+    ap (λ fs. open_event notice fs tenderers) (filter_bare (λ (e : EnvelopeRow). same_id e.notice notice) (λ _. refl) es)
     ∙ opened_bare notice tenderers (filter (λ (e : EnvelopeRow). same_id e.notice notice) es)
 
 -- and that of an award
 abbrev awarded_by : Tables → List ℕ → List ℕ → Option NoticeRow → List EnvelopeRow → Event
-awarded_by s notice lot n es = awarded s notice lot (winner n (filter (λ (e : EnvelopeRow). same_id e.notice notice && same_id e.lot lot) es))
+awarded_by s notice lot n es = award_event s notice lot (winner n (filter (λ (e : EnvelopeRow). same_id e.notice notice && same_id e.lot lot) es))
 
-awarded_bare : (s : Tables) (notice lot : List ℕ) (o : Option EnvelopeRow) → awarded s notice lot (option_map bare o) ≡ awarded s notice lot o
+awarded_bare : (s : Tables) (notice lot : List ℕ) (o : Option EnvelopeRow) → award_event s notice lot (option_map bare o) ≡ award_event s notice lot o
 awarded_bare s notice lot None = refl
 awarded_bare s notice lot (Some e) = refl
 
@@ -115,64 +115,33 @@ awarded_blind : (s : Tables) (notice lot : List ℕ) (n : Option NoticeRow) (es 
     → awarded_by s notice lot n (map bare es) ≡ awarded_by s notice lot n es
 awarded_blind s notice lot n es =
     let in_lot : EnvelopeRow → Bool = λ (e : EnvelopeRow). same_id e.notice notice && same_id e.lot lot in
-    ap (λ fs. awarded s notice lot (winner n fs)) (filter_bare in_lot (λ _. refl) es)
-    ∙ (ap (awarded s notice lot) (winner_bare n (filter in_lot es)) ∙ awarded_bare s notice lot (winner n (filter in_lot es)))
+    ap (λ fs. award_event s notice lot (winner n fs)) (filter_bare in_lot (λ _. refl) es)
+    ∙ (ap (award_event s notice lot) (winner_bare n (filter in_lot es)) ∙ awarded_bare s notice lot (winner n (filter in_lot es)))
 
 -- a command in an office with other digests and seals
 module _ (s : Tables) (es' : List EnvelopeRow) (ss' : List SealRow) (all : Pairs ButDigest s.envelopes es') where
   abbrev other : Tables
   other = record s { envelopes = es'; seals = ss' }
 
-  awarded_other : (notice lot : List ℕ) (o : Option EnvelopeRow) → awarded other notice lot o ≡ awarded s notice lot o
+  awarded_other : (notice lot : List ℕ) (o : Option EnvelopeRow) → award_event other notice lot o ≡ award_event s notice lot o
   awarded_other notice lot None = refl
   awarded_other notice lot (Some e) = refl
 
   same_event : (command : Command) → event_of other command ≡ event_of s command
-  same_event (Import batch rows) = refl
-  same_event (Register tenderer name address key) = refl
-  same_event (Publish notice content) = refl
-  same_event (AmendNotice notice deadline rationale) = refl
-  same_event (Cancel notice rationale) = refl
   same_event (Open notice) = ap Some (by_bare (opened_by notice s.tenderers) (opened_blind notice s.tenderers) s.envelopes es' all)
-  same_event (Present notice lot security bytes) = refl
-  same_event (Modify receipt bytes) = refl
-  same_event (Withdraw receipt) = refl
-  same_event (Examine receipt responsive quality) = refl
   same_event (Award notice lot) =
       ap Some
       (awarded_other notice lot (winner (notice_at notice s) (envelopes_of_lot notice lot other))
       ∙ by_bare (awarded_by s notice lot (notice_at notice s)) (awarded_blind s notice lot (notice_at notice s)) s.envelopes es' all)
-  same_event (Fail award) = refl
-  same_event (Sign award named) = refl
-  same_event (AmendContract contract entry kind amount rationale) = refl
-  same_event (Pay contract entry amount) = refl
-  same_event (End contract how) = refl
-
-  same_notice : (command : Command) → published_for other command ≡ published_for s command
-  same_notice (Import batch rows) = refl
-  same_notice (Register tenderer name address key) = refl
-  same_notice (Publish notice content) = refl
-  same_notice (AmendNotice notice deadline rationale) = refl
-  same_notice (Cancel notice rationale) = refl
-  same_notice (Open notice) = refl
-  same_notice (Present notice lot security bytes) = refl
-  same_notice (Modify receipt bytes) = refl
-  same_notice (Withdraw receipt) = refl
-  same_notice (Examine receipt responsive quality) = refl
-  same_notice (Award notice lot) = refl
-  same_notice (Fail award) = refl
-  same_notice (Sign award named) = refl
-  same_notice (AmendContract contract entry kind amount rationale) = refl
-  same_notice (Pay contract entry amount) = refl
-  same_notice (End contract how) = refl
+  same_event _ = refl
 
 -- the text of an event, under the next number of the notice that it is published for
 abbrev text_in : Settings → Given → Option (List ℕ) → Event → List ℕ
 text_in settings x notice e = compact_text (release_of_event settings (releases_in (option_and_then (λ n. notice_at n x.before) notice) + 1) (time_of x) e)
 
 pub releases_tell_no_seals : ReleasesTellNoSeals
-releases_tell_no_seals settings x es' ss' all opens = λ i.
-    option_map (text_in settings x (same_notice x.before es' ss' all x.command i)) (same_event x.before es' ss' all x.command i)
+releases_tell_no_seals settings x es' ss' all opens =
+    ap (option_map (text_in settings x (published_for x.before x.command))) (same_event x.before es' ss' all x.command)
 
 pub packages_tell_no_seals : PackagesTellNoSeals
 packages_tell_no_seals settings (queries.Line line) s es' ss' all = refl

@@ -8,28 +8,28 @@ use Rattle.ocds_merge.specs.Stored.{IsStorable, KeepsMerge}
 use Rattle.office_base.specs.Tables.{Tables, releases_of_notice}
 use Rattle.office_base.specs.declared.records.CompiledRow.{CompiledRow}
 use Rattle.office_base.specs.declared.records.ReleaseRow.{ReleaseRow}
-use Rattle.office_publications.specs.Keeping.{KeepsReleases, ReadsBack, merged_row}
-use Rattle.office_publications.specs.Merges.{AreMerged, CanBeMerged, IsMerge, bodies, body_in}
+use Rattle.office_publications.specs.Keeping.{KeepsReleasesOf, ReadsBack, merged_row}
+use Rattle.office_publications.specs.Merges.{AreReleasesOf, CanBeMerged, IsMerge, IsMergedOf, bodies, body_in}
 
 body_storable : (r : ReleaseRow) → CanBeMerged r → IsStorable (body_in r)
 body_storable r can = subst (λ o. IsStorable (body_of (unwrap_or o null))) (sym can.reads) can.storable
 
-pub bodies_storable : (notice : List ℕ) (s : Tables) → KeepsReleases s → All IsStorable (bodies notice s)
-bodies_storable notice s keeps =
+pub bodies_storable : (notice : List ℕ) (s : Tables) → AreReleasesOf notice s → All IsStorable (bodies notice s)
+bodies_storable notice s all =
     All-map IsStorable body_in (releases_of_notice notice s)
-    (All-weaker CanBeMerged (λ r. IsStorable (body_in r)) body_storable (releases_of_notice notice s) (keeps.releases notice))
+    (All-weaker CanBeMerged (λ r. IsStorable (body_in r)) body_storable (releases_of_notice notice s) all)
 
 module _ (s : Tables) (r : ReleaseRow) (row : CompiledRow) where
   abbrev all : List Data
   all = bodies r.notice s ++ (body_in r ∷ [])
 
   -- the merge that was made with this body is that with the release's
-  pub is_merge : KeepsReleases s → CanBeMerged r → (body : Data) → body ≡ body_in r
-      → (AreMerged s → All IsStorable (bodies r.notice s ++ (body ∷ [])) → IsMerge r.notice (bodies r.notice s ++ (body ∷ [])) row) → IsMerge r.notice all row
+  pub is_merge : KeepsReleasesOf r.notice s → CanBeMerged r → (body : Data) → body ≡ body_in r
+      → (IsMergedOf r.notice s → All IsStorable (bodies r.notice s ++ (body ∷ [])) → IsMerge r.notice (bodies r.notice s ++ (body ∷ [])) row) → IsMerge r.notice all row
   is_merge keeps can body same made =
       let stored : IsStorable body = subst IsStorable (sym same) (body_storable r can) in
       let more =
-      All-append IsStorable (bodies r.notice s) (body ∷ []) (bodies_storable r.notice s keeps) (All-cons IsStorable body [] stored (All-nil IsStorable)) in
+      All-append IsStorable (bodies r.notice s) (body ∷ []) (bodies_storable r.notice s keeps.releases) (All-cons IsStorable body [] stored (All-nil IsStorable)) in
       subst (λ (d : Data). IsMerge r.notice (bodies r.notice s ++ (d ∷ [])) row) same (made keeps.merged more)
 
   pub is_merged_row : IsMerge r.notice all row → row ≡ merged_row s r

@@ -25,7 +25,7 @@ use Rattle.office_base.specs.declared.records.ReleaseRow.{ReleaseRow}
 use Rattle.office_machine.specs.Releases.{MomentsNeverFall, ReleasesAreInTime}
 use Rattle.office_publications.specs.Merges.{bodies, body_in, data_in}
 use Rattle.office_publications.specs.Packages.{compiled_told}
-use Rattle.office_publications.specs.Standing.{Stands}
+use Rattle.office_publications.specs.Standing.{IsReached}
 use Rattle.office_publications.specs.Told.{IsCompiled, IsInRange}
 use Rattle.office_publications.proofs.ReadAgain.{bodies_storable}
 use Rattle.office_publications.proofs.WrittenAlike.{IsObject}
@@ -127,7 +127,7 @@ module _ (order : TextsKeepOrder) (in_time : ReleasesAreInTime)
     (compiles : (ocid : List ℕ) (releases : List Data) → IsInDateOrder releases
     → compiled_release ocid releases ≡ with_head ocid (last_date releases) (merge_or_null (map body_of releases)))
     (merge_storable : (vs : List Data) → All IsStorable vs → IsStorable (merge_or_null vs))
-    (settings : Settings) (s : Tables) (stands : Stands settings s) (notice : List ℕ) where
+    (settings : Settings) (s : Tables) (stands : IsReached settings s) (notice : List ℕ) where
   abbrev rows : List ReleaseRow
   rows = releases_of_notice notice s
 
@@ -146,5 +146,5 @@ module _ (order : TextsKeepOrder) (in_time : ReleasesAreInTime)
             subst HasText (sym is)
             (headed ocid (moment_text (moment_of_last rows)) (merge_or_null (bodies notice s))
             (merge_object (bodies notice s) (some_bodies rows some) (bodies_objects rows objects))
-            (merge_storable (bodies notice s) (bodies_storable notice s stands.keeps)));
+            (merge_storable (bodies notice s) (bodies_storable notice s (stands.keeps.releases notice))));
       }

@@ -1,8 +1,8 @@
 -- Each command that publishes has a release.
 use Rattle.std.specs.Prelude.{Option, Some, None, option_map, IsSome}
 use Rattle.std.proofs.Common.{refl}
-use Rattle.office_acts.specs.declared.commands.Command.{Command}
-use Rattle.office_acts.specs.declared.commands.Command.TheVariants.{Import, Register, Publish, AmendNotice, Cancel, Open, Present, Modify, Withdraw, Examine, Award, Fail, Sign, AmendContract, Pay, End}
+use Rattle.office_commands.specs.declared.commands.Command.{Command}
+use Rattle.office_commands.specs.declared.commands.Command.TheVariants.{Import, Register, Publish, AmendNotice, Cancel, Open, Present, Modify, Withdraw, Examine, Award, Fail, Sign, AmendContract, Pay, End}
 use Rattle.office_base.specs.Tables.{Tables, award_at, contract_at}
 use Rattle.office_machine.specs.Publications.{published_for}
 use Rattle.office_publications.specs.Events.{event_of}
@@ -14,22 +14,17 @@ same_there f g (Some x) h = refl
 
 -- where something is published, it is of an event
 has_event : (s : Tables) (command : Command) → IsSome (published_for s command) → IsSome (event_of s command)
-has_event s (Import batch rows) h = h
-has_event s (Register tenderer name address key) h = h
 has_event s (Publish notice content) h = refl
 has_event s (AmendNotice notice deadline rationale) h = refl
 has_event s (Cancel notice rationale) h = refl
 has_event s (Open notice) h = refl
-has_event s (Present notice lot security bytes) h = h
-has_event s (Modify receipt bytes) h = h
-has_event s (Withdraw receipt) h = h
-has_event s (Examine receipt responsive quality) h = h
 has_event s (Award notice lot) h = refl
 has_event s (Fail award) h = same_there _ _ (award_at award s) h
 has_event s (Sign award named) h = same_there _ _ (award_at award s) h
 has_event s (AmendContract contract entry kind amount rationale) h = same_there _ _ (contract_at contract s) h
 has_event s (Pay contract entry amount) h = same_there _ _ (contract_at contract s) h
 has_event s (End contract how) h = same_there _ _ (contract_at contract s) h
+has_event s _ h = h
 
 mapped : {X Y : Type 0} (f : X → Y) (o : Option X) → IsSome o → IsSome (option_map f o)
 mapped f None h = h

@@ -8,7 +8,7 @@ use Rattle.serde_json.specs.Written.{compact_text}
 use Rattle.ocds_merge.specs.Compile.{date_of}
 use Rattle.ocds_merge.specs.Stored.{IsStorable}
 use Rattle.ocds_release.specs.EventReleases.{release_of_event}
-use Rattle.ocds_release.specs.KeptReleases.{IsKept, AreKept}
+use Rattle.ocds_release.specs.KeptReleases.{ReleaseIsKept, AreKept}
 use Rattle.ocds_release.specs.declared.event.Event.{Event}
 use Rattle.ocds_release.specs.declared.event.Event.TheVariants.{Publish, Amend, Open, Award, NoAward, Fail, Cancel, Sign, AmendContract, Pay, End}
 use Rattle.office_values.specs.Ids.{same_id}
@@ -23,7 +23,7 @@ use Rattle.office_machine.specs.Releases.{ReleasesArePublished, published_by, pu
 use Rattle.office_publications.specs.Events.{event_of}
 use Rattle.office_publications.specs.Merges.{CanBeMerged, data_in}
 use Rattle.office_publications.specs.Publishing.{publishing, text_by, notice_published}
-use Rattle.office_publications.specs.Standing.{Stands}
+use Rattle.office_publications.specs.Standing.{IsReached}
 use Rattle.office_publications.proofs.WrittenAlike.{IsObject, same_date, object_too}
 
 -- the row is of an event, at its moment
@@ -63,7 +63,7 @@ module _ (settings : Settings) where
       (of_notice (publication (publishing settings) x) notice (published_is x))
 
 -- so the rows of an office are
-pub all_of_events : ReleasesArePublished → (settings : Settings) (s : Tables) → Stands settings s → (notice : List ℕ)
+pub all_of_events : ReleasesArePublished → (settings : Settings) (s : Tables) → IsReached settings s → (notice : List ℕ)
     → All (IsOfEvent settings) (releases_of_notice notice s)
 all_of_events published settings s stands notice =
     subst (All (IsOfEvent settings)) (sym (published (publishing settings) stands.commands s stands.reaches notice)) (all_published settings stands.commands notice)
@@ -96,7 +96,7 @@ module _ (storable : (settings : Settings) (seq t : ℕ) (event : Event) → IsS
     same : compact_text can.release ≡ compact_text made
     same = sym can.written ∙ is.text
 
-    kept : IsKept r (data_in r)
+    kept : ReleaseIsKept r (data_in r)
     kept = record {
       text = can.written ∙ ap compact_text (sym told);
       date =
@@ -118,7 +118,7 @@ module _ (storable : (settings : Settings) (seq t : ℕ) (event : Event) → IsS
   all_objects [] can is = tt
   all_objects (r ∷ rows) can is = (object r can.0 is.0, all_objects rows can.1 is.1)
 
-  module _ (published : ReleasesArePublished) (s : Tables) (stands : Stands settings s) (notice : List ℕ) where
+  module _ (published : ReleasesArePublished) (s : Tables) (stands : IsReached settings s) (notice : List ℕ) where
     abbrev rows : List ReleaseRow
     rows = releases_of_notice notice s
 

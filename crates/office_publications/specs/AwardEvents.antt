@@ -7,7 +7,7 @@ use Rattle.office_base.specs.declared.records.EnvelopeRow.{EnvelopeRow}
 use Rattle.office_base.specs.declared.records.LotState.{LotState}
 use Rattle.office_base.specs.declared.records.LotState.TheVariants.{Contracted, Unsuccessful}
 use Rattle.office_base.specs.declared.records.TendererRow.{TendererRow}
-use Rattle.ocds_release.specs.TenderStatuses.{status_of, state_with}
+use Rattle.ocds_release.specs.TenderStatuses.{tender_status_of, state_with}
 use Rattle.ocds_release.specs.declared.tender_status.TenderStatus.{TenderStatus}
 use Rattle.ocds_release.specs.declared.event.Party.{Party}
 use Rattle.ocds_release.specs.declared.event.Event.{Event}
@@ -23,12 +23,12 @@ party_of s tenderer = record { id = tenderer; name = name_in (tenderer_at tender
 
 -- the status of a notice's tender once one of its lots has come to a state
 abbrev pub status_with : Tables → List ℕ → List ℕ → LotState → TenderStatus
-status_with s notice lot state = status_of (map (state_with lot state) (lots_of_notice notice s))
+status_with s notice lot state = tender_status_of (map (state_with lot state) (lots_of_notice notice s))
 
 -- a lot is awarded to the best tender, or found to have none
-abbrev pub awarded : Tables → List ℕ → List ℕ → Option EnvelopeRow → Event
-awarded s notice lot None = events.NoAward (record { notice = notice; lot = lot; status = status_with s notice lot Unsuccessful })
-awarded s notice lot (Some e) = events.Award (record {
+abbrev pub award_event : Tables → List ℕ → List ℕ → Option EnvelopeRow → Event
+award_event s notice lot None = events.NoAward (record { notice = notice; lot = lot; status = status_with s notice lot Unsuccessful })
+award_event s notice lot (Some e) = events.Award (record {
   notice = notice;
   award = s.clock.awards + 1;
   lot = lot;
@@ -37,9 +37,9 @@ awarded s notice lot (Some e) = events.Award (record {
 })
 
 -- the winner fails to sign
-abbrev pub failed : AwardRow → Event
-failed a = events.Fail (record { notice = a.notice; award = a.award })
+abbrev pub fail_event : AwardRow → Event
+fail_event a = events.Fail (record { notice = a.notice; award = a.award })
 
 -- the award is signed: its number is the contract's
-abbrev pub signed : Tables → AwardRow → Event
-signed s a = events.Sign (record { notice = a.notice; contract = a.award; lot = a.lot; price = a.price; status = status_with s a.notice a.lot Contracted })
+abbrev pub sign_event : Tables → AwardRow → Event
+sign_event s a = events.Sign (record { notice = a.notice; contract = a.award; lot = a.lot; price = a.price; status = status_with s a.notice a.lot Contracted })

@@ -1,5 +1,5 @@
 -- What an accepted command puts: what the machine puts, and the merge that its release joins.
-use Rattle.std.specs.Prelude.{◌≡◌, ℕ, List, ◌∷◌, [], ◌++◌, Option, Some, None}
+use Rattle.std.specs.Prelude.{◌≡◌, ℕ, Bool, true, ◌||◌, nat_eq, List, ◌∷◌, [], ◌++◌, Option, Some, None, is_some}
 use Rattle.serde_json.specs.Written.{compact_text}
 use Rattle.ocds_merge.specs.Merge.{merge_or_null}
 use Rattle.ocds_merge.specs.Stored.{KeepsMerge}
@@ -9,12 +9,13 @@ use Rattle.office_base.specs.declared.puts.Put.{Put}
 use Rattle.office_base.specs.declared.puts.Put.TheVariants as puts
 use Rattle.office_base.specs.declared.records.CompiledRow.{CompiledRow}
 use Rattle.office_base.specs.declared.records.ReleaseRow.{ReleaseRow}
-use Rattle.office_base.specs.Tables.{Tables, no_tables, after_puts}
-use Rattle.office_machine.specs.Machine.{Given, CanBeGiven, Reaches, effect, next, publication, puts_of, refusal_of, release_row, with_trees}
+use Rattle.office_base.specs.Tables.{Tables, no_tables, notice_at, release_at, after_puts}
+use Rattle.office_machine.specs.Machine.{Given, CanBeGiven, Reaches, effect, next, publication, puts_of, refusal_of, release_row, with_merges}
+use Rattle.office_machine.specs.Counted.{releases_in}
 use Rattle.office_machine.specs.OfficeMeans.{office_readings}
 use Rattle.office_machine.specs.Publications.{published_for}
 use Rattle.office_publications.specs.Events.{event_of}
-use Rattle.office_publications.specs.Merges.{CanBeMerged, AreMerged, AreReleases, bodies, body_in}
+use Rattle.office_publications.specs.Merges.{CanBeMerged, AreMerged, AreReleases, AreReleasesOf, HasMerge, IsMergedOf, bodies, body_in}
 use Rattle.office_publications.specs.Publishing.{publishing, text_by}
 
 -- the row that keeps the merge of a notice's releases and one more
@@ -30,13 +31,35 @@ abbrev pub kept_puts : Settings → Given → List Put
 kept_puts settings x = puts_of (publishing settings) x ++ merge_puts x.before (publication (publishing settings) x)
 
 -- the office after it, with the merges beside it
-abbrev pub kept_next : Settings → Given → Tables
-kept_next settings x = after_puts (kept_puts settings x) x.before
+abbrev pub next_with_merges : Settings → Given → Tables
+next_with_merges settings x = after_puts (kept_puts settings x) x.before
 
 -- all releases can be merged, and each merge that is kept is that of its notice's releases
 pub record KeepsReleases (t : Tables) : Type 0 where
   pub releases : AreReleases t
   pub merged : AreMerged t
+
+-- the same of the releases of one notice
+pub record KeepsReleasesOf (notice : List ℕ) (t : Tables) : Type 0 where
+  pub releases : AreReleasesOf notice t
+  pub merged : IsMergedOf notice t
+
+-- it is so of the notice of which a command publishes a release; of a command that publishes nothing, nothing is asked
+abbrev pub KeepsItsReleases : Given → Type 0
+KeepsItsReleases x = (notice : List ℕ) → published_for x.before x.command ≡ Some notice → KeepsReleasesOf notice x.before
+
+-- the last release of a notice is there, where the notice has any
+abbrev pub has_last_release : List ℕ → ℕ → Tables → Bool
+has_last_release notice releases t = nat_eq releases 0 || is_some (release_at (notice, releases) t)
+
+-- what is kept of a notice can be gone on from: its last release is there, and the merge, where one is kept, is an object
+pub record CanBeFollowed (notice : List ℕ) (t : Tables) : Type 0 where
+  pub last : has_last_release notice (releases_in (notice_at notice t)) t ≡ true
+  pub merge : HasMerge notice t
+
+-- so is what is kept of the notice of which a command publishes a release; of a command that publishes nothing, nothing is asked
+abbrev pub FollowsReleases : Given → Type 0
+FollowsReleases x = (notice : List ℕ) → published_for x.before x.command ≡ Some notice → CanBeFollowed notice x.before
 
 -- a release can be read and merged, and so can the merge that it joins. It is said of what was made: the definitions have numbers of any size, and
 -- a number of more than 64 bits in a text is read as a float.
@@ -71,17 +94,17 @@ EventsPutReleases = (settings : Settings) (x : Given) (e : Event) (notice : List
 
 -- the office after it is the machine's, with the merges beside it
 abbrev pub MergesStandBeside : Type 0
-MergesStandBeside = (settings : Settings) (x : Given) → kept_next settings x ≡ with_trees (kept_next settings x).compiled (next (publishing settings) x)
+MergesStandBeside = (settings : Settings) (x : Given) → next_with_merges settings x ≡ with_merges (next_with_merges settings x).compiled (next (publishing settings) x)
 
 -- so accepted commands lead there
 abbrev pub KeptStepsReach : Type 0
 KeptStepsReach = (settings : Settings) (xs : List Given) (x : Given) → Reaches (publishing settings) xs x.before → CanBeGiven x → refusal_of x ≡ None
-    → Reaches (publishing settings) (x ∷ xs) (kept_next settings x)
+    → Reaches (publishing settings) (x ∷ xs) (next_with_merges settings x)
 
 -- what is kept of releases stays kept
 abbrev pub ReleasesStayKept : Type 0
 ReleasesStayKept = (settings : Settings) (xs : List Given) (x : Given) → Reaches (publishing settings) xs x.before → CanBeGiven x → refusal_of x ≡ None
-    → PublicationReadsBack settings x → KeepsReleases x.before → KeepsReleases (kept_next settings x)
+    → PublicationReadsBack settings x → KeepsReleases x.before → KeepsReleases (next_with_merges settings x)
 
 -- in the empty office nothing is published
 abbrev pub NothingIsKeptAtFirst : Type 0

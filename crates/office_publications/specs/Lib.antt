@@ -11,3 +11,4 @@ pub mod Standing
 pub mod Told
 pub mod Sealed
 pub mod MergesApart
+pub mod Keys

@@ -1,10 +1,10 @@
 -- The merge of a notice's releases, as it is kept beside them.
-use Rattle.std.specs.Prelude.{◌≡◌, ℕ, List, ◌∷◌, [], ◌++◌, map, filter, Some, unwrap_or, All, false}
+use Rattle.std.specs.Prelude.{◌≡◌, ℕ, List, ◌∷◌, [], ◌++◌, map, filter, Some, None, unwrap_or, All, false}
 use Rattle.serde_json.specs.Data.{Data, null}
 use Rattle.serde_json.specs.Read.{read}
 use Rattle.serde_json.specs.Written.{compact_text, has_float}
 use Rattle.ocds_merge.specs.Compile.{body_of}
-use Rattle.ocds_merge.specs.Stored.{KeepsMerge, IsStorable}
+use Rattle.ocds_merge.specs.Stored.{KeepsMerge, IsObjectText, IsStorable}
 use Rattle.office_values.specs.Ids.{same_id}
 use Rattle.office_base.specs.Tables.{Tables, compiled_at, put_compiled, releases_of_notice}
 use Rattle.office_base.specs.declared.records.CompiledRow.{CompiledRow}
@@ -32,13 +32,21 @@ body_in r = body_of (data_in r)
 abbrev pub bodies : List ℕ → Tables → List Data
 bodies notice t = map body_in (releases_of_notice notice t)
 
+-- all releases of a notice can be merged
+abbrev pub AreReleasesOf : List ℕ → Tables → Type 0
+AreReleasesOf notice t = All CanBeMerged (releases_of_notice notice t)
+
+-- the merge that is kept of a notice's releases, where one is, is theirs
+abbrev pub IsMergedOf : List ℕ → Tables → Type 0
+IsMergedOf notice t = (c : CompiledRow) → compiled_at notice t ≡ Some c → KeepsMerge c.text (bodies notice t)
+
 -- all releases can be merged
 abbrev pub AreReleases : Tables → Type 0
-AreReleases t = (notice : List ℕ) → All CanBeMerged (releases_of_notice notice t)
+AreReleases t = (notice : List ℕ) → AreReleasesOf notice t
 
 -- each merge that is kept is that of its notice's releases
 abbrev pub AreMerged : Tables → Type 0
-AreMerged t = (notice : List ℕ) (c : CompiledRow) → compiled_at notice t ≡ Some c → KeepsMerge c.text (bodies notice t)
+AreMerged t = (notice : List ℕ) → IsMergedOf notice t
 
 -- the row that keeps the merge of these bodies
 pub record IsMerge (notice : List ℕ) (vs : List Data) (c : CompiledRow) : Type 0 where
@@ -48,7 +56,16 @@ pub record IsMerge (notice : List ℕ) (vs : List Data) (c : CompiledRow) : Type
 -- what was loaded of a notice's releases is their merge that is kept, or, where none is, they themselves
 abbrev pub IsKeptOf : List ℕ → Tables → Kept → Type 0
 IsKeptOf notice t (Merge c) = compiled_at notice t ≡ Some c
-IsKeptOf notice t (Releases rows) = rows ≡ releases_of_notice notice t
+IsKeptOf notice t (Releases rows) = (compiled_at notice t ≡ None) × (rows ≡ releases_of_notice notice t)
+
+-- what is kept can be gone on from: where it is a merge, this is an object, as the merge of releases is
+abbrev pub CanGoOn : Kept → Type 0
+CanGoOn (Merge c) = IsObjectText c.text
+CanGoOn (Releases rows) = Unit {0}
+
+-- so is what an office keeps of this notice
+abbrev pub HasMerge : List ℕ → Tables → Type 0
+HasMerge notice t = (c : CompiledRow) → compiled_at notice t ≡ Some c → IsObjectText c.text
 
 -- a release and the merge with it are put: the notice has one release more, other notices have theirs
 pub record IsPublished (s t : Tables) (r : ReleaseRow) (c : CompiledRow) : Type 0 where

@@ -1,14 +1,14 @@
 -- The merges of releases that stand beside the office that publishes are no part of what it decides, puts or tells.
 use Rattle.std.specs.Prelude.{◌≡◌, List}
-use Rattle.office_acts.specs.declared.command.Caller.{Caller}
-use Rattle.office_acts.specs.declared.queries.Query.{Query}
+use Rattle.office_commands.specs.declared.command.Caller.{Caller}
+use Rattle.office_commands.specs.declared.queries.Query.{Query}
 use Rattle.office_values.specs.declared.settings.Settings.{Settings}
 use Rattle.office_base.specs.declared.records.CompiledRow.{CompiledRow}
 use Rattle.office_base.specs.Tables.{Tables}
-use Rattle.office_machine.specs.Machine.{Given, next, with_trees}
+use Rattle.office_machine.specs.Machine.{Given, next, with_merges}
 use Rattle.office_machine.specs.MergesApart.{PublishesNoMerges, ShowsNoMerges, beside}
 use Rattle.office_machine.specs.Sights.{told}
-use Rattle.office_publications.specs.Keeping.{kept_next}
+use Rattle.office_publications.specs.Keeping.{next_with_merges}
 use Rattle.office_publications.specs.Packages.{packages}
 use Rattle.office_publications.specs.Publishing.{publishing}
 
@@ -22,10 +22,10 @@ PackagesTellNoMerges = (settings : Settings) → ShowsNoMerges (packages setting
 
 -- so whoever looks sees the same, whatever merges there are
 abbrev pub PublishedLooksReadNoMerges : Type 0
-PublishedLooksReadNoMerges = (settings : Settings) (trees : List CompiledRow) (s : Tables) (caller : Caller) (query : Query)
-    → told (packages settings) (with_trees trees s) caller query ≡ told (packages settings) s caller query
+PublishedLooksReadNoMerges = (settings : Settings) (merges : List CompiledRow) (s : Tables) (caller : Caller) (query : Query)
+    → told (packages settings) (with_merges merges s) caller query ≡ told (packages settings) s caller query
 
 -- and an accepted command leads to the machine's next office, with some merges beside it
 abbrev pub KeptStepsReadNoMerges : Type 0
-KeptStepsReadNoMerges = (settings : Settings) (trees : List CompiledRow) (x : Given)
-    → kept_next settings (beside trees x) ≡ with_trees (kept_next settings (beside trees x)).compiled (next (publishing settings) x)
+KeptStepsReadNoMerges = (settings : Settings) (merges : List CompiledRow) (x : Given)
+    → next_with_merges settings (beside merges x) ≡ with_merges (next_with_merges settings (beside merges x)).compiled (next (publishing settings) x)

@@ -3,30 +3,30 @@ use Rattle.std.specs.Prelude.{List}
 use Rattle.office_values.specs.declared.settings.Settings.{Settings}
 use Rattle.office_base.specs.Tables.{Tables}
 use Rattle.office_machine.specs.Machine.{Given, Reaches}
-use Rattle.office_machine.specs.Requests.{AreRequests, Request, all_joined}
-use Rattle.office_machine.specs.Seals.{AlikeThroughout, AlikeUntilOpening, DifferingAreGone, PublishesBlindly, SameButSeals, SeesBlindly}
-use Rattle.office_machine.specs.Worlds.{Theirs}
+use Rattle.office_machine.specs.Requests.{AreRequests, Request, all_accepted}
+use Rattle.office_machine.specs.Seals.{AlikeThroughout, AlikeUntilOpening, DifferingAreGone, ReleasesHideSeals, SameButSeals, PackagesHideSeals}
+use Rattle.office_machine.specs.Worlds.{ChosenTender}
 use Rattle.office_publications.specs.Packages.{packages}
 use Rattle.office_publications.specs.Publishing.{publishing}
 
 -- the texts of its releases tell no digest, and of seals those alone that an opening opens
 abbrev pub ReleasesTellNoSeals : Type 0
-ReleasesTellNoSeals = (settings : Settings) → PublishesBlindly (publishing settings)
+ReleasesTellNoSeals = (settings : Settings) → ReleasesHideSeals (publishing settings)
 
 -- the texts of its packages show no digest and no seal
 abbrev pub PackagesTellNoSeals : Type 0
-PackagesTellNoSeals = (settings : Settings) → SeesBlindly (packages settings)
+PackagesTellNoSeals = (settings : Settings) → PackagesHideSeals (packages settings)
 
 -- so sealed tenders tell nothing in the office that publishes: of two lists of requests that differ in the bytes alone that one tenderer seals for one lot,
 -- all callers are told alike up to the opening
 abbrev pub PublishedSealsAreKept : Type 0
-PublishedSealsAreKept = (settings : Settings) (th : Theirs) (xs : List Given) (s : Tables) → Reaches (publishing settings) xs s
+PublishedSealsAreKept = (settings : Settings) (th : ChosenTender) (xs : List Given) (s : Tables) → Reaches (publishing settings) xs s
     → (rest rest' : List Request) → AreRequests (publishing settings) s rest → SameButSeals (publishing settings) th s rest rest'
     → AlikeUntilOpening (publishing settings) (packages settings) th s s rest rest'
 
 -- and to the end, where each receipt whose bytes differ is withdrawn or returned
 abbrev pub PublishedRunsAreAlike : Type 0
-PublishedRunsAreAlike = (settings : Settings) (th : Theirs) (xs : List Given) (s : Tables) → Reaches (publishing settings) xs s
+PublishedRunsAreAlike = (settings : Settings) (th : ChosenTender) (xs : List Given) (s : Tables) → Reaches (publishing settings) xs s
     → (rest rest' : List Request) → AreRequests (publishing settings) s rest → SameButSeals (publishing settings) th s rest rest'
-    → DifferingAreGone (all_joined (publishing settings) s xs rest) (all_joined (publishing settings) s xs rest')
+    → DifferingAreGone (all_accepted (publishing settings) s xs rest) (all_accepted (publishing settings) s xs rest')
     → AlikeThroughout (publishing settings) (packages settings) th s s rest rest'

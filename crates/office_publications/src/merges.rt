@@ -1,15 +1,17 @@
 //! The merge of a notice's releases, kept and carried on.
-ghost use Rattle.std.specs.Prelude.{◌≡◌, ℕ, ◌∷◌, [], ◌++◌, List, map, All, IfOk, IfErr};
+ghost use Rattle.std.specs.Prelude.{◌≡◌, ℕ, ◌∷◌, [], ◌++◌, List, map, All, IfOk, OnOk, IfErr};
 ghost use Rattle.serde_json.specs.Data.{Data};
 ghost use Rattle.serde_json.specs.View.{view};
-ghost use Rattle.ocds_merge.specs.Stored.{KeepsMerge, IsStorable};
+ghost use Rattle.ocds_merge.specs.Stored.{KeepsMerge, IsObjectText, IsStorable};
 ghost use Rattle.ocds_merge.specs.Merge.{merge_or_null};
 ghost use Rattle.office_base.specs.Shelves.{LooksUp};
 ghost use Rattle.office_base.specs.Tables.{Tables};
 ghost use Rattle.office_values.specs.declared.refusal.Refusal.TheVariants.{Unavailable};
-ghost use Rattle.office_publications.specs.Merges.{bodies, body_in, AreMerged, IsKeptOf, IsMerge};
+ghost use Rattle.office_publications.specs.Merges.{bodies, body_in, CanGoOn, IsMergedOf, IsKeptOf, IsMerge};
 
-use ocds_merge::{merge_from_text, merge_into, merge_into_text, merge_to_text, without_head};
+use ocds_merge::{
+    begins_object, merge_from_text, merge_into, merge_into_text, merge_to_text, without_head,
+};
 use office_base::json_text::JsonText;
 use office_base::records::{CompiledRow, ReleaseRow};
 use office_base::rows::Rows;
@@ -78,33 +80,44 @@ fn merged_anew(alloc: Global, rows: &[ReleaseRow], body: &Value) -> Result<JsonT
     }
 }
 
-// The text of a merge that is kept, and one body more.
+// The text of a merge that is kept, and one body more. A merge that is no object isn't begun anew.
 fn carried_on(alloc: Global, kept: &CompiledRow, body: &Value) -> Result<JsonText, Refusal>
     ensures keeps { IfOk result (λ text. (vs : List Data) → KeepsMerge kept.now.text vs → All IsStorable (vs ++ (view body.now ∷ []))
         → KeepsMerge text (vs ++ (view body.now ∷ []))) }
+    ensures object { OnOk result (IsObjectText kept.now.text) }
     ensures none { IfErr result (λ why. why ≡ Unavailable) }
 {
+    if !begins_object(kept.text.as_str()) {
+        return Err(Refusal::Unavailable);
+    }
     match merge_into_text(alloc, kept.text.as_str(), body) {
         Ok(text) => Ok(JsonText::from_string(text)),
         Err(_) => Err(Refusal::Unavailable),
     }
 }
 
-// The merge that a row keeps.
+// The merge that a row keeps. None is one that is no object.
 fn merge_in(alloc: Global, kept: &CompiledRow) -> Result<Value, Refusal>
     ensures merge { IfOk result (λ merge. (vs : List Data) → KeepsMerge kept.now.text vs → view merge ≡ merge_or_null vs) }
+    ensures object { OnOk result (IsObjectText kept.now.text) }
     ensures none { IfErr result (λ why. why ≡ Unavailable) }
 {
-    match merge_from_text(alloc, kept.text.as_str()) {
+    let text = kept.text.as_str();
+    if !begins_object(text) {
+        return Err(Refusal::Unavailable);
+    }
+    match merge_from_text(alloc, text) {
         Ok(merge) => Ok(merge),
         Err(_) => Err(Refusal::Unavailable),
     }
 }
 
-/// The merge of a notice's releases without their heads.
+/// The merge of a notice's releases without their heads. `Unavailable` also where the merge that is kept is no object: no office that commands
+/// lead to keeps such a one.
 pub fn merge_kept(alloc: Global, kept: &Kept) -> Result<Value, Refusal>
-    ensures merge { IfOk result (λ merge. (notice : List ℕ) (t : Tables) → IsKeptOf notice t kept.now → AreMerged t
+    ensures merge { IfOk result (λ merge. (notice : List ℕ) (t : Tables) → IsKeptOf notice t kept.now → IsMergedOf notice t
         → view merge ≡ merge_or_null (bodies notice t)) }
+    ensures goes_on { OnOk result (CanGoOn kept.now) }
     ensures none { IfErr result (λ why. why ≡ Unavailable) }
 {
     match kept {
@@ -113,15 +126,17 @@ pub fn merge_kept(alloc: Global, kept: &Kept) -> Result<Value, Refusal>
     }
 }
 
-/// The row that keeps the merge of a notice's releases and one more, which is given without its head.
+/// The row that keeps the merge of a notice's releases and one more, which is given without its head. `Unavailable` also where the merge that is
+/// kept is no object, so that nothing is published over what can't be gone on from.
 pub fn merge_with(
     alloc: Global,
     kept: &Kept,
     notice: Id,
     body: &Value,
 ) -> Result<CompiledRow, Refusal>
-    ensures merges { IfOk result (λ row. (t : Tables) → IsKeptOf notice t kept.now → AreMerged t → All IsStorable (bodies notice t ++ (view body.now ∷ []))
+    ensures merges { IfOk result (λ row. (t : Tables) → IsKeptOf notice t kept.now → IsMergedOf notice t → All IsStorable (bodies notice t ++ (view body.now ∷ []))
         → IsMerge notice (bodies notice t ++ (view body.now ∷ [])) row) }
+    ensures goes_on { OnOk result (CanGoOn kept.now) }
     ensures none { IfErr result (λ why. why ≡ Unavailable) }
 {
     let text = match kept {

@@ -1,12 +1,12 @@
 //! What an event of a notice publishes: its release, as it is kept, and the merge that it joins.
-ghost use Rattle.std.specs.Prelude.{◌≡◌, IfOk, IfErr};
+ghost use Rattle.std.specs.Prelude.{◌≡◌, IfOk, OnOk, IfErr};
 ghost use Rattle.serde_json.specs.View.{view};
 ghost use Rattle.serde_json.specs.Written.{compact_text};
 ghost use Rattle.ocds_merge.specs.Stored.{IsStorable};
 ghost use Rattle.office_base.specs.Tables.{Tables};
 ghost use Rattle.office_values.specs.declared.refusal.Refusal.TheVariants.{Unavailable};
-ghost use Rattle.office_publications.specs.Keeping.{KeepsReleases, ReadsBack, merged_row};
-ghost use Rattle.office_publications.specs.Merges.{IsKeptOf};
+ghost use Rattle.office_publications.specs.Keeping.{KeepsReleasesOf, ReadsBack, merged_row};
+ghost use Rattle.office_publications.specs.Merges.{CanGoOn, IsKeptOf};
 
 use crate::merges::{Kept, merge_with};
 use ocds_merge::{merge_stays_storable, without_head};
@@ -28,7 +28,7 @@ pub struct Publication {
 
 /// A release of a notice as it is kept, as compact text under a number, with its moment, and the merge that it joins. Time and memory grow
 /// with the release and the merge, and not with the number of releases, where their merge is kept. A release can be stored where it has no
-/// floats and isn't nested more than 127 levels deep.
+/// floats and isn't nested more than 127 levels deep. `Unavailable` where the merge that is kept is no object.
 pub fn keep_release(
     alloc: Global,
     notice: Id,
@@ -39,10 +39,11 @@ pub fn keep_release(
 ) -> Result<Publication, Refusal>
     ensures release { IfOk result (λ p. IsStorable (view release)
         → p.release ≡ record { notice = notice; seq = seq; moment = t; text = compact_text (view release) }) }
-    ensures merge { IfOk result (λ p. IsStorable (view release) → (s : Tables) → IsKeptOf notice s kept.now → KeepsReleases s
+    ensures merge { IfOk result (λ p. IsStorable (view release) → (s : Tables) → IsKeptOf notice s kept.now → KeepsReleasesOf notice s
         → p.merge ≡ merged_row s p.release) }
-    ensures read { IfOk result (λ p. IsStorable (view release) → (s : Tables) → IsKeptOf notice s kept.now → KeepsReleases s
+    ensures read { IfOk result (λ p. IsStorable (view release) → (s : Tables) → IsKeptOf notice s kept.now → KeepsReleasesOf notice s
         → ReadsBack s p.release) }
+    ensures goes_on { OnOk result (CanGoOn kept.now) }
     ensures none { IfErr result (λ why. why ≡ Unavailable) }
 {
     merge_stays_storable();

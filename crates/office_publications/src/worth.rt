@@ -1,18 +1,19 @@
 //! What a contract is worth once it is raised or cut.
-ghost use Rattle.std.specs.Prelude.{◌≡◌, ◌<◌, ◌^◌, IfSome};
+ghost use Rattle.std.specs.Prelude.{◌≡◌, ◌<◌, ◌^◌, IfSome, IfNone};
+ghost use Rattle.office_values.specs.Money.{total_limit};
 ghost use Rattle.office_base.specs.Joined.{entry_sum};
-ghost use Rattle.office_publications.specs.Worth.{is_cut, worth_after};
+ghost use Rattle.office_publications.specs.Worth.{is_contract_cut, contract_value_after};
 
 use award_core::entries::{is_of, raised};
-use office_acts::amounts::EntryAmount;
-use office_acts::contract::ChangeKind;
 use office_base::records::{ContractRow, EntryKind, EntryRow};
+use office_commands::amounts::EntryAmount;
+use office_commands::contract::ChangeKind;
 use office_values::given::GivenNumber;
 use office_values::money::Total;
 
 // What the entries of the contract cut it by.
 fn cut(entries: &[EntryRow], contract: GivenNumber) -> u128
-    ensures sum { result ≡ entry_sum is_cut entries.now contract }
+    ensures sum { result ≡ entry_sum is_contract_cut entries.now contract }
     ensures small { result < 2 ^ 110 }
 {
     let mut sum = 0;
@@ -24,15 +25,16 @@ fn cut(entries: &[EntryRow], contract: GivenNumber) -> u128
     sum
 }
 
-/// What the contract is worth once it is raised or cut by this amount: what was signed and raised, less what was cut. None where that is
-/// above 10^15, as of no contract that commands lead to.
-pub fn worth_after(
+/// What the contract is worth once it is raised or cut by this amount: what was signed and raised, less what was cut. None exactly
+/// where that is above 10^15, as of no contract that commands lead to.
+pub fn contract_value_after(
     entries: &[EntryRow],
     contract: &ContractRow,
     kind: ChangeKind,
     amount: EntryAmount,
 ) -> Option<Total>
-    ensures { IfSome result (λ worth. worth ≡ worth_after entries.now contract.now kind amount) }
+    ensures found { IfSome result (λ worth. worth ≡ contract_value_after entries.now contract.now kind amount) }
+    ensures none { IfNone result (total_limit < contract_value_after entries.now contract.now kind amount) }
 {
     let (more, less) = match kind {
         ChangeKind::Raise => (amount.get() as u128, 0),

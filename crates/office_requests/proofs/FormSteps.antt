@@ -3,7 +3,7 @@ use Rattle.std.proofs.Common.{◌≡◌, ℕ, ◌<◌, ◌≤◌, ◌⊎◌, inl
 use Rattle.std.specs.Prelude.{nat_le, is_some, if◌then◌else◌}
 use Rattle.std.proofs.lemmas.Bool.{le-leb, leb-true, and_parts}
 use Rattle.office_values.specs.Fields.{is_id, is_text_line}
-use Rattle.office_requests.specs.Forms.{passing, id_of, line_of, is_between, within}
+use Rattle.office_requests.specs.Forms.{passing, identifier_of, line_of, is_between, number_between}
 
 -- what was read of a text is the text, where it passes the test
 kept : (passes : Bool) (text : List ℕ) (read : Option (List ℕ)) → IfSome read (λ t. t ≡ text) → is_some read ≡ passes
@@ -11,8 +11,8 @@ kept : (passes : Bool) (text : List ℕ) (read : Option (List ℕ)) → IfSome r
 kept passes text None found tested = rw (sym tested) refl
 kept passes text (Some t) found tested = rw (sym tested, found) refl
 
-pub id_kept : (text : List ℕ) (read : Option (List ℕ)) → IfSome read (λ t. t ≡ text) → is_some read ≡ is_id text → read ≡ id_of text
-unfolding id_of
+pub id_kept : (text : List ℕ) (read : Option (List ℕ)) → IfSome read (λ t. t ≡ text) → is_some read ≡ is_id text → read ≡ identifier_of text
+unfolding identifier_of
 id_kept text read found tested = kept (is_id text) text read found tested
 
 pub line_kept : {E : Type 0} (text : List ℕ) (read : Result (Option (List ℕ)) E) → IfOk read (λ l. IfSome l (λ t. t ≡ text))
@@ -23,8 +23,8 @@ line_kept text (Ok l) found tested = kept (is_text_line text) text l found teste
 line_kept text (Err fault) found tested = tt
 
 pub number_kept : (low high number : ℕ) (read : Option ℕ) → IfSome read (λ n. n ≡ number) → IfSome read (λ _. low ≤ number) → IfSome read (λ _. number ≤ high)
-    → IfNone read ((number < low) ⊎ (high < number)) → read ≡ within low high number
-unfolding within
+    → IfNone read ((number < low) ⊎ (high < number)) → read ≡ number_between low high number
+unfolding number_between
 number_kept low high number (Some n) found least most none = rw (le-leb _ _ least, le-leb _ _ most, found) refl
 number_kept low high number None found least most none = by (is_between low high number) refl
   where

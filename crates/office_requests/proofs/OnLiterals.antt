@@ -12,16 +12,16 @@ use Rattle.office_values.specs.Moments.{moment_text, year_after, month_after}
 use Rattle.tender_papers.specs.Budget.{rows_from}
 use Rattle.office_requests.specs.Paths.{segment}
 use Rattle.office_requests.specs.Moments.{moment_of, second_named, days_to_year, days_to_month}
-use Rattle.office_requests.specs.Forms.{id_of, line_of, within, amount_of, digest_of, change_of, ending_of, basis_of, lateness_of}
-use Rattle.office_requests.specs.Fields.{text_at, flag_at, number_at, needed, perhaps_number_in, absent_in}
-use Rattle.office_requests.specs.Bodies.{object_of, registration_in, notice_amendment_in, cancellation_in, examination_in, contract_amendment_in, named_in, performance_of, payment_in, ending_in, sealed_in}
-use Rattle.office_requests.specs.Publications.{each_of, array_at, elements_at, item_of, items_of, lot_of, lots_in, criteria_with, criteria_in, late_in, performance_in, notice_in}
+use Rattle.office_requests.specs.Forms.{identifier_of, line_of, number_between, amount_of, digest_of, change_of, ending_of, basis_of, lateness_of}
+use Rattle.office_requests.specs.Fields.{text_at, flag_at, number_at, field_or_refusal, perhaps_number_in, absent_in}
+use Rattle.office_requests.specs.Bodies.{object_in_body, registration_in, notice_amendment_in, cancellation_in, examination_in, contract_amendment_in, named_in, performance_of, payment_in, ending_in, sealed_in}
+use Rattle.office_requests.specs.Publications.{each_of, array_at, elements_at, new_item_of, items_of, new_lot_of, lots_in, criteria_with, criteria_in, late_in, performance_in, new_notice_in}
 use Rattle.office_requests.specs.Parameters.{given_from, security_in}
 use Rattle.office_requests.specs.Asking.{named_command, lot_command, numbered_command, command_at, query_at, asked_by}
 
 -- what a text or a number writes
 unfoldable pub forms_on_literals : ⊤
-unfolding hex_on_literals is_utf8 chars encode is_id is_text_line id_of line_of within amount_of digest_of change_of ending_of basis_of lateness_of
+unfolding hex_on_literals is_utf8 chars encode is_id is_text_line identifier_of line_of number_between amount_of digest_of change_of ending_of basis_of lateness_of
 forms_on_literals = tt
 
 -- the moment that a text writes
@@ -36,12 +36,12 @@ paths_on_literals = tt
 
 -- what a field of a body says
 unfoldable pub fields_on_literals : ⊤
-unfolding forms_on_literals moments_on_literals serde_json_on_literals text_at flag_at number_at needed perhaps_number_in absent_in object_of
+unfolding forms_on_literals moments_on_literals serde_json_on_literals text_at flag_at number_at field_or_refusal perhaps_number_in absent_in object_in_body
 fields_on_literals = tt
 
 -- what a publication says
 unfoldable pub publications_on_literals : ⊤
-unfolding fields_on_literals each_of array_at elements_at item_of items_of lot_of lots_in criteria_with criteria_in late_in performance_in notice_in
+unfolding fields_on_literals each_of array_at elements_at new_item_of items_of new_lot_of lots_in criteria_with criteria_in late_in performance_in new_notice_in
 publications_on_literals = tt
 
 -- what another body says

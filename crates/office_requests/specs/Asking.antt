@@ -2,22 +2,22 @@
 use Rattle.std.specs.Prelude.{ℕ, Bool, if◌then◌else◌, List, Result, Ok, Err}
 use Rattle.office_values.specs.declared.refusal.Refusal.{Refusal}
 use Rattle.office_values.specs.declared.refusal.Refusal.TheVariants.{NoRoute, Forbidden}
-use Rattle.office_acts.specs.Commands as of_commands
-use Rattle.office_acts.specs.Queries as of_queries
-use Rattle.office_acts.specs.Rights.{may, may_look}
-use Rattle.office_acts.specs.declared.command.Caller.{Caller}
-use Rattle.office_acts.specs.declared.command.CommandKind.{CommandKind}
-use Rattle.office_acts.specs.declared.command.CommandKind.TheVariants as kinds
-use Rattle.office_acts.specs.declared.command.QueryKind.{QueryKind}
-use Rattle.office_acts.specs.declared.command.QueryKind.TheVariants as looks
-use Rattle.office_acts.specs.declared.commands.Command.{Command}
-use Rattle.office_acts.specs.declared.commands.Command.TheVariants as commands
-use Rattle.office_acts.specs.declared.queries.Query.{Query}
-use Rattle.office_acts.specs.declared.queries.Query.TheVariants as queries
+use Rattle.office_commands.specs.Commands as of_commands
+use Rattle.office_commands.specs.Queries as of_queries
+use Rattle.office_commands.specs.Rights.{may, may_look}
+use Rattle.office_commands.specs.declared.command.Caller.{Caller}
+use Rattle.office_commands.specs.declared.command.CommandKind.{CommandKind}
+use Rattle.office_commands.specs.declared.command.CommandKind.TheVariants as kinds
+use Rattle.office_commands.specs.declared.command.QueryKind.{QueryKind}
+use Rattle.office_commands.specs.declared.command.QueryKind.TheVariants as looks
+use Rattle.office_commands.specs.declared.commands.Command.{Command}
+use Rattle.office_commands.specs.declared.commands.Command.TheVariants as commands
+use Rattle.office_commands.specs.declared.queries.Query.{Query}
+use Rattle.office_commands.specs.declared.queries.Query.TheVariants as queries
 use Rattle.office_wire.specs.Request.{RequestView}
 use Rattle.tender_papers.specs.Budget.{budget_of}
 use Rattle.tender_papers.specs.Files.{csv_records}
-use Rattle.office_requests.specs.Bodies.{object_of, import_of, registration_in, notice_amendment_in, cancellation_in, examination_in, contract_amendment_in, payment_in, performance_of, ending_in, sealed_in}
+use Rattle.office_requests.specs.Bodies.{object_in_body, import_of, registration_in, notice_amendment_in, cancellation_in, examination_in, contract_amendment_in, payment_in, performance_of, ending_in, sealed_in}
 use Rattle.office_requests.specs.Fields.{◌>>=◌}
 use Rattle.office_requests.specs.Parameters.{query_of, security_in}
 use Rattle.office_requests.specs.Publications.{publication_in}
@@ -37,10 +37,10 @@ may_ask caller (Queries kind) = may_look caller kind
 -- the command of a route whose path names one thing
 unfoldable pub named_command : CommandKind → List ℕ → List ℕ → Result Command Refusal
 named_command kinds.Import batch body = import_of batch (budget_of (csv_records body))
-named_command kinds.Register tenderer body = object_of body >>= registration_in tenderer
-named_command kinds.Publish notice body = object_of body >>= publication_in notice
-named_command kinds.AmendNotice notice body = object_of body >>= notice_amendment_in notice
-named_command kinds.Cancel notice body = object_of body >>= cancellation_in notice
+named_command kinds.Register tenderer body = object_in_body body >>= registration_in tenderer
+named_command kinds.Publish notice body = object_in_body body >>= publication_in notice
+named_command kinds.AmendNotice notice body = object_in_body body >>= notice_amendment_in notice
+named_command kinds.Cancel notice body = object_in_body body >>= cancellation_in notice
 named_command kinds.Open notice body = Ok (commands.Open notice)
 named_command _ name body = Err NoRoute
 
@@ -57,12 +57,12 @@ lot_command _ notice lot query body = Err NoRoute
 unfoldable pub numbered_command : CommandKind → ℕ → List ℕ → Result Command Refusal
 numbered_command kinds.Modify receipt body = sealed_in body >>= λ sealed. Ok (commands.Modify receipt sealed)
 numbered_command kinds.Withdraw receipt body = Ok (commands.Withdraw receipt)
-numbered_command kinds.Examine receipt body = object_of body >>= examination_in receipt
+numbered_command kinds.Examine receipt body = object_in_body body >>= examination_in receipt
 numbered_command kinds.Fail award body = Ok (commands.Fail award)
 numbered_command kinds.Sign award body = performance_of body >>= λ named. Ok (commands.Sign award named)
-numbered_command kinds.AmendContract contract body = object_of body >>= contract_amendment_in contract
-numbered_command kinds.Pay contract body = object_of body >>= payment_in contract
-numbered_command kinds.End contract body = object_of body >>= ending_in contract
+numbered_command kinds.AmendContract contract body = object_in_body body >>= contract_amendment_in contract
+numbered_command kinds.Pay contract body = object_in_body body >>= payment_in contract
+numbered_command kinds.End contract body = object_in_body body >>= ending_in contract
 numbered_command _ number body = Err NoRoute
 
 -- the command of a route with this query and this body; a place of another shape than the command's is that of no route
@@ -91,12 +91,12 @@ asked_by (Commands kind) place query body = command_at kind place query body >>=
 asked_by (Queries kind) place query body = query_at kind place >>= λ look. Ok (Looks look)
 
 -- what the caller asks by a route with this request: the caller's rights come before the query and the body
-abbrev pub asked : Caller → Route → RequestView → Result Asked Refusal
-asked caller route request =
+abbrev pub asked_by_route : Caller → Route → RequestView → Result Asked Refusal
+asked_by_route caller route request =
     if may_ask caller route.endpoint then asked_by route.endpoint route.place (query_of request.head.target) request.body
     else Err Forbidden
 
 -- of which kind that is which is asked
 abbrev pub endpoint_of : Asked → Endpoint
 endpoint_of (Does command) = Commands (of_commands.kind_of command)
-endpoint_of (Looks look) = Queries (of_queries.kind_of look)
+endpoint_of (Looks look) = Queries (of_queries.query_kind_of look)

@@ -9,13 +9,13 @@ use Rattle.office_values.specs.declared.refusal.BadPart.TheVariants.{Body, Row}
 use Rattle.office_values.specs.declared.refusal.Field.TheVariants as fields
 use Rattle.office_values.specs.declared.refusal.Refusal.{Refusal}
 use Rattle.office_values.specs.declared.refusal.Refusal.TheVariants.{BadBody}
-use Rattle.office_acts.specs.declared.budget.BudgetRow.{BudgetRow}
-use Rattle.office_acts.specs.declared.commands.Command.{Command}
-use Rattle.office_acts.specs.declared.commands.Command.TheVariants as commands
-use Rattle.office_acts.specs.declared.tender.NamedSecurity.{NamedSecurity}
-use Rattle.office_requests.specs.Forms.{id_of, digest_of, change_of, ending_of, is_between}
+use Rattle.office_commands.specs.declared.budget.BudgetRow.{BudgetRow}
+use Rattle.office_commands.specs.declared.commands.Command.{Command}
+use Rattle.office_commands.specs.declared.commands.Command.TheVariants as commands
+use Rattle.office_commands.specs.declared.tender.NamedSecurity.{NamedSecurity}
+use Rattle.office_requests.specs.Forms.{identifier_of, digest_of, change_of, ending_of, is_between}
 use Rattle.office_requests.specs.Moments.{moment_of}
-use Rattle.office_requests.specs.Fields.{◌>>=◌, has, text_in, line_in, flag_in, number_in, perhaps_number_in}
+use Rattle.office_requests.specs.Fields.{◌>>=◌, has, text_in, text_line_in, flag_in, number_in, perhaps_number_in}
 
 -- the JSON value that a body is; nothing that is not UTF-8 is one
 abbrev pub json_of : List ℕ → Option Data
@@ -26,8 +26,8 @@ abbrev pub object_if : Data → Result Data Refusal
 object_if value = if is_some (as_object value) then Ok value else Err (BadBody Body)
 
 -- the JSON object that a body is
-unfoldable pub object_of : List ℕ → Result Data Refusal
-object_of body = option_map_or object_if (json_of body) (Err (BadBody Body))
+unfoldable pub object_in_body : List ℕ → Result Data Refusal
+object_in_body body = option_map_or object_if (json_of body) (Err (BadBody Body))
 
 -- the import of a budget file's rows, or its first faulty record
 abbrev pub import_of : List ℕ → Result (List BudgetRow) ℕ → Result Command Refusal
@@ -36,8 +36,8 @@ import_of batch (Err number) = Err (BadBody (Row number))
 
 unfoldable pub registration_in : List ℕ → Data → Result Command Refusal
 registration_in tenderer body = do
-  name ← line_in fields.Name body
-  address ← line_in fields.Address body
+  name ← text_line_in fields.Name body
+  address ← text_line_in fields.Address body
   key ← text_in digest_of fields.Key body
   Ok (commands.Register tenderer name address key)
 
@@ -46,23 +46,23 @@ unfoldable pub named_in : Data → Result (Option NamedSecurity) Refusal
 named_in body =
     if not (has fields.Security body) && not (has fields.Amount body) then Ok None
     else do
-      reference ← text_in id_of fields.Security body
+      reference ← text_in identifier_of fields.Security body
       amount ← number_in 1 (10 ^ 12) fields.Amount body
       Ok (Some (record { reference = reference; amount = amount }))
 
 -- neither where the body is empty
 unfoldable pub performance_of : List ℕ → Result (Option NamedSecurity) Refusal
-performance_of body = if nat_eq (length body) 0 then Ok None else object_of body >>= named_in
+performance_of body = if nat_eq (length body) 0 then Ok None else object_in_body body >>= named_in
 
 unfoldable pub notice_amendment_in : List ℕ → Data → Result Command Refusal
 notice_amendment_in notice body = do
   deadline ← text_in moment_of fields.Deadline body
-  rationale ← line_in fields.Rationale body
+  rationale ← text_line_in fields.Rationale body
   Ok (commands.AmendNotice notice deadline rationale)
 
 unfoldable pub cancellation_in : List ℕ → Data → Result Command Refusal
 cancellation_in notice body = do
-  rationale ← line_in fields.Rationale body
+  rationale ← text_line_in fields.Rationale body
   Ok (commands.Cancel notice rationale)
 
 unfoldable pub examination_in : ℕ → Data → Result Command Refusal
@@ -73,15 +73,15 @@ examination_in receipt body = do
 
 unfoldable pub contract_amendment_in : ℕ → Data → Result Command Refusal
 contract_amendment_in contract body = do
-  entry ← text_in id_of fields.Id body
+  entry ← text_in identifier_of fields.Id body
   kind ← text_in change_of fields.Kind body
   amount ← number_in 1 (10 ^ 12) fields.Amount body
-  rationale ← line_in fields.Rationale body
+  rationale ← text_line_in fields.Rationale body
   Ok (commands.AmendContract contract entry kind amount rationale)
 
 unfoldable pub payment_in : ℕ → Data → Result Command Refusal
 payment_in contract body = do
-  entry ← text_in id_of fields.Id body
+  entry ← text_in identifier_of fields.Id body
   amount ← number_in 1 (10 ^ 12) fields.Amount body
   Ok (commands.Pay contract entry amount)
 

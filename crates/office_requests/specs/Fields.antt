@@ -7,7 +7,7 @@ use Rattle.office_values.specs.declared.refusal.BadPart.TheVariants as parts
 use Rattle.office_values.specs.declared.refusal.Field.{Field}
 use Rattle.office_values.specs.declared.refusal.Refusal.{Refusal}
 use Rattle.office_values.specs.declared.refusal.Refusal.TheVariants.{BadBody}
-use Rattle.office_requests.specs.Forms.{line_of, within}
+use Rattle.office_requests.specs.Forms.{line_of, number_between}
 
 -- a step, and where it gives a value the next one
 infixl 10 ◌>>=◌
@@ -25,28 +25,28 @@ flag_at name body = option_and_then as_bool (get name body)
 
 -- a member that is a number from `low` to `high`, written without sign, point and exponent
 unfoldable pub number_at : ℕ → ℕ → List ℕ → Data → Option ℕ
-number_at low high name body = option_and_then (within low high) (option_and_then as_u64 (option_and_then as_number (get name body)))
+number_at low high name body = option_and_then (number_between low high) (option_and_then as_u64 (option_and_then as_number (get name body)))
 
 -- a field that is missing or wrong is named
-unfoldable pub needed : {A : Type 0} → Field → Option A → Result A Refusal
-needed field (Some value) = Ok value
-needed field None = Err (BadBody (parts.Field field))
+unfoldable pub field_or_refusal : {A : Type 0} → Field → Option A → Result A Refusal
+field_or_refusal field (Some value) = Ok value
+field_or_refusal field None = Err (BadBody (parts.Field field))
 
 -- whether the body has the field, be it right or wrong
 abbrev pub has : Field → Data → Bool
 has field body = is_some (get (field_name field) body)
 
 abbrev pub text_in : {A : Type 0} → (List ℕ → Option A) → Field → Data → Result A Refusal
-text_in form field body = needed field (text_at form (field_name field) body)
+text_in form field body = field_or_refusal field (text_at form (field_name field) body)
 
-abbrev pub line_in : Field → Data → Result (List ℕ) Refusal
-line_in field body = text_in line_of field body
+abbrev pub text_line_in : Field → Data → Result (List ℕ) Refusal
+text_line_in field body = text_in line_of field body
 
 abbrev pub flag_in : Field → Data → Result Bool Refusal
-flag_in field body = needed field (flag_at (field_name field) body)
+flag_in field body = field_or_refusal field (flag_at (field_name field) body)
 
 abbrev pub number_in : ℕ → ℕ → Field → Data → Result ℕ Refusal
-number_in low high field body = needed field (number_at low high (field_name field) body)
+number_in low high field body = field_or_refusal field (number_at low high (field_name field) body)
 
 -- a number that may be absent
 unfoldable pub perhaps_number_in : ℕ → ℕ → Field → Data → Result (Option ℕ) Refusal

@@ -5,12 +5,12 @@ use Rattle.hex.specs.Hex.{decode_sized}
 use Rattle.office_values.specs.Fields.{is_id, is_text_line}
 use Rattle.office_values.specs.Numbers.{number_of}
 use Rattle.tender_papers.specs.Files.{is_word}
-use Rattle.office_acts.specs.declared.contract.ChangeKind.{ChangeKind}
-use Rattle.office_acts.specs.declared.contract.ChangeKind.TheVariants as changes
-use Rattle.office_acts.specs.declared.contract.How.{How}
-use Rattle.office_acts.specs.declared.contract.How.TheVariants as endings
-use Rattle.office_acts.specs.declared.notice.LateWithdrawal.{LateWithdrawal}
-use Rattle.office_acts.specs.declared.notice.LateWithdrawal.TheVariants as withdrawals
+use Rattle.office_commands.specs.declared.contract.ChangeKind.{ChangeKind}
+use Rattle.office_commands.specs.declared.contract.ChangeKind.TheVariants as changes
+use Rattle.office_commands.specs.declared.contract.How.{How}
+use Rattle.office_commands.specs.declared.contract.How.TheVariants as endings
+use Rattle.office_commands.specs.declared.notice.LateWithdrawal.{LateWithdrawal}
+use Rattle.office_commands.specs.declared.notice.LateWithdrawal.TheVariants as withdrawals
 use Rattle.office_requests.specs.declared.publication.Basis.{Basis}
 use Rattle.office_requests.specs.declared.publication.Basis.TheVariants as bases
 
@@ -19,8 +19,8 @@ abbrev pub passing : {A : Type 0} → (A → Bool) → A → Option A
 passing test value = if test value then Some value else None
 
 -- an identifier
-unfoldable pub id_of : List ℕ → Option (List ℕ)
-id_of text = passing is_id text
+unfoldable pub identifier_of : List ℕ → Option (List ℕ)
+identifier_of text = passing is_id text
 
 -- a line of text
 unfoldable pub line_of : List ℕ → Option (List ℕ)
@@ -30,12 +30,12 @@ line_of text = passing is_text_line text
 abbrev pub is_between : ℕ → ℕ → ℕ → Bool
 is_between low high number = nat_le low number && nat_le number high
 
-unfoldable pub within : ℕ → ℕ → ℕ → Option ℕ
-within low high number = passing (is_between low high) number
+unfoldable pub number_between : ℕ → ℕ → ℕ → Option ℕ
+number_between low high number = passing (is_between low high) number
 
 -- an amount of money in 1 to 16 decimal digits: 1 to 10^12
 unfoldable pub amount_of : List ℕ → Option ℕ
-amount_of text = option_and_then (within 1 (10 ^ 12)) (number_of text)
+amount_of text = option_and_then (number_between 1 (10 ^ 12)) (number_of text)
 
 -- the 32 bytes that 64 hexadecimal digits of either case write
 unfoldable pub digest_of : List ℕ → Option (List ℕ)

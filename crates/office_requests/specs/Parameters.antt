@@ -6,9 +6,9 @@ use Rattle.std.specs.Cmp.Lexicographic.{pointwise}
 use Rattle.form_urlencoded.specs.Form as form
 use Rattle.office_values.specs.declared.refusal.Field.TheVariants as fields
 use Rattle.office_values.specs.declared.refusal.Refusal.{Refusal}
-use Rattle.office_acts.specs.declared.tender.NamedSecurity.{NamedSecurity}
-use Rattle.office_requests.specs.Forms.{id_of, amount_of}
-use Rattle.office_requests.specs.Fields.{◌>>=◌, needed}
+use Rattle.office_commands.specs.declared.tender.NamedSecurity.{NamedSecurity}
+use Rattle.office_requests.specs.Forms.{identifier_of, amount_of}
+use Rattle.office_requests.specs.Fields.{◌>>=◌, field_or_refusal}
 use Rattle.office_requests.specs.Paths.{behind}
 use Rattle.office_requests.specs.declared.parameters.Given.{Given}
 use Rattle.office_requests.specs.declared.parameters.Given.TheVariants.{Absent, Wrong, Right}
@@ -60,9 +60,9 @@ abbrev pub security_with : Given (List ℕ) → Given ℕ → Result (Option Nam
 security_with security amount =
     if is_absent security && is_absent amount then Ok None
     else do
-      reference ← needed fields.Security (right security)
-      worth ← needed fields.Amount (right amount)
+      reference ← field_or_refusal fields.Security (right security)
+      worth ← field_or_refusal fields.Amount (right amount)
       Ok (Some (record { reference = reference; amount = worth }))
 
 unfoldable pub security_in : List ℕ → Result (Option NamedSecurity) Refusal
-security_in query = security_with (given_in id_of (codes "security") query) (given_in amount_of (codes "amount") query)
+security_in query = security_with (given_in identifier_of (codes "security") query) (given_in amount_of (codes "amount") query)

@@ -4,27 +4,27 @@ use Rattle.serde_json.specs.Data.{Data, Items, no_items, item}
 use Rattle.serde_json.specs.Find.{get, as_array}
 use Rattle.office_values.specs.declared.refusal.Field.TheVariants as fields
 use Rattle.office_values.specs.declared.refusal.Refusal.{Refusal}
-use Rattle.office_acts.specs.Identified.{repeats_id}
-use Rattle.office_acts.specs.Items.{item_id}
-use Rattle.office_acts.specs.Lots.{lot_id}
-use Rattle.office_acts.specs.declared.commands.Command.{Command}
-use Rattle.office_acts.specs.declared.commands.Command.TheVariants as commands
-use Rattle.office_acts.specs.declared.item.Item.{Item}
-use Rattle.office_acts.specs.declared.lot.NewLot.{NewLot}
-use Rattle.office_acts.specs.declared.notice.Criteria.{Criteria}
-use Rattle.office_acts.specs.declared.notice.Criteria.TheVariants.{Price, Points}
-use Rattle.office_acts.specs.declared.notice.LateWithdrawal.{LateWithdrawal}
-use Rattle.office_acts.specs.declared.notice.LateWithdrawal.TheVariants.{Refused}
-use Rattle.office_acts.specs.declared.notice.NewNotice.{NewNotice}
-use Rattle.office_requests.specs.Forms.{passing, id_of, line_of, basis_of, lateness_of}
+use Rattle.office_commands.specs.Identified.{repeats_id}
+use Rattle.office_commands.specs.Items.{item_id}
+use Rattle.office_commands.specs.Lots.{lot_id}
+use Rattle.office_commands.specs.declared.commands.Command.{Command}
+use Rattle.office_commands.specs.declared.commands.Command.TheVariants as commands
+use Rattle.office_commands.specs.declared.item.Item.{Item}
+use Rattle.office_commands.specs.declared.lot.NewLot.{NewLot}
+use Rattle.office_commands.specs.declared.notice.Criteria.{Criteria}
+use Rattle.office_commands.specs.declared.notice.Criteria.TheVariants.{Price, Points}
+use Rattle.office_commands.specs.declared.notice.LateWithdrawal.{LateWithdrawal}
+use Rattle.office_commands.specs.declared.notice.LateWithdrawal.TheVariants.{Refused}
+use Rattle.office_commands.specs.declared.notice.NewNotice.{NewNotice}
+use Rattle.office_requests.specs.Forms.{passing, identifier_of, line_of, basis_of, lateness_of}
 use Rattle.office_requests.specs.Moments.{moment_of}
-use Rattle.office_requests.specs.Fields.{◌>>=◌, needed, has, text_at, number_at, text_in, line_in, number_in, absent_in}
+use Rattle.office_requests.specs.Fields.{◌>>=◌, field_or_refusal, has, text_at, number_at, text_in, text_line_in, number_in, absent_in}
 use Rattle.office_requests.specs.declared.publication.Basis.{Basis}
 use Rattle.office_requests.specs.declared.publication.Basis.TheVariants as bases
 
 -- a part of a lot; where it is missing or wrong, the lots are
 abbrev pub in_lots : {A : Type 0} → Option A → Result A Refusal
-in_lots part = needed fields.Lots part
+in_lots part = field_or_refusal fields.Lots part
 
 -- the elements of an array, in their order, where each is read
 unfoldable pub each_of : {A : Type 0} → (Data → Result A Refusal) → Items → Result (List A) Refusal
@@ -48,28 +48,28 @@ are_distinct id things = nat_le 1 (length things) && not (repeats_id id things)
 abbrev pub distinct : {A : Type 0} → (A → List ℕ) → List A → Result (List A) Refusal
 distinct id things = in_lots (passing (are_distinct id) things)
 
-unfoldable pub item_of : Data → Result Item Refusal
-item_of value = do
-  id ← in_lots (text_at id_of (codes "id") value)
+unfoldable pub new_item_of : Data → Result Item Refusal
+new_item_of value = do
+  id ← in_lots (text_at identifier_of (codes "id") value)
   title ← in_lots (text_at line_of (codes "title") value)
   quantity ← in_lots (number_at 1 (10 ^ 6) (codes "quantity") value)
   Ok (record { id = id; title = title; quantity = quantity })
 
 unfoldable pub items_of : Data → Result (List Item) Refusal
-items_of value = elements_at item_of (codes "items") value >>= distinct item_id
+items_of value = elements_at new_item_of (codes "items") value >>= distinct item_id
 
-unfoldable pub lot_of : Data → Result NewLot Refusal
-lot_of value = do
-  id ← in_lots (text_at id_of (codes "id") value)
+unfoldable pub new_lot_of : Data → Result NewLot Refusal
+new_lot_of value = do
+  id ← in_lots (text_at identifier_of (codes "id") value)
   title ← in_lots (text_at line_of (codes "title") value)
-  line ← in_lots (text_at id_of (codes "line") value)
+  line ← in_lots (text_at identifier_of (codes "line") value)
   estimate ← in_lots (number_at 1 (10 ^ 12) (codes "estimate") value)
   security ← in_lots (number_at 0 (10 ^ 12) (codes "security") value)
   items ← items_of value
   Ok (record { id = id; title = title; line = line; estimate = estimate; security = security; items = items })
 
 unfoldable pub lots_in : Data → Result (List NewLot) Refusal
-lots_in body = elements_at lot_of (codes "lots") body >>= distinct lot_id
+lots_in body = elements_at new_lot_of (codes "lots") body >>= distinct lot_id
 
 -- what decides: the price has a weight with points, and none alone
 unfoldable pub criteria_with : Basis → Data → Result Criteria Refusal
@@ -89,9 +89,9 @@ late_in body = if has fields.LateWithdrawal body then text_in lateness_of fields
 unfoldable pub performance_in : Data → Result ℕ Refusal
 performance_in body = if has fields.Performance body then number_in 0 (10 ^ 12) fields.Performance body else Ok 0
 
-unfoldable pub notice_in : Data → Result NewNotice Refusal
-notice_in body = do
-  title ← line_in fields.Title body
+unfoldable pub new_notice_in : Data → Result NewNotice Refusal
+new_notice_in body = do
+  title ← text_line_in fields.Title body
   deadline ← text_in moment_of fields.Deadline body
   validity ← number_in 1 365 fields.ValidityDays body
   standstill ← number_in 0 90 fields.StandstillDays body
@@ -102,4 +102,4 @@ notice_in body = do
   Ok (record { title = title; deadline = deadline; validity = validity; standstill = standstill; criteria = criteria; late_withdrawal = late; performance = performance; lots = lots })
 
 abbrev pub publication_in : List ℕ → Data → Result Command Refusal
-publication_in notice body = notice_in body >>= λ content. Ok (commands.Publish notice content)
+publication_in notice body = new_notice_in body >>= λ content. Ok (commands.Publish notice content)

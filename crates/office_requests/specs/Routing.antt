@@ -9,11 +9,11 @@ use Rattle.matchit.specs.Router.{RouteOf, route_from}
 use Rattle.matchit.specs.Seek.{first}
 use Rattle.matchit.specs.declared.error.InsertError.{InsertError}
 use Rattle.office_values.specs.Numbers.{number_of}
-use Rattle.office_acts.specs.declared.command.CommandKind.TheVariants as commands
-use Rattle.office_acts.specs.declared.command.QueryKind.TheVariants as queries
+use Rattle.office_commands.specs.declared.command.CommandKind.TheVariants as commands
+use Rattle.office_commands.specs.declared.command.QueryKind.TheVariants as queries
 use Rattle.office_values.specs.declared.refusal.Refusal.{Refusal}
 use Rattle.office_values.specs.declared.refusal.Refusal.TheVariants.{NoRoute, WrongMethod}
-use Rattle.office_requests.specs.Forms.{id_of, within}
+use Rattle.office_requests.specs.Forms.{identifier_of, number_between}
 use Rattle.office_requests.specs.Paths.{path_of, segment}
 use Rattle.office_requests.specs.declared.route.Allow.{Allow}
 use Rattle.office_requests.specs.declared.route.Allow.TheVariants.{Get, Post}
@@ -71,23 +71,23 @@ asked_at path = option_map (λ r. r.value) (first (inserted route_table []) path
 
 -- the identifier that stands in a segment of a path
 abbrev pub id_in : ℕ → List ℕ → Option (List ℕ)
-id_in number path = id_of (segment number path)
+id_in number path = identifier_of (segment number path)
 
 -- whether a text begins with another byte than 0
 abbrev pub is_unpadded : List ℕ → Bool
 is_unpadded text = nat_le 1 (length text) && not (slice_index text 0 == 48)
 
 -- the number that stands in a segment of a path: 1 to 10 digits, the first not 0
-abbrev pub number_in : ℕ → List ℕ → Option ℕ
-number_in number path =
-    if is_unpadded (segment number path) then option_and_then (within 1 9999999999) (number_of (segment number path)) else None
+abbrev pub number_in_path : ℕ → List ℕ → Option ℕ
+number_in_path number path =
+    if is_unpadded (segment number path) then option_and_then (number_between 1 9999999999) (number_of (segment number path)) else None
 
 -- the parameters of a path
 abbrev pub place_at : Shape → List ℕ → Option Place
 place_at Plain path = Some Nowhere
 place_at OneId path = option_map Named (id_in 2 path)
 place_at TwoIds path = option_and_then (λ outer. option_map (Within outer) (id_in 4 path)) (id_in 2 path)
-place_at Number path = option_map Numbered (number_in 2 path)
+place_at Number path = option_map Numbered (number_in_path 2 path)
 
 -- what is asked, with the parameters of its path
 abbrev pub route_with : List ℕ → Endpoint × Shape → Option Route

@@ -5,19 +5,19 @@ use Rattle.office_values.specs.declared.refusal.BadPart.TheVariants as parts
 use Rattle.office_values.specs.declared.refusal.Field.TheVariants as fields
 use Rattle.office_values.specs.declared.refusal.Refusal.{Refusal}
 use Rattle.office_values.specs.declared.refusal.Refusal.TheVariants.{NoRoute, WrongMethod, Forbidden, BadBody}
-use Rattle.office_acts.specs.declared.command.Caller.{Caller}
-use Rattle.office_acts.specs.declared.command.Caller.TheVariants.{Public, Clerk, Tenderer}
-use Rattle.office_acts.specs.declared.commands.Command.{Command}
-use Rattle.office_acts.specs.declared.commands.Command.TheVariants as commands
-use Rattle.office_acts.specs.declared.contract.ChangeKind.TheVariants.{Cut}
-use Rattle.office_acts.specs.declared.contract.How.TheVariants.{ForDefault}
-use Rattle.office_acts.specs.declared.notice.Criteria.TheVariants.{Price}
-use Rattle.office_acts.specs.declared.notice.LateWithdrawal.TheVariants.{Refused, Forfeits}
-use Rattle.office_acts.specs.declared.notice.NewNotice.{NewNotice}
-use Rattle.office_acts.specs.declared.queries.Query.{Query}
-use Rattle.office_acts.specs.declared.queries.Query.TheVariants as queries
+use Rattle.office_commands.specs.declared.command.Caller.{Caller}
+use Rattle.office_commands.specs.declared.command.Caller.TheVariants.{Public, Clerk, Tenderer}
+use Rattle.office_commands.specs.declared.commands.Command.{Command}
+use Rattle.office_commands.specs.declared.commands.Command.TheVariants as commands
+use Rattle.office_commands.specs.declared.contract.ChangeKind.TheVariants.{Cut}
+use Rattle.office_commands.specs.declared.contract.How.TheVariants.{ForDefault}
+use Rattle.office_commands.specs.declared.notice.Criteria.TheVariants.{Price}
+use Rattle.office_commands.specs.declared.notice.LateWithdrawal.TheVariants.{Refused, Forfeits}
+use Rattle.office_commands.specs.declared.notice.NewNotice.{NewNotice}
+use Rattle.office_commands.specs.declared.queries.Query.{Query}
+use Rattle.office_commands.specs.declared.queries.Query.TheVariants as queries
 use Rattle.office_wire.specs.Request.{RequestView}
-use Rattle.office_requests.specs.Asking.{asked}
+use Rattle.office_requests.specs.Asking.{asked_by_route}
 use Rattle.office_requests.specs.Routing.{routed}
 use Rattle.office_requests.specs.declared.asked.Asked.{Asked}
 use Rattle.office_requests.specs.declared.asked.Asked.TheVariants.{Does, Looks}
@@ -31,7 +31,7 @@ request_with method target body = record { head = record { method = method; targ
 
 -- what a caller asks by a route, where the request takes one
 abbrev pub by_route : Caller → RequestView → Result Route (Refusal × Option Allow) → Result Asked Refusal
-by_route caller request (Ok route) = asked caller route request
+by_route caller request (Ok route) = asked_by_route caller route request
 by_route caller request (Err why) = Err why.0
 
 -- what a caller asks by a request

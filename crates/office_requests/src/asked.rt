@@ -1,22 +1,22 @@
 //! What a request asks.
 ghost use Rattle.std.specs.Prelude.{◌≡◌, ◌≤◌, ◌⊎◌, false, length, Err, IfOk};
 ghost use Rattle.office_values.specs.declared.refusal.Refusal.TheVariants.{Forbidden, Unavailable};
-ghost use Rattle.office_acts.specs.Commands.{kind_of};
-ghost use Rattle.office_acts.specs.Queries as queries;
+ghost use Rattle.office_commands.specs.Commands.{kind_of};
+ghost use Rattle.office_commands.specs.Queries as queries;
 ghost use Rattle.office_requests.specs.Inside.Answers.{ReadsAs};
-ghost use Rattle.office_requests.specs.Asking.{asked, asked_by, command_at, endpoint_of, lot_command, may_ask, named_command, numbered_command, query_at};
+ghost use Rattle.office_requests.specs.Asking.{asked_by_route, asked_by, command_at, endpoint_of, lot_command, may_ask, named_command, numbered_command, query_at};
 
 use crate::bodies::{
-    cancellation, contract_amendment, ending, examination, import_of, notice_amendment, object_of,
-    payment, performance_of, registration, sealed,
+    cancellation, contract_amendment, ending, examination, import_of, notice_amendment,
+    object_in_body, payment, performance_of, registration, sealed,
 };
 use crate::parameters::security;
 use crate::path::behind;
 use crate::publication::publication;
 use crate::route::{Endpoint, Place, Route};
-use office_acts::command::{Caller, CommandKind, QueryKind, may, may_look};
-use office_acts::commands::Command;
-use office_acts::queries::Query;
+use office_commands::command::{Caller, CommandKind, QueryKind, may, may_look};
+use office_commands::commands::Command;
+use office_commands::queries::Query;
 use office_values::given::AskedNumber;
 use office_values::id::Id;
 use office_values::refusal::Refusal;
@@ -56,10 +56,10 @@ fn named_command<'a>(
 {
     match kind {
         CommandKind::Import => import_of(alloc, name, body),
-        CommandKind::Register => registration(alloc, name, &object_of(alloc, body)?),
-        CommandKind::Publish => publication(alloc, name, &object_of(alloc, body)?),
-        CommandKind::AmendNotice => notice_amendment(alloc, name, &object_of(alloc, body)?),
-        CommandKind::Cancel => cancellation(alloc, name, &object_of(alloc, body)?),
+        CommandKind::Register => registration(alloc, name, &object_in_body(alloc, body)?),
+        CommandKind::Publish => publication(alloc, name, &object_in_body(alloc, body)?),
+        CommandKind::AmendNotice => notice_amendment(alloc, name, &object_in_body(alloc, body)?),
+        CommandKind::Cancel => cancellation(alloc, name, &object_in_body(alloc, body)?),
         CommandKind::Open => Ok(Command::Open { notice: name }),
         _ => Err(Refusal::NoRoute),
     }
@@ -107,15 +107,19 @@ fn numbered_command<'a>(
             sealed: sealed(body)?,
         }),
         CommandKind::Withdraw => Ok(Command::Withdraw { receipt: number }),
-        CommandKind::Examine => examination(number, &object_of(alloc, body)?),
+        CommandKind::Examine => examination(number, &object_in_body(alloc, body)?),
         CommandKind::Fail => Ok(Command::Fail { award: number }),
         CommandKind::Sign => Ok(Command::Sign {
             award: number,
             security: performance_of(alloc, body)?,
         }),
-        CommandKind::AmendContract => contract_amendment(alloc, number, &object_of(alloc, body)?),
-        CommandKind::Pay => payment(number, &object_of(alloc, body)?),
-        CommandKind::End => ending(number, &object_of(alloc, body)?),
+        CommandKind::AmendContract => contract_amendment(
+            alloc,
+            number,
+            &object_in_body(alloc, body)?,
+        ),
+        CommandKind::Pay => payment(number, &object_in_body(alloc, body)?),
+        CommandKind::End => ending(number, &object_in_body(alloc, body)?),
         _ => Err(Refusal::NoRoute),
     }
 }
@@ -145,7 +149,7 @@ fn command_at<'a>(
 #[tactic(auto, unfolding(crate::specs::Asking::query_at))]
 fn query_at(kind: QueryKind, place: Place) -> Result<Query, Refusal>
     ensures read { result ≡ query_at kind place }
-    ensures kind { IfOk result (λ look. queries.kind_of look ≡ kind) }
+    ensures kind { IfOk result (λ look. queries.query_kind_of look ≡ kind) }
 {
     match (kind, place) {
         (QueryKind::Line, Place::Named(line)) => Ok(Query::Line { line }),
@@ -190,7 +194,7 @@ pub fn command_of<'a>(
     route: &Route,
     request: &'a Request,
 ) -> Result<Asked<'a>, Refusal>
-    ensures asked { (result ≡ asked caller.now route.now request.now) ⊎ (result ≡ Err Unavailable) }
+    ensures asked { (result ≡ asked_by_route caller.now route.now request.now) ⊎ (result ≡ Err Unavailable) }
     ensures kind { IfOk result (λ asked. endpoint_of asked ≡ route.now.endpoint) }
     ensures forbidden { may_ask caller.now route.now.endpoint ≡ false → result ≡ Err Forbidden }
 {

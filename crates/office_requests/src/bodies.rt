@@ -4,17 +4,17 @@ ghost use Rattle.serde_json.specs.Errors.{IsMemory};
 ghost use Rattle.serde_json.specs.View.{view};
 ghost use Rattle.office_values.specs.declared.refusal.Refusal.TheVariants.{BadBody, Unavailable};
 ghost use Rattle.office_values.specs.declared.refusal.BadPart.TheVariants.{Body};
-ghost use Rattle.office_acts.specs.Commands.{kind_of};
+ghost use Rattle.office_commands.specs.Commands.{kind_of};
 ghost use Rattle.tender_papers.specs.Budget.{budget_of};
 ghost use Rattle.tender_papers.specs.Files.{csv_records};
 ghost use Rattle.office_requests.specs.Inside.Answers.{ReadsAs, ReadsObject};
-ghost use Rattle.office_requests.specs.Bodies.{object_of, import_of, registration_in, notice_amendment_in, cancellation_in, examination_in, contract_amendment_in, named_in, performance_of, payment_in, ending_in, sealed_in};
+ghost use Rattle.office_requests.specs.Bodies.{object_in_body, import_of, registration_in, notice_amendment_in, cancellation_in, examination_in, contract_amendment_in, named_in, performance_of, payment_in, ending_in, sealed_in};
 
 use crate::fields::{flag, has, line, number, perhaps_number, text};
-use office_acts::command::CommandKind;
-use office_acts::commands::Command;
-use office_acts::sealed::Sealed;
-use office_acts::tender::NamedSecurity;
+use office_commands::command::CommandKind;
+use office_commands::commands::Command;
+use office_commands::sealed::Sealed;
+use office_commands::tender::NamedSecurity;
 use office_values::given::AskedNumber;
 use office_values::id::Id;
 use office_values::refusal::{BadPart, Field, Refusal};
@@ -34,8 +34,8 @@ fn json_fault(error: &serde_json::Error) -> Refusal
 }
 
 /// The JSON object that a body is; `BadBody` of the body where it is none, and `Unavailable` where memory was refused.
-pub fn object_of(alloc: Global, body: &[u8]) -> Result<Value, Refusal>
-    ensures { ReadsObject result (object_of body.now) }
+pub fn object_in_body(alloc: Global, body: &[u8]) -> Result<Value, Refusal>
+    ensures { ReadsObject result (object_in_body body.now) }
 {
     let value = match Value::from_slice(alloc, body) {
         Ok(value) => value,
@@ -154,7 +154,7 @@ pub fn performance_of(alloc: Global, body: &[u8]) -> Result<Option<NamedSecurity
     if body.len() == 0 {
         return Ok(None);
     }
-    let value = object_of(alloc, body)?;
+    let value = object_in_body(alloc, body)?;
     named(&value)
 }
 

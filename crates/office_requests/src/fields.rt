@@ -4,11 +4,11 @@ ghost use Rattle.std.specs.Prelude.{◌≡◌, IfOk, is_some, option_map, option
 ghost use Rattle.serde_json.specs.Find.{get, as_number, as_str, as_u64};
 ghost use Rattle.serde_json.specs.View.{view};
 ghost use Rattle.office_requests.specs.Fields as spec;
-ghost use Rattle.office_requests.specs.Fields.{text_at, flag_at, number_at, text_in, line_in, flag_in, number_in, perhaps_number_in, absent_in};
+ghost use Rattle.office_requests.specs.Fields.{text_at, flag_at, number_at, text_in, text_line_in, flag_in, number_in, perhaps_number_in, absent_in};
 ghost use Rattle.office_requests.specs.Forms as forms;
 ghost use Rattle.office_requests.specs.Inside.Answers.{ReadsAs};
 
-use crate::forms::{FromText, line_of, within};
+use crate::forms::{FromText, line_of, number_between};
 use office_values::bounded::Bounded;
 use office_values::refusal::{BadPart, Field, Refusal};
 use office_values::text::TextLine;
@@ -84,15 +84,15 @@ pub fn number_at<const LOW: u64, const HIGH: u64>(
     ensures { result ≡ number_at LOW HIGH name.now (view body.now) }
 {
     match find_number(body, name) {
-        Some(number) => within(number),
+        Some(number) => number_between(number),
         None => None,
     }
 }
 
 /// The value, or the refusal that names the field.
 #[tactic(auto, unfolding(crate::specs::Fields::needed))]
-pub fn needed<T: Drop>(field: Field, value: Option<T>) -> Result<T, Refusal>
-    ensures { result ≡ spec.needed field value }
+pub fn field_or_refusal<T: Drop>(field: Field, value: Option<T>) -> Result<T, Refusal>
+    ensures { result ≡ spec.field_or_refusal field value }
 {
     match value {
         Some(value) => Ok(value),
@@ -104,21 +104,21 @@ pub fn needed<T: Drop>(field: Field, value: Option<T>) -> Result<T, Refusal>
 pub fn text<T: FromText>(body: &Value, field: Field) -> Result<T, Refusal>
     ensures { result ≡ text_in T.of_text field (view body.now) }
 {
-    needed(field, text_at(body, field.name()))
+    field_or_refusal(field, text_at(body, field.name()))
 }
 
 /// A line of text. `Unavailable` where memory was refused.
 pub fn line(alloc: Global, body: &Value, field: Field) -> Result<TextLine, Refusal>
-    ensures { ReadsAs result (line_in field (view body.now)) }
+    ensures { ReadsAs result (text_line_in field (view body.now)) }
 {
-    needed(field, line_at(alloc, body, field.name())?)
+    field_or_refusal(field, line_at(alloc, body, field.name())?)
 }
 
 /// True or false.
 pub fn flag(body: &Value, field: Field) -> Result<bool, Refusal>
     ensures { result ≡ flag_in field (view body.now) }
 {
-    needed(field, flag_at(body, field.name()))
+    field_or_refusal(field, flag_at(body, field.name()))
 }
 
 /// A number within bounds.
@@ -128,7 +128,7 @@ pub fn number<const LOW: u64, const HIGH: u64>(
 ) -> Result<Bounded<LOW, HIGH>, Refusal>
     ensures { result ≡ number_in LOW HIGH field (view body.now) }
 {
-    needed(field, number_at(body, field.name()))
+    field_or_refusal(field, number_at(body, field.name()))
 }
 
 /// A number within bounds that may be absent.

@@ -1,12 +1,12 @@
 //! Values of the office, as the texts and numbers of a request write them. What has another form is None.
 ghost use Rattle.std.specs.Prelude.{◌≡◌, IfOk};
-ghost use Rattle.office_requests.specs.Forms.{line_of, within};
+ghost use Rattle.office_requests.specs.Forms.{line_of, number_between};
 
 use crate::publication::Basis;
 use hex::FromHex;
-use office_acts::amounts::SecurityAmount;
-use office_acts::contract::{ChangeKind, How};
-use office_acts::notice::LateWithdrawal;
+use office_commands::amounts::SecurityAmount;
+use office_commands::contract::{ChangeKind, How};
+use office_commands::notice::LateWithdrawal;
 use office_values::bounded::Bounded;
 use office_values::id::Id;
 use office_values::moment::Moment;
@@ -26,9 +26,9 @@ pub trait FromText: Copy {
 }
 
 impl FromText for Id {
-    ghost use Rattle.office_requests.specs.Forms.{id_of};
+    ghost use Rattle.office_requests.specs.Forms.{identifier_of};
 
-    ghost of_text = { id_of };
+    ghost of_text = { identifier_of };
 
     fn from_text(text: &[u8]) -> Option<Id> {
         Id::read(text)
@@ -52,7 +52,7 @@ impl FromText for SecurityAmount {
 
     #[tactic(auto, unfolding(crate::specs::Forms::amount_of))]
     fn from_text(text: &[u8]) -> Option<SecurityAmount> {
-        within(read_number(text)?)
+        number_between(read_number(text)?)
     }
 }
 
@@ -144,8 +144,8 @@ pub fn line_of(alloc: Global, text: &[u8]) -> Result<Option<TextLine>, AllocErro
 }
 
 /// A number within bounds.
-pub fn within<const LOW: u64, const HIGH: u64>(number: u64) -> Option<Bounded<LOW, HIGH>>
-    ensures { result ≡ within LOW HIGH number }
+pub fn number_between<const LOW: u64, const HIGH: u64>(number: u64) -> Option<Bounded<LOW, HIGH>>
+    ensures { result ≡ number_between LOW HIGH number }
 {
     Bounded::read(number)
 }

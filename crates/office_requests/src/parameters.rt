@@ -3,10 +3,10 @@ ghost use Rattle.std.specs.Prelude.{◌≡◌, IfOk};
 ghost use Rattle.office_requests.specs.Inside.Answers.{ReadsAs};
 ghost use Rattle.office_requests.specs.Parameters.{with_value, with_pair, given_in, is_absent, right, security_in};
 
-use crate::fields::needed;
+use crate::fields::field_or_refusal;
 use crate::forms::FromText;
-use office_acts::amounts::SecurityAmount;
-use office_acts::tender::NamedSecurity;
+use office_commands::amounts::SecurityAmount;
+use office_commands::tender::NamedSecurity;
 use office_values::id::Id;
 use office_values::refusal::{Field, Refusal};
 use std::alloc::{AllocError, Global};
@@ -82,7 +82,7 @@ pub fn security(alloc: Global, query: &[u8]) -> Result<Option<NamedSecurity>, Re
         return Ok(None);
     }
     Ok(Some(NamedSecurity {
-        reference: needed(Field::Security, reference.right())?,
-        amount: needed(Field::Amount, amount.right())?,
+        reference: field_or_refusal(Field::Security, reference.right())?,
+        amount: field_or_refusal(Field::Amount, amount.right())?,
     }))
 }

@@ -1,17 +1,19 @@
 //! The body of a publication.
 ghost use Rattle.std.specs.Prelude.{◌≡◌, IfOk, option_map};
 ghost use Rattle.serde_json.specs.View.{view, items_view};
-ghost use Rattle.office_acts.specs.Commands.{kind_of};
+ghost use Rattle.office_commands.specs.Commands.{kind_of};
 ghost use Rattle.office_requests.specs.Inside.Answers.{ReadsAs, ReadsList};
 ghost use Rattle.office_requests.specs.Publications as spec;
-ghost use Rattle.office_requests.specs.Publications.{in_lots, each_of, array_at, elements_at, item_of, items_of, lot_of, lots_in, criteria_with, criteria_in, late_in, performance_in, notice_in, publication_in};
+ghost use Rattle.office_requests.specs.Publications.{in_lots, each_of, array_at, elements_at, new_item_of, items_of, new_lot_of, lots_in, criteria_with, criteria_in, late_in, performance_in, new_notice_in, publication_in};
 
-use crate::fields::{absent, has, line, line_at, needed, number, number_at, text, text_at};
-use office_acts::command::CommandKind;
-use office_acts::commands::Command;
-use office_acts::item::{Item, Items};
-use office_acts::lot::{NewLot, NewLots};
-use office_acts::notice::{Criteria, LateWithdrawal, NewNotice};
+use crate::fields::{
+    absent, field_or_refusal, has, line, line_at, number, number_at, text, text_at,
+};
+use office_commands::command::CommandKind;
+use office_commands::commands::Command;
+use office_commands::item::{Item, Items};
+use office_commands::lot::{NewLot, NewLots};
+use office_commands::notice::{Criteria, LateWithdrawal, NewNotice};
 use office_values::bounded::Bounded;
 use office_values::id::Id;
 use office_values::money::{AMOUNT_LIMIT, Amount};
@@ -46,7 +48,7 @@ trait Element: Sized + Drop {
 fn in_lots<T: Drop>(part: Option<T>) -> Result<T, Refusal>
     ensures { result ≡ spec.in_lots part }
 {
-    needed(Field::Lots, part)
+    field_or_refusal(Field::Lots, part)
 }
 
 // The elements of an array, in their order.
@@ -86,9 +88,9 @@ fn elements_at<T: Element>(alloc: Global, body: &Value, name: &str) -> Result<Ve
 }
 
 impl Element for Item {
-    ghost use Rattle.office_requests.specs.Publications.{item_of};
+    ghost use Rattle.office_requests.specs.Publications.{new_item_of};
 
-    ghost element_of = { item_of };
+    ghost element_of = { new_item_of };
 
     #[tactic(auto, unfolding(crate::specs::Publications::item_of))]
     fn read(alloc: Global, value: &Value) -> Result<Item, Refusal> {
@@ -116,9 +118,9 @@ fn amount_of(number: Bounded<0, AMOUNT_LIMIT>) -> Amount
 }
 
 impl Element for NewLot {
-    ghost use Rattle.office_requests.specs.Publications.{lot_of};
+    ghost use Rattle.office_requests.specs.Publications.{new_lot_of};
 
-    ghost element_of = { lot_of };
+    ghost element_of = { new_lot_of };
 
     #[tactic(auto, unfolding(crate::specs::Publications::lot_of))]
     fn read(alloc: Global, value: &Value) -> Result<NewLot, Refusal> {
@@ -189,7 +191,7 @@ fn performance(body: &Value) -> Result<Amount, Refusal>
 // What the body of a publication says.
 #[tactic(auto, unfolding(crate::specs::Publications::notice_in))]
 fn new_notice(alloc: Global, body: &Value) -> Result<NewNotice, Refusal>
-    ensures { ReadsAs result (notice_in (view body.now)) }
+    ensures { ReadsAs result (new_notice_in (view body.now)) }
 {
     Ok(NewNotice {
         title: line(alloc, body, Field::Title)?,

@@ -2,7 +2,7 @@
 ghost use Rattle.std.specs.Prelude.{◌≡◌};
 ghost use Rattle.office_requests.specs.Routing.{method_of, method_name};
 
-use office_acts::command::{CommandKind, QueryKind};
+use office_commands::command::{CommandKind, QueryKind};
 use office_values::given::AskedNumber;
 use office_values::id::Id;
 

@@ -1,14 +1,14 @@
 //! The table of routes.
 ghost use Rattle.std.specs.Prelude.{◌≡◌, [], IfOk, map, Some, option_and_then};
-ghost use Rattle.office_requests.specs.Routing.{route_table, inserted, asked_at, id_in, number_in, place_at, route_with, route_at, routed};
+ghost use Rattle.office_requests.specs.Routing.{route_table, inserted, asked_at, id_in, number_in_path, place_at, route_with, route_at, routed};
 
-use crate::forms::{FromText, within};
+use crate::forms::{FromText, number_between};
 use crate::path::{before, segment};
 use crate::route::Endpoint::{Commands, Queries};
 use crate::route::Shape::{Number, OneId, Plain, TwoIds};
 use crate::route::{Allow, Endpoint, Place, Route, Shape};
 use matchit::Router;
-use office_acts::command::{CommandKind, QueryKind};
+use office_commands::command::{CommandKind, QueryKind};
 use office_values::given::AskedNumber;
 use office_values::id::Id;
 use office_values::number::read_number;
@@ -104,14 +104,14 @@ fn id_in(path: &[u8], number: usize) -> Option<Id>
 }
 
 // The number that stands in a segment of a path.
-fn number_in(path: &[u8], number: usize) -> Option<AskedNumber>
-    ensures { result ≡ number_in number path.now }
+fn number_in_path(path: &[u8], number: usize) -> Option<AskedNumber>
+    ensures { result ≡ number_in_path number path.now }
 {
     let text = segment(path, number);
     if text.is_empty() || text[0] == b'0' {
         return None;
     }
-    within(read_number(text)?)
+    number_between(read_number(text)?)
 }
 
 // The parameters of a path.
@@ -126,7 +126,7 @@ fn place_at(path: &[u8], shape: Shape) -> Option<Place>
             let second = id_in(path, 4)?;
             Some(Place::Within(first, second))
         }
-        Number => number_in(path, 2).map(Place::Numbered),
+        Number => number_in_path(path, 2).map(Place::Numbered),
     }
 }
 

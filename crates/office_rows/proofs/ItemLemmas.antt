@@ -10,16 +10,16 @@ use Rattle.std.proofs.lemmas.List.Elements.{recursion_from_All}
 use Rattle.std.specs.Char.{digit_value}
 use Rattle.office_values.specs.Ids.{IsId, is_id_byte}
 use Rattle.office_values.specs.Texts.{IsTextLine, is_line_byte}
-use Rattle.office_acts.specs.declared.item.Item.{Item}
-use Rattle.office_rows.specs.ItemTexts.{item_then, items_text, before, behind, first_item, item_rest, some_items, items_in, Avoids, ItemFits}
+use Rattle.office_commands.specs.declared.item.Item.{Item}
+use Rattle.office_rows.specs.ItemTexts.{item_then, items_text, text_before, text_behind, first_item, item_rest, some_items, items_in_text, Avoids, ItemFits}
 
-pub before_is : (stop : ℕ) (bytes rest : List ℕ) → Avoids stop bytes → before stop (bytes ++ (stop ∷ rest)) ≡ bytes
-before_is stop [] rest h = ap (λ b. cond b [] (stop ∷ before stop rest)) (Rattle.std.proofs.lemmas.Bool.eq-eqb stop stop refl)
-before_is stop (b ∷ bytes) rest h = ap (λ c. cond c [] (b ∷ before stop (bytes ++ (stop ∷ rest)))) h.0 ∙ ap (λ l. b ∷ l) (before_is stop bytes rest h.1)
+pub before_is : (stop : ℕ) (bytes rest : List ℕ) → Avoids stop bytes → text_before stop (bytes ++ (stop ∷ rest)) ≡ bytes
+before_is stop [] rest h = ap (λ b. cond b [] (stop ∷ text_before stop rest)) (Rattle.std.proofs.lemmas.Bool.eq-eqb stop stop refl)
+before_is stop (b ∷ bytes) rest h = ap (λ c. cond c [] (b ∷ text_before stop (bytes ++ (stop ∷ rest)))) h.0 ∙ ap (λ l. b ∷ l) (before_is stop bytes rest h.1)
 
-pub behind_is : (stop : ℕ) (bytes rest : List ℕ) → Avoids stop bytes → behind stop (bytes ++ (stop ∷ rest)) ≡ rest
-behind_is stop [] rest h = ap (λ b. cond b rest (behind stop rest)) (Rattle.std.proofs.lemmas.Bool.eq-eqb stop stop refl)
-behind_is stop (b ∷ bytes) rest h = ap (λ c. cond c (bytes ++ (stop ∷ rest)) (behind stop (bytes ++ (stop ∷ rest)))) h.0 ∙ behind_is stop bytes rest h.1
+pub behind_is : (stop : ℕ) (bytes rest : List ℕ) → Avoids stop bytes → text_behind stop (bytes ++ (stop ∷ rest)) ≡ rest
+behind_is stop [] rest h = ap (λ b. cond b rest (text_behind stop rest)) (Rattle.std.proofs.lemmas.Bool.eq-eqb stop stop refl)
+behind_is stop (b ∷ bytes) rest h = ap (λ c. cond c (bytes ++ (stop ∷ rest)) (text_behind stop (bytes ++ (stop ∷ rest)))) h.0 ∙ behind_is stop bytes rest h.1
 
 -- bytes of a kind avoid each byte that isn't of it
 avoids : (stop : ℕ) (kind : ℕ → Bool) → kind stop ≡ false → (bytes : List ℕ) → AllByRecursion (λ b. IsTrue (kind b)) bytes → Avoids stop bytes
@@ -57,20 +57,20 @@ item_len item rest =
     omega (arith, length-append item.id (9 ∷ (decimal item.quantity ++ (9 ∷ (item.title ++ (10 ∷ rest))))), length-append (decimal item.quantity) (9 ∷ (item.title ++ (10 ∷ rest))), length-append item.title (10 ∷ rest))
 
 module _ (item : Item) (rest : List ℕ) (fits : ItemFits item) where
-  first_behind : behind 9 (item_then item rest) ≡ decimal item.quantity ++ (9 ∷ (item.title ++ (10 ∷ rest)))
+  first_behind : text_behind 9 (item_then item rest) ≡ decimal item.quantity ++ (9 ∷ (item.title ++ (10 ∷ rest)))
   first_behind = behind_is 9 item.id _ fits.id
 
-  second_behind : behind 9 (behind 9 (item_then item rest)) ≡ item.title ++ (10 ∷ rest)
-  second_behind = ap (behind 9) first_behind ∙ behind_is 9 (decimal item.quantity) _ (digits_avoid item.quantity fits.quantity)
+  second_behind : text_behind 9 (text_behind 9 (item_then item rest)) ≡ item.title ++ (10 ∷ rest)
+  second_behind = ap (text_behind 9) first_behind ∙ behind_is 9 (decimal item.quantity) _ (digits_avoid item.quantity fits.quantity)
 
-  number : digits_value 10 (before 9 (behind 9 (item_then item rest))) ≡ item.quantity
-  number = ap (λ t. digits_value 10 (before 9 t)) first_behind ∙ ap (digits_value 10) (before_is 9 (decimal item.quantity) _ (digits_avoid item.quantity fits.quantity)) ∙ (decimal_is_IsNumeral item.quantity fits.quantity).1
+  number : digits_value 10 (text_before 9 (text_behind 9 (item_then item rest))) ≡ item.quantity
+  number = ap (λ t. digits_value 10 (text_before 9 t)) first_behind ∙ ap (digits_value 10) (before_is 9 (decimal item.quantity) _ (digits_avoid item.quantity fits.quantity)) ∙ (decimal_is_IsNumeral item.quantity fits.quantity).1
 
   first_is : first_item (item_then item rest) ≡ item
-  first_is = λ i. record { id = before_is 9 item.id (decimal item.quantity ++ (9 ∷ (item.title ++ (10 ∷ rest)))) fits.id i; title = (ap (before 10) second_behind ∙ before_is 10 item.title rest fits.title) i; quantity = number i }
+  first_is = λ i. record { id = before_is 9 item.id (decimal item.quantity ++ (9 ∷ (item.title ++ (10 ∷ rest)))) fits.id i; title = (ap (text_before 10) second_behind ∙ before_is 10 item.title rest fits.title) i; quantity = number i }
 
   pub rest_is : item_rest (item_then item rest) ≡ rest
-  rest_is = ap (behind 10) second_behind ∙ behind_is 10 item.title rest fits.title
+  rest_is = ap (text_behind 10) second_behind ∙ behind_is 10 item.title rest fits.title
 
 back : (most : ℕ) (items : List Item) → AllByRecursion ItemFits items → length (items_text items) ≤ most → some_items most (items_text items) ≡ items
 unfolding some_items
@@ -81,7 +81,7 @@ back (suc most) (item ∷ items) h small =
     some_step most (item_then item (items_text items)) (omega (arith, item_len item (items_text items)))
     ∙ (λ i. first_is item (items_text items) h.0 i ∷ (ap (some_items most) (rest_is item (items_text items) h.0) ∙ back most items h.1 (omega (arith, item_len item (items_text items)))) i)
 
-pub items_back : (items : List Item) → AllByRecursion ItemFits items → items_in (items_text items) ≡ items
+pub items_back : (items : List Item) → AllByRecursion ItemFits items → items_in_text (items_text items) ≡ items
 items_back items h = back (length (items_text items)) items h (omega arith)
 
 -- what stands behind an item's text

@@ -10,10 +10,10 @@ use Rattle.std.proofs.lemmas.Str.{IsUtf8-from_ascii}
 use Rattle.std.proofs.lemmas.Bool.{eqb-true, ltb-false}
 use Rattle.std.proofs.lemmas.List.Quantifiers.{position-Some}
 use Rattle.std.proofs.lemmas.List.{take_rest}
-use Rattle.office_acts.specs.declared.item.Item.{Item}
-use Rattle.office_rows.specs.ItemTexts.{item_then, items_text, items_in, before, behind, item_rest, Avoids, ItemFits, IsItem, AreItems}
-use Rattle.office_acts.specs.Identified.{repeats_id}
-use Rattle.office_acts.specs.Items.{item_id}
+use Rattle.office_commands.specs.declared.item.Item.{Item}
+use Rattle.office_rows.specs.ItemTexts.{item_then, items_text, items_in_text, text_before, text_behind, item_rest, Avoids, ItemFits, IsItem, AreItems}
+use Rattle.office_commands.specs.Identified.{repeats_id}
+use Rattle.office_commands.specs.Items.{item_id}
 use Rattle.office_base.specs.declared.shelf.ShelfFault.{ShelfFault}
 use Rattle.office_base.specs.declared.shelf.ShelfFault.TheVariants.{Store}
 use Rattle.office_base.specs.Faults.{IsFaultOf}
@@ -24,24 +24,24 @@ use Rattle.office_rows.proofs.ItemLemmas.{before_is, behind_is, item_len, item_f
 -- ---- a cut
 
 pub record IsCut (stop : ℕ) (text : List ℕ) (at : ℕ) : Type 0 where
-  pub front : take at text ≡ before stop text
-  pub rest : take (length text - (at + 1)) (drop (at + 1) text) ≡ behind stop text
+  pub front : take at text ≡ text_before stop text
+  pub rest : take (length text - (at + 1)) (drop (at + 1) text) ≡ text_behind stop text
   pub whole : take at text ++ (stop ∷ take (length text - (at + 1)) (drop (at + 1) text)) ≡ text
 
 cut_here : (stop : ℕ) (text : List ℕ) (at : ℕ) → at < length text → (get_or text at 0 == stop) ≡ true → ((k : ℕ) → k < at → (get_or text k 0 == stop) ≡ false)
-    → (take at text ≡ before stop text) × (drop (suc at) text ≡ behind stop text) × (before stop text ++ (stop ∷ behind stop text) ≡ text)
+    → (take at text ≡ text_before stop text) × (drop (suc at) text ≡ text_behind stop text) × (text_before stop text ++ (stop ∷ text_behind stop text) ≡ text)
 cut_here stop [] at within is first = absurd (omega (arith, within))
 cut_here stop (b ∷ text) zero within is first = (
-  sym (ap (λ c. cond c [] (b ∷ before stop text)) is),
-  sym (ap (λ c. cond c text (behind stop text)) is),
-  (λ i. cond (is i) [] (b ∷ before stop text) ++ (stop ∷ cond (is i) text (behind stop text))) ∙ ap (λ n. n ∷ text) (sym (eqb-true b stop is)),
+  sym (ap (λ c. cond c [] (b ∷ text_before stop text)) is),
+  sym (ap (λ c. cond c text (text_behind stop text)) is),
+  (λ i. cond (is i) [] (b ∷ text_before stop text) ++ (stop ∷ cond (is i) text (text_behind stop text))) ∙ ap (λ n. n ∷ text) (sym (eqb-true b stop is)),
 )
 cut_here stop (b ∷ text) (suc at) within is first =
     let no = first 0 (omega arith) in
     let rest = cut_here stop text at (omega (arith, within)) is (λ k small. first (suc k) (omega (arith, small))) in (
-      ap (λ l. b ∷ l) rest.0 ∙ sym (ap (λ c. cond c [] (b ∷ before stop text)) no),
-      rest.1 ∙ sym (ap (λ c. cond c text (behind stop text)) no),
-      (λ i. cond (no i) [] (b ∷ before stop text) ++ (stop ∷ cond (no i) text (behind stop text))) ∙ ap (λ l. b ∷ l) rest.2,
+      ap (λ l. b ∷ l) rest.0 ∙ sym (ap (λ c. cond c [] (b ∷ text_before stop text)) no),
+      rest.1 ∙ sym (ap (λ c. cond c text (text_behind stop text)) no),
+      (λ i. cond (no i) [] (b ∷ text_before stop text) ++ (stop ∷ cond (no i) text (text_behind stop text))) ∙ ap (λ l. b ∷ l) rest.2,
     )
 
 pub cut_at : (stop : ℕ) (text : List ℕ) (at : ℕ) → position (λ b. b == stop) text ≡ Some at → IsCut stop text at
@@ -49,7 +49,7 @@ cut_at stop text at e =
     let found = position-Some (λ b. b == stop) text at 0 e in
     let parts = cut_here stop text at found.0 found.1 found.2 in
     let next : at + 1 ≡ suc at = omega arith in
-    let rest : take (length text - (at + 1)) (drop (at + 1) text) ≡ behind stop text = take_rest text (at + 1) ∙ ap (λ n. drop n text) next ∙ parts.1 in
+    let rest : take (length text - (at + 1)) (drop (at + 1) text) ≡ text_behind stop text = take_rest text (at + 1) ∙ ap (λ n. drop n text) next ∙ parts.1 in
     record { front = parts.0; rest = rest; whole = (λ i. parts.0 i ++ (stop ∷ rest i)) ∙ parts.2 }
 
 none_head : (stop b : ℕ) (text : List ℕ) (c : Bool) → (b == stop) ≡ c → length (b ∷ text) ≤ position_or_len (λ b. b == stop) (b ∷ text)
@@ -86,11 +86,11 @@ all_fit (item ∷ items) h = (fits_of item h.0, all_fit items h.1)
 
 -- what is found where an item's text is cut
 pub record HasParts (item : Item) (rest text : List ℕ) : Type 0 where
-  pub id : before 9 text ≡ item.id
-  pub behind_id : behind 9 text ≡ decimal item.quantity ++ (9 ∷ (item.title ++ (10 ∷ rest)))
-  pub quantity : before 9 (behind 9 text) ≡ decimal item.quantity
-  pub behind_quantity : behind 9 (behind 9 text) ≡ item.title ++ (10 ∷ rest)
-  pub title : before 10 (behind 9 (behind 9 text)) ≡ item.title
+  pub id : text_before 9 text ≡ item.id
+  pub behind_id : text_behind 9 text ≡ decimal item.quantity ++ (9 ∷ (item.title ++ (10 ∷ rest)))
+  pub quantity : text_before 9 (text_behind 9 text) ≡ decimal item.quantity
+  pub behind_quantity : text_behind 9 (text_behind 9 text) ≡ item.title ++ (10 ∷ rest)
+  pub title : text_before 10 (text_behind 9 (text_behind 9 text)) ≡ item.title
 
 pub parts_of : (item : Item) (rest text : List ℕ) → IsItem item → item_then item rest ≡ text → HasParts item rest text
 parts_of item rest text h e = subst (HasParts item rest) e here
@@ -98,29 +98,29 @@ parts_of item rest text h e = subst (HasParts item rest) e here
     fits : ItemFits item
     fits = fits_of item h
 
-    one : behind 9 (item_then item rest) ≡ decimal item.quantity ++ (9 ∷ (item.title ++ (10 ∷ rest)))
+    one : text_behind 9 (item_then item rest) ≡ decimal item.quantity ++ (9 ∷ (item.title ++ (10 ∷ rest)))
     one = behind_is 9 item.id _ fits.id
 
-    two : behind 9 (behind 9 (item_then item rest)) ≡ item.title ++ (10 ∷ rest)
-    two = ap (behind 9) one ∙ behind_is 9 (decimal item.quantity) _ (digits_avoid item.quantity fits.quantity)
+    two : text_behind 9 (text_behind 9 (item_then item rest)) ≡ item.title ++ (10 ∷ rest)
+    two = ap (text_behind 9) one ∙ behind_is 9 (decimal item.quantity) _ (digits_avoid item.quantity fits.quantity)
 
     here : HasParts item rest (item_then item rest)
     here = record {
       id = before_is 9 item.id _ fits.id;
       behind_id = one;
-      quantity = ap (before 9) one ∙ before_is 9 (decimal item.quantity) _ (digits_avoid item.quantity fits.quantity);
+      quantity = ap (text_before 9) one ∙ before_is 9 (decimal item.quantity) _ (digits_avoid item.quantity fits.quantity);
       behind_quantity = two;
-      title = ap (before 10) two ∙ before_is 10 item.title rest fits.title;
+      title = ap (text_before 10) two ∙ before_is 10 item.title rest fits.title;
     }
 
 -- where one of the three cuts can't be made, no item stands at the front
 pub no_id : (item : Item) (rest text : List ℕ) → item_then item rest ≡ text → Avoids 9 text → ⊥
 no_id item rest text e h = stands_there 9 item.id (decimal item.quantity ++ (9 ∷ (item.title ++ (10 ∷ rest)))) (subst (Avoids 9) (sym e) h)
 
-pub no_quantity : (item : Item) (rest text : List ℕ) → HasParts item rest text → Avoids 9 (behind 9 text) → ⊥
+pub no_quantity : (item : Item) (rest text : List ℕ) → HasParts item rest text → Avoids 9 (text_behind 9 text) → ⊥
 no_quantity item rest text parts h = stands_there 9 (decimal item.quantity) (item.title ++ (10 ∷ rest)) (subst (Avoids 9) parts.behind_id h)
 
-pub no_title : (item : Item) (rest text : List ℕ) → HasParts item rest text → Avoids 10 (behind 9 (behind 9 text)) → ⊥
+pub no_title : (item : Item) (rest text : List ℕ) → HasParts item rest text → Avoids 10 (text_behind 9 (text_behind 9 text)) → ⊥
 no_title item rest text parts h = stands_there 10 item.title rest (subst (Avoids 10) parts.behind_quantity h)
 
 -- ---- items behind others
@@ -137,7 +137,7 @@ continues (x ∷ found) (y ∷ items) rest f h some e =
 
 -- items have their text for themselves
 pub same_items : (xs ys : List Item) → AllByRecursion IsItem xs → AllByRecursion IsItem ys → items_text xs ≡ items_text ys → xs ≡ ys
-same_items xs ys f h e = sym (items_back xs (all_fit xs f)) ∙ ap items_in e ∙ items_back ys (all_fit ys h)
+same_items xs ys f h e = sym (items_back xs (all_fit xs f)) ∙ ap items_in_text e ∙ items_back ys (all_fit ys h)
 
 -- ---- a quantity's digits
 
@@ -176,21 +176,21 @@ pub none_left : (front rest text : List ℕ) (is_empty : Bool) → is_empty ≡ 
 none_left front [] text is_empty e t h = sym (append-nil front) ∙ h
 none_left front (b ∷ rest) text is_empty e t h = absurd (omega (arith, eqb-true (length (b ∷ rest)) 0 (sym e ∙ t)))
 
-pub one_more : (found : List Item) (item : Item) (new : List Item) (behind rest text : List ℕ) → new ≡ found ++ (item ∷ []) → item_then item behind ≡ rest → items_text found ++ rest ≡ text
-    → items_text new ++ behind ≡ text
-one_more found item new behind rest text pushed front before =
-    ap (λ l. items_text l ++ behind) pushed ∙ ap (λ l. l ++ behind) (items_text-push found item) ∙ append_assoc (items_text found) (item_then item []) behind
-    ∙ ap (λ l. items_text found ++ l) (sym (behind_item item [] behind) ∙ front) ∙ before
+pub one_more : (found : List Item) (item : Item) (new : List Item) (text_behind rest text : List ℕ) → new ≡ found ++ (item ∷ []) → item_then item text_behind ≡ rest → items_text found ++ rest ≡ text
+    → items_text new ++ text_behind ≡ text
+one_more found item new text_behind rest text pushed front text_before =
+    ap (λ l. items_text l ++ text_behind) pushed ∙ ap (λ l. l ++ text_behind) (items_text-push found item) ∙ append_assoc (items_text found) (item_then item []) text_behind
+    ∙ ap (λ l. items_text found ++ l) (sym (behind_item item [] text_behind) ∙ front) ∙ text_before
 
 pub items_unwritten : (found : List Item) (rest text : List ℕ) → AllByRecursion IsItem found → items_text found ++ rest ≡ text → 0 < length rest
     → IsUnwritten (λ (parts : Item × List ℕ). item_then parts.0 parts.1) (λ parts. IsItem parts.0) rest → IsUnwritten items_text AreItems text
-items_unwritten found rest text f before some h =
-    record { none = λ items fits e. let next = continues found items rest f fits.each some (e ∙ sym before) in h.none next.0 next.1 next.2 }
+items_unwritten found rest text f text_before some h =
+    record { none = λ items fits e. let next = continues found items rest f fits.each some (e ∙ sym text_before) in h.none next.0 next.1 next.2 }
 
 module _ (found : List Item) (text : List ℕ) (f : AllByRecursion IsItem found) (is : items_text found ≡ text) where
-  pub items_read : (o : Option (List Item)) (r : Result (List Item) ShelfFault) → IfSome o (λ all. all ≡ found) → r ≡ ok_or o Store → IfOk r (λ items. items ≡ items_in text)
-  items_read None r h e = subst (λ r. IfOk r (λ items. items ≡ items_in text)) (sym e) tt
-  items_read (Some all) r h e = subst (λ r. IfOk r (λ items. items ≡ items_in text)) (sym e) (h ∙ sym (items_back found (all_fit found f)) ∙ ap items_in is)
+  pub items_read : (o : Option (List Item)) (r : Result (List Item) ShelfFault) → IfSome o (λ all. all ≡ found) → r ≡ ok_or o Store → IfOk r (λ items. items ≡ items_in_text text)
+  items_read None r h e = subst (λ r. IfOk r (λ items. items ≡ items_in_text text)) (sym e) tt
+  items_read (Some all) r h e = subst (λ r. IfOk r (λ items. items ≡ items_in_text text)) (sym e) (h ∙ sym (items_back found (all_fit found f)) ∙ ap items_in_text is)
 
   no_items : (length found ≡ 0) ⊎ (repeats_id item_id found ≡ true) → IsUnwritten items_text AreItems text
   no_items why = record { none = λ items fits e. by items fits (same_items items found fits.each f (e ∙ sym is)) why }

@@ -1,8 +1,8 @@
 -- Each record comes back from its row: field by field, where a state, a reading or an optional value by cases.
 use Rattle.std.proofs.Common.{◌≡◌, ℕ, Bool, true, false, List, Option, Some, None, refl}
 use Rattle.std.specs.Prelude.{option_map}
-use Rattle.office_acts.specs.declared.contract.How.{How}
-use Rattle.office_acts.specs.declared.contract.How.TheVariants as how
+use Rattle.office_commands.specs.declared.contract.How.{How}
+use Rattle.office_commands.specs.declared.contract.How.TheVariants as how
 use Rattle.office_base.specs.declared.reading.Reading.{Reading}
 use Rattle.office_base.specs.declared.reading.Reading.TheVariants.{Unreadable, Nonconforming, Priced}
 use Rattle.office_base.specs.declared.records.NoticeState.{NoticeState}
@@ -25,13 +25,13 @@ use Rattle.office_base.specs.declared.records.AwardRow.{AwardRow}
 use Rattle.office_base.specs.declared.records.ContractRow.{ContractRow}
 use Rattle.office_base.specs.declared.records.EntryRow.{EntryRow}
 use Rattle.office_base.specs.declared.records.PerformanceRow.{PerformanceRow}
-use Rattle.office_rows.specs.Values.{or_null, perhaps_in, text_or_null, perhaps_text_in, as_number, yes_in, perhaps_yes_in}
+use Rattle.office_rows.specs.Values.{or_null, perhaps_in, text_or_null, perhaps_text_in, as_number, truth_in, perhaps_truth_in}
 use Rattle.office_rows.specs.Words.{notice_state_text, notice_state_in, lot_state_text, lot_state_in, envelope_state_text, envelope_state_in, security_state_text, security_state_in, award_state_text, award_state_in, how_text, how_in, entry_kind_text, entry_kind_in}
-use Rattle.office_rows.specs.Readings.{reading_word, stated_of, corrected_of, corrections_of, reading_in}
-use Rattle.office_rows.specs.ItemTexts.{items_text, items_in}
-use Rattle.office_rows.specs.Notices.{notice_row, notice_read, former_row, former_read, asks_nothing, lot_row, lot_read}
-use Rattle.office_rows.specs.Tenders.{envelope_row, envelope_read, security_row, security_read}
-use Rattle.office_rows.specs.Awards.{award_row, award_read, contract_row, contract_read, entry_row, entry_read, performance_row, performance_read}
+use Rattle.office_rows.specs.Readings.{reading_word, stated_price, corrected_price, count_of_corrections, reading_in}
+use Rattle.office_rows.specs.ItemTexts.{items_text, items_in_text}
+use Rattle.office_rows.specs.Notices.{notice_values, notice_read, former_values, former_read, asks_nothing, lot_values, lot_read}
+use Rattle.office_rows.specs.Tenders.{envelope_values, envelope_read, security_values, security_read}
+use Rattle.office_rows.specs.Awards.{award_values, award_read, contract_values, contract_read, entry_values, entry_read, performance_values, performance_read}
 use Rattle.sqlite_value.specs.declared.value.Value.TheVariants.{Int}
 use Rattle.std.specs.Prelude.{pos}
 
@@ -43,11 +43,11 @@ perhaps_text_back : (o : Option (List ℕ)) → perhaps_text_in (text_or_null o)
 perhaps_text_back None = refl
 perhaps_text_back (Some t) = refl
 
-yes_back : (b : Bool) → yes_in (Int (pos (as_number b))) ≡ b
+yes_back : (b : Bool) → truth_in (Int (pos (as_number b))) ≡ b
 yes_back true = refl
 yes_back false = refl
 
-perhaps_yes_back : (o : Option Bool) → perhaps_yes_in (or_null (option_map as_number o)) ≡ o
+perhaps_yes_back : (o : Option Bool) → perhaps_truth_in (or_null (option_map as_number o)) ≡ o
 perhaps_yes_back None = refl
 perhaps_yes_back (Some true) = refl
 perhaps_yes_back (Some false) = refl
@@ -57,7 +57,7 @@ how_back None = refl
 how_back (Some how.Regular) = refl
 how_back (Some how.ForDefault) = refl
 
-reading_back : (o : Option Reading) → reading_in (text_or_null (option_map reading_word o)) (or_null (stated_of o)) (or_null (corrected_of o)) (or_null (corrections_of o)) ≡ o
+reading_back : (o : Option Reading) → reading_in (text_or_null (option_map reading_word o)) (or_null (stated_price o)) (or_null (corrected_price o)) (or_null (count_of_corrections o)) ≡ o
 reading_back None = refl
 reading_back (Some Unreadable) = refl
 reading_back (Some Nonconforming) = refl
@@ -97,16 +97,16 @@ entry_kind_back entry.Raise = refl
 entry_kind_back entry.Cut = refl
 entry_kind_back entry.Payment = refl
 
-pub notice_back : (x : NoticeRow) → notice_read (notice_row x) ≡ x
+pub notice_back : (x : NoticeRow) → notice_read (notice_values x) ≡ x
 notice_back x = λ i. record x { state = notice_state_back x.state i; opened = perhaps_back x.opened i }
 
-pub former_back : (x : NoticeRow) → former_read (former_row x) ≡ asks_nothing x
+pub former_back : (x : NoticeRow) → former_read (former_values x) ≡ asks_nothing x
 former_back x = λ i. record x { state = notice_state_back x.state i; opened = perhaps_back x.opened i; performance = 0 }
 
-pub lot_back : (x : LotRow) → items_in (items_text x.items) ≡ x.items → lot_read (lot_row x) ≡ x
+pub lot_back : (x : LotRow) → items_in_text (items_text x.items) ≡ x.items → lot_read (lot_values x) ≡ x
 lot_back x items = λ i. record x { items = items i; state = lot_state_back x.state i }
 
-pub envelope_back : (x : EnvelopeRow) → envelope_read (envelope_row x) ≡ x
+pub envelope_back : (x : EnvelopeRow) → envelope_read (envelope_values x) ≡ x
 envelope_back x = λ i. record x {
   security = perhaps_back x.security i;
   state = envelope_state_back x.state i;
@@ -116,17 +116,17 @@ envelope_back x = λ i. record x {
   failed = yes_back x.failed i;
 }
 
-pub security_back : (x : SecurityRow) → security_read (security_row x) ≡ x
+pub security_back : (x : SecurityRow) → security_read (security_values x) ≡ x
 security_back x = λ i. record x { state = security_state_back x.state i }
 
-pub award_back : (x : AwardRow) → award_read (award_row x) ≡ x
+pub award_back : (x : AwardRow) → award_read (award_values x) ≡ x
 award_back x = λ i. record x { state = award_state_back x.state i }
 
-pub contract_back : (x : ContractRow) → contract_read (contract_row x) ≡ x
+pub contract_back : (x : ContractRow) → contract_read (contract_values x) ≡ x
 contract_back x = λ i. record x { ended = perhaps_back x.ended i; how = how_back x.how i }
 
-pub entry_back : (x : EntryRow) → entry_read (entry_row x) ≡ x
+pub entry_back : (x : EntryRow) → entry_read (entry_values x) ≡ x
 entry_back x = λ i. record x { kind = entry_kind_back x.kind i; rationale = perhaps_text_back x.rationale i }
 
-pub performance_back : (x : PerformanceRow) → performance_read (performance_row x) ≡ x
+pub performance_back : (x : PerformanceRow) → performance_read (performance_values x) ≡ x
 performance_back x = λ i. record x { state = security_state_back x.state i }

@@ -5,9 +5,9 @@ use Rattle.std.specs.List.{AllByRecursion}
 use Rattle.std.specs.Str.Parse.{digits_value}
 use Rattle.office_values.specs.Ids.{IsId}
 use Rattle.office_values.specs.Texts.{IsTextLine}
-use Rattle.office_acts.specs.declared.item.Item.{Item}
-use Rattle.office_acts.specs.Identified.{repeats_id}
-use Rattle.office_acts.specs.Items.{item_id}
+use Rattle.office_commands.specs.declared.item.Item.{Item}
+use Rattle.office_commands.specs.Identified.{repeats_id}
+use Rattle.office_commands.specs.Items.{item_id}
 
 -- an item's text, and the rest behind it
 abbrev pub item_then : Item → List ℕ → List ℕ
@@ -19,22 +19,22 @@ items_text [] = []
 items_text (item ∷ items) = item_then item (items_text items)
 
 -- what stands before the first such byte
-abbrev pub before : ℕ → List ℕ → List ℕ
-before stop [] = []
-before stop (b ∷ bytes) = cond (b == stop) [] (b ∷ before stop bytes)
+abbrev pub text_before : ℕ → List ℕ → List ℕ
+text_before stop [] = []
+text_before stop (b ∷ bytes) = cond (b == stop) [] (b ∷ text_before stop bytes)
 
 -- what stands behind it
-abbrev pub behind : ℕ → List ℕ → List ℕ
-behind stop [] = []
-behind stop (b ∷ bytes) = cond (b == stop) bytes (behind stop bytes)
+abbrev pub text_behind : ℕ → List ℕ → List ℕ
+text_behind stop [] = []
+text_behind stop (b ∷ bytes) = cond (b == stop) bytes (text_behind stop bytes)
 
 -- the first item of a text
 abbrev pub first_item : List ℕ → Item
-first_item text = record { id = before 9 text; title = before 10 (behind 9 (behind 9 text)); quantity = digits_value 10 (before 9 (behind 9 text)) }
+first_item text = record { id = text_before 9 text; title = text_before 10 (text_behind 9 (text_behind 9 text)); quantity = digits_value 10 (text_before 9 (text_behind 9 text)) }
 
 -- the text behind the first item
 abbrev pub item_rest : List ℕ → List ℕ
-item_rest text = behind 10 (behind 9 (behind 9 text))
+item_rest text = text_behind 10 (text_behind 9 (text_behind 9 text))
 
 -- at most so many items
 unfoldable pub some_items : ℕ → List ℕ → List Item
@@ -43,8 +43,8 @@ some_items (suc most) [] = []
 some_items (suc most) (b ∷ text) = first_item (b ∷ text) ∷ some_items most (item_rest (b ∷ text))
 
 -- the items that a text writes; some items where it writes none
-abbrev pub items_in : List ℕ → List Item
-items_in text = some_items (length text) text
+abbrev pub items_in_text : List ℕ → List Item
+items_in_text text = some_items (length text) text
 
 -- the byte isn't among these
 abbrev pub Avoids : ℕ → List ℕ → Type 0

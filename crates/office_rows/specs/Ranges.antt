@@ -4,10 +4,10 @@ use Rattle.office_values.specs.Ids.{IsId}
 use Rattle.office_values.specs.Texts.{IsTextLine}
 use Rattle.office_values.specs.Moments.{last_moment}
 use Rattle.office_values.specs.Money.{amount_limit, total_limit}
-use Rattle.office_acts.specs.SealedBytes.{IsSealed}
+use Rattle.office_commands.specs.SealedBytes.{IsSealed}
 use Rattle.office_base.specs.declared.reading.Reading.{Reading}
 use Rattle.office_rows.specs.ItemTexts.{AreItems}
-use Rattle.office_rows.specs.Readings.{stated_of, corrected_of, corrections_of}
+use Rattle.office_rows.specs.Readings.{stated_price, corrected_price, count_of_corrections}
 use Rattle.office_base.specs.declared.records.LineRow.{LineRow}
 use Rattle.office_base.specs.declared.records.BatchRow.{BatchRow}
 use Rattle.office_base.specs.declared.records.TendererRow.{TendererRow}
@@ -34,8 +34,8 @@ abbrev pub IsWithin : ℕ → ℕ → ℕ → Type 0
 IsWithin least most n = (least ≤ n) × (n ≤ most)
 
 -- a number that the office has given
-abbrev pub IsGiven : ℕ → Type 0
-IsGiven n = IsWithin 1 (10 ^ 9) n
+abbrev pub IsOfficeNumber : ℕ → Type 0
+IsOfficeNumber n = IsWithin 1 (10 ^ 9) n
 
 -- money that is asked for or moved, and so is not nothing
 abbrev pub IsSum : ℕ → Type 0
@@ -68,30 +68,30 @@ IsLot x = LotFits x × AreItems x.items
 -- the prices that were read; a count of corrections is within SQL's numbers, of 64 bits with a sign
 abbrev pub ReadingFits : Option Reading → Type 0
 ReadingFits r =
-    IfSome (stated_of r) (λ stated. stated ≤ total_limit) × IfSome (corrected_of r) (λ corrected. corrected ≤ amount_limit)
-    × IfSome (corrections_of r) (λ corrections. corrections ≤ 9223372036854775807)
+    IfSome (stated_price r) (λ stated. stated ≤ total_limit) × IfSome (corrected_price r) (λ corrected. corrected ≤ amount_limit)
+    × IfSome (count_of_corrections r) (λ corrections. corrections ≤ 9223372036854775807)
 
 abbrev pub EnvelopeFits : EnvelopeRow → Type 0
 EnvelopeFits x =
-    IsGiven x.receipt × IsId x.notice × IsId x.lot × IsId x.tenderer × (x.moment ≤ last_moment) × IsWithin 1 32768 x.length × (length x.digest ≡ 32)
-    × IfSome x.security IsGiven × ReadingFits x.reading × IfSome x.quality (λ points. points ≤ 100)
+    IsOfficeNumber x.receipt × IsId x.notice × IsId x.lot × IsId x.tenderer × (x.moment ≤ last_moment) × IsWithin 1 32768 x.length × (length x.digest ≡ 32)
+    × IfSome x.security IsOfficeNumber × ReadingFits x.reading × IfSome x.quality (λ points. points ≤ 100)
 
 abbrev pub SealFits : SealRow → Type 0
-SealFits x = IsGiven x.receipt × IsSealed x.bytes
+SealFits x = IsOfficeNumber x.receipt × IsSealed x.bytes
 
 abbrev pub SecurityFits : SecurityRow → Type 0
-SecurityFits x = IsGiven x.security × IsId x.tenderer × IsId x.notice × IsId x.lot × IsId x.reference × IsSum x.amount
+SecurityFits x = IsOfficeNumber x.security × IsId x.tenderer × IsId x.notice × IsId x.lot × IsId x.reference × IsSum x.amount
 
 abbrev pub AwardFits : AwardRow → Type 0
-AwardFits x = IsGiven x.award × IsId x.notice × IsId x.lot × IsGiven x.receipt × (x.price ≤ amount_limit) × (x.moment ≤ last_moment)
+AwardFits x = IsOfficeNumber x.award × IsId x.notice × IsId x.lot × IsOfficeNumber x.receipt × (x.price ≤ amount_limit) × (x.moment ≤ last_moment)
 
 abbrev pub ContractFits : ContractRow → Type 0
 ContractFits x =
-    IsGiven x.contract × IsId x.notice × IsId x.lot × IsId x.tenderer × (x.signed ≤ total_limit) × (x.moment ≤ last_moment)
+    IsOfficeNumber x.contract × IsId x.notice × IsId x.lot × IsId x.tenderer × (x.signed ≤ total_limit) × (x.moment ≤ last_moment)
     × IfSome x.ended (λ moment. moment ≤ last_moment) × (x.released ≤ total_limit)
 
 abbrev pub EntryFits : EntryRow → Type 0
-EntryFits x = IsGiven x.contract × IsId x.entry × IsSum x.amount × (x.moment ≤ last_moment) × IfSome x.rationale IsTextLine
+EntryFits x = IsOfficeNumber x.contract × IsId x.entry × IsSum x.amount × (x.moment ≤ last_moment) × IfSome x.rationale IsTextLine
 
 abbrev pub ReleaseFits : ReleaseRow → Type 0
 ReleaseFits x = IsId x.notice × IsWithin 1 9999 x.seq × (x.moment ≤ last_moment) × IsUtf8 x.text
@@ -103,7 +103,7 @@ abbrev pub LateFits : LateRow → Type 0
 LateFits x = IsId x.notice
 
 abbrev pub PerformanceFits : PerformanceRow → Type 0
-PerformanceFits x = IsGiven x.contract × IsId x.reference × IsSum x.amount
+PerformanceFits x = IsOfficeNumber x.contract × IsId x.reference × IsSum x.amount
 
 abbrev pub ClockFits : ClockRow → Type 0
 ClockFits x = (x.moment ≤ last_moment) × (x.receipts ≤ 10 ^ 9) × (x.awards ≤ 10 ^ 9)

@@ -5,7 +5,7 @@ use Rattle.sqlite_value.specs.declared.value.Value.{Value}
 use Rattle.sqlite_value.specs.Order.{Row, column}
 use Rattle.office_base.specs.declared.reading.Reading.{Reading}
 use Rattle.office_base.specs.declared.reading.Reading.TheVariants.{Unreadable, Nonconforming, Priced}
-use Rattle.office_rows.specs.Values.{same_text, number_in, or_null, text_or_null, perhaps_text_in, three_from}
+use Rattle.office_rows.specs.Values.{same_text, number_in_value, or_null, text_or_null, perhaps_text_in, three_from}
 
 -- the word of a reading
 abbrev pub reading_word : Reading → List ℕ
@@ -14,29 +14,29 @@ reading_word Nonconforming = codes "nonconforming"
 reading_word (Priced stated corrected corrections) = codes "priced"
 
 -- the price as the tender states it, where there is one
-abbrev pub stated_of : Option Reading → Option ℕ
-stated_of None = None
-stated_of (Some Unreadable) = None
-stated_of (Some Nonconforming) = None
-stated_of (Some (Priced stated corrected corrections)) = Some stated
+abbrev pub stated_price : Option Reading → Option ℕ
+stated_price None = None
+stated_price (Some Unreadable) = None
+stated_price (Some Nonconforming) = None
+stated_price (Some (Priced stated corrected corrections)) = Some stated
 
 -- the price as corrected
-abbrev pub corrected_of : Option Reading → Option ℕ
-corrected_of None = None
-corrected_of (Some Unreadable) = None
-corrected_of (Some Nonconforming) = None
-corrected_of (Some (Priced stated corrected corrections)) = Some corrected
+abbrev pub corrected_price : Option Reading → Option ℕ
+corrected_price None = None
+corrected_price (Some Unreadable) = None
+corrected_price (Some Nonconforming) = None
+corrected_price (Some (Priced stated corrected corrections)) = Some corrected
 
 -- how many figures were corrected
-abbrev pub corrections_of : Option Reading → Option ℕ
-corrections_of None = None
-corrections_of (Some Unreadable) = None
-corrections_of (Some Nonconforming) = None
-corrections_of (Some (Priced stated corrected corrections)) = Some corrections
+abbrev pub count_of_corrections : Option Reading → Option ℕ
+count_of_corrections None = None
+count_of_corrections (Some Unreadable) = None
+count_of_corrections (Some Nonconforming) = None
+count_of_corrections (Some (Priced stated corrected corrections)) = Some corrections
 
 -- the four columns of a reading
 abbrev pub reading_cells : Option Reading → Row
-reading_cells r = text_or_null (option_map reading_word r) ∷ or_null (stated_of r) ∷ or_null (corrected_of r) ∷ or_null (corrections_of r) ∷ []
+reading_cells r = text_or_null (option_map reading_word r) ∷ or_null (stated_price r) ∷ or_null (corrected_price r) ∷ or_null (count_of_corrections r) ∷ []
 
 -- the three columns of its price in a tender's row, and all four
 abbrev pub price_in : Row → Row
@@ -46,12 +46,12 @@ abbrev pub reading_part : Row → Row
 reading_part row = column row 9 ∷ price_in row
 
 -- the reading that a word and the three columns behind it give
-abbrev pub reading_of : Value → Value → Value → List ℕ → Reading
-reading_of stated corrected corrections word =
+abbrev pub reading_in_columns : Value → Value → Value → List ℕ → Reading
+reading_in_columns stated corrected corrections word =
     if same_text word (codes "unreadable") then Unreadable
     else if same_text word (codes "nonconforming") then Nonconforming
-    else Priced (number_in stated) (number_in corrected) (number_in corrections)
+    else Priced (number_in_value stated) (number_in_value corrected) (number_in_value corrections)
 
 -- what four columns say was read; nothing where the word is NULL
 abbrev pub reading_in : Value → Value → Value → Value → Option Reading
-reading_in word stated corrected corrections = option_map (reading_of stated corrected corrections) (perhaps_text_in word)
+reading_in word stated corrected corrections = option_map (reading_in_columns stated corrected corrections) (perhaps_text_in word)

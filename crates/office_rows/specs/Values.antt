@@ -11,12 +11,12 @@ nat_of (pos n) = n
 nat_of (negsuc n) = 0
 
 -- the number that a value is; 0 where it is none
-abbrev pub number_in : Value → ℕ
-number_in Null = 0
-number_in (Int z) = nat_of z
-number_in (Real x) = 0
-number_in (Text t) = 0
-number_in (Blob b) = 0
+abbrev pub number_in_value : Value → ℕ
+number_in_value Null = 0
+number_in_value (Int z) = nat_of z
+number_in_value (Real x) = 0
+number_in_value (Text t) = 0
+number_in_value (Blob b) = 0
 
 -- a whole number that isn't negative
 abbrev pub whole : ℕ → Value
@@ -53,12 +53,12 @@ abbrev pub as_number : Bool → ℕ
 as_number b = cond b 1 0
 
 -- whether a value is yes
-abbrev pub yes_in : Value → Bool
-yes_in v = number_in v == 1
+abbrev pub truth_in : Value → Bool
+truth_in v = number_in_value v == 1
 
 -- yes, no or NULL
-abbrev pub perhaps_yes_in : Value → Option Bool
-perhaps_yes_in v = option_map (λ n. n == 1) (perhaps_in v)
+abbrev pub perhaps_truth_in : Value → Option Bool
+perhaps_truth_in v = option_map (λ n. n == 1) (perhaps_in v)
 
 -- whether two texts are the same
 abbrev pub same_text : List ℕ → List ℕ → Bool

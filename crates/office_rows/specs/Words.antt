@@ -1,7 +1,7 @@
 -- States and kinds as words, and the words as states: each word that isn't one of the others is taken for the last.
 use Rattle.std.specs.Prelude.{ℕ, if◌then◌else◌, List, codes}
-use Rattle.office_acts.specs.declared.contract.How.{How}
-use Rattle.office_acts.specs.declared.contract.How.TheVariants as how
+use Rattle.office_commands.specs.declared.contract.How.{How}
+use Rattle.office_commands.specs.declared.contract.How.TheVariants as how
 use Rattle.office_base.specs.declared.records.NoticeState.{NoticeState}
 use Rattle.office_base.specs.declared.records.NoticeState.TheVariants as notice
 use Rattle.office_base.specs.declared.records.LotState.{LotState}

@@ -7,15 +7,15 @@ ghost use Rattle.office_values.specs.Ids.{IsId};
 ghost use Rattle.office_values.specs.Moments.{last_moment};
 ghost use Rattle.office_values.specs.Money.{amount_limit, total_limit};
 ghost use Rattle.office_values.specs.Texts.{IsTextLine};
-ghost use Rattle.office_acts.specs.SealedBytes.{IsSealed};
+ghost use Rattle.office_commands.specs.SealedBytes.{IsSealed};
 ghost use Rattle.office_rows.specs.Values.{whole, or_null, text_or_null, as_number, three_from};
 ghost use Rattle.office_rows.specs.Ranges.{IsWithin, Anything};
 ghost use Rattle.office_base.specs.Faults.{IsFaultOf};
 ghost use Rattle.office_rows.specs.Unwritten.{IsUnwritten};
 
-use office_acts::sealed::SealedBytes;
 use office_base::json_text::JsonText;
 use office_base::shelf::ShelfFault;
+use office_commands::sealed::SealedBytes;
 use office_values::bounded::Bounded;
 use office_values::id::Id;
 use office_values::moment::Moment;
@@ -278,7 +278,7 @@ pub(crate) fn version_at(row: &Row, at: usize, version: u64) -> Result<(), Shelf
 }
 
 // Yes or no.
-pub(crate) fn yes_at(row: &Row, at: usize) -> Result<bool, ShelfFault>
+pub(crate) fn truth_at(row: &Row, at: usize) -> Result<bool, ShelfFault>
     ensures exact { IfOk result (λ yes. whole (as_number yes) ≡ column row.now at) }
     ensures cause { IfErr result (IsFaultOf (IsUnwritten (λ yes. whole (as_number yes)) Anything (column row.now at))) }
 {

@@ -3,16 +3,16 @@ ghost use Rattle.std.specs.Prelude.{◌≡◌, ◌==◌, ◌<◌, ◌^◌, ℕ, 
 ghost use Rattle.std.specs.Fmt.{decimal};
 ghost use Rattle.sqlite_value.specs.declared.value.Value.TheVariants.{Text};
 ghost use Rattle.sqlite_value.specs.Order.{column};
-ghost use Rattle.office_acts.specs.declared.item.Item.{Item as SomeItem};
+ghost use Rattle.office_commands.specs.declared.item.Item.{Item as SomeItem};
 ghost use Rattle.office_rows.specs.Ranges.{IsWithin};
 ghost use Rattle.office_base.specs.Faults.{IsFaultOf};
 ghost use Rattle.office_rows.specs.Unwritten.{IsUnwritten};
-ghost use Rattle.office_rows.specs.ItemTexts.{item_then, items_text, items_in, before, behind, Avoids, IsItem, AreItems};
+ghost use Rattle.office_rows.specs.ItemTexts.{item_then, items_text, items_in_text, text_before, text_behind, Avoids, IsItem, AreItems};
 
 use crate::columns::{is_same, line_of, text_at};
 use itoa::Buffer;
-use office_acts::item::{Item, Items, Quantity};
 use office_base::shelf::ShelfFault;
+use office_commands::item::{Item, Items, Quantity};
 use office_values::id::Id;
 use sqlite::Row;
 use std::alloc::{AllocError, Global};
@@ -34,7 +34,7 @@ fn push_item(out: &mut Vec<u8>, item: &Item) -> Result<(), AllocError>
 /// The text of a lot's items, from which they come back.
 pub fn items_text(alloc: Global, items: &Items) -> Result<Vec<u8>, AllocError>
     ensures text { IfOk result (λ out. out.items ≡ items_text items.now) }
-    ensures back { IfOk result (λ out. items_in out.items ≡ items.now) }
+    ensures back { IfOk result (λ out. items_in_text out.items ≡ items.now) }
     ensures right { OnOk result (AreItems items.now) }
 {
     let mut out = Vec::new(alloc);
@@ -54,8 +54,8 @@ fn place_of(text: &[u8], stop: u8) -> Option<usize>
 
 // What stands before the first such byte, and what stands behind it; None where there is none.
 fn cut(text: &[u8], stop: u8) -> Option<(&[u8], &[u8])>
-    ensures before { IfSome result (λ parts. parts.0.now ≡ before stop text.now) }
-    ensures behind { IfSome result (λ parts. parts.1.now ≡ behind stop text.now) }
+    ensures before { IfSome result (λ parts. parts.0.now ≡ text_before stop text.now) }
+    ensures behind { IfSome result (λ parts. parts.1.now ≡ text_behind stop text.now) }
     ensures exact { IfSome result (λ parts. parts.0.now ++ (stop ∷ parts.1.now) ≡ text.now) }
     ensures none { IfNone result (Avoids stop text.now) }
 {
@@ -117,7 +117,7 @@ fn front_item(alloc: Global, text: &[u8]) -> Result<(Item, &[u8]), ShelfFault>
 /// The items that a text writes; a fault of the store where it isn't the text of items.
 pub fn read_items(alloc: Global, text: &[u8]) -> Result<Items, ShelfFault>
     ensures exact { IfOk result (λ items. items_text items ≡ text.now) }
-    ensures read { IfOk result (λ items. items ≡ items_in text.now) }
+    ensures read { IfOk result (λ items. items ≡ items_in_text text.now) }
     ensures cause { IfErr result (IsFaultOf (IsUnwritten items_text AreItems text.now)) }
 {
     let mut found = Vec::new(alloc);
@@ -134,7 +134,7 @@ pub fn read_items(alloc: Global, text: &[u8]) -> Result<Items, ShelfFault>
 
 pub(crate) fn items_at(alloc: Global, row: &Row, at: usize) -> Result<Items, ShelfFault>
     ensures exact { IfOk result (λ items. Text (items_text items) ≡ column row.now at) }
-    ensures read { IfOk result (λ items. items_in (items_text items) ≡ items) }
+    ensures read { IfOk result (λ items. items_in_text (items_text items) ≡ items) }
     ensures cause { IfErr result (IsFaultOf (IsUnwritten (λ items. Text (items_text items)) AreItems (column row.now at))) }
 {
     read_items(alloc, text_at(row, at)?)

@@ -5,7 +5,7 @@ ghost use Rattle.sqlite_value.specs.Value.{owned};
 ghost use Rattle.sqlite_value.specs.declared.value.Value.TheVariants.{Text};
 ghost use Rattle.office_values.specs.Money.{amount_limit, total_limit};
 ghost use Rattle.office_rows.specs.Values.{or_null, text_or_null};
-ghost use Rattle.office_rows.specs.Readings.{reading_word, stated_of, corrected_of, corrections_of, reading_cells, price_in, reading_part};
+ghost use Rattle.office_rows.specs.Readings.{reading_word, stated_price, corrected_price, count_of_corrections, reading_cells, price_in, reading_part};
 ghost use Rattle.office_rows.specs.Ranges.{ReadingFits};
 ghost use Rattle.office_base.specs.Faults.{IsFaultOf};
 ghost use Rattle.office_rows.specs.Unwritten.{IsUnwritten};
@@ -32,8 +32,8 @@ pub(crate) fn word_value(reading: &Option<Reading>) -> ValueRef<'static>
 }
 
 pub(crate) fn stated_value(reading: &Option<Reading>) -> ValueRef<'static>
-    ensures value { bound_value (owned result) ≡ or_null (stated_of reading.now) }
-    ensures range { IfSome (stated_of reading.now) (λ stated. stated ≤ total_limit) }
+    ensures value { bound_value (owned result) ≡ or_null (stated_price reading.now) }
+    ensures range { IfSome (stated_price reading.now) (λ stated. stated ≤ total_limit) }
 {
     match reading {
         Some(Reading::Priced { stated, .. }) => ValueRef::Int(signed(stated.units())),
@@ -42,8 +42,8 @@ pub(crate) fn stated_value(reading: &Option<Reading>) -> ValueRef<'static>
 }
 
 pub(crate) fn corrected_value(reading: &Option<Reading>) -> ValueRef<'static>
-    ensures value { bound_value (owned result) ≡ or_null (corrected_of reading.now) }
-    ensures range { IfSome (corrected_of reading.now) (λ corrected. corrected ≤ amount_limit) }
+    ensures value { bound_value (owned result) ≡ or_null (corrected_price reading.now) }
+    ensures range { IfSome (corrected_price reading.now) (λ corrected. corrected ≤ amount_limit) }
 {
     match reading {
         Some(Reading::Priced { corrected, .. }) => ValueRef::Int(signed(corrected.units())),
@@ -52,8 +52,8 @@ pub(crate) fn corrected_value(reading: &Option<Reading>) -> ValueRef<'static>
 }
 
 pub(crate) fn corrections_value(reading: &Option<Reading>) -> ValueRef<'static>
-    ensures value { bound_value (owned result) ≡ or_null (corrections_of reading.now) }
-    ensures range { IfSome (corrections_of reading.now) (λ corrections. corrections ≤ 9223372036854775807) }
+    ensures value { bound_value (owned result) ≡ or_null (count_of_corrections reading.now) }
+    ensures range { IfSome (count_of_corrections reading.now) (λ corrections. corrections ≤ 9223372036854775807) }
 {
     match reading {
         Some(Reading::Priced { corrections, .. }) => ValueRef::Int(signed(corrections.get())),
@@ -74,7 +74,7 @@ fn price_in(row: &Row) -> Result<Reading, ShelfFault>
 }
 
 // The reading that this word begins.
-fn reading_of(word: &[u8], row: &Row) -> Result<Reading, ShelfFault>
+fn reading_in_columns(word: &[u8], row: &Row) -> Result<Reading, ShelfFault>
     ensures exact { IfOk result (λ reading. reading_cells (Some reading) ≡ Text word.now ∷ price_in row.now) }
     ensures cause { IfErr result (IsFaultOf (IsUnwritten (λ reading. reading_cells (Some reading)) (λ reading. ReadingFits (Some reading)) (Text word.now ∷ price_in row.now))) }
 {
@@ -97,7 +97,7 @@ pub(crate) fn reading_at(row: &Row) -> Result<Option<Reading>, ShelfFault>
     ensures cause { IfErr result (IsFaultOf (IsUnwritten reading_cells ReadingFits (reading_part row.now))) }
 {
     match perhaps_text_at(row, WORD)? {
-        Some(word) => Ok(Some(reading_of(word, row)?)),
+        Some(word) => Ok(Some(reading_in_columns(word, row)?)),
         None if are_null(row, WORD + 1) => Ok(None),
         None => Err(ShelfFault::Store),
     }

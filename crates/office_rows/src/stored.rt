@@ -3,20 +3,20 @@ ghost use Rattle.std.specs.Prelude.{◌≡◌, ◌≤◌, [], ◌∷◌, IfOk, I
 ghost use Rattle.std.specs.List.{AllByRecursion};
 ghost use Rattle.sqlite_value.specs.Order.{Row as Values, column};
 ghost use Rattle.office_values.specs.Money.{amount_limit};
-ghost use Rattle.office_rows.specs.Values.{whole, number_in};
+ghost use Rattle.office_rows.specs.Values.{whole, number_in_value};
 ghost use Rattle.office_base.specs.Faults.{IsFaultOf};
 ghost use Rattle.office_rows.specs.Unwritten.{IsUnwritten};
-ghost use Rattle.office_rows.specs.Budget.{line_row, line_read, batch_row, batch_read};
-ghost use Rattle.office_rows.specs.Notices.{tenderer_row, tenderer_read, notice_row, notice_read, former_row, former_read, late_row, late_read, lot_row, lot_read};
-ghost use Rattle.office_rows.specs.Tenders.{envelope_row, envelope_read, seal_row, seal_read, security_row, security_read};
-ghost use Rattle.office_rows.specs.Awards.{award_row, award_read, contract_row, contract_read, entry_row, entry_read, performance_row, performance_read};
-ghost use Rattle.office_rows.specs.Releases.{release_row, release_read, compiled_row, compiled_read, clock_row, clock_row_of, clock_read};
+ghost use Rattle.office_rows.specs.Budget.{line_values, line_read, batch_values, batch_read};
+ghost use Rattle.office_rows.specs.Notices.{tenderer_values, tenderer_read, notice_values, notice_read, former_values, former_read, late_values, late_read, lot_values, lot_read};
+ghost use Rattle.office_rows.specs.Tenders.{envelope_values, envelope_read, seal_values, seal_read, security_values, security_read};
+ghost use Rattle.office_rows.specs.Awards.{award_values, award_read, contract_values, contract_read, entry_values, entry_read, performance_values, performance_read};
+ghost use Rattle.office_rows.specs.Releases.{release_values, release_read, compiled_values, compiled_read, clock_values, clock_values_of, clock_read};
 ghost use Rattle.office_rows.specs.Ranges.{LineFits, BatchFits, TendererFits, NoticeFits, IsLot, EnvelopeFits, SealFits, SecurityFits, AwardFits, ContractFits, EntryFits, ReleaseFits, CompiledFits, LateFits, PerformanceFits, ClockFits};
 
 use crate::columns::{
     amount_at, bounded_at, digest_at, has_columns, id_at, json_at, line_at, moment_at,
     perhaps_bounded_at, perhaps_line_at, perhaps_moment_at, perhaps_yes_at, sealed_at, total_at,
-    version_at, yes_at,
+    truth_at, version_at,
 };
 use crate::items::items_at;
 use crate::readings::reading_at;
@@ -51,7 +51,7 @@ pub trait Stored: Sized {
 impl Stored for LineRow {
     ghost read = { line_read };
 
-    ghost row_of = { line_row };
+    ghost row_of = { line_values };
 
     ghost fits = { LineFits };
 
@@ -69,7 +69,7 @@ impl Stored for LineRow {
 impl Stored for BatchRow {
     ghost read = { batch_read };
 
-    ghost row_of = { batch_row };
+    ghost row_of = { batch_values };
 
     ghost fits = { BatchFits };
 
@@ -86,7 +86,7 @@ impl Stored for BatchRow {
 impl Stored for TendererRow {
     ghost read = { tenderer_read };
 
-    ghost row_of = { tenderer_row };
+    ghost row_of = { tenderer_values };
 
     ghost fits = { TendererFits };
 
@@ -104,7 +104,7 @@ impl Stored for TendererRow {
 impl Stored for NoticeRow {
     ghost read = { notice_read };
 
-    ghost row_of = { notice_row };
+    ghost row_of = { notice_values };
 
     ghost fits = { NoticeFits };
 
@@ -136,7 +136,7 @@ pub struct FormerNotice {
 impl Stored for FormerNotice {
     ghost read = { λ r. record { row = former_read r } };
 
-    ghost row_of = { λ x. former_row x.row };
+    ghost row_of = { λ x. former_values x.row };
 
     ghost fits = { λ x. NoticeFits x.row };
 
@@ -164,7 +164,7 @@ impl Stored for FormerNotice {
 impl Stored for LotRow {
     ghost read = { lot_read };
 
-    ghost row_of = { lot_row };
+    ghost row_of = { lot_values };
 
     ghost fits = { IsLot };
 
@@ -187,7 +187,7 @@ impl Stored for LotRow {
 impl Stored for EnvelopeRow {
     ghost read = { envelope_read };
 
-    ghost row_of = { envelope_row };
+    ghost row_of = { envelope_values };
 
     ghost fits = { EnvelopeFits };
 
@@ -206,7 +206,7 @@ impl Stored for EnvelopeRow {
             reading: reading_at(row)?,
             responsive: perhaps_yes_at(row, 13)?,
             quality: perhaps_bounded_at(row, 14)?,
-            failed: yes_at(row, 15)?,
+            failed: truth_at(row, 15)?,
         })
     }
 }
@@ -214,7 +214,7 @@ impl Stored for EnvelopeRow {
 impl Stored for SealRow {
     ghost read = { seal_read };
 
-    ghost row_of = { seal_row };
+    ghost row_of = { seal_values };
 
     ghost fits = { SealFits };
 
@@ -230,7 +230,7 @@ impl Stored for SealRow {
 impl Stored for SecurityRow {
     ghost read = { security_read };
 
-    ghost row_of = { security_row };
+    ghost row_of = { security_values };
 
     ghost fits = { SecurityFits };
 
@@ -251,7 +251,7 @@ impl Stored for SecurityRow {
 impl Stored for AwardRow {
     ghost read = { award_read };
 
-    ghost row_of = { award_row };
+    ghost row_of = { award_values };
 
     ghost fits = { AwardFits };
 
@@ -272,7 +272,7 @@ impl Stored for AwardRow {
 impl Stored for ContractRow {
     ghost read = { contract_read };
 
-    ghost row_of = { contract_row };
+    ghost row_of = { contract_values };
 
     ghost fits = { ContractFits };
 
@@ -295,7 +295,7 @@ impl Stored for ContractRow {
 impl Stored for EntryRow {
     ghost read = { entry_read };
 
-    ghost row_of = { entry_row };
+    ghost row_of = { entry_values };
 
     ghost fits = { EntryFits };
 
@@ -315,7 +315,7 @@ impl Stored for EntryRow {
 impl Stored for ReleaseRow {
     ghost read = { release_read };
 
-    ghost row_of = { release_row };
+    ghost row_of = { release_values };
 
     ghost fits = { ReleaseFits };
 
@@ -333,7 +333,7 @@ impl Stored for ReleaseRow {
 impl Stored for CompiledRow {
     ghost read = { compiled_read };
 
-    ghost row_of = { compiled_row };
+    ghost row_of = { compiled_values };
 
     ghost fits = { CompiledFits };
 
@@ -349,7 +349,7 @@ impl Stored for CompiledRow {
 impl Stored for LateRow {
     ghost read = { late_read };
 
-    ghost row_of = { late_row };
+    ghost row_of = { late_values };
 
     ghost fits = { LateFits };
 
@@ -364,7 +364,7 @@ impl Stored for LateRow {
 impl Stored for PerformanceRow {
     ghost read = { performance_read };
 
-    ghost row_of = { performance_row };
+    ghost row_of = { performance_values };
 
     ghost fits = { PerformanceFits };
 
@@ -382,7 +382,7 @@ impl Stored for PerformanceRow {
 impl Stored for ClockRow {
     ghost read = { clock_read };
 
-    ghost row_of = { clock_row };
+    ghost row_of = { clock_values };
 
     ghost fits = { ClockFits };
 
@@ -406,7 +406,7 @@ pub struct FormerClock {
 impl Stored for FormerClock {
     ghost read = { λ r. record { row = clock_read r } };
 
-    ghost row_of = { λ x. clock_row_of 1 x.row };
+    ghost row_of = { λ x. clock_values_of 1 x.row };
 
     ghost fits = { λ x. ClockFits x.row };
 
@@ -424,7 +424,7 @@ impl Stored for FormerClock {
 }
 
 impl Stored for Amount {
-    ghost read = { λ row. number_in (column row 0) };
+    ghost read = { λ row. number_in_value (column row 0) };
 
     ghost row_of = { λ amount. whole amount ∷ [] };
 

@@ -8,24 +8,24 @@ ghost use Rattle.office_values.specs.Texts.{IsTextLine};
 ghost use Rattle.office_rows.specs.Values.{or_null, text_or_null, as_number};
 ghost use Rattle.office_rows.specs.Words.{how_text};
 ghost use Rattle.office_rows.specs.ItemTexts.{items_text};
-ghost use Rattle.office_rows.specs.Budget.{line_row, batch_row};
-ghost use Rattle.office_rows.specs.Notices.{tenderer_row, notice_row, late_row, lot_row};
-ghost use Rattle.office_rows.specs.Tenders.{envelope_row, seal_row, security_row};
-ghost use Rattle.office_rows.specs.Awards.{award_row, contract_row, entry_row, performance_row};
-ghost use Rattle.office_rows.specs.Releases.{release_row, compiled_row, clock_row};
-ghost use Rattle.office_rows.specs.Ranges.{IsGiven, LineFits, BatchFits, TendererFits, NoticeFits, LotFits, EnvelopeFits, SealFits, SecurityFits, AwardFits, ContractFits, EntryFits, ReleaseFits, CompiledFits, LateFits, PerformanceFits, ClockFits};
+ghost use Rattle.office_rows.specs.Budget.{line_values, batch_values};
+ghost use Rattle.office_rows.specs.Notices.{tenderer_values, notice_values, late_values, lot_values};
+ghost use Rattle.office_rows.specs.Tenders.{envelope_values, seal_values, security_values};
+ghost use Rattle.office_rows.specs.Awards.{award_values, contract_values, entry_values, performance_values};
+ghost use Rattle.office_rows.specs.Releases.{release_values, compiled_values, clock_values};
+ghost use Rattle.office_rows.specs.Ranges.{IsOfficeNumber, LineFits, BatchFits, TendererFits, NoticeFits, LotFits, EnvelopeFits, SealFits, SecurityFits, AwardFits, ContractFits, EntryFits, ReleaseFits, CompiledFits, LateFits, PerformanceFits, ClockFits};
 
 use crate::readings::{corrected_value, corrections_value, stated_value, word_value};
 use crate::words::{
     award_state_text, entry_kind_text, envelope_state_text, how_text, lot_state_text,
     notice_state_text, security_state_text,
 };
-use office_acts::contract::How;
-use office_acts::tender::Quality;
 use office_base::records::{
     AwardRow, BatchRow, ClockRow, CompiledRow, ContractRow, EntryRow, EnvelopeRow, LateRow,
     LineRow, LotRow, NoticeRow, PerformanceRow, ReleaseRow, SealRow, SecurityRow, TendererRow,
 };
+use office_commands::contract::How;
+use office_commands::tender::Quality;
 use office_values::given::GivenNumber;
 use office_values::moment::Moment;
 use office_values::text::TextLine;
@@ -51,7 +51,7 @@ fn moment_or_null(moment: Option<Moment>) -> ValueRef<'static>
 
 fn given_or_null(number: Option<GivenNumber>) -> ValueRef<'static>
     ensures value { bound_value (owned result) ≡ or_null number }
-    ensures range { IfSome number IsGiven }
+    ensures range { IfSome number IsOfficeNumber }
 {
     match number {
         Some(number) => ValueRef::Int(signed(number.get())),
@@ -106,7 +106,7 @@ fn how_or_null(how: Option<How>) -> ValueRef<'static>
 
 /// The values of a budget line.
 pub fn line_values(row: &LineRow) -> [ValueRef<'_>; 4]
-    ensures row { bound result ≡ line_row row.now }
+    ensures row { bound result ≡ line_values row.now }
     ensures fits { LineFits row.now }
 {
     [
@@ -119,7 +119,7 @@ pub fn line_values(row: &LineRow) -> [ValueRef<'_>; 4]
 
 /// The values of a budget file.
 pub fn batch_values(row: &BatchRow) -> [ValueRef<'_>; 3]
-    ensures row { bound result ≡ batch_row row.now }
+    ensures row { bound result ≡ batch_values row.now }
     ensures fits { BatchFits row.now }
 {
     [
@@ -131,7 +131,7 @@ pub fn batch_values(row: &BatchRow) -> [ValueRef<'_>; 3]
 
 /// The values of a tenderer.
 pub fn tenderer_values(row: &TendererRow) -> [ValueRef<'_>; 4]
-    ensures row { bound result ≡ tenderer_row row.now }
+    ensures row { bound result ≡ tenderer_values row.now }
     ensures fits { TendererFits row.now }
 {
     [
@@ -144,7 +144,7 @@ pub fn tenderer_values(row: &TendererRow) -> [ValueRef<'_>; 4]
 
 /// The values of a notice.
 pub fn notice_values(row: &NoticeRow) -> [ValueRef<'_>; 12]
-    ensures row { bound result ≡ notice_row row.now }
+    ensures row { bound result ≡ notice_values row.now }
     ensures fits { NoticeFits row.now }
 {
     [
@@ -166,7 +166,7 @@ pub fn notice_values(row: &NoticeRow) -> [ValueRef<'_>; 12]
 /// The values of a lot, whose items' text is handed in.
 pub fn lot_values<'a>(row: &'a LotRow, items: &'a [u8]) -> [ValueRef<'a>; 9]
     requires { items.now ≡ items_text row.now.items }
-    ensures row { bound result ≡ lot_row row.now }
+    ensures row { bound result ≡ lot_values row.now }
     ensures fits { LotFits row.now }
 {
     [
@@ -184,7 +184,7 @@ pub fn lot_values<'a>(row: &'a LotRow, items: &'a [u8]) -> [ValueRef<'a>; 9]
 
 /// The values of a tender.
 pub fn envelope_values(row: &EnvelopeRow) -> [ValueRef<'_>; 16]
-    ensures row { bound result ≡ envelope_row row.now }
+    ensures row { bound result ≡ envelope_values row.now }
     ensures fits { EnvelopeFits row.now }
 {
     [
@@ -209,7 +209,7 @@ pub fn envelope_values(row: &EnvelopeRow) -> [ValueRef<'_>; 16]
 
 /// The values of a tender's bytes.
 pub fn seal_values(row: &SealRow) -> [ValueRef<'_>; 2]
-    ensures row { bound result ≡ seal_row row.now }
+    ensures row { bound result ≡ seal_values row.now }
     ensures fits { SealFits row.now }
 {
     [
@@ -220,7 +220,7 @@ pub fn seal_values(row: &SealRow) -> [ValueRef<'_>; 2]
 
 /// The values of a security.
 pub fn security_values(row: &SecurityRow) -> [ValueRef<'_>; 7]
-    ensures row { bound result ≡ security_row row.now }
+    ensures row { bound result ≡ security_values row.now }
     ensures fits { SecurityFits row.now }
 {
     [
@@ -236,7 +236,7 @@ pub fn security_values(row: &SecurityRow) -> [ValueRef<'_>; 7]
 
 /// The values of an award.
 pub fn award_values(row: &AwardRow) -> [ValueRef<'_>; 7]
-    ensures row { bound result ≡ award_row row.now }
+    ensures row { bound result ≡ award_values row.now }
     ensures fits { AwardFits row.now }
 {
     [
@@ -252,7 +252,7 @@ pub fn award_values(row: &AwardRow) -> [ValueRef<'_>; 7]
 
 /// The values of a contract.
 pub fn contract_values(row: &ContractRow) -> [ValueRef<'_>; 9]
-    ensures row { bound result ≡ contract_row row.now }
+    ensures row { bound result ≡ contract_values row.now }
     ensures fits { ContractFits row.now }
 {
     [
@@ -270,7 +270,7 @@ pub fn contract_values(row: &ContractRow) -> [ValueRef<'_>; 9]
 
 /// The values of an entry of a contract.
 pub fn entry_values(row: &EntryRow) -> [ValueRef<'_>; 6]
-    ensures row { bound result ≡ entry_row row.now }
+    ensures row { bound result ≡ entry_values row.now }
     ensures fits { EntryFits row.now }
 {
     [
@@ -285,7 +285,7 @@ pub fn entry_values(row: &EntryRow) -> [ValueRef<'_>; 6]
 
 /// The values of a release.
 pub fn release_values(row: &ReleaseRow) -> [ValueRef<'_>; 4]
-    ensures row { bound result ≡ release_row row.now }
+    ensures row { bound result ≡ release_values row.now }
     ensures fits { ReleaseFits row.now }
 {
     [
@@ -298,7 +298,7 @@ pub fn release_values(row: &ReleaseRow) -> [ValueRef<'_>; 4]
 
 /// The values of the merge of a notice's releases.
 pub fn compiled_values(row: &CompiledRow) -> [ValueRef<'_>; 2]
-    ensures row { bound result ≡ compiled_row row.now }
+    ensures row { bound result ≡ compiled_values row.now }
     ensures fits { CompiledFits row.now }
 {
     [
@@ -309,7 +309,7 @@ pub fn compiled_values(row: &CompiledRow) -> [ValueRef<'_>; 2]
 
 /// The values of the row that lets tenders for a notice be withdrawn late.
 pub fn late_values(row: &LateRow) -> [ValueRef<'_>; 1]
-    ensures row { bound result ≡ late_row row.now }
+    ensures row { bound result ≡ late_values row.now }
     ensures fits { LateFits row.now }
 {
     [ValueRef::Text(row.notice.as_bytes())]
@@ -317,7 +317,7 @@ pub fn late_values(row: &LateRow) -> [ValueRef<'_>; 1]
 
 /// The values of a performance security.
 pub fn performance_values(row: &PerformanceRow) -> [ValueRef<'_>; 4]
-    ensures row { bound result ≡ performance_row row.now }
+    ensures row { bound result ≡ performance_values row.now }
     ensures fits { PerformanceFits row.now }
 {
     [
@@ -330,7 +330,7 @@ pub fn performance_values(row: &PerformanceRow) -> [ValueRef<'_>; 4]
 
 /// The values of the office's one row: the version of its tables, which is 2, and the clock.
 pub fn clock_values(row: &ClockRow) -> [ValueRef<'static>; 4]
-    ensures row { bound result ≡ clock_row row.now }
+    ensures row { bound result ≡ clock_values row.now }
     ensures fits { ClockFits row.now }
 {
     [

@@ -9,11 +9,11 @@ ghost use Rattle.office_rows.specs.Unwritten.{IsUnwritten};
 ghost use Rattle.office_rows.specs.Words.{notice_state_text, lot_state_text, envelope_state_text, security_state_text, award_state_text, how_text, entry_kind_text};
 
 use crate::columns::{is_same, perhaps_text_at, text_at};
-use office_acts::contract::How;
 use office_base::records::{
     AwardState, EntryKind, EnvelopeState, LotState, NoticeState, SecurityState,
 };
 use office_base::shelf::ShelfFault;
+use office_commands::contract::How;
 use sqlite::Row;
 
 pub(crate) fn notice_state_text(state: NoticeState) -> &'static [u8]

@@ -18,11 +18,12 @@ use Rattle.sqlite.specs.Effect.{Answers}
 use Rattle.sqlite.proofs.Callers.{reads_as}
 use Rattle.office_base.specs.Rows.{by_order, row_at, IsInOrder}
 use Rattle.office_base.proofs.ExactKeys.{equal_keys}
+use Rattle.office_base.proofs.RowLaws.Starts.{all_above}
+use Rattle.office_base.proofs.RowLaws.Filters.{all_filter}
 use Rattle.office_sql.specs.Standing.{Stand}
-use Rattle.office_sql.proofs.Sorted.{all_above}
-use Rattle.office_sql.proofs.KeptRows.{in_order-table_of}
+use Rattle.office_sql.proofs.KeptRows.{in_order-rows_kept}
 use Rattle.office_sql.proofs.Selected.{selects, comes_back, picked, passes_query}
-use Rattle.office_sql.proofs.Meanings.{Means}
+use Rattle.office_sql.proofs.Meanings.{StatementMeans}
 use Rattle.office_sql.proofs.Selecting.{select, tested}
 
 filter-none : {X : Type 0} (p : X → Bool) (xs : List X) → AllByRecursion (λ x. p x ≡ false) xs → filter p xs ≡ []
@@ -36,10 +37,6 @@ filter-all (x ∷ xs) = ap (λ ys. x ∷ ys) (filter-all xs)
 all_with : {X : Type 0} (P Q : X → Type 0) (xs : List X) → ((x : X) → P x → Q x) → AllByRecursion P xs → AllByRecursion Q xs
 all_with P Q [] f h = tt
 all_with P Q (x ∷ xs) f h = (f x h.0, all_with P Q xs f h.1)
-
-all_filter : {X : Type 0} (P : X → Type 0) (p : X → Bool) (xs : List X) → AllByRecursion P xs → AllByRecursion P (filter p xs)
-all_filter P p [] h = tt
-all_filter P p (x ∷ xs) h = elim (p x) as (λ b. AllByRecursion P (cond b (x ∷ filter p xs) (filter p xs))) [ true ↦ (h.0, all_filter P p xs h.1) | false ↦ all_filter P p xs h.1 ]
 
 slice_get-map : {X Y : Type 0} (f : X → Y) (xs : List X) → slice_get (map f xs) 0 ≡ option_map f (slice_get xs 0)
 slice_get-map f [] = refl
@@ -62,7 +59,7 @@ module _ {K X : Type 0} (R : K → K → Ordering) (total : IsTotalOrder R) (sam
     where
       by : (c : Ordering) → R k (key x) ≡ c → slice_get (filter p xs) 0 ≡ row_at R key xs k → slice_get (filter p (x ∷ xs)) 0 ≡ by_order c None (Some x) (row_at R key xs k)
       by Less e h =
-          let above = all_above (record { total = total; exact = same }) k (x ∷ xs) e o in
+          let above = all_above total key k (x ∷ xs) e o in
           ap (λ (l : List X). slice_get l 0) (filter-none p (x ∷ xs) (all_with (λ y. R k (key y) ≡ Less) (λ y. p y ≡ false) (x ∷ xs) (λ y below. is y ∙ ap is_eq below) above))
       by Equal e h = ap (λ b. slice_get (cond b (x ∷ filter p xs) (filter p xs)) 0) (is x ∙ ap is_eq e)
       by Greater e h = ap (λ b. slice_get (cond b (x ∷ filter p xs) (filter p xs)) 0) (is x ∙ ap is_eq e) ∙ h
@@ -80,7 +77,7 @@ module _ {K X : Type 0} (R : K → K → Ordering) (total : IsTotalOrder R) (sam
     read_back sorts (x ∷ xs) h = λ i. h.0 i ∷ read_back sorts xs h.1 i
 
     module _ (old new : State) (rows : List Row) (n : ℕ) (xs : List X) (stand : Stand R key form decode (old.now.trees n) xs)
-        (text : List ℕ) (params : Row) (tests shown order : List ℕ) (names : List (List ℕ)) (means : Means old.now.schema text (Select (record { lets = []; body = select n tests shown order }) names))
+        (text : List ℕ) (params : Row) (tests shown order : List ℕ) (names : List (List ℕ)) (means : StatementMeans old.now.schema text (Select (record { lets = []; body = select n tests shown order }) names))
         (p : X → Bool) (passing : (v : Value) (x : X) → list_all (holds (params ∷ form v x ∷ [])) (tested 0 tests) ≡ p x) where
       -- what is shown of the rows that pass
       pub shows_rows : (out : X → Output) → ((v : Value) (x : X) → output (select n tests shown order) (params ∷ form v x ∷ []) ≡ out x)
@@ -108,4 +105,4 @@ module _ {K X : Type 0} (R : K → K → Ordering) (total : IsTotalOrder R) (sam
       gets k is shows unordered h =
           sym (slice_get-map read rows)
           ∙ ap (λ (l : List X). slice_get l 0) (ap (map read) (shows_rows (λ x. ([], encode x)) shows (λ x y a b. ap is_lt (unordered ([], encode x) ([], encode y)) ∙ tied_keys p k is x y a b) h) ∙ read_back (λ x. []) (filter p xs) back)
-          ∙ first_at p k is xs (subst (IsInOrder R key) stand.is (in_order-table_of R total same key form decode (old.now.trees n)))
+          ∙ first_at p k is xs (subst (IsInOrder R key) stand.is (in_order-rows_kept R total same key form decode (old.now.trees n)))

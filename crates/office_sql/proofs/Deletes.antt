@@ -19,7 +19,7 @@ use Rattle.sqlite_typing.specs.Types.{accepts_program}
 use Rattle.office_sql.specs.Known.{IsIn, at_tree}
 use Rattle.office_sql.proofs.Columns.{at_budget}
 use Rattle.office_sql.proofs.Simple.{scope}
-use Rattle.office_sql.proofs.Meanings.{Means, means_by}
+use Rattle.office_sql.proofs.Meanings.{StatementMeans, means_by}
 use Rattle.office_sql.proofs.Selecting.{select}
 
 -- what the grammar makes of the text
@@ -65,5 +65,5 @@ module _ (schema : Schema) (table : Table) (n : ℕ) (it : IsIn schema table n) 
   unfolding compiled
   compiles = rw (read.is, plans)
 
-  pub delete_means : Means schema text (Delete it.place found_rows)
+  pub delete_means : StatementMeans schema text (Delete it.place found_rows)
   delete_means = means_by schema text result (refl, refl) compiles

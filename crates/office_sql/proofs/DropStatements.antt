@@ -13,15 +13,15 @@ use Rattle.sqlite_tied.specs.Compute.{everything}
 use Rattle.sqlite.specs.State.{State, ExecutesInside}
 use Rattle.office_base.specs.Tables.{Tables, after_put, seal_key}
 use Rattle.office_base.specs.declared.puts.Put.TheVariants.{DropSeal}
-use Rattle.office_rows.specs.Tenders.{seal_row, seal_read}
+use Rattle.office_rows.specs.Tenders.{seal_values, seal_read}
 use Rattle.office_sql.specs.Schema.{OfficeTable, column_of, seals}
 use Rattle.office_sql.specs.Schema.OfficeTable.{Seals}
 use Rattle.office_sql.specs.Known.{IsIn, at_tree}
 use Rattle.office_sql.specs.Kept.{by_rowid, read_by_rowid}
 use Rattle.office_sql.specs.Standing.{StandFor, Stands}
-use Rattle.office_sql.specs.Statements.{drop_seal}
+use Rattle.office_sql.specs.Statements.{delete_seal}
 use Rattle.office_sql.specs.Steps.{Puts}
-use Rattle.office_sql.proofs.Meanings.{Means, IsOne, parsed_in}
+use Rattle.office_sql.proofs.Meanings.{StatementMeans, IsOne, parsed_in}
 use Rattle.office_sql.proofs.Simple.{equals_e, one_test}
 use Rattle.office_sql.proofs.Selecting.{select, found_by_tree}
 use Rattle.office_sql.proofs.Cells.{and_true, number_tested, same_number_is}
@@ -32,18 +32,18 @@ use Rattle.office_sql.proofs.Held.{holds_put, goes_with}
 use Rattle.office_sql.proofs.Made.{made_of}
 use Rattle.office_sql.proofs.Stored.{bare, seal_terms, seal_cells, seal_stored}
 
-drop_seal_read : IsDelete drop_seal (codes "seals") (Some (equals_e (codes "receipt") 1)) (parsed_in (first drop_seal))
+drop_seal_read : IsDelete delete_seal (codes "seals") (Some (equals_e (codes "receipt") 1)) (parsed_in (first delete_seal))
 unfolding everything parsed_in
 drop_seal_read = record { is = refl; statement = refl; formats = refl }
 
-pub drop_seal_one : IsOne drop_seal 1
+pub drop_seal_one : IsOne delete_seal 1
 unfolding everything parsed_in
 drop_seal_one = record { whole = refl; given = refl }
 
-pub drop_seal_means : (schema : Schema) (n : ℕ) (it : IsIn schema seals n) → Means schema drop_seal (Delete it.place (record { lets = []; body = select n (0 ∷ []) (0 ∷ []) [] }))
+pub drop_seal_means : (schema : Schema) (n : ℕ) (it : IsIn schema seals n) → StatementMeans schema delete_seal (Delete it.place (record { lets = []; body = select n (0 ∷ []) (0 ∷ []) [] }))
 unfolding same_name alone chosen first_found
 drop_seal_means schema n it =
-    delete_means schema seals n it refl drop_seal (Some (equals_e (codes "receipt") 1)) _ drop_seal_read (0 ∷ []) _ _
+    delete_means schema seals n it refl delete_seal (Some (equals_e (codes "receipt") 1)) _ drop_seal_read (0 ∷ []) _ _
     (one_test schema it.place (at_tree seals n) it.found seals.name [] (0, column_of (codes "receipt") Integer true) 1 max_budget nothing (refl, refl, refl, tt) refl refl (inr refl, refl, refl))
     (rw (it.stored, found_by_tree schema seals n it))
 
@@ -51,8 +51,8 @@ after_drop : (rows : OfficeTable → List Row) (changed : List Row) (t : Tables)
 after_drop rows changed t n was stand Seals = stand
 after_drop rows changed t n was stand k = was k
 
-pub drops_seal : (old new : State) (n count : ℕ) → ExecutesInside 0 drop_seal (Int (pos n) ∷ []) old new (Ok count) → Puts old new (DropSeal n ∷ [])
-drops_seal old new n count h = goes_with old new (DropSeal n) h.1 (λ t was. made_of drop_seal (Int (pos n) ∷ []) old new _ (drop_seal_means old.now.schema (was.places Seals) (was.tables Seals)) refl refl count h.0) (λ t was.
-    let done = drops_row Seals bare nat_cmp seal_key seal_row (by_rowid seal_row) (read_by_rowid seal_read) 2 seal_terms seal_cells seal_stored old new was.places was.tables (0 ∷ []) drop_seal (Int (pos n) ∷ []) count t.seals n
+pub drops_seal : (old new : State) (n count : ℕ) → ExecutesInside 0 delete_seal (Int (pos n) ∷ []) old new (Ok count) → Puts old new (DropSeal n ∷ [])
+drops_seal old new n count h = goes_with old new (DropSeal n) h.1 (λ t was. made_of delete_seal (Int (pos n) ∷ []) old new _ (drop_seal_means old.now.schema (was.places Seals) (was.tables Seals)) refl refl count h.0) (λ t was.
+    let done = drops_row Seals bare nat_cmp seal_key seal_values (by_rowid seal_values) (read_by_rowid seal_read) 2 seal_terms seal_cells seal_stored old new was.places was.tables (0 ∷ []) delete_seal (Int (pos n) ∷ []) count t.seals n
     (drop_seal_means old.now.schema (was.places Seals) (was.tables Seals)) (λ v x. and_true _ ∙ number_tested x.receipt n ∙ same_number_is x.receipt n) (was.stands Seals) h.0 in
-    holds_put Seals nat_cmp seal_key (by_rowid seal_row) (read_by_rowid seal_read) old.now new.now t (after_put (DropSeal n) t) was _ done (after_drop (λ j. old.now.trees (was.places j)) (new.now.trees (was.places Seals)) t n was.stands))
+    holds_put Seals nat_cmp seal_key (by_rowid seal_values) (read_by_rowid seal_read) old.now new.now t (after_put (DropSeal n) t) was _ done (after_drop (λ j. old.now.trees (was.places j)) (new.now.trees (was.places Seals)) t n was.stands))

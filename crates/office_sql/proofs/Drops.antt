@@ -33,7 +33,7 @@ use Rattle.office_sql.proofs.RowsDropped as drop
 use Rattle.office_sql.proofs.Selected.{picked, passes_query}
 use Rattle.office_sql.proofs.Asking.{overlaid}
 use Rattle.office_sql.proofs.Selecting.{select, tested}
-use Rattle.office_sql.proofs.Meanings.{Means}
+use Rattle.office_sql.proofs.Meanings.{StatementMeans}
 use Rattle.office_sql.proofs.Writes.{IsStored, IsBare, IsPut, own_table, changed}
 use Rattle.sqlite_sql.specs.Term.{Term}
 
@@ -48,7 +48,7 @@ module _ (k : OfficeTable) (bare : (j : OfficeTable) → IsBare (table_of j)) {K
   is_own : (j : OfficeTable) → IsOwn old.now.schema (p j)
   is_own j = own_table old.now.schema (table_of j) (p j) (bare j).childless (tables j)
 
-  deleted : (text : List ℕ) (params : Row) (count : ℕ) → Means old.now.schema text (Delete (tables k).place (record { lets = []; body = select (p k) tests (0 ∷ []) [] })) → Executes text params old new (Ok count)
+  deleted : (text : List ℕ) (params : Row) (count : ℕ) → StatementMeans old.now.schema text (Delete (tables k).place (record { lets = []; body = select (p k) tests (0 ∷ []) [] })) → Executes text params old new (Ok count)
       → (w : Written) × Deletes (task params) (record { lets = []; body = select (p k) tests (0 ∷ []) [] }) old.now.trees (Ok w) × (new.now ≡ record { schema = old.now.schema; trees = w.trees }) × IsDatabase new.now
   deleted text params count means h =
       let command = Delete (tables k).place (record { lets = []; body = select (p k) tests (0 ∷ []) [] }) in
@@ -56,7 +56,7 @@ module _ (k : OfficeTable) (bare : (j : OfficeTable) → IsBare (table_of j)) {K
       let done = went (subst (λ o. AtPlace (λ table. OnRows (record { limit = old.step_limit; keys = Enforced; schema = old.now.schema; table = table; params = params }) (mode_of old) None command old.now.trees) o (Ok (w.tally, new.now))) (tables k).found w.changed) in
       (done.0, done.1, ap (λ (p : Tally × Database). p.1) (same_value (went (went done.2).2).2), w.sound)
 
-  pub drops_row : (text : List ℕ) (params : Row) (count : ℕ) (xs : List X) (q : K) → Means old.now.schema text (Delete (tables k).place (record { lets = []; body = select (p k) tests (0 ∷ []) [] }))
+  pub drops_row : (text : List ℕ) (params : Row) (count : ℕ) (xs : List X) (q : K) → StatementMeans old.now.schema text (Delete (tables k).place (record { lets = []; body = select (p k) tests (0 ∷ []) [] }))
       → ((v : Value) (x : X) → list_all (holds (params ∷ form v x ∷ [])) (tested 0 tests) ≡ eq_by_cmp R q (key x)) → Stand R key form decode (old.now.trees (p k)) xs → Executes text params old new (Ok count)
       → IsPut k R key form decode old.now new.now p (row_drop R key xs q)
   drops_row text params count xs q means passing was h =

@@ -25,7 +25,7 @@ use Rattle.office_sql.specs.Schema.{OfficeTable, table_of}
 use Rattle.office_sql.specs.Known.{at_tree, Places, HasTables}
 use Rattle.office_sql.proofs.Asking.{overlaid}
 use Rattle.office_sql.proofs.Childless.{IsOwn, SparesMarked, writes, spared_own}
-use Rattle.office_sql.proofs.Meanings.{Means}
+use Rattle.office_sql.proofs.Meanings.{StatementMeans}
 use Rattle.office_sql.proofs.RowsDropped.{has_picked}
 use Rattle.office_sql.proofs.RowsPut.{left_from, at_itself}
 use Rattle.office_sql.proofs.Selected.{picked, passes_query, permuted_has}
@@ -73,7 +73,7 @@ module _ (k : OfficeTable) (bare : (j : OfficeTable) → IsBare (table_of j)) (o
   is_own : (j : OfficeTable) → IsOwn old.now.schema (p j)
   is_own j = own_table old.now.schema (table_of j) (p j) (bare j).childless (tables j)
 
-  deleted : (text : List ℕ) (count : ℕ) → Means old.now.schema text (Delete (tables k).place (record { lets = []; body = select (p k) [] (0 ∷ []) [] })) → Executes text [] old new (Ok count)
+  deleted : (text : List ℕ) (count : ℕ) → StatementMeans old.now.schema text (Delete (tables k).place (record { lets = []; body = select (p k) [] (0 ∷ []) [] })) → Executes text [] old new (Ok count)
       → (w : Written) × Deletes (task []) (record { lets = []; body = select (p k) [] (0 ∷ []) [] }) old.now.trees (Ok w) × (new.now ≡ record { schema = old.now.schema; trees = w.trees }) × IsDatabase new.now
   deleted text count means h =
       let command = Delete (tables k).place (record { lets = []; body = select (p k) [] (0 ∷ []) [] }) in
@@ -81,7 +81,7 @@ module _ (k : OfficeTable) (bare : (j : OfficeTable) → IsBare (table_of j)) (o
       let done = went (subst (λ o. AtPlace (λ table. OnRows (record { limit = old.step_limit; keys = Enforced; schema = old.now.schema; table = table; params = [] }) (mode_of old) None command old.now.trees) o (Ok (w.tally, new.now))) (tables k).found w.changed) in
       (done.0, done.1, ap (λ (p : Tally × Database). p.1) (same_value (went (went done.2).2).2), w.sound)
 
-  pub empties : (text : List ℕ) (count : ℕ) → Means old.now.schema text (Delete (tables k).place (record { lets = []; body = select (p k) [] (0 ∷ []) [] })) → ((r : Row) → Has (old.now.trees (p k)) r → is_int (rowid r) ≡ true)
+  pub empties : (text : List ℕ) (count : ℕ) → StatementMeans old.now.schema text (Delete (tables k).place (record { lets = []; body = select (p k) [] (0 ∷ []) [] })) → ((r : Row) → Has (old.now.trees (p k)) r → is_int (rowid r) ≡ true)
       → Executes text [] old new (Ok count) → IsEmptied k old.now new.now p
   empties text count means numbered h =
       let w = deleted text count means h in

@@ -19,13 +19,13 @@ use Rattle.office_sql.specs.Failing.{IsExcused, DiskFails, Declines, StoreFails}
 use Rattle.office_sql.specs.Known.{Places, HasTables}
 use Rattle.office_sql.specs.Schema.OfficeTable.{Lines, Batches, Tenderers, Notices, Lots, Envelopes, Seals, Securities, Awards, Contracts, Entries, Releases, Compiled as CompiledTable, Office, LateRules, Performances}
 use Rattle.office_sql.specs.Standing.{Holds}
-use Rattle.office_sql.specs.Statements.{statement_of, values_of}
+use Rattle.office_sql.specs.Statements.{statement_of, values_of_put}
 use Rattle.office_sql.specs.Version.{get_version}
 use Rattle.office_sql.proofs.Made.{is_change, shows, quiet}
-use Rattle.office_sql.proofs.Meanings.{Means, IsOne, from_text}
+use Rattle.office_sql.proofs.Meanings.{StatementMeans, IsOne, from_text}
 use Rattle.office_sql.proofs.DropStatements.{drop_seal_means, drop_seal_one}
 use Rattle.office_sql.proofs.SelectTexts.{get_version_means, get_version_one}
-use Rattle.office_sql.proofs.PutTexts.{put_lines_means, put_lines_one, put_batches_means, put_batches_one, put_tenderers_means, put_tenderers_one, put_notices_means, put_notices_one, put_lots_means, put_lots_one, put_envelopes_means, put_envelopes_one, put_seals_means, put_seals_one, put_securities_means, put_securities_one, put_awards_means, put_awards_one, put_contracts_means, put_contracts_one, put_entries_means, put_entries_one, put_releases_means, put_releases_one, put_compiled_means, put_compiled_one, put_office_means, put_office_one, put_late_rules_means, put_late_rules_one, put_performance_means, put_performance_one}
+use Rattle.office_sql.proofs.PutTexts.{upsert_lines_means, upsert_lines_one, upsert_batches_means, upsert_batches_one, upsert_tenderers_means, upsert_tenderers_one, upsert_notices_means, upsert_notices_one, upsert_lots_means, upsert_lots_one, upsert_envelopes_means, upsert_envelopes_one, upsert_seals_means, upsert_seals_one, upsert_securities_means, upsert_securities_one, upsert_awards_means, upsert_awards_one, upsert_contracts_means, upsert_contracts_one, upsert_entries_means, upsert_entries_one, upsert_releases_means, upsert_releases_one, upsert_compiled_means, upsert_compiled_one, upsert_office_means, upsert_office_one, upsert_late_rules_means, upsert_late_rules_one, upsert_performance_means, upsert_performance_one}
 
 pub if_err_with : {A E : Type 0} (r : Result A E) (P Q : E → Type 0) → IfErr r P → ((e : E) → P e → Q e) → IfErr r Q
 if_err_with (Ok a) P Q h f = tt
@@ -68,7 +68,7 @@ by_store old new too_big Declined big e (cause, is, why, back, tells) = by cause
     by stores.Broken is why = inr (inr (inl why))
     by stores.Unstorable is why = inr (inr (inr (big why)))
 
-module _ (text : List ℕ) (params : Row) (old new : State) (command : Command) (means : Means old.now.schema text command) (one : IsOne text (length params)) where
+module _ (text : List ℕ) (params : Row) (old new : State) (command : Command) (means : StatementMeans old.now.schema text command) (one : IsOne text (length params)) where
   is_statement : (e : Error) → IsNoStatement old text params e → ⊥
   is_statement e (inl unknown) = subst IsPlain unknown.1 means.plain
   is_statement e (inr (c, u, inl many)) = many.0 (subst (λ n. length text ≤ n) (sym (from_text old.now.schema text c means.unlisted u).0) (leb-true _ _ one.whole))
@@ -106,43 +106,43 @@ module _ (text : List ℕ) (params : Row) (old new : State) (command : Command) 
 -- what is known of the statement of a put, in a database with the tables of an office
 record IsKnown (old : State) (put : Put) : Type 0 where
   command : Command
-  means : Means old.now.schema (statement_of put) command
-  one : IsOne (statement_of put) (length (values_of put))
+  means : StatementMeans old.now.schema (statement_of put) command
+  one : IsOne (statement_of put) (length (values_of_put put))
   change : is_change command ≡ true
   silent : shows command ≡ false
 
 known : (old : State) (p : Places) → HasTables old.now.schema p → (put : Put) → IsKnown old put
-known old p tables (Line row) = record { command = _; means = put_lines_means old.now.schema (p Lines) (tables Lines); one = put_lines_one; change = refl; silent = refl }
-known old p tables (Batch row) = record { command = _; means = put_batches_means old.now.schema (p Batches) (tables Batches); one = put_batches_one; change = refl; silent = refl }
-known old p tables (Tenderer row) = record { command = _; means = put_tenderers_means old.now.schema (p Tenderers) (tables Tenderers); one = put_tenderers_one; change = refl; silent = refl }
-known old p tables (Notice row) = record { command = _; means = put_notices_means old.now.schema (p Notices) (tables Notices); one = put_notices_one; change = refl; silent = refl }
-known old p tables (Lot row) = record { command = _; means = put_lots_means old.now.schema (p Lots) (tables Lots); one = put_lots_one; change = refl; silent = refl }
-known old p tables (Envelope row) = record { command = _; means = put_envelopes_means old.now.schema (p Envelopes) (tables Envelopes); one = put_envelopes_one; change = refl; silent = refl }
-known old p tables (Seal row) = record { command = _; means = put_seals_means old.now.schema (p Seals) (tables Seals); one = put_seals_one; change = refl; silent = refl }
+known old p tables (Line row) = record { command = _; means = upsert_lines_means old.now.schema (p Lines) (tables Lines); one = upsert_lines_one; change = refl; silent = refl }
+known old p tables (Batch row) = record { command = _; means = upsert_batches_means old.now.schema (p Batches) (tables Batches); one = upsert_batches_one; change = refl; silent = refl }
+known old p tables (Tenderer row) = record { command = _; means = upsert_tenderers_means old.now.schema (p Tenderers) (tables Tenderers); one = upsert_tenderers_one; change = refl; silent = refl }
+known old p tables (Notice row) = record { command = _; means = upsert_notices_means old.now.schema (p Notices) (tables Notices); one = upsert_notices_one; change = refl; silent = refl }
+known old p tables (Lot row) = record { command = _; means = upsert_lots_means old.now.schema (p Lots) (tables Lots); one = upsert_lots_one; change = refl; silent = refl }
+known old p tables (Envelope row) = record { command = _; means = upsert_envelopes_means old.now.schema (p Envelopes) (tables Envelopes); one = upsert_envelopes_one; change = refl; silent = refl }
+known old p tables (Seal row) = record { command = _; means = upsert_seals_means old.now.schema (p Seals) (tables Seals); one = upsert_seals_one; change = refl; silent = refl }
 known old p tables (DropSeal receipt) = record { command = _; means = drop_seal_means old.now.schema (p Seals) (tables Seals); one = drop_seal_one; change = refl; silent = refl }
-known old p tables (Security row) = record { command = _; means = put_securities_means old.now.schema (p Securities) (tables Securities); one = put_securities_one; change = refl; silent = refl }
-known old p tables (Award row) = record { command = _; means = put_awards_means old.now.schema (p Awards) (tables Awards); one = put_awards_one; change = refl; silent = refl }
-known old p tables (Contract row) = record { command = _; means = put_contracts_means old.now.schema (p Contracts) (tables Contracts); one = put_contracts_one; change = refl; silent = refl }
-known old p tables (Entry row) = record { command = _; means = put_entries_means old.now.schema (p Entries) (tables Entries); one = put_entries_one; change = refl; silent = refl }
-known old p tables (Release row) = record { command = _; means = put_releases_means old.now.schema (p Releases) (tables Releases); one = put_releases_one; change = refl; silent = refl }
-known old p tables (CompiledOne row) = record { command = _; means = put_compiled_means old.now.schema (p CompiledTable) (tables CompiledTable); one = put_compiled_one; change = refl; silent = refl }
-known old p tables (Late row) = record { command = _; means = put_late_rules_means old.now.schema (p LateRules) (tables LateRules); one = put_late_rules_one; change = refl; silent = refl }
-known old p tables (Performance row) = record { command = _; means = put_performance_means old.now.schema (p Performances) (tables Performances); one = put_performance_one; change = refl; silent = refl }
-known old p tables (Clock row) = record { command = _; means = put_office_means old.now.schema (p Office) (tables Office); one = put_office_one; change = refl; silent = refl }
+known old p tables (Security row) = record { command = _; means = upsert_securities_means old.now.schema (p Securities) (tables Securities); one = upsert_securities_one; change = refl; silent = refl }
+known old p tables (Award row) = record { command = _; means = upsert_awards_means old.now.schema (p Awards) (tables Awards); one = upsert_awards_one; change = refl; silent = refl }
+known old p tables (Contract row) = record { command = _; means = upsert_contracts_means old.now.schema (p Contracts) (tables Contracts); one = upsert_contracts_one; change = refl; silent = refl }
+known old p tables (Entry row) = record { command = _; means = upsert_entries_means old.now.schema (p Entries) (tables Entries); one = upsert_entries_one; change = refl; silent = refl }
+known old p tables (Release row) = record { command = _; means = upsert_releases_means old.now.schema (p Releases) (tables Releases); one = upsert_releases_one; change = refl; silent = refl }
+known old p tables (CompiledOne row) = record { command = _; means = upsert_compiled_means old.now.schema (p CompiledTable) (tables CompiledTable); one = upsert_compiled_one; change = refl; silent = refl }
+known old p tables (Late row) = record { command = _; means = upsert_late_rules_means old.now.schema (p LateRules) (tables LateRules); one = upsert_late_rules_one; change = refl; silent = refl }
+known old p tables (Performance row) = record { command = _; means = upsert_performance_means old.now.schema (p Performances) (tables Performances); one = upsert_performance_one; change = refl; silent = refl }
+known old p tables (Clock row) = record { command = _; means = upsert_office_means old.now.schema (p Office) (tables Office); one = upsert_office_one; change = refl; silent = refl }
 
 excused_with : (P Q : Type 0) (e : Error) → IsExcused P e → (P → Q) → IsExcused Q e
 excused_with P Q e (inl memory) f = inl memory
 excused_with P Q e (inr cause) f = inr (f cause)
 
-alone : (old new : State) (put : Put) → DiskFails old new ⊎ ((old.is_open ≡ false) ⊎ Declines old.step_limit old.now (statement_of put) (values_of put)) → StoreFails old new old.now (put ∷ [])
+alone : (old new : State) (put : Put) → DiskFails old new ⊎ ((old.is_open ≡ false) ⊎ Declines old.step_limit old.now (statement_of put) (values_of_put put)) → StoreFails old new old.now (put ∷ [])
 alone old new put (inl disk) = inl disk
 alone old new put (inr (inl shut)) = inr (inl shut)
 alone old new put (inr (inr declined)) = inr (inr (record { done = []; put = put; more = []; is = refl; db = old.now; made = refl; holds = λ t held. held; declined = declined }))
 
-pub put_fails : (old new : State) (put : Put) (t : Tables) → Holds old.now t → (e : Error) → ExecutesInside 0 (statement_of put) (values_of put) old new (Err e) → IsExcused (StoreFails old new old.now (put ∷ [])) e
+pub put_fails : (old new : State) (put : Put) (t : Tables) → Holds old.now t → (e : Error) → ExecutesInside 0 (statement_of put) (values_of_put put) old new (Err e) → IsExcused (StoreFails old new old.now (put ∷ [])) e
 put_fails old new put t was e h =
     let it = known old was.places was.tables put in
-    excused_with _ _ e (statement_fails (statement_of put) (values_of put) old new it.command it.means it.one it.change it.silent e h) (alone old new put)
+    excused_with _ _ e (statement_fails (statement_of put) (values_of_put put) old new it.command it.means it.one it.change it.silent e h) (alone old new put)
 
 -- ---- the question of the version
 

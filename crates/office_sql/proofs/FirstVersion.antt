@@ -28,14 +28,14 @@ use Rattle.office_base.proofs.RowLaws.{all-put}
 use Rattle.office_base.specs.declared.records.ClockRow.{ClockRow}
 use Rattle.office_base.specs.declared.records.NoticeRow.{NoticeRow}
 use Rattle.office_rows.specs.Laws.{ComesBack}
-use Rattle.office_rows.specs.Notices.{former_row, former_read, former_in}
-use Rattle.office_rows.specs.Releases.{clock_row, clock_row_of, clock_read, clock_in}
+use Rattle.office_rows.specs.Notices.{former_values, former_read, former_by_rowid}
+use Rattle.office_rows.specs.Releases.{clock_values, clock_values_of, clock_read, clock_by_rowid}
 use Rattle.office_rows.specs.declared.stored.FormerClock.{FormerClock}
 use Rattle.office_rows.specs.declared.stored.FormerNotice.{FormerNotice}
 use Rattle.office_sql.specs.Clock.{clock_key, clock_cmp}
 use Rattle.office_sql.specs.Apart.{AddsNoReference, LeadsInside}
-use Rattle.office_sql.specs.First.{lacking, has_table, has_late, drop_notices, drop_version, StandForFirst, IsNothing, StandsFirst, HoldsFirst, IsMigrated, Renews, Begins}
-use Rattle.office_sql.specs.Kept.{table_of as records_of, behind, by_rowid, read_by_rowid}
+use Rattle.office_sql.specs.First.{tables_since_version_1, has_table, has_late, drop_notices, drop_version, StandForFirst, IsNothing, StandsFirst, HoldsFirst, IsMigrated, Renews, Begins}
+use Rattle.office_sql.specs.Kept.{rows_kept as records_of, row_behind_rowid, by_rowid, read_by_rowid}
 use Rattle.office_sql.specs.Known.{IsIn, Places, HasTables, at_tree}
 use Rattle.office_sql.specs.Laws.{KnowsNoPerformances}
 use Rattle.office_sql.specs.Making.{AreMade, KeepsOffice, Makes}
@@ -47,11 +47,11 @@ use Rattle.office_sql.proofs.Deletes.{IsDelete, delete_means}
 use Rattle.office_sql.proofs.Emptied.{empties}
 use Rattle.office_sql.proofs.Founds.{nothing as no_rows}
 use Rattle.office_sql.proofs.Held.{goes_on}
-use Rattle.office_sql.proofs.KeptRows.{in_order-table_of}
+use Rattle.office_sql.proofs.KeptRows.{in_order-rows_kept}
 use Rattle.office_sql.proofs.Made.{made_of}
 use Rattle.office_sql.proofs.MakingSteps.{goes_then}
-use Rattle.office_sql.proofs.Meanings.{Means, parsed_in}
-use Rattle.office_sql.proofs.PutTexts.{put_office, put_office_means}
+use Rattle.office_sql.proofs.Meanings.{StatementMeans, parsed_in}
+use Rattle.office_sql.proofs.PutTexts.{upsert_office, upsert_office_means}
 use Rattle.office_sql.proofs.PutsApart.{clock_apart}
 use Rattle.office_sql.proofs.Selecting.{select, found_by_tree}
 use Rattle.office_sql.proofs.Simple.{no_test}
@@ -70,7 +70,7 @@ pub second_version : (db : Database) (t : Tables) → Holds db t → HasVersion 
 second_version db t was = record { place = was.places Office; table = was.tables Office; stand = was.stands Office }
 
 -- they stand in `notices`
-pub former_there : (db : Database) (t : Tables) (n : ℕ) → StandsFirst db t FormerNotices n → IsIn db.schema former_notices n × Stand id_cmp notice_key (behind former_row) former_in (db.trees n) t.notices
+pub former_there : (db : Database) (t : Tables) (n : ℕ) → StandsFirst db t FormerNotices n → IsIn db.schema former_notices n × Stand id_cmp notice_key (row_behind_rowid former_values) former_by_rowid (db.trees n) t.notices
 former_there db t n (inl it) = it
 former_there db t n (inr it) = absurd it.1
 
@@ -78,13 +78,13 @@ former_there db t n (inr it) = absurd it.1
 pub first_sorted : (db : Database) (t : Tables) → HoldsFirst db t → IsInOrder id_cmp notice_key t.notices
 first_sorted db t was =
     let stand = (former_there db t (was.places FormerNotices) (was.each FormerNotices)).1 in
-    subst (IsInOrder id_cmp notice_key) stand.is (in_order-table_of id_cmp nat_list_cmp_total ids_exact notice_key (behind former_row) former_in (db.trees (was.places FormerNotices)))
+    subst (IsInOrder id_cmp notice_key) stand.is (in_order-rows_kept id_cmp nat_list_cmp_total ids_exact notice_key (row_behind_rowid former_values) former_by_rowid (db.trees (was.places FormerNotices)))
 
 -- and ask for no performance securities, of which there are none
-asks_none : (rows : List Row) → AllByRecursion (λ (n : NoticeRow). n.performance ≡ 0) (records_of id_cmp notice_key (behind former_row) former_in rows)
+asks_none : (rows : List Row) → AllByRecursion (λ (n : NoticeRow). n.performance ≡ 0) (records_of id_cmp notice_key (row_behind_rowid former_values) former_by_rowid rows)
 asks_none [] = tt
 asks_none (r ∷ rows) =
-    all-put nat_list_cmp_total notice_key (λ (n : NoticeRow). n.performance ≡ 0) (records_of id_cmp notice_key (behind former_row) former_in rows) (former_in r) refl (asks_none rows)
+    all-put nat_list_cmp_total notice_key (λ (n : NoticeRow). n.performance ≡ 0) (records_of id_cmp notice_key (row_behind_rowid former_values) former_by_rowid rows) (former_by_rowid r) refl (asks_none rows)
 
 has_no_performances : (db : Database) (t : Tables) (n : ℕ) → StandsFirst db t Performances n → t.performances ≡ []
 has_no_performances db t n (inl it) = absurd it.1
@@ -127,7 +127,7 @@ record IsReady (db : Database) (t : Tables) : Type 0 where
   stands : (k : OfficeTable) → StandsOrMade k (db.trees (places k)) t
 
 -- a table that isn't there is among those that are made
-is_lacking : (schema : Schema) (t : Tables) (k : OfficeTable) (late : Bool) → has_late schema ≡ late → has_table schema (table_of k).name ≡ false → IsNothing k t → Has (lacking late) k
+is_lacking : (schema : Schema) (t : Tables) (k : OfficeTable) (late : Bool) → has_late schema ≡ late → has_table schema (table_of k).name ≡ false → IsNothing k t → Has (tables_since_version_1 late) k
 is_lacking schema t Performances true there none lacks = inl refl
 is_lacking schema t Performances false there none lacks = inl refl
 is_lacking schema t Notices true there none lacks = inr (inl refl)
@@ -136,24 +136,24 @@ is_lacking schema t LateRules true there none lacks = absurd (true≢false (sym 
 is_lacking schema t LateRules false there none lacks = inr (inr (inl refl))
 is_lacking schema t k late there none lacks = absurd lacks
 
-stands_or_made : (late : Bool) (old new : Database) (t : Tables) → AreMade (lacking late) new → KeepsOffice old new → has_late old.schema ≡ late → (k : OfficeTable) (n : ℕ) → StandsFirst old t k n
+stands_or_made : (late : Bool) (old new : Database) (t : Tables) → AreMade (tables_since_version_1 late) new → KeepsOffice old new → has_late old.schema ≡ late → (k : OfficeTable) (n : ℕ) → StandsFirst old t k n
     → (m : ℕ) × IsIn new.schema (table_of k) m × StandsOrMade k (new.trees m) t
 stands_or_made late old new t made stays there k n (inl it) = let kept = stays k n it.0 in (n, kept.0, inl (subst (λ rows. StandForFirst k rows t) (sym kept.1) it.1))
 stands_or_made late old new t made stays there k n (inr it) =
-    let fresh = all_has (λ k. (m : ℕ) × IsIn new.schema (table_of k) m × (new.trees m ≡ [])) (lacking late) k made.each (is_lacking old.schema t k late there it.0 it.1) in
+    let fresh = all_has (λ k. (m : ℕ) × IsIn new.schema (table_of k) m × (new.trees m ≡ [])) (tables_since_version_1 late) k made.each (is_lacking old.schema t k late there it.0 it.1) in
     (fresh.0, fresh.1, inr (fresh.2, it.1))
 
-ready : (late : Bool) (old new : Database) (t : Tables) → AreMade (lacking late) new → KeepsOffice old new → has_late old.schema ≡ late → HoldsFirst old t → IsReady new t
+ready : (late : Bool) (old new : Database) (t : Tables) → AreMade (tables_since_version_1 late) new → KeepsOffice old new → has_late old.schema ≡ late → HoldsFirst old t → IsReady new t
 ready late old new t made stays there was =
     let stands : (k : OfficeTable) → (m : ℕ) × IsIn new.schema (table_of k) m × StandsOrMade k (new.trees m) t = λ k. stands_or_made late old new t made stays there k (was.places k) (was.each k) in
     record { sound = made.sound; places = λ k. (stands k).0; tables = λ k. (stands k).1; stands = λ k. (stands k).2 }
 
 -- `notices` and `office` were there
-former_stands : (rows : List Row) (t : Tables) → StandsOrMade FormerNotices rows t → Stand id_cmp notice_key (behind former_row) former_in rows t.notices
+former_stands : (rows : List Row) (t : Tables) → StandsOrMade FormerNotices rows t → Stand id_cmp notice_key (row_behind_rowid former_values) former_by_rowid rows t.notices
 former_stands rows t (inl stand) = stand
 former_stands rows t (inr it) = absurd it.1
 
-clock_stands : (rows : List Row) (t : Tables) → StandsOrMade Office rows t → Stand clock_cmp clock_key (by_rowid (clock_row_of 1)) (read_by_rowid clock_read) rows (t.clock ∷ [])
+clock_stands : (rows : List Row) (t : Tables) → StandsOrMade Office rows t → Stand clock_cmp clock_key (by_rowid (clock_values_of 1)) (read_by_rowid clock_read) rows (t.clock ∷ [])
 clock_stands rows t (inl stand) = stand
 clock_stands rows t (inr it) = absurd it.1
 
@@ -163,7 +163,7 @@ drop_notices_read : IsDelete drop_notices (codes "notices") None (parsed_in (par
 unfolding everything parsed_in
 drop_notices_read = record { is = refl; statement = refl; formats = refl }
 
-drop_notices_means : (schema : Schema) (n : ℕ) (it : IsIn schema former_notices n) → Means schema drop_notices (Delete it.place (record { lets = []; body = select n [] (0 ∷ []) [] }))
+drop_notices_means : (schema : Schema) (n : ℕ) (it : IsIn schema former_notices n) → StatementMeans schema drop_notices (Delete it.place (record { lets = []; body = select n [] (0 ∷ []) [] }))
 unfolding same_name
 drop_notices_means schema n it =
     delete_means schema former_notices n it refl drop_notices None _ drop_notices_read [] _ _ (no_test schema it.place (at_tree former_notices n) it.found former_notices.name [] max_budget nothing)
@@ -173,7 +173,7 @@ drop_version_read : IsDelete drop_version (codes "office") None (parsed_in (pars
 unfolding everything parsed_in
 drop_version_read = record { is = refl; statement = refl; formats = refl }
 
-drop_version_means : (schema : Schema) (n : ℕ) (it : IsIn schema office n) → Means schema drop_version (Delete it.place (record { lets = []; body = select n [] (0 ∷ []) [] }))
+drop_version_means : (schema : Schema) (n : ℕ) (it : IsIn schema office n) → StatementMeans schema drop_version (Delete it.place (record { lets = []; body = select n [] (0 ∷ []) [] }))
 unfolding same_name
 drop_version_means schema n it =
     delete_means schema office n it refl drop_version None _ drop_version_read [] _ _ (no_test schema it.place (at_tree office n) it.found office.name [] max_budget nothing)
@@ -211,7 +211,7 @@ renewed_stands rows changed t stood clock k = elim (stood k) [
   | inr it ↦ absurd it.1
 ]
 
-module _ {S : Type 0} (g : Ghosts S) (late : Bool) (clock : ClockRow) (old : State) (from to : Held S) (back : ComesBack clock_row clock_read clock_in) (made : Makes old (state g from) (lacking late)) (it : Renews g clock from to) where
+module _ {S : Type 0} (g : Ghosts S) (late : Bool) (clock : ClockRow) (old : State) (from to : Held S) (back : ComesBack clock_values clock_read clock_by_rowid) (made : Makes old (state g from) (tables_since_version_1 late)) (it : Renews g clock from to) where
   abbrev mid : State
   mid = state g from
 
@@ -227,7 +227,7 @@ module _ {S : Type 0} (g : Ghosts S) (late : Bool) (clock : ClockRow) (old : Sta
   migrated : (t : Tables) → HoldsFirst old.now t → has_late old.now.schema ≡ late → t.clock ≡ clock → IsMigrated (record t { notices = [] }) old.now new.now
   unfolding row_put
   migrated t was there_late same =
-      let there = ready late old.now mid.now t (subst (λ l. AreMade l mid.now) (append-nil (lacking late)) (made.made [] (record { sound = was.sound; each = tt }))) made.stays there_late was in
+      let there = ready late old.now mid.now t (subst (λ l. AreMade l mid.now) (append-nil (tables_since_version_1 late)) (made.made [] (record { sound = was.sound; each = tt }))) made.stays there_late was in
       let p = there.places in
       let one = empties FormerNotices bare mid first p there.tables drop_notices it.dropped.0 (drop_notices_means mid.now.schema (p FormerNotices) (there.tables FormerNotices))
       (numbered (former_stands (mid.now.trees (p FormerNotices)) t (there.stands FormerNotices))) it.dropped.1.0 in
@@ -237,13 +237,13 @@ module _ {S : Type 0} (g : Ghosts S) (late : Bool) (clock : ClockRow) (old : Sta
       (numbered (clock_stands (first.now.trees (p Office)) t (subst (λ rows. StandsOrMade Office rows t) (sym clock_at) (there.stands Office)))) it.freed.1.0 in
       let tables_2 : HasTables second.now.schema p = subst (λ s. HasTables s p) (sym two.schema) tables_1 in
       let empty : second.now.trees (p Office) ≡ [] = ap (λ (f : OfficeTable → List Row). f Office) two.rows in
-      let none : Stand clock_cmp clock_key (by_rowid clock_row) (read_by_rowid clock_read) (second.now.trees (p Office)) [] = no_rows empty in
-      let done = puts_row Office bare clock_cmp clock_key clock_row (by_rowid clock_row) (read_by_rowid clock_read) 4 clock_terms clock_cells clock_stored second new p tables_2 put_office clock it.put.0 []
-      (put_office_means second.now.schema (p Office) (tables_2 Office)) (λ v. back.row clock) none it.put.1.0 in
+      let none : Stand clock_cmp clock_key (by_rowid clock_values) (read_by_rowid clock_read) (second.now.trees (p Office)) [] = no_rows empty in
+      let done = puts_row Office bare clock_cmp clock_key clock_values (by_rowid clock_values) (read_by_rowid clock_read) 4 clock_terms clock_cells clock_stored second new p tables_2 upsert_office clock it.put.0 []
+      (upsert_office_means second.now.schema (p Office) (tables_2 Office)) (λ v. back.row clock) none it.put.1.0 in
       let rows : (λ j. new.now.trees (p j)) ≡ with_rows (with_rows (with_rows (λ j. mid.now.trees (p j)) FormerNotices []) Office []) Office (new.now.trees (p Office)) =
       done.rows ∙ ap (λ r. with_rows r Office (new.now.trees (p Office))) (two.rows ∙ ap (λ r. with_rows r Office []) one.rows) in
       let kept = clock_apart second.step_limit clock second.now new.now (p Office) (tables_2 Office)
-      (made_of put_office (clock_row clock) second new _ (put_office_means second.now.schema (p Office) (tables_2 Office)) refl refl it.put.0 it.put.1.0) in
+      (made_of upsert_office (clock_values clock) second new _ (upsert_office_means second.now.schema (p Office) (tables_2 Office)) refl refl it.put.0 it.put.1.0) in
       let schema_2 : second.now.schema ≡ mid.now.schema = two.schema ∙ one.schema in
       let tables_3 : HasTables new.now.schema p = subst (λ s. HasTables s p) (sym done.schema) tables_2 in
       record {
@@ -271,7 +271,7 @@ module _ {S : Type 0} (g : Ghosts S) (late : Bool) (clock : ClockRow) (old : Sta
         added = subst (AddsNoReference old.now.schema) (sym (done.schema ∙ schema_2)) made.added;
       }
 
-pub begins : {S : Type 0} (g : Ghosts S) (late : Bool) (clock : ClockRow) (old : State) (from to : Held S) → ComesBack clock_row clock_read clock_in → Makes old (state g from) (lacking late) → Renews g clock from to
+pub begins : {S : Type 0} (g : Ghosts S) (late : Bool) (clock : ClockRow) (old : State) (from to : Held S) → ComesBack clock_values clock_read clock_by_rowid → Makes old (state g from) (tables_since_version_1 late) → Renews g clock from to
     → Begins late clock old (state g to)
 begins g late clock old from to back made it = record {
   goes = goes_then old (state g from) (state g to) made.goes

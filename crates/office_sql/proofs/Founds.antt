@@ -9,7 +9,7 @@ use Rattle.sqlite.specs.State.{State, Executes}
 use Rattle.office_base.specs.Rows.{row_put}
 use Rattle.office_base.specs.Tables.{no_tables}
 use Rattle.office_base.specs.declared.records.ClockRow.{ClockRow}
-use Rattle.office_rows.specs.Releases.{clock_row, clock_read, clock_in}
+use Rattle.office_rows.specs.Releases.{clock_values, clock_read, clock_by_rowid}
 use Rattle.office_rows.specs.Laws.{ComesBack}
 use Rattle.office_sql.specs.Clock.{clock_key, clock_cmp}
 use Rattle.office_sql.specs.Schema.{OfficeTable, table_of}
@@ -24,7 +24,7 @@ use Rattle.sqlite_rules.specs.Lists.{Has}
 use Rattle.sqlite_rules.proofs.ListLemmas.{all_has}
 use Rattle.office_sql.proofs.Writes.{puts_row, puts_others, with_rows}
 use Rattle.office_sql.proofs.Stored.{bare, clock_terms, clock_cells, clock_stored}
-use Rattle.office_sql.proofs.PutTexts.{put_office, put_office_means}
+use Rattle.office_sql.proofs.PutTexts.{upsert_office, upsert_office_means}
 
 abbrev pub Found : Database → OfficeTable → Type 0
 Found db k = (n : ℕ) × IsIn db.schema (table_of k) n × (db.trees n ≡ [])
@@ -75,23 +75,23 @@ stands rows changed x empty stand FormerNotices = empty FormerNotices
 stands rows changed x empty stand Performances = nothing (empty Performances)
 
 -- the row is put into a table of the office, so that all others stay
-pub first_others : (start : Database) (old new : State) (x : ClockRow) (count : ℕ) → KeepsOthers start old.now → AreNew start all_tables → AreMade all_tables old.now → Executes put_office (clock_row x) old new (Ok count)
+pub first_others : (start : Database) (old new : State) (x : ClockRow) (count : ℕ) → KeepsOthers start old.now → AreNew start all_tables → AreMade all_tables old.now → Executes upsert_office (clock_values x) old new (Ok count)
     → KeepsOthers start new.now
 first_others start old new x count kept fresh was h t there =
     let places : Places = λ k. (found k was.each).0 in
     let tables : HasTables old.now.schema places = λ k. (found k was.each).1 in
-    let same = puts_others Office bare clock_cmp clock_key clock_row (by_rowid clock_row) (read_by_rowid clock_read) 4 clock_terms clock_cells clock_stored old new places tables put_office x count (put_office_means old.now.schema (places Office) (tables Office)) (found Office was.each).2 h in
+    let same = puts_others Office bare clock_cmp clock_key clock_values (by_rowid clock_values) (read_by_rowid clock_read) 4 clock_terms clock_cells clock_stored old new places tables upsert_office x count (upsert_office_means old.now.schema (places Office) (tables Office)) (found Office was.each).2 h in
     let now = kept t there in
     let apart : t.tree ≢ places Office = λ e. fresh.1.1.1.0 t there (ap (λ (u : Table). u.name) ((tables Office).alone t now.0 e)) in
     (subst (λ (s : Schema). Has s.tables t) (sym same.0) now.0, all_has (λ (u : Table). u.tree ≢ places Office → new.now.trees u.tree ≡ old.now.trees u.tree) old.now.schema.tables t same.1 now.0 apart ∙ now.1)
 
-pub founds : (old new : State) (x : ClockRow) (count : ℕ) → ComesBack clock_row clock_read clock_in → AreMade all_tables old.now → Executes put_office (clock_row x) old new (Ok count) → Holds new.now (record no_tables { clock = x })
+pub founds : (old new : State) (x : ClockRow) (count : ℕ) → ComesBack clock_values clock_read clock_by_rowid → AreMade all_tables old.now → Executes upsert_office (clock_values x) old new (Ok count) → Holds new.now (record no_tables { clock = x })
 unfolding row_put
 founds old new x count back was h =
     let places : Places = λ k. (found k was.each).0 in
     let tables : HasTables old.now.schema places = λ k. (found k was.each).1 in
-    let empty : Stand clock_cmp clock_key (by_rowid clock_row) (read_by_rowid clock_read) (old.now.trees (places Office)) [] = nothing (found Office was.each).2 in
-    let done = puts_row Office bare clock_cmp clock_key clock_row (by_rowid clock_row) (read_by_rowid clock_read) 4 clock_terms clock_cells clock_stored old new places tables put_office x count [] (put_office_means old.now.schema (places Office) (tables Office)) (λ v. back.row x) empty h in
+    let empty : Stand clock_cmp clock_key (by_rowid clock_values) (read_by_rowid clock_read) (old.now.trees (places Office)) [] = nothing (found Office was.each).2 in
+    let done = puts_row Office bare clock_cmp clock_key clock_values (by_rowid clock_values) (read_by_rowid clock_read) 4 clock_terms clock_cells clock_stored old new places tables upsert_office x count [] (upsert_office_means old.now.schema (places Office) (tables Office)) (λ v. back.row x) empty h in
     record {
       sound = done.sound;
       places = places;

@@ -13,7 +13,7 @@ use Rattle.sqlite_trees.specs.Tree.{rowid, IsTable}
 use Rattle.sqlite_trees.specs.View.{is_int}
 use Rattle.sqlite_rules.specs.Lists.{Has}
 use Rattle.sqlite_rules.proofs.ListLemmas.{all_has, all_from}
-use Rattle.office_sql.specs.Kept.{key_of, entry, table_of, AreKept}
+use Rattle.office_sql.specs.Kept.{key_of, entry, rows_kept, AreKept}
 
 equal_is : (o : Ordering) → is_eq o ≡ true → o ≡ Equal
 equal_is Less h = absurd (cc)
@@ -93,18 +93,18 @@ module _ {K X : Type 0} (R : K → K → Ordering) (total : IsTotalOrder R) (sam
         )
   ]
 
-  pub finds : (rows : List Row) (q : K) → row_at R key (table_of R key form decode rows) q ≡ find R q (map (entry R key form decode) rows)
+  pub finds : (rows : List Row) (q : K) → row_at R key (rows_kept R key form decode rows) q ≡ find R q (map (entry R key form decode) rows)
   unfolding row_at
   finds [] q = refl
-  finds (r ∷ rows) q = row_at-row_put total key (table_of R key form decode rows) (decode r) q ∙ ap (cond (eq_by_cmp R q (key (decode r))) (Some (decode r))) (finds rows q)
+  finds (r ∷ rows) q = row_at-row_put total key (rows_kept R key form decode rows) (decode r) q ∙ ap (cond (eq_by_cmp R q (key (decode r))) (Some (decode r))) (finds rows q)
 
-  pub in_order-table_of : (rows : List Row) → IsInOrder R key (table_of R key form decode rows)
-  in_order-table_of [] = tt
-  in_order-table_of (r ∷ rows) = in_order-put total key (table_of R key form decode rows) (decode r) (in_order-table_of rows)
+  pub in_order-rows_kept : (rows : List Row) → IsInOrder R key (rows_kept R key form decode rows)
+  in_order-rows_kept [] = tt
+  in_order-rows_kept (r ∷ rows) = in_order-put total key (rows_kept R key form decode rows) (decode r) (in_order-rows_kept rows)
 
   pub put_is : (old new : List Row) (x : Row) → AreKept R key form decode old → AreKept R key form decode new → IsPut old new x
-      → table_of R key form decode new ≡ row_put R key (table_of R key form decode old) (decode x)
+      → rows_kept R key form decode new ≡ row_put R key (rows_kept R key form decode old) (decode x)
   put_is old new x was now put =
-      same_rows (record { total = total; exact = same }) _ _ (in_order-table_of new) (in_order-put total key _ (decode x) (in_order-table_of old)) (λ q.
+      same_rows (record { total = total; exact = same }) _ _ (in_order-rows_kept new) (in_order-put total key _ (decode x) (in_order-rows_kept old)) (λ q.
       finds new q ∙ finds_put old new x was now put q
-      ∙ sym (row_at-row_put total key (table_of R key form decode old) (decode x) q ∙ ap (cond (eq_by_cmp R q (key (decode x))) (Some (decode x))) (finds old q)))
+      ∙ sym (row_at-row_put total key (rows_kept R key form decode old) (decode x) q ∙ ap (cond (eq_by_cmp R q (key (decode x))) (Some (decode x))) (finds old q)))

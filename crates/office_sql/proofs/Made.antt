@@ -11,7 +11,7 @@ use Rattle.sqlite.specs.Effect.{is_query}
 use Rattle.sqlite.specs.Listing.{understood}
 use Rattle.sqlite.specs.State.{State, ExecutesIn, Runs, RunsCommand, is_pragma, mode_of, shows_rows, text_of}
 use Rattle.sqlite.proofs.Callers.{IsPlain, command_of}
-use Rattle.office_sql.proofs.Meanings.{Means}
+use Rattle.office_sql.proofs.Meanings.{StatementMeans}
 
 -- commands that change rows: they show none, and end no transaction
 abbrev pub is_change : Command → Bool
@@ -32,7 +32,7 @@ wrote old new returning (Delete at q) text params count change h = (h.tally, h.c
 wrote old new returning k text params count change h = absurd (true≢false (sym change))
 
 -- what was executed made the new database of the old one
-pub made_of : (text : List ℕ) (params : Row) (old new : State) (command : Command) → Means old.now.schema text command → is_change command ≡ true → shows command ≡ false
+pub made_of : (text : List ℕ) (params : Row) (old new : State) (command : Command) → StatementMeans old.now.schema text command → is_change command ≡ true → shows command ≡ false
     → (count : ℕ) → ExecutesIn false text params old new (Ok count)
     → (c : Compiled) × (understood old.now.schema text ≡ Ok c) × (tally : Tally) × Does old.step_limit (mode_of old) params old.now (text_of text c) c.returning c.command (Ok (tally, new.now))
 unfolding ExecutesIn

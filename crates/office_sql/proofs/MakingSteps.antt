@@ -5,7 +5,7 @@ use Rattle.sqlite.specs.Effect.{IsDatabase}
 use Rattle.sqlite.specs.State.{State, ExecutesInside}
 use Rattle.office_base.specs.Tables.{first_clock}
 use Rattle.office_rows.specs.Laws.{ComesBack}
-use Rattle.office_rows.specs.Releases.{clock_row, clock_read, clock_in}
+use Rattle.office_rows.specs.Releases.{clock_values, clock_read, clock_by_rowid}
 use Rattle.office_sql.specs.Schema.{OfficeTable, table_of}
 use Rattle.office_sql.specs.Steps.{Goes, Refused}
 use Rattle.office_sql.specs.Making.{IsCreate, IsIndexing, AreMade, Makes, Indexes, Founds, all_tables}
@@ -13,7 +13,7 @@ use Rattle.office_sql.proofs.Held.{goes_on}
 use Rattle.office_sql.proofs.Childless.{all-append}
 use Rattle.office_sql.proofs.Makes.{makes_table, makes_index, table_others, index_others, others_then, stays_then, added_then, all_so}
 use Rattle.office_sql.proofs.Founds.{found, founds, first_others}
-use Rattle.office_sql.proofs.PutTexts.{put_office}
+use Rattle.office_sql.proofs.PutTexts.{upsert_office}
 
 pub goes_then : (a b c : State) → Goes a b → Goes b c → Goes a c
 goes_then a b c p q = record { mode = q.mode; was_open = p.was_open; is_open = q.is_open; committed = q.committed ∙ p.committed }
@@ -45,7 +45,7 @@ pub indexes_then : (a b c : State) → Indexes a b → Indexes b c → Indexes a
 indexes_then a b c p q = record { goes = goes_then a b c p.goes q.goes; others = λ was. others_then a.now b.now c.now (p.others was) (q.others (p.made was)); made = λ was. q.made (p.made was) }
 
 -- a sound database has none of the tables to begin with
-pub founded : (a b c d : State) (count : ℕ) → ComesBack clock_row clock_read clock_in → Makes a b all_tables → Indexes b c → ExecutesInside 0 put_office (clock_row first_clock) c d (Ok count) → Founds a d
+pub founded : (a b c d : State) (count : ℕ) → ComesBack clock_values clock_read clock_by_rowid → Makes a b all_tables → Indexes b c → ExecutesInside 0 upsert_office (clock_values first_clock) c d (Ok count) → Founds a d
 founded a b c d count back p q h =
     let all : IsDatabase a.now → AreMade all_tables b.now = λ sound. subst (λ l. AreMade l b.now) (append-nil all_tables) (p.made [] (record { sound = sound; each = tt })) in
     record {

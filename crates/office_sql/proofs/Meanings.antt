@@ -19,7 +19,7 @@ parsed_in (Ok p) = p
 parsed_in (Err e) = record { statement = written.Empty; names = []; formats = []; start = 0; end = 0; tail = 0 }
 
 -- all that a caller asks of a statement
-pub record Means (schema : Schema) (text : List ℕ) (command : Command) : Type 0 where
+pub record StatementMeans (schema : Schema) (text : List ℕ) (command : Command) : Type 0 where
   pub is : command_of (understood schema text) ≡ command
   pub plain : IsPlain (understood schema text)
   pub unlisted : reads_listing schema text ≡ false
@@ -31,7 +31,7 @@ pub understands : (schema : Schema) (text : List ℕ) (c : Compiled) → compile
 unfolding understood
 understands schema text c h = rw h
 
-pub means_by : (schema : Schema) (text : List ℕ) (c : Compiled) → IsPlain (Ok c) → compiled schema text ≡ Ok c → Means schema text c.command
+pub means_by : (schema : Schema) (text : List ℕ) (c : Compiled) → IsPlain (Ok c) → compiled schema text ≡ Ok c → StatementMeans schema text c.command
 means_by schema text c plain h =
     let u = understands schema text c h in record { is = ap command_of u; plain = subst IsPlain (sym u) plain; unlisted = unlisted_by schema text c h }
 

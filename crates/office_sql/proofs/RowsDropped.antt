@@ -20,11 +20,12 @@ use Rattle.sqlite_rules.proofs.ProbeLemmas.{mapped_has}
 use Rattle.sqlite_rules.specs.Edit as edit
 use Rattle.office_base.specs.Rows.{row_drop}
 use Rattle.office_base.proofs.ExactKeys.{equal_keys}
-use Rattle.office_base.proofs.RowLaws.{in_order-drop}
-use Rattle.office_sql.specs.Kept.{key_of, entry, table_of, AreKept}
+use Rattle.office_base.proofs.RowLaws.Keyed.{IsKeyed}
+use Rattle.office_base.proofs.RowLaws.Drops.{in_order-drop, row_at-row_drop}
+use Rattle.office_sql.specs.Kept.{key_of, entry, rows_kept, AreKept}
 use Rattle.office_sql.specs.Standing.{Stand}
-use Rattle.office_sql.proofs.Sorted.{IsKeyed, same_rows, row_at-row_drop}
-use Rattle.office_sql.proofs.KeptRows.{found, finds, in_order-table_of}
+use Rattle.office_sql.proofs.Sorted.{same_rows}
+use Rattle.office_sql.proofs.KeptRows.{found, finds, in_order-rows_kept}
 use Rattle.office_sql.proofs.RowsPut.{left_from, unmapped, left_up, at_itself}
 use Rattle.office_sql.proofs.Selected.{picked, permuted_has}
 
@@ -85,13 +86,13 @@ module _ {K X : Type 0} (R : K → K → Ordering) (total : IsTotalOrder R) (sam
         )
   ]
 
-  drop_is : (old new : List Row) (k : K) → Kept old → IsDrop old new k → table_of R key form decode new ≡ row_drop R key (table_of R key form decode old) k
+  drop_is : (old new : List Row) (k : K) → Kept old → IsDrop old new k → rows_kept R key form decode new ≡ row_drop R key (rows_kept R key form decode old) k
   drop_is old new k was it =
       let t : IsKeyed R key = record { total = total; exact = same } in
-      let up = in_order-table_of R total same key form decode old in
-      same_rows t _ _ (in_order-table_of R total same key form decode new) (in_order-drop total key _ k up) (λ q.
+      let up = in_order-rows_kept R total same key form decode old in
+      same_rows t _ _ (in_order-rows_kept R total same key form decode new) (in_order-drop total key _ k up) (λ q.
       finds R total same key form decode new q ∙ finds_drop old new k was it q
-      ∙ sym (row_at-row_drop t (table_of R key form decode old) k q up ∙ ap (cond (eq_by_cmp R q k) None) (finds R total same key form decode old q)))
+      ∙ sym (row_at-row_drop t (rows_kept R key form decode old) k q up ∙ ap (cond (eq_by_cmp R q k) None) (finds R total same key form decode old q)))
 
   -- the rows whose rowids were not among those of an answer
   module _ (rows : List Row) (was : Kept rows) (k : K) (p : Row → Bool) (passing : (r : Row) → Has rows r → p r ≡ eq_by_cmp R k (key_of R key form decode r)) (env : Row → Env) (out : Env → Output)
@@ -136,7 +137,7 @@ module _ {K X : Type 0} (R : K → K → Ordering) (total : IsTotalOrder R) (sam
       ];
     }
 
-    pub drops : (xs : List X) → table_of R key form decode rows ≡ xs → Stand R key form decode left (row_drop R key xs k)
+    pub drops : (xs : List X) → rows_kept R key form decode rows ≡ xs → Stand R key form decode left (row_drop R key xs k)
     drops xs is = record {
       kept = kept_drop rows left k was (left_up (ids_of answer) rows was.rising) dropped;
       is = drop_is rows left k was dropped ∙ ap (λ (ys : List X). row_drop R key ys k) is;

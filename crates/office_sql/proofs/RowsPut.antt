@@ -17,7 +17,7 @@ use Rattle.sqlite_rules.specs.Edit.{id_in, without_all, is_taken, are_fresh, row
 use Rattle.sqlite_rules.proofs.ListLemmas.{all_has, has_filtered}
 use Rattle.sqlite_rules.proofs.TableLemmas.{int_is, put_all_has, put_all_keeps, put_all_adds}
 use Rattle.sqlite_rules.proofs.PlaceLemmas.{row_at_is, left_or_taken}
-use Rattle.office_sql.specs.Kept.{key_of, table_of, AreKept}
+use Rattle.office_sql.specs.Kept.{key_of, rows_kept, AreKept}
 use Rattle.office_sql.specs.Standing.{Stand}
 use Rattle.office_sql.proofs.KeptRows.{IsPut, kept_put, put_is}
 
@@ -76,5 +76,5 @@ module _ {K X : Type 0} (R : K → K → Ordering) (total : IsTotalOrder R) (sam
   keeps = kept_put R total same key form decode rows after new was (IsTable-put_row new _ (left_up ids rows was.rising)) int (shaped ∙ ap (form (rowid new)) (sym is)) put
 
   -- the rows stand for the table with the record
-  pub stands : (xs : List X) → table_of R key form decode rows ≡ xs → Stand R key form decode after (row_put R key xs x)
+  pub stands : (xs : List X) → rows_kept R key form decode rows ≡ xs → Stand R key form decode after (row_put R key xs x)
   stands xs e = record { kept = keeps; is = put_is R total same key form decode rows after new was keeps put ∙ ap₂ (λ (ys : List X) y. row_put R key ys y) e is }

@@ -9,7 +9,7 @@ use Rattle.sqlite_resolve.specs.Lowering.{alone, chosen, first_found, max_budget
 use Rattle.sqlite_tied.specs.Compute.{everything}
 use Rattle.office_sql.specs.Schema.{column_of, lines, batches, tenderers, notices, lots, envelopes, seals, securities, awards, contracts, entries, releases, compiled, office, late_rules, former_notices, performance}
 use Rattle.office_sql.specs.Known.{IsIn, at_tree}
-use Rattle.office_sql.proofs.Meanings.{Means, IsOne, parsed_in}
+use Rattle.office_sql.proofs.Meanings.{StatementMeans, IsOne, parsed_in}
 use Rattle.office_sql.proofs.Simple.{equals_e, both_e, names_of, outputs_of, Has, no_test, one_test, two_tests, three_tests}
 use Rattle.office_sql.proofs.Selecting.{select, columns_of, left, IsSelect, selects_mean, found_by_tree}
 
@@ -88,7 +88,7 @@ get_line_read : IsSelect get_line (codes "lines") (names_of (columns_of lines)) 
 unfolding everything parsed_in
 get_line_read = record { is = refl; statement = refl; formats = refl }
 
-pub get_line_means : (schema : Schema) (n : ℕ) → IsIn schema lines n → Means schema get_line (Select (record { lets = []; body = select n (1 ∷ []) (range_with_len 1 4) ([]) }) (names_of (columns_of lines)))
+pub get_line_means : (schema : Schema) (n : ℕ) → IsIn schema lines n → StatementMeans schema get_line (Select (record { lets = []; body = select n (1 ∷ []) (range_with_len 1 4) ([]) }) (names_of (columns_of lines)))
 unfolding same_name alone chosen first_found
 get_line_means schema n it =
     selects_mean schema lines n it (columns_of lines) ([]) get_line (lines_has n) (Some (equals_e (codes "line") 1)) _ _ _ get_line_read
@@ -102,7 +102,7 @@ get_batch_read : IsSelect get_batch (codes "batches") (names_of (columns_of batc
 unfolding everything parsed_in
 get_batch_read = record { is = refl; statement = refl; formats = refl }
 
-pub get_batch_means : (schema : Schema) (n : ℕ) → IsIn schema batches n → Means schema get_batch (Select (record { lets = []; body = select n (1 ∷ []) (range_with_len 1 3) ([]) }) (names_of (columns_of batches)))
+pub get_batch_means : (schema : Schema) (n : ℕ) → IsIn schema batches n → StatementMeans schema get_batch (Select (record { lets = []; body = select n (1 ∷ []) (range_with_len 1 3) ([]) }) (names_of (columns_of batches)))
 unfolding same_name alone chosen first_found
 get_batch_means schema n it =
     selects_mean schema batches n it (columns_of batches) ([]) get_batch (batches_has n) (Some (equals_e (codes "batch") 1)) _ _ _ get_batch_read
@@ -116,7 +116,7 @@ get_tenderer_read : IsSelect get_tenderer (codes "tenderers") (names_of (columns
 unfolding everything parsed_in
 get_tenderer_read = record { is = refl; statement = refl; formats = refl }
 
-pub get_tenderer_means : (schema : Schema) (n : ℕ) → IsIn schema tenderers n → Means schema get_tenderer (Select (record { lets = []; body = select n (1 ∷ []) (range_with_len 1 4) ([]) }) (names_of (columns_of tenderers)))
+pub get_tenderer_means : (schema : Schema) (n : ℕ) → IsIn schema tenderers n → StatementMeans schema get_tenderer (Select (record { lets = []; body = select n (1 ∷ []) (range_with_len 1 4) ([]) }) (names_of (columns_of tenderers)))
 unfolding same_name alone chosen first_found
 get_tenderer_means schema n it =
     selects_mean schema tenderers n it (columns_of tenderers) ([]) get_tenderer (tenderers_has n) (Some (equals_e (codes "tenderer") 1)) _ _ _ get_tenderer_read
@@ -130,7 +130,7 @@ get_notice_read : IsSelect get_notice (codes "notices_2") (names_of (columns_of 
 unfolding everything parsed_in
 get_notice_read = record { is = refl; statement = refl; formats = refl }
 
-pub get_notice_means : (schema : Schema) (n : ℕ) → IsIn schema notices n → Means schema get_notice (Select (record { lets = []; body = select n (1 ∷ []) (range_with_len 1 12) ([]) }) (names_of (columns_of notices)))
+pub get_notice_means : (schema : Schema) (n : ℕ) → IsIn schema notices n → StatementMeans schema get_notice (Select (record { lets = []; body = select n (1 ∷ []) (range_with_len 1 12) ([]) }) (names_of (columns_of notices)))
 unfolding same_name alone chosen first_found
 get_notice_means schema n it =
     selects_mean schema notices n it (columns_of notices) ([]) get_notice (notices_has n) (Some (equals_e (codes "notice") 1)) _ _ _ get_notice_read
@@ -144,7 +144,7 @@ get_lot_read : IsSelect get_lot (codes "lots") (names_of (columns_of lots)) (Som
 unfolding everything parsed_in
 get_lot_read = record { is = refl; statement = refl; formats = refl }
 
-pub get_lot_means : (schema : Schema) (n : ℕ) → IsIn schema lots n → Means schema get_lot (Select (record { lets = []; body = select n (1 ∷ 2 ∷ []) (range_with_len 1 9) ([]) }) (names_of (columns_of lots)))
+pub get_lot_means : (schema : Schema) (n : ℕ) → IsIn schema lots n → StatementMeans schema get_lot (Select (record { lets = []; body = select n (1 ∷ 2 ∷ []) (range_with_len 1 9) ([]) }) (names_of (columns_of lots)))
 unfolding same_name alone chosen first_found
 get_lot_means schema n it =
     selects_mean schema lots n it (columns_of lots) ([]) get_lot (lots_has n) (Some (both_e (equals_e (codes "notice") 1) (equals_e (codes "lot") 2))) _ _ _ get_lot_read
@@ -158,7 +158,7 @@ get_envelope_read : IsSelect get_envelope (codes "envelopes") (names_of (columns
 unfolding everything parsed_in
 get_envelope_read = record { is = refl; statement = refl; formats = refl }
 
-pub get_envelope_means : (schema : Schema) (n : ℕ) → IsIn schema envelopes n → Means schema get_envelope (Select (record { lets = []; body = select n (0 ∷ []) (0 ∷ range_with_len 2 15) ([]) }) (names_of (columns_of envelopes)))
+pub get_envelope_means : (schema : Schema) (n : ℕ) → IsIn schema envelopes n → StatementMeans schema get_envelope (Select (record { lets = []; body = select n (0 ∷ []) (0 ∷ range_with_len 2 15) ([]) }) (names_of (columns_of envelopes)))
 unfolding same_name alone chosen first_found
 get_envelope_means schema n it =
     selects_mean schema envelopes n it (columns_of envelopes) ([]) get_envelope (envelopes_has n) (Some (equals_e (codes "receipt") 1)) _ _ _ get_envelope_read
@@ -172,7 +172,7 @@ get_seal_read : IsSelect get_seal (codes "seals") (names_of (columns_of seals)) 
 unfolding everything parsed_in
 get_seal_read = record { is = refl; statement = refl; formats = refl }
 
-pub get_seal_means : (schema : Schema) (n : ℕ) → IsIn schema seals n → Means schema get_seal (Select (record { lets = []; body = select n (0 ∷ []) (0 ∷ range_with_len 2 1) ([]) }) (names_of (columns_of seals)))
+pub get_seal_means : (schema : Schema) (n : ℕ) → IsIn schema seals n → StatementMeans schema get_seal (Select (record { lets = []; body = select n (0 ∷ []) (0 ∷ range_with_len 2 1) ([]) }) (names_of (columns_of seals)))
 unfolding same_name alone chosen first_found
 get_seal_means schema n it =
     selects_mean schema seals n it (columns_of seals) ([]) get_seal (seals_has n) (Some (equals_e (codes "receipt") 1)) _ _ _ get_seal_read
@@ -186,7 +186,7 @@ get_security_read : IsSelect get_security (codes "securities") (names_of (column
 unfolding everything parsed_in
 get_security_read = record { is = refl; statement = refl; formats = refl }
 
-pub get_security_means : (schema : Schema) (n : ℕ) → IsIn schema securities n → Means schema get_security (Select (record { lets = []; body = select n (0 ∷ []) (0 ∷ range_with_len 2 6) ([]) }) (names_of (columns_of securities)))
+pub get_security_means : (schema : Schema) (n : ℕ) → IsIn schema securities n → StatementMeans schema get_security (Select (record { lets = []; body = select n (0 ∷ []) (0 ∷ range_with_len 2 6) ([]) }) (names_of (columns_of securities)))
 unfolding same_name alone chosen first_found
 get_security_means schema n it =
     selects_mean schema securities n it (columns_of securities) ([]) get_security (securities_has n) (Some (equals_e (codes "security") 1)) _ _ _ get_security_read
@@ -200,7 +200,7 @@ get_award_read : IsSelect get_award (codes "awards") (names_of (columns_of award
 unfolding everything parsed_in
 get_award_read = record { is = refl; statement = refl; formats = refl }
 
-pub get_award_means : (schema : Schema) (n : ℕ) → IsIn schema awards n → Means schema get_award (Select (record { lets = []; body = select n (0 ∷ []) (0 ∷ range_with_len 2 6) ([]) }) (names_of (columns_of awards)))
+pub get_award_means : (schema : Schema) (n : ℕ) → IsIn schema awards n → StatementMeans schema get_award (Select (record { lets = []; body = select n (0 ∷ []) (0 ∷ range_with_len 2 6) ([]) }) (names_of (columns_of awards)))
 unfolding same_name alone chosen first_found
 get_award_means schema n it =
     selects_mean schema awards n it (columns_of awards) ([]) get_award (awards_has n) (Some (equals_e (codes "award") 1)) _ _ _ get_award_read
@@ -214,7 +214,7 @@ get_contract_read : IsSelect get_contract (codes "contracts") (names_of (columns
 unfolding everything parsed_in
 get_contract_read = record { is = refl; statement = refl; formats = refl }
 
-pub get_contract_means : (schema : Schema) (n : ℕ) → IsIn schema contracts n → Means schema get_contract (Select (record { lets = []; body = select n (0 ∷ []) (0 ∷ range_with_len 2 8) ([]) }) (names_of (columns_of contracts)))
+pub get_contract_means : (schema : Schema) (n : ℕ) → IsIn schema contracts n → StatementMeans schema get_contract (Select (record { lets = []; body = select n (0 ∷ []) (0 ∷ range_with_len 2 8) ([]) }) (names_of (columns_of contracts)))
 unfolding same_name alone chosen first_found
 get_contract_means schema n it =
     selects_mean schema contracts n it (columns_of contracts) ([]) get_contract (contracts_has n) (Some (equals_e (codes "contract") 1)) _ _ _ get_contract_read
@@ -228,7 +228,7 @@ get_entry_read : IsSelect get_entry (codes "entries") (names_of (columns_of entr
 unfolding everything parsed_in
 get_entry_read = record { is = refl; statement = refl; formats = refl }
 
-pub get_entry_means : (schema : Schema) (n : ℕ) → IsIn schema entries n → Means schema get_entry (Select (record { lets = []; body = select n (1 ∷ 2 ∷ []) (range_with_len 1 6) ([]) }) (names_of (columns_of entries)))
+pub get_entry_means : (schema : Schema) (n : ℕ) → IsIn schema entries n → StatementMeans schema get_entry (Select (record { lets = []; body = select n (1 ∷ 2 ∷ []) (range_with_len 1 6) ([]) }) (names_of (columns_of entries)))
 unfolding same_name alone chosen first_found
 get_entry_means schema n it =
     selects_mean schema entries n it (columns_of entries) ([]) get_entry (entries_has n) (Some (both_e (equals_e (codes "contract") 1) (equals_e (codes "entry") 2))) _ _ _ get_entry_read
@@ -242,7 +242,7 @@ get_release_read : IsSelect get_release (codes "releases") (names_of (columns_of
 unfolding everything parsed_in
 get_release_read = record { is = refl; statement = refl; formats = refl }
 
-pub get_release_means : (schema : Schema) (n : ℕ) → IsIn schema releases n → Means schema get_release (Select (record { lets = []; body = select n (1 ∷ 2 ∷ []) (range_with_len 1 4) ([]) }) (names_of (columns_of releases)))
+pub get_release_means : (schema : Schema) (n : ℕ) → IsIn schema releases n → StatementMeans schema get_release (Select (record { lets = []; body = select n (1 ∷ 2 ∷ []) (range_with_len 1 4) ([]) }) (names_of (columns_of releases)))
 unfolding same_name alone chosen first_found
 get_release_means schema n it =
     selects_mean schema releases n it (columns_of releases) ([]) get_release (releases_has n) (Some (both_e (equals_e (codes "notice") 1) (equals_e (codes "seq") 2))) _ _ _ get_release_read
@@ -256,7 +256,7 @@ get_compiled_read : IsSelect get_compiled (codes "compiled") (names_of (columns_
 unfolding everything parsed_in
 get_compiled_read = record { is = refl; statement = refl; formats = refl }
 
-pub get_compiled_means : (schema : Schema) (n : ℕ) → IsIn schema compiled n → Means schema get_compiled (Select (record { lets = []; body = select n (1 ∷ []) (range_with_len 1 2) ([]) }) (names_of (columns_of compiled)))
+pub get_compiled_means : (schema : Schema) (n : ℕ) → IsIn schema compiled n → StatementMeans schema get_compiled (Select (record { lets = []; body = select n (1 ∷ []) (range_with_len 1 2) ([]) }) (names_of (columns_of compiled)))
 unfolding same_name alone chosen first_found
 get_compiled_means schema n it =
     selects_mean schema compiled n it (columns_of compiled) ([]) get_compiled (compiled_has n) (Some (equals_e (codes "notice") 1)) _ _ _ get_compiled_read
@@ -270,7 +270,7 @@ get_late_read : IsSelect get_late (codes "late_rules") (names_of (columns_of lat
 unfolding everything parsed_in
 get_late_read = record { is = refl; statement = refl; formats = refl }
 
-pub get_late_means : (schema : Schema) (n : ℕ) → IsIn schema late_rules n → Means schema get_late (Select (record { lets = []; body = select n (1 ∷ []) (range_with_len 1 1) ([]) }) (names_of (columns_of late_rules)))
+pub get_late_means : (schema : Schema) (n : ℕ) → IsIn schema late_rules n → StatementMeans schema get_late (Select (record { lets = []; body = select n (1 ∷ []) (range_with_len 1 1) ([]) }) (names_of (columns_of late_rules)))
 unfolding same_name alone chosen first_found
 get_late_means schema n it =
     selects_mean schema late_rules n it (columns_of late_rules) ([]) get_late (late_rules_has n) (Some (equals_e (codes "notice") 1)) _ _ _ get_late_read
@@ -284,7 +284,7 @@ get_performance_read : IsSelect get_performance (codes "performance") (names_of 
 unfolding everything parsed_in
 get_performance_read = record { is = refl; statement = refl; formats = refl }
 
-pub get_performance_means : (schema : Schema) (n : ℕ) → IsIn schema performance n → Means schema get_performance (Select (record { lets = []; body = select n (0 ∷ []) (0 ∷ range_with_len 2 3) ([]) }) (names_of (columns_of performance)))
+pub get_performance_means : (schema : Schema) (n : ℕ) → IsIn schema performance n → StatementMeans schema get_performance (Select (record { lets = []; body = select n (0 ∷ []) (0 ∷ range_with_len 2 3) ([]) }) (names_of (columns_of performance)))
 unfolding same_name alone chosen first_found
 get_performance_means schema n it =
     selects_mean schema performance n it (columns_of performance) ([]) get_performance (performance_has n) (Some (equals_e (codes "contract") 1)) _ _ _ get_performance_read
@@ -298,7 +298,7 @@ get_clock_read : IsSelect get_clock (codes "office") (names_of (columns_of offic
 unfolding everything parsed_in
 get_clock_read = record { is = refl; statement = refl; formats = refl }
 
-pub get_clock_means : (schema : Schema) (n : ℕ) → IsIn schema office n → Means schema get_clock (Select (record { lets = []; body = select n ([]) (0 ∷ range_with_len 2 3) ([]) }) (names_of (columns_of office)))
+pub get_clock_means : (schema : Schema) (n : ℕ) → IsIn schema office n → StatementMeans schema get_clock (Select (record { lets = []; body = select n ([]) (0 ∷ range_with_len 2 3) ([]) }) (names_of (columns_of office)))
 unfolding same_name alone chosen first_found
 get_clock_means schema n it =
     selects_mean schema office n it (columns_of office) ([]) get_clock (office_has n) None _ _ _ get_clock_read
@@ -316,7 +316,7 @@ pub get_version_one : IsOne get_version 0
 unfolding everything parsed_in
 get_version_one = record { whole = refl; given = refl }
 
-pub get_version_means : (schema : Schema) (n : ℕ) → IsIn schema office n → Means schema get_version (Select (record { lets = []; body = select n ([]) (0 ∷ []) ([]) }) (names_of ((0, column_of (codes "version") Integer true) ∷ [])))
+pub get_version_means : (schema : Schema) (n : ℕ) → IsIn schema office n → StatementMeans schema get_version (Select (record { lets = []; body = select n ([]) (0 ∷ []) ([]) }) (names_of ((0, column_of (codes "version") Integer true) ∷ [])))
 unfolding same_name alone chosen first_found
 get_version_means schema n it =
     selects_mean schema office n it ((0, column_of (codes "version") Integer true) ∷ []) ([]) get_version (refl, refl, refl, tt) None _ _ _ get_version_read
@@ -330,7 +330,7 @@ list_lines_read : IsSelect list_lines (codes "lines") (names_of (columns_of line
 unfolding everything parsed_in
 list_lines_read = record { is = refl; statement = refl; formats = refl }
 
-pub list_lines_means : (schema : Schema) (n : ℕ) → IsIn schema lines n → Means schema list_lines (Select (record { lets = []; body = select n ([]) (range_with_len 1 4) (1 ∷ []) }) (names_of (columns_of lines)))
+pub list_lines_means : (schema : Schema) (n : ℕ) → IsIn schema lines n → StatementMeans schema list_lines (Select (record { lets = []; body = select n ([]) (range_with_len 1 4) (1 ∷ []) }) (names_of (columns_of lines)))
 unfolding same_name alone chosen first_found
 list_lines_means schema n it =
     selects_mean schema lines n it (columns_of lines) ((0, column_of (codes "line") Text true) ∷ []) list_lines (lines_has n) None _ _ _ list_lines_read
@@ -344,7 +344,7 @@ list_former_read : IsSelect list_former (codes "notices") (names_of (columns_of 
 unfolding everything parsed_in
 list_former_read = record { is = refl; statement = refl; formats = refl }
 
-pub list_former_means : (schema : Schema) (n : ℕ) → IsIn schema former_notices n → Means schema list_former (Select (record { lets = []; body = select n ([]) (range_with_len 1 11) (1 ∷ []) }) (names_of (columns_of former_notices)))
+pub list_former_means : (schema : Schema) (n : ℕ) → IsIn schema former_notices n → StatementMeans schema list_former (Select (record { lets = []; body = select n ([]) (range_with_len 1 11) (1 ∷ []) }) (names_of (columns_of former_notices)))
 unfolding same_name alone chosen first_found
 list_former_means schema n it =
     selects_mean schema former_notices n it (columns_of former_notices) ((0, column_of (codes "notice") Text true) ∷ []) list_former (former_notices_has n) None _ _ _ list_former_read
@@ -358,7 +358,7 @@ list_lots_of_notice_read : IsSelect list_lots_of_notice (codes "lots") (names_of
 unfolding everything parsed_in
 list_lots_of_notice_read = record { is = refl; statement = refl; formats = refl }
 
-pub list_lots_of_notice_means : (schema : Schema) (n : ℕ) → IsIn schema lots n → Means schema list_lots_of_notice (Select (record { lets = []; body = select n (1 ∷ []) (range_with_len 1 9) (1 ∷ 2 ∷ []) }) (names_of (columns_of lots)))
+pub list_lots_of_notice_means : (schema : Schema) (n : ℕ) → IsIn schema lots n → StatementMeans schema list_lots_of_notice (Select (record { lets = []; body = select n (1 ∷ []) (range_with_len 1 9) (1 ∷ 2 ∷ []) }) (names_of (columns_of lots)))
 unfolding same_name alone chosen first_found
 list_lots_of_notice_means schema n it =
     selects_mean schema lots n it (columns_of lots) ((0, column_of (codes "notice") Text true) ∷ (1, column_of (codes "lot") Text true) ∷ []) list_lots_of_notice (lots_has n) (Some (equals_e (codes "notice") 1)) _ _ _ list_lots_of_notice_read
@@ -372,7 +372,7 @@ list_lots_of_line_read : IsSelect list_lots_of_line (codes "lots") (names_of (co
 unfolding everything parsed_in
 list_lots_of_line_read = record { is = refl; statement = refl; formats = refl }
 
-pub list_lots_of_line_means : (schema : Schema) (n : ℕ) → IsIn schema lots n → Means schema list_lots_of_line (Select (record { lets = []; body = select n (4 ∷ []) (range_with_len 1 9) (1 ∷ 2 ∷ []) }) (names_of (columns_of lots)))
+pub list_lots_of_line_means : (schema : Schema) (n : ℕ) → IsIn schema lots n → StatementMeans schema list_lots_of_line (Select (record { lets = []; body = select n (4 ∷ []) (range_with_len 1 9) (1 ∷ 2 ∷ []) }) (names_of (columns_of lots)))
 unfolding same_name alone chosen first_found
 list_lots_of_line_means schema n it =
     selects_mean schema lots n it (columns_of lots) ((0, column_of (codes "notice") Text true) ∷ (1, column_of (codes "lot") Text true) ∷ []) list_lots_of_line (lots_has n) (Some (equals_e (codes "line") 1)) _ _ _ list_lots_of_line_read
@@ -386,7 +386,7 @@ list_reservations_of_line_read : IsSelect list_reservations_of_line (codes "lots
 unfolding everything parsed_in
 list_reservations_of_line_read = record { is = refl; statement = refl; formats = refl }
 
-pub list_reservations_of_line_means : (schema : Schema) (n : ℕ) → IsIn schema lots n → Means schema list_reservations_of_line (Select (record { lets = []; body = select n (4 ∷ []) (9 ∷ []) (1 ∷ 2 ∷ []) }) (names_of ((8, column_of (codes "reserved") Integer true) ∷ [])))
+pub list_reservations_of_line_means : (schema : Schema) (n : ℕ) → IsIn schema lots n → StatementMeans schema list_reservations_of_line (Select (record { lets = []; body = select n (4 ∷ []) (9 ∷ []) (1 ∷ 2 ∷ []) }) (names_of ((8, column_of (codes "reserved") Integer true) ∷ [])))
 unfolding same_name alone chosen first_found
 list_reservations_of_line_means schema n it =
     selects_mean schema lots n it ((8, column_of (codes "reserved") Integer true) ∷ []) ((0, column_of (codes "notice") Text true) ∷ (1, column_of (codes "lot") Text true) ∷ []) list_reservations_of_line (refl, refl, refl, tt) (Some (equals_e (codes "line") 1)) _ _ _ list_reservations_of_line_read
@@ -400,7 +400,7 @@ list_envelopes_of_notice_read : IsSelect list_envelopes_of_notice (codes "envelo
 unfolding everything parsed_in
 list_envelopes_of_notice_read = record { is = refl; statement = refl; formats = refl }
 
-pub list_envelopes_of_notice_means : (schema : Schema) (n : ℕ) → IsIn schema envelopes n → Means schema list_envelopes_of_notice (Select (record { lets = []; body = select n (2 ∷ []) (0 ∷ range_with_len 2 15) (0 ∷ []) }) (names_of (columns_of envelopes)))
+pub list_envelopes_of_notice_means : (schema : Schema) (n : ℕ) → IsIn schema envelopes n → StatementMeans schema list_envelopes_of_notice (Select (record { lets = []; body = select n (2 ∷ []) (0 ∷ range_with_len 2 15) (0 ∷ []) }) (names_of (columns_of envelopes)))
 unfolding same_name alone chosen first_found
 list_envelopes_of_notice_means schema n it =
     selects_mean schema envelopes n it (columns_of envelopes) ((0, column_of (codes "receipt") Integer true) ∷ []) list_envelopes_of_notice (envelopes_has n) (Some (equals_e (codes "notice") 1)) _ _ _ list_envelopes_of_notice_read
@@ -414,7 +414,7 @@ list_envelopes_of_tenderer_read : IsSelect list_envelopes_of_tenderer (codes "en
 unfolding everything parsed_in
 list_envelopes_of_tenderer_read = record { is = refl; statement = refl; formats = refl }
 
-pub list_envelopes_of_tenderer_means : (schema : Schema) (n : ℕ) → IsIn schema envelopes n → Means schema list_envelopes_of_tenderer (Select (record { lets = []; body = select n (2 ∷ 3 ∷ 4 ∷ []) (0 ∷ range_with_len 2 15) (0 ∷ []) }) (names_of (columns_of envelopes)))
+pub list_envelopes_of_tenderer_means : (schema : Schema) (n : ℕ) → IsIn schema envelopes n → StatementMeans schema list_envelopes_of_tenderer (Select (record { lets = []; body = select n (2 ∷ 3 ∷ 4 ∷ []) (0 ∷ range_with_len 2 15) (0 ∷ []) }) (names_of (columns_of envelopes)))
 unfolding same_name alone chosen first_found
 list_envelopes_of_tenderer_means schema n it =
     selects_mean schema envelopes n it (columns_of envelopes) ((0, column_of (codes "receipt") Integer true) ∷ []) list_envelopes_of_tenderer (envelopes_has n) (Some (both_e (both_e (equals_e (codes "notice") 1) (equals_e (codes "lot") 2)) (equals_e (codes "tenderer") 3))) _ _ _ list_envelopes_of_tenderer_read
@@ -429,7 +429,7 @@ list_securities_of_notice_read : IsSelect list_securities_of_notice (codes "secu
 unfolding everything parsed_in
 list_securities_of_notice_read = record { is = refl; statement = refl; formats = refl }
 
-pub list_securities_of_notice_means : (schema : Schema) (n : ℕ) → IsIn schema securities n → Means schema list_securities_of_notice (Select (record { lets = []; body = select n (3 ∷ []) (0 ∷ range_with_len 2 6) (0 ∷ []) }) (names_of (columns_of securities)))
+pub list_securities_of_notice_means : (schema : Schema) (n : ℕ) → IsIn schema securities n → StatementMeans schema list_securities_of_notice (Select (record { lets = []; body = select n (3 ∷ []) (0 ∷ range_with_len 2 6) (0 ∷ []) }) (names_of (columns_of securities)))
 unfolding same_name alone chosen first_found
 list_securities_of_notice_means schema n it =
     selects_mean schema securities n it (columns_of securities) ((0, column_of (codes "security") Integer true) ∷ []) list_securities_of_notice (securities_has n) (Some (equals_e (codes "notice") 1)) _ _ _ list_securities_of_notice_read
@@ -443,7 +443,7 @@ list_awards_of_notice_read : IsSelect list_awards_of_notice (codes "awards") (na
 unfolding everything parsed_in
 list_awards_of_notice_read = record { is = refl; statement = refl; formats = refl }
 
-pub list_awards_of_notice_means : (schema : Schema) (n : ℕ) → IsIn schema awards n → Means schema list_awards_of_notice (Select (record { lets = []; body = select n (2 ∷ []) (0 ∷ range_with_len 2 6) (0 ∷ []) }) (names_of (columns_of awards)))
+pub list_awards_of_notice_means : (schema : Schema) (n : ℕ) → IsIn schema awards n → StatementMeans schema list_awards_of_notice (Select (record { lets = []; body = select n (2 ∷ []) (0 ∷ range_with_len 2 6) (0 ∷ []) }) (names_of (columns_of awards)))
 unfolding same_name alone chosen first_found
 list_awards_of_notice_means schema n it =
     selects_mean schema awards n it (columns_of awards) ((0, column_of (codes "award") Integer true) ∷ []) list_awards_of_notice (awards_has n) (Some (equals_e (codes "notice") 1)) _ _ _ list_awards_of_notice_read
@@ -457,7 +457,7 @@ list_contracts_of_notice_read : IsSelect list_contracts_of_notice (codes "contra
 unfolding everything parsed_in
 list_contracts_of_notice_read = record { is = refl; statement = refl; formats = refl }
 
-pub list_contracts_of_notice_means : (schema : Schema) (n : ℕ) → IsIn schema contracts n → Means schema list_contracts_of_notice (Select (record { lets = []; body = select n (2 ∷ []) (0 ∷ range_with_len 2 8) (0 ∷ []) }) (names_of (columns_of contracts)))
+pub list_contracts_of_notice_means : (schema : Schema) (n : ℕ) → IsIn schema contracts n → StatementMeans schema list_contracts_of_notice (Select (record { lets = []; body = select n (2 ∷ []) (0 ∷ range_with_len 2 8) (0 ∷ []) }) (names_of (columns_of contracts)))
 unfolding same_name alone chosen first_found
 list_contracts_of_notice_means schema n it =
     selects_mean schema contracts n it (columns_of contracts) ((0, column_of (codes "contract") Integer true) ∷ []) list_contracts_of_notice (contracts_has n) (Some (equals_e (codes "notice") 1)) _ _ _ list_contracts_of_notice_read
@@ -471,7 +471,7 @@ list_entries_of_contract_read : IsSelect list_entries_of_contract (codes "entrie
 unfolding everything parsed_in
 list_entries_of_contract_read = record { is = refl; statement = refl; formats = refl }
 
-pub list_entries_of_contract_means : (schema : Schema) (n : ℕ) → IsIn schema entries n → Means schema list_entries_of_contract (Select (record { lets = []; body = select n (1 ∷ []) (range_with_len 1 6) (1 ∷ 2 ∷ []) }) (names_of (columns_of entries)))
+pub list_entries_of_contract_means : (schema : Schema) (n : ℕ) → IsIn schema entries n → StatementMeans schema list_entries_of_contract (Select (record { lets = []; body = select n (1 ∷ []) (range_with_len 1 6) (1 ∷ 2 ∷ []) }) (names_of (columns_of entries)))
 unfolding same_name alone chosen first_found
 list_entries_of_contract_means schema n it =
     selects_mean schema entries n it (columns_of entries) ((0, column_of (codes "contract") Integer true) ∷ (1, column_of (codes "entry") Text true) ∷ []) list_entries_of_contract (entries_has n) (Some (equals_e (codes "contract") 1)) _ _ _ list_entries_of_contract_read
@@ -485,7 +485,7 @@ list_releases_of_notice_read : IsSelect list_releases_of_notice (codes "releases
 unfolding everything parsed_in
 list_releases_of_notice_read = record { is = refl; statement = refl; formats = refl }
 
-pub list_releases_of_notice_means : (schema : Schema) (n : ℕ) → IsIn schema releases n → Means schema list_releases_of_notice (Select (record { lets = []; body = select n (1 ∷ []) (range_with_len 1 4) (1 ∷ 2 ∷ []) }) (names_of (columns_of releases)))
+pub list_releases_of_notice_means : (schema : Schema) (n : ℕ) → IsIn schema releases n → StatementMeans schema list_releases_of_notice (Select (record { lets = []; body = select n (1 ∷ []) (range_with_len 1 4) (1 ∷ 2 ∷ []) }) (names_of (columns_of releases)))
 unfolding same_name alone chosen first_found
 list_releases_of_notice_means schema n it =
     selects_mean schema releases n it (columns_of releases) ((0, column_of (codes "notice") Text true) ∷ (1, column_of (codes "seq") Integer true) ∷ []) list_releases_of_notice (releases_has n) (Some (equals_e (codes "notice") 1)) _ _ _ list_releases_of_notice_read

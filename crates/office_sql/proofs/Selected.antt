@@ -24,10 +24,13 @@ use Rattle.sqlite_rules.specs.Lists.{Has}
 use Rattle.sqlite_rules.proofs.ListLemmas.{all_has, all_from}
 use Rattle.office_base.specs.Rows.{row_at, IsInOrder}
 use Rattle.office_base.specs.Sums.{sum_over}
-use Rattle.office_sql.specs.Kept.{table_of, AreKept}
+use Rattle.office_sql.specs.Kept.{rows_kept, AreKept}
 use Rattle.office_base.proofs.ExactKeys.{equal_keys}
-use Rattle.office_sql.proofs.Sorted.{if_passes, IsKeyed, each_found, Climbs, climbs, count_at, in_order_from_sorted, in_order-filter, row_at-filter, same_members}
-use Rattle.office_sql.proofs.KeptRows.{found, finds, in_order-table_of}
+use Rattle.office_base.proofs.RowLaws.Keyed.{IsKeyed}
+use Rattle.office_base.proofs.RowLaws.Found.{each_found}
+use Rattle.office_base.proofs.RowLaws.Filters.{if_passes, in_order-filter, row_at-filter}
+use Rattle.office_sql.proofs.Sorted.{Climbs, climbs, count_at, in_order_from_sorted, same_members}
+use Rattle.office_sql.proofs.KeptRows.{found, finds, in_order-rows_kept}
 
 abbrev pub picked : (Row → Bool) → (Row → Env) → List Row → List Env
 picked p env rows = flat_map (λ r. cond (p r) (env r ∷ []) []) rows
@@ -118,7 +121,7 @@ module _ {K X : Type 0} (R : K → K → Ordering) (total : IsTotalOrder R) (sam
     | inr apart ↦ omega (arith, ap one apart, counted q rows (tail r rows k))
   ]
 
-  found_row : (rows : List Row) (r : Row) → Kept rows → Has rows r → row_at R key (table_of R key form decode rows) (key (decode r)) ≡ Some (decode r)
+  found_row : (rows : List Row) (r : Row) → Kept rows → Has rows r → row_at R key (rows_kept R key form decode rows) (key (decode r)) ≡ Some (decode r)
   found_row rows r k h = finds R total same key form decode rows (key (decode r)) ∙ elim (found R total same key form decode rows (key (decode r))) [
     | inl f ↦ f.3 ∙ ap (λ z. Some (decode z)) (k.one f.0 r f.1 h f.2)
     | inr none ↦ absurd (none.0 r h refl)
@@ -126,9 +129,9 @@ module _ {K X : Type 0} (R : K → K → Ordering) (total : IsTotalOrder R) (sam
 
   -- each record of the table comes back from its row
   pub comes_back : (rows : List Row) → Kept rows → (encode : X → Row) (read : Row → X) → ((v : Value) (x : X) → decode (form v x) ≡ read (encode x))
-      → AllByRecursion (λ x. read (encode x) ≡ x) (table_of R key form decode rows)
+      → AllByRecursion (λ x. read (encode x) ≡ x) (rows_kept R key form decode rows)
   comes_back rows k encode read reads = all_from _ _ (λ x h.
-      let e : row_at R key (table_of R key form decode rows) (key x) ≡ Some x = all_has _ _ x (each_found t _ (in_order-table_of R total same key form decode rows)) h in
+      let e : row_at R key (rows_kept R key form decode rows) (key x) ≡ Some x = all_has _ _ x (each_found t _ (in_order-rows_kept R total same key form decode rows)) h in
       elim (found R total same key form decode rows (key x)) [
         | inl f ↦ (
             let is : Some x ≡ Some (decode f.0) = sym e ∙ finds R total same key form decode rows (key x) ∙ f.3 in
@@ -156,7 +159,7 @@ module _ {K X : Type 0} (R : K → K → Ordering) (total : IsTotalOrder R) (sam
 
     module _ (rows : List Row) (kept : Kept rows) (ordered : List Output) (same_rows : IsPermutation (map output (picked passes env rows)) ordered) (sorted : IsSorted cmp ordered) where
       abbrev table : List X
-      table = table_of R key form decode rows
+      table = rows_kept R key form decode rows
 
       shuffled : (ws : List X) × (ordered ≡ map out ws) × IsPermutation (zs rows) ws
       shuffled = lifted out (zs rows) ordered (subst (λ l. IsPermutation l ordered) (outputs rows kept) same_rows)
@@ -188,10 +191,10 @@ module _ {K X : Type 0} (R : K → K → Ordering) (total : IsTotalOrder R) (sam
       in_order = in_order_from_sorted t ws (climb ws ws_pass (subst (Climbs cmp) shuffled.1 (climbs cmp ordered sorted))) once
 
       passing_in_order : IsInOrder R key (filter p table)
-      passing_in_order = in_order-filter t p table (in_order-table_of R total same key form decode rows)
+      passing_in_order = in_order-filter total key p table (in_order-rows_kept R total same key form decode rows)
 
       looked_up : (q : K) → row_at R key (filter p table) q ≡ if_passes p (row_at R key table q)
-      looked_up q = row_at-filter t p table q (in_order-table_of R total same key form decode rows)
+      looked_up q = row_at-filter t p table q (in_order-rows_kept R total same key form decode rows)
 
       into : AllByRecursion (λ x. row_at R key (filter p table) (key x) ≡ Some x) ws
       into = all_from _ ws (λ x h.
@@ -235,7 +238,7 @@ module _ {K X : Type 0} (R : K → K → Ordering) (total : IsTotalOrder R) (sam
       (agrees : (x y : X) → p x ≡ true → p y ≡ true → is_lt (output_cmp q (out x) (out y)) ≡ is_lt (R (key x) (key y))) where
     pub selects : (db : Trees) (tree : ℕ) (rows : List Row) → Kept (db tree) → (a : IsAnswer q (overlay db []) params rows)
         → a.staged ≡ picked (passes_query q params) (λ r. params ∷ r ∷ []) (db tree) → a.kept ≡ map (output q) a.staged → rows ≡ map (λ (o : Output). o.1) a.ordered
-        → rows ≡ map (λ (o : Output). o.1) (map out (filter p (table_of R key form decode (db tree))))
+        → rows ≡ map (λ (o : Output). o.1) (map out (filter p (rows_kept R key form decode (db tree))))
     selects db tree rows kept a staged distinct shown =
         shown ∙ ap (map (λ (o : Output). o.1)) (lists (passes_query q params) (λ r. params ∷ r ∷ []) (output q) p out (output_cmp q)
         (λ r x e. ap (passes_query q params) e ∙ passing (rowid r) x)

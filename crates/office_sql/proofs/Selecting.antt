@@ -21,7 +21,7 @@ use Rattle.sqlite_resolve.specs.Lowering.{nothing, max_budget}
 use Rattle.sqlite_resolve.specs.Compile.{first}
 use Rattle.sqlite_typing.specs.Types.{accepts_program}
 use Rattle.office_sql.specs.Known.{IsIn, at_tree}
-use Rattle.office_sql.proofs.Meanings.{Means, means_by, parsed_in}
+use Rattle.office_sql.proofs.Meanings.{StatementMeans, means_by, parsed_in}
 use Rattle.sqlite_resolve.specs.declared.scope.Output.{Output}
 use Rattle.sqlite_resolve.specs.Expr.{lower}
 use Rattle.sqlite_resolve.specs.Body as body
@@ -87,6 +87,6 @@ pub selects_mean : (schema : Schema) (table : Table) (n : ℕ) (it : IsIn schema
     → body.tests lower (scope schema it.place (at_tree table n) it.found table.name (outputs_of (at_tree table n) [] ps)) [] test (at_budget (left ps) (left_by (at_tree table n) nothing ps)) ≡ Ok (filter, at_budget b l)
     → Has (at_tree table n) b qs → AreFree (outputs_of (at_tree table n) [] ps) qs
     → accepts_program schema [] (query_is schema it.place (at_tree table n) it.found table.name it.named ps qs test filter b l) [] ≡ true
-    → Means schema text (Select (record { lets = []; body = query_is schema it.place (at_tree table n) it.found table.name it.named ps qs test filter b l }) (map (λ (o : Output). o.name) (outputs_of (at_tree table n) [] ps)))
+    → StatementMeans schema text (Select (record { lets = []; body = query_is schema it.place (at_tree table n) it.found table.name it.named ps qs test filter b l }) (map (λ (o : Output). o.name) (outputs_of (at_tree table n) [] ps)))
 selects_mean schema table n it ps qs text has test filter b l read tests sorted free accepted =
     means_by schema text _ (refl, refl) (simple_compiles schema it.place (at_tree table n) it.found table.name it.named ps qs test filter b l text (parsed_in (first text)) read.is read.statement read.formats has tests sorted free accepted)

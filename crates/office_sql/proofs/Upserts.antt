@@ -32,7 +32,7 @@ use Rattle.sqlite_resolve.specs.Given.{upserts, upsert, update, do_update, key_m
 use Rattle.sqlite_resolve.specs.Compile.{first, compiled, planned, meaning, timed, returning, shows, command, insert_or_abort, insert_or, new_rows, small}
 use Rattle.office_sql.specs.Known.{IsIn, at_tree}
 use Rattle.office_sql.proofs.Keyed.{HasKey, key_at_is}
-use Rattle.office_sql.proofs.Meanings.{Means, means_by, parsed_in}
+use Rattle.office_sql.proofs.Meanings.{StatementMeans, means_by, parsed_in}
 
 -- ---- what is written
 
@@ -144,7 +144,7 @@ module _ (schema : Schema) (text : List ℕ) (p : Parsed) (name : List ℕ) (col
   unfolding compiled
   compiles = rw (first_is, plans)
 
-  pub upsert_means : Means schema text (InsertOr at Abort s (on_conflict table base cells ∷ []))
+  pub upsert_means : StatementMeans schema text (InsertOr at Abort s (on_conflict table base cells ∷ []))
   upsert_means = means_by schema text result (refl, refl) compiles
 
 -- the values that an INSERT gives a table
@@ -166,7 +166,7 @@ module _ (schema : Schema) (text : List ℕ) (table : Table) (n : ℕ) (it : IsI
 
   pub upserts_mean : table.stamps.formats ≡ [] → HasKey table → (s : Source) → InsertsRows schema (at_tree table n) text s → NamesKey (at_tree table n) text
       → (base : ℕ) (cells : List Term) → Updates schema it.place (at_tree table n) text base cells → accepts_program schema [] (updating n base cells) [] ≡ true
-      → Means schema text (InsertOr it.place Abort s (on_conflict (at_tree table n) base cells ∷ []))
+      → StatementMeans schema text (InsertOr it.place Abort s (on_conflict (at_tree table n) base cells ∷ []))
   upserts_mean unstamped keyed s rows key base cells update_is accepted =
       upsert_means schema text (parsed_in (first text)) table.name _ _ (clause_in (parsed_in (first text)).statement) it.place (at_tree table n) s base cells
       read.is read.statement read.formats read.targeted read.changes it.named it.found unstamped rows (key_meant_is keyed key) update_is accepted

@@ -48,7 +48,7 @@ use Rattle.sqlite.proofs.Callers.{runs_as, command_of, IsPlain}
 use Rattle.office_base.specs.Rows.{row_put}
 use Rattle.office_sql.specs.Schema.{OfficeTable, table_of}
 use Rattle.office_sql.specs.Known.{IsIn, at_tree, Places, HasTables}
-use Rattle.office_sql.specs.Kept.{key_of, table_of as table_of_rows, AreKept}
+use Rattle.office_sql.specs.Kept.{key_of, rows_kept as table_of_rows, AreKept}
 use Rattle.office_sql.specs.Standing.{Stand}
 use Rattle.office_sql.proofs.Childless.{IsOwn, SparesMarked, spared_own}
 use Rattle.office_sql.proofs.Keyed.{HasKey, conflicts_key}
@@ -59,7 +59,7 @@ use Rattle.office_sql.proofs.Renewed.{rowids_tested, picks_one, in_one_order}
 use Rattle.office_sql.proofs.Upserted.{went, same_value, IsAdded, IsRenewed, IsUpserted, tried, upserted, spared, others}
 use Rattle.office_sql.proofs.Upserts.{updating, update_of, on_conflict}
 use Rattle.office_sql.proofs.RowsPut as put
-use Rattle.office_sql.proofs.Meanings.{Means}
+use Rattle.office_sql.proofs.Meanings.{StatementMeans}
 
 -- ---- the tables of an office stand apart
 
@@ -158,7 +158,7 @@ module _ (k : OfficeTable) (bare : (j : OfficeTable) → IsBare (table_of j)) {K
   puts = InsertOr (tables k).place Abort (Values terms (length terms)) (on_conflict own base cells ∷ [])
 
   -- the statement is one write of the rows
-  written : (text : List ℕ) (params : Row) (count : ℕ) → Means old.now.schema text puts → Executes text params old new (Ok count)
+  written : (text : List ℕ) (params : Row) (count : ℕ) → StatementMeans old.now.schema text puts → Executes text params old new (Ok count)
       → (w : Written) × InsertsOr (task params) Abort (on_conflict own base cells ∷ []) (Values terms (length terms)) old.now.trees (Ok w) × (new.now ≡ record { schema = old.now.schema; trees = w.trees }) × IsDatabase new.now
   written text params count means h =
       let w = runs_as text params old new old.now.schema refl puts means.is means.plain count h in
@@ -240,7 +240,7 @@ module _ (k : OfficeTable) (bare : (j : OfficeTable) → IsBare (table_of j)) {K
     upserted_stands xs is (inl h) = added xs is (subst (IsAdded (task (encode x)) target q db next) first_is h)
     upserted_stands xs is (inr h) = renewed xs is (subst (IsRenewed (task (encode x)) target q db next) first_is h)
 
-  pub puts_row : (text : List ℕ) (x : X) (count : ℕ) (xs : List X) → Means old.now.schema text puts
+  pub puts_row : (text : List ℕ) (x : X) (count : ℕ) (xs : List X) → StatementMeans old.now.schema text puts
       → ((v : Value) → decode (form v x) ≡ x) → Stand R key form decode (old.now.trees (p k)) xs → Executes text (encode x) old new (Ok count)
       → IsPut k R key form decode old.now new.now p (row_put R key xs x)
   puts_row text x count xs means decodes was h =
@@ -258,7 +258,7 @@ module _ (k : OfficeTable) (bare : (j : OfficeTable) → IsBare (table_of j)) {K
       }
 
   -- where the table was empty, all other tables are as before
-  pub puts_others : (text : List ℕ) (x : X) (count : ℕ) → Means old.now.schema text puts → old.now.trees (p k) ≡ [] → Executes text (encode x) old new (Ok count)
+  pub puts_others : (text : List ℕ) (x : X) (count : ℕ) → StatementMeans old.now.schema text puts → old.now.trees (p k) ≡ [] → Executes text (encode x) old new (Ok count)
       → (new.now.schema ≡ old.now.schema) × AllByRecursion (λ t. t.tree ≢ p k → new.now.trees t.tree ≡ old.now.trees t.tree) old.now.schema.tables
   puts_others text x count means empty h =
       let w = written text (encode x) count means h in
@@ -277,7 +277,7 @@ module _ (k : OfficeTable) (bare : (j : OfficeTable) → IsBare (table_of j)) {K
   abbrev own_task : Row → Task
   own_task params = record { limit = limit; keys = Enforced; schema = first.schema; table = at_tree (table_of k) n; params = params }
 
-  pub put_apart : (text : List ℕ) (x : X) → Means first.schema text upsert → (c : Compiled) → understood first.schema text ≡ Ok c
+  pub put_apart : (text : List ℕ) (x : X) → StatementMeans first.schema text upsert → (c : Compiled) → understood first.schema text ≡ Ok c
       → (tally : Tally) → Does limit mode (encode x) first (text_of text c) c.returning c.command (Ok (tally, second))
       → (second.schema ≡ first.schema) × SparesMarked first.schema n first.trees second.trees
   put_apart text x means c is tally does =

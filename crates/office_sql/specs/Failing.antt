@@ -18,7 +18,7 @@ use Rattle.office_base.specs.declared.puts.Put.{Put}
 use Rattle.office_base.specs.declared.shelf.ShelfFault.{ShelfFault}
 use Rattle.office_base.specs.declared.shelf.ShelfFault.TheVariants.{NoMemory, Store}
 use Rattle.office_sql.specs.Standing.{Holds}
-use Rattle.office_sql.specs.Statements.{statement_of, values_of}
+use Rattle.office_sql.specs.Statements.{statement_of, values_of_put}
 use Rattle.office_sql.specs.Steps.{IsAsked, IsRefusal, ShowsTables, MakeAll}
 
 -- the fault that an error is told as
@@ -54,7 +54,7 @@ pub record OneIsDeclined (limit : Option ℕ) (start : Database) (puts : List Pu
   pub db : Database
   pub made : MakeAll limit done start db
   pub holds : (t : Tables) → Holds start t → Holds db (after_puts done t)
-  pub declined : Declines limit db (statement_of put) (values_of put)
+  pub declined : Declines limit db (statement_of put) (values_of_put put)
 
 -- the disk failed, the store was shut before, or one of the puts is declined
 abbrev pub StoreFails : State → State → Database → List Put → Type 0

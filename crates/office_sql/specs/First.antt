@@ -12,12 +12,12 @@ use Rattle.sqlite.specs.State.{State, HasCleanDisk, ExecutesInside}
 use Rattle.office_values.specs.Ids.{id_cmp}
 use Rattle.office_base.specs.Tables.{Tables, notice_key}
 use Rattle.office_base.specs.declared.records.ClockRow.{ClockRow}
-use Rattle.office_rows.specs.Notices.{former_row, former_in}
-use Rattle.office_rows.specs.Releases.{clock_row, clock_row_of, clock_read}
+use Rattle.office_rows.specs.Notices.{former_values, former_by_rowid}
+use Rattle.office_rows.specs.Releases.{clock_values, clock_values_of, clock_read}
 use Rattle.office_sql.specs.Apart.{AddsNoReference, LeadsInside}
 use Rattle.office_sql.specs.Clock.{clock_key, clock_cmp}
-use Rattle.office_sql.specs.Kept.{behind, by_rowid, read_by_rowid}
-use Rattle.office_sql.specs.Schema.{OfficeTable, table_of, late_rules, put_office}
+use Rattle.office_sql.specs.Kept.{row_behind_rowid, by_rowid, read_by_rowid}
+use Rattle.office_sql.specs.Schema.{OfficeTable, table_of, late_rules, upsert_office}
 use Rattle.office_sql.specs.Schema.OfficeTable.{Notices, LateRules, FormerNotices, Performances, Office}
 use Rattle.office_sql.specs.Known.{IsIn, Places}
 use Rattle.office_sql.specs.Standing.{Stand, StandFor, Holds}
@@ -32,14 +32,14 @@ abbrev pub has_late : Schema → Bool
 has_late schema = has_table schema late_rules.name
 
 -- the tables that an office of version 1 lacks, the last that is made first: those of version 2, and that of late withdrawals where it isn't there
-abbrev pub lacking : Bool → List OfficeTable
-lacking true = Performances ∷ Notices ∷ []
-lacking false = Performances ∷ Notices ∷ LateRules ∷ []
+abbrev pub tables_since_version_1 : Bool → List OfficeTable
+tables_since_version_1 true = Performances ∷ Notices ∷ []
+tables_since_version_1 false = Performances ∷ Notices ∷ LateRules ∷ []
 
 -- the rows of a table of version 1 stand for its part of the content: `notices` for notices that ask for no performance securities, `office` for the clock behind version 1
 abbrev pub StandForFirst : OfficeTable → List Row → Tables → Type 0
-StandForFirst FormerNotices rows t = Stand id_cmp notice_key (behind former_row) former_in rows t.notices
-StandForFirst Office rows t = Stand clock_cmp clock_key (by_rowid (clock_row_of 1)) (read_by_rowid clock_read) rows (t.clock ∷ [])
+StandForFirst FormerNotices rows t = Stand id_cmp notice_key (row_behind_rowid former_values) former_by_rowid rows t.notices
+StandForFirst Office rows t = Stand clock_cmp clock_key (by_rowid (clock_values_of 1)) (read_by_rowid clock_read) rows (t.clock ∷ [])
 StandForFirst Notices rows t = ⊥
 StandForFirst Performances rows t = ⊥
 StandForFirst k rows t = StandFor k rows t
@@ -110,7 +110,7 @@ pub record Renews {S : Type 0} (g : Ghosts S) (clock : ClockRow) (old new : Held
   pub second : Held S
   pub dropped : (count : ℕ) × ExecutesInside 0 drop_notices [] (state g old) (state g first) (Ok count)
   pub freed : (count : ℕ) × ExecutesInside 0 drop_version [] (state g first) (state g second) (Ok count)
-  pub put : (count : ℕ) × ExecutesInside 0 put_office (clock_row clock) (state g second) (state g new) (Ok count)
+  pub put : (count : ℕ) × ExecutesInside 0 upsert_office (clock_values clock) (state g second) (state g new) (Ok count)
 
 -- the transaction goes on, nothing is committed, and of an office of version 1 with this clock there is one of version 2, whose notices are still to come
 pub record Begins (late : Bool) (clock : ClockRow) (old new : State) : Type 0 where

@@ -193,8 +193,8 @@ abbrev pub contracts_of_notice : Index
 contracts_of_notice = index_on (codes "contracts_of_notice") (2 ∷ [])
 
 -- the text that puts the office's row
-abbrev pub put_office : List ℕ
-put_office = codes "INSERT INTO office (version, moment, receipts, awards) VALUES (?1, ?2, ?3, ?4) ON CONFLICT (version) DO UPDATE SET moment = ?2, receipts = ?3, awards = ?4"
+abbrev pub upsert_office : List ℕ
+upsert_office = codes "INSERT INTO office (version, moment, receipts, awards) VALUES (?1, ?2, ?3, ?4) ON CONFLICT (version) DO UPDATE SET moment = ?2, receipts = ?3, awards = ?4"
 
 -- the name of a table of the office
 pub data OfficeTable : Type 0 where

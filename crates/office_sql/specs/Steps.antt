@@ -15,7 +15,7 @@ use Rattle.sqlite.specs.Held.{Held, state}
 use Rattle.office_base.specs.Tables.{Tables, after_puts}
 use Rattle.office_base.specs.declared.puts.Put.{Put}
 use Rattle.office_sql.specs.Standing.{Holds}
-use Rattle.office_sql.specs.Statements.{statement_of, values_of}
+use Rattle.office_sql.specs.Statements.{statement_of, values_of_put}
 
 -- the last commit of an open store holds these tables
 abbrev pub ShowsTables : State → Tables → Type 0
@@ -41,7 +41,7 @@ pub record Goes (old new : State) : Type 0 where
 abbrev pub MakesOne : Option ℕ → Put → Database → Database → Type 0
 MakesOne limit put first second =
     (c : Compiled) × (understood first.schema (statement_of put) ≡ Ok c)
-    × (tally : Tally) × Does limit (record { keys = Enforced; in_doubt = false; may_wait = false }) (values_of put) first (text_of (statement_of put) c) c.returning c.command (Ok (tally, second))
+    × (tally : Tally) × Does limit (record { keys = Enforced; in_doubt = false; may_wait = false }) (values_of_put put) first (text_of (statement_of put) c) c.returning c.command (Ok (tally, second))
 
 -- the statements of these puts make the last one, each of what those before it made
 abbrev pub MakeAll : Option ℕ → List Put → Database → Database → Type 0

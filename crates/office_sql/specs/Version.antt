@@ -9,7 +9,7 @@ use Rattle.sqlite.specs.Held.{Held}
 use Rattle.sqlite.specs.State.{State}
 use Rattle.sqlite.specs.declared.error.Error.TheVariants.{SqlInputError}
 use Rattle.office_base.specs.declared.records.ClockRow.{ClockRow}
-use Rattle.office_rows.specs.Releases.{clock_row_of, clock_read}
+use Rattle.office_rows.specs.Releases.{clock_values_of, clock_read}
 use Rattle.office_sql.specs.Clock.{clock_key, clock_cmp}
 use Rattle.office_sql.specs.Kept.{by_rowid, read_by_rowid}
 use Rattle.office_sql.specs.Known.{IsIn}
@@ -28,7 +28,7 @@ one_version n = (Int (pos n) ∷ []) ∷ []
 pub record HasVersion (n : ℕ) (clock : ClockRow) (db : Database) : Type 0 where
   pub place : ℕ
   pub table : IsIn db.schema office place
-  pub stand : Stand clock_cmp clock_key (by_rowid (clock_row_of n)) (read_by_rowid clock_read) (db.trees place) (clock ∷ [])
+  pub stand : Stand clock_cmp clock_key (by_rowid (clock_values_of n)) (read_by_rowid clock_read) (db.trees place) (clock ∷ [])
 
 -- in the last commit of an open store
 abbrev pub ShowsVersion : ℕ → ClockRow → State → Type 0

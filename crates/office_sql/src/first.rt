@@ -2,13 +2,13 @@
 ghost use Rattle.std.specs.Prelude.{◌≡◌, ℕ, [], ◌∷◌, Some, Ok, IfOk, IsTrue, OnOk, OnErr, map, option_map};
 ghost use Rattle.sqlite.specs.Held.{state};
 ghost use Rattle.sqlite.specs.State.{HasCleanDisk, Survives, ExecutesInside};
-ghost use Rattle.office_rows.specs.Releases.{clock_row};
+ghost use Rattle.office_rows.specs.Releases.{clock_values};
 ghost use Rattle.office_rows.specs.declared.stored.FormerClock.{FormerClock};
 ghost use Rattle.office_rows.specs.declared.stored.FormerNotice.{FormerNotice};
-ghost use Rattle.office_sql.specs.First.{TellsFirst, Begins, Renews, drop_notices, drop_version, has_late, lacking};
+ghost use Rattle.office_sql.specs.First.{TellsFirst, Begins, Renews, drop_notices, drop_version, has_late, tables_since_version_1};
 ghost use Rattle.office_sql.specs.Making.{Makes};
 ghost use Rattle.office_sql.specs.Schema.OfficeTable.{Notices, LateRules, Performances};
-ghost use Rattle.office_sql.specs.Schema.{put_office};
+ghost use Rattle.office_sql.specs.Schema.{upsert_office};
 ghost use Rattle.office_sql.specs.Steps.{Refused};
 
 use crate::ask::{ask_all, ask_first};
@@ -91,7 +91,7 @@ fn make_late_and_second<S: Alter>(tx: &mut Transaction<'_, S>) -> Result<(), Err
 // The tables that it lacks.
 fn make_lacking<S: Alter>(tx: &mut Transaction<'_, S>, knows_late: bool) -> Result<(), Error>
     ensures same_reference { tx.new.conn.ghost_name ≡ tx.old.conn.ghost_name }
-    ensures made { HasCleanDisk (state S.Store tx.new.conn.now) → IsTrue (state S.Store tx.old.conn.now).in_transaction → OnOk result (Makes (state S.Store tx.old.conn.now) (state S.Store tx.new.conn.now) (lacking knows_late)) }
+    ensures made { HasCleanDisk (state S.Store tx.new.conn.now) → IsTrue (state S.Store tx.old.conn.now).in_transaction → OnOk result (Makes (state S.Store tx.old.conn.now) (state S.Store tx.new.conn.now) (tables_since_version_1 knows_late)) }
     ensures refused { HasCleanDisk (state S.Store tx.new.conn.now) → IsTrue (state S.Store tx.old.conn.now).in_transaction → OnErr result (Refused (state S.Store tx.old.conn.now) (state S.Store tx.new.conn.now)) }
     ensures survives { Survives (state S.Store tx.old.conn.now) (state S.Store tx.new.conn.now) (λ _. ⊥) }
 {
@@ -124,7 +124,7 @@ fn drop_version<S: Alter>(tx: &mut Transaction<'_, S>) -> Result<(), Error>
 // Version 2, with this clock.
 fn put_version<S: Alter>(tx: &mut Transaction<'_, S>, clock: &ClockRow) -> Result<(), Error>
     ensures same_reference { tx.new.conn.ghost_name ≡ tx.old.conn.ghost_name }
-    ensures ran { HasCleanDisk (state S.Store tx.new.conn.now) → IsTrue (state S.Store tx.old.conn.now).in_transaction → OnOk result ((count : ℕ) × ExecutesInside 0 put_office (clock_row clock.now) (state S.Store tx.old.conn.now) (state S.Store tx.new.conn.now) (Ok count)) }
+    ensures ran { HasCleanDisk (state S.Store tx.new.conn.now) → IsTrue (state S.Store tx.old.conn.now).in_transaction → OnOk result ((count : ℕ) × ExecutesInside 0 upsert_office (clock_values clock.now) (state S.Store tx.old.conn.now) (state S.Store tx.new.conn.now) (Ok count)) }
     ensures refused { HasCleanDisk (state S.Store tx.new.conn.now) → IsTrue (state S.Store tx.old.conn.now).in_transaction → OnErr result (Refused (state S.Store tx.old.conn.now) (state S.Store tx.new.conn.now)) }
     ensures survives { Survives (state S.Store tx.old.conn.now) (state S.Store tx.new.conn.now) (λ _. ⊥) }
 {

@@ -20,10 +20,10 @@ use Rattle.sqlite.specs.Held.{Held, state}
 use Rattle.office_values.specs.Ids.{id_cmp}
 use Rattle.office_base.specs.Rows.{row_put}
 use Rattle.office_base.specs.Tables.{Tables, IsSorted, line_key, lot_key, lot_cmp, contract_key, entry_key, entry_cmp}
-use Rattle.office_rows.specs.Budget.{line_row, line_in}
-use Rattle.office_rows.specs.Notices.{lot_row, lot_in}
-use Rattle.office_rows.specs.Awards.{contract_row, contract_read, entry_row, entry_in}
-use Rattle.office_sql.specs.Kept.{table_of as kept_of, behind, by_rowid, read_by_rowid}
+use Rattle.office_rows.specs.Budget.{line_values, line_by_rowid}
+use Rattle.office_rows.specs.Notices.{lot_values, lot_by_rowid}
+use Rattle.office_rows.specs.Awards.{contract_values, contract_read, entry_values, entry_by_rowid}
+use Rattle.office_sql.specs.Kept.{rows_kept as kept_of, row_behind_rowid, by_rowid, read_by_rowid}
 use Rattle.office_sql.specs.Known.{IsIn, at_tree}
 use Rattle.office_sql.specs.Schema.{table_of}
 use Rattle.office_sql.specs.Schema.OfficeTable.{Lines, Lots, Contracts, Entries}
@@ -82,12 +82,12 @@ holds_joined show db t sorted it = record {
     entries = known db.schema (table_of Entries) (it.places Entries) (it.tables Entries);
   };
   sorted = sorted;
-  lines = show.lines (behind line_row) line_in (λ v x. record { line = refl; appropriation = refl; free = refl }) (db.trees (it.places Lines)) t.lines (stands id_cmp line_key (behind line_row) line_in (db.trees (it.places Lines)) t.lines (it.stands Lines));
-  lots = show.lots (behind lot_row) lot_in (λ v x. record { notice = refl; lot = refl; line = refl; reserved = refl }) (db.trees (it.places Lots)) t.lots (stands lot_cmp lot_key (behind lot_row) lot_in (db.trees (it.places Lots)) t.lots (it.stands Lots));
-  contracts = show.contracts (by_rowid contract_row) (read_by_rowid contract_read) (λ v x. record { contract = refl; notice = refl; lot = refl; signed = refl; released = refl }) (db.trees (it.places Contracts)) t.contracts
-      (stands nat_cmp contract_key (by_rowid contract_row) (read_by_rowid contract_read) (db.trees (it.places Contracts)) t.contracts (it.stands Contracts));
-  entries = show.entries (behind entry_row) entry_in (λ v x. record { contract = refl; entry = refl; kind = refl; amount = refl }) (db.trees (it.places Entries)) t.entries
-      (stands entry_cmp entry_key (behind entry_row) entry_in (db.trees (it.places Entries)) t.entries (it.stands Entries));
+  lines = show.lines (row_behind_rowid line_values) line_by_rowid (λ v x. record { line = refl; appropriation = refl; free = refl }) (db.trees (it.places Lines)) t.lines (stands id_cmp line_key (row_behind_rowid line_values) line_by_rowid (db.trees (it.places Lines)) t.lines (it.stands Lines));
+  lots = show.lots (row_behind_rowid lot_values) lot_by_rowid (λ v x. record { notice = refl; lot = refl; line = refl; reserved = refl }) (db.trees (it.places Lots)) t.lots (stands lot_cmp lot_key (row_behind_rowid lot_values) lot_by_rowid (db.trees (it.places Lots)) t.lots (it.stands Lots));
+  contracts = show.contracts (by_rowid contract_values) (read_by_rowid contract_read) (λ v x. record { contract = refl; notice = refl; lot = refl; signed = refl; released = refl }) (db.trees (it.places Contracts)) t.contracts
+      (stands nat_cmp contract_key (by_rowid contract_values) (read_by_rowid contract_read) (db.trees (it.places Contracts)) t.contracts (it.stands Contracts));
+  entries = show.entries (row_behind_rowid entry_values) entry_by_rowid (λ v x. record { contract = refl; entry = refl; kind = refl; amount = refl }) (db.trees (it.places Entries)) t.entries
+      (stands entry_cmp entry_key (row_behind_rowid entry_values) entry_by_rowid (db.trees (it.places Entries)) t.entries (it.stands Entries));
 }
 
 module _ {S : Type 0} (g : Ghosts S) (show : StoredRowsShow) (old : Held S) (rows : List Row) (t : Tables) (sorted : IsSorted t) (shows : ShowsTables (state g old) t) where

@@ -15,7 +15,7 @@ use Rattle.office_sql.specs.Steps.{IsAsked, Refused, ShowsTables}
 use Rattle.office_sql.specs.Version.{get_version, one_version, ShowsVersion}
 use Rattle.office_sql.proofs.FirstVersion.{first_version, second_version}
 use Rattle.office_changes.specs.Migration.{HoldsThese, Migrates, LeavesSecond}
-use Rattle.office_store.specs.Founding.{Migrated, LeavesMigrated, LeavesReadied, LeavesOffice, Readied, Enters, is_version_one, is_version_two, is_other_version, origin_of}
+use Rattle.office_store.specs.Founding.{Migrated, LeavesMigrated, LeavesReadied, LeavesOffice, IsMadeCurrent, Enters, is_version_one, is_version_two, is_other_version, origin_of}
 use Rattle.office_store.specs.Forms.{HasForms}
 use Rattle.office_store.specs.Others.{KeepsRest, leads_there}
 use Rattle.office_store.proofs.Founding.{refused_on}
@@ -47,7 +47,7 @@ migrated_after old mid new kept it = record {
   only = it.only;
 }
 
-pub readied_after : (first : Bool) (old mid new : State) → Refused old mid → Readied first mid new → Readied first old new
+pub readied_after : (first : Bool) (old mid new : State) → Refused old mid → IsMadeCurrent first mid new → IsMadeCurrent first old new
 readied_after true old mid new kept it = (subst (λ (d : Database). HasForms true d.schema) (kept.committed it.1.was_open) it.0, migrated_after old mid new kept it.1)
 readied_after false old mid new kept it = (λ open_now. subst (λ (d : Database). HasForms false d.schema) (kept.committed (it.1.was_open open_now)) (it.0 open_now), refused_on old mid new kept it.1)
 
@@ -115,13 +115,13 @@ module _ {S : Type 0} (g : Ghosts S) (old : Held S) (rows : List Row) (one : (n 
   ]
 
   -- what stood is shown after it was used as it was or migrated
-  pub readied_shows : (new : State) (t : Tables) → ShowsOffice (state g old) t → IsTrue (state g old).is_open → Readied (is_version_one rows) (state g old) new → ShowsTables new t
+  pub readied_shows : (new : State) (t : Tables) → ShowsOffice (state g old) t → IsTrue (state g old).is_open → IsMadeCurrent (is_version_one rows) (state g old) new → ShowsTables new t
   readied_shows new t shows open_now it = elim (shows open_now) [
     | inl was ↦ (
-        let used : Readied false (state g old) new = subst (λ b. Readied b (state g old) new) (ap is_version_one (one 2 t.clock (λ _. second_version (state g old).committed t was))) it in
+        let used : IsMadeCurrent false (state g old) new = subst (λ b. IsMadeCurrent b (state g old) new) (ap is_version_one (one 2 t.clock (λ _. second_version (state g old).committed t was))) it in
         still_shows (state g old) new t used.1 (λ _. was))
     | inr was ↦ (
-        let moved : Readied true (state g old) new = subst (λ b. Readied b (state g old) new) (ap is_version_one (one 1 t.clock (λ _. first_version (state g old).committed t was))) it in
+        let moved : IsMadeCurrent true (state g old) new = subst (λ b. IsMadeCurrent b (state g old) new) (ap is_version_one (one 1 t.clock (λ _. first_version (state g old).committed t was))) it in
         λ _. (moved.1.tables t was).held)
   ]
 
@@ -131,7 +131,7 @@ two_left a false apart both = absurd (true≢false (ap (λ x. not x && true) (sy
 
 -- what answered was one of the two
 pub readied_enters : {S : Type 0} (g : Ghosts S) (old new : Held S) (rows : List Row) → IsAsked g get_version [] old rows → is_other_version rows ≡ false
-    → (first : Bool) → is_version_one rows ≡ first → Readied first (state g old) (state g new) → Enters g (origin_of first) old new
+    → (first : Bool) → is_version_one rows ≡ first → IsMadeCurrent first (state g old) (state g new) → Enters g (origin_of first) old new
 readied_enters g old new rows asked one true is it = ((rows, asked, is), it)
 readied_enters g old new rows asked one false is it = ((rows, asked, two_left (is_version_one rows) (is_version_two rows) is one), it)
 

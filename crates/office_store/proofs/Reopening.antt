@@ -30,7 +30,7 @@ use Rattle.office_sql.specs.Laws.{TreesTellOneOffice}
 use Rattle.office_sql.specs.Steps.{Refused}
 use Rattle.office_store.specs.Founding.{LeavesOffice, IsNoOffice}
 use Rattle.office_store.specs.SqlMeaning.{LeavesNoOther}
-use Rattle.office_store.specs.Reopening.{Found, HoldsOffice, HoldStill, IsLeftOf, IsPutDown, IsReason, IsUsableLeft, LeavesFound, MayCommit}
+use Rattle.office_store.specs.Reopening.{Found, FilesHoldOffice, HoldStill, IsLeftOf, IsPutDown, IsReason, IsUsableLeft, LeavesFound, MayCommit}
 use Rattle.office_store.specs.declared.found.OpenFault.{OpenFault}
 use Rattle.office_store.specs.declared.found.OpenFault.TheVariants as fault
 use Rattle.office_store.proofs.Founding.{no_schema}
@@ -46,7 +46,7 @@ sound_of db t (inr was) = was.sound
 
 -- the office that files hold is in what was opened there
 pub held_shown : {D : Type 0} {g : Ghosts D} (image : Image) (now : Held (FileStore D g)) → IsOpened now → FindsIn image (file_state now)
-    → (t : Tables) → HoldsOffice image t → ShowsOffice (file_state now) t
+    → (t : Tables) → FilesHoldOffice image t → ShowsOffice (file_state now) t
 held_shown image now opened found t (db, held, (d, is, holds)) is_open =
     let trees : (file_state now).committed.trees ≡ d.trees = ∥∥₁_elim held (Trees-set _ _) (found.holds db) ∙ is in
     let schema : (file_state now).committed.schema ≡ d.schema = schema_once (file_state now).committed d (opened.1 is_open).1 (sound_of d t holds) trees in
@@ -55,7 +55,7 @@ held_shown image now opened found t (db, held, (d, is, holds)) is_open =
 
 -- what was shown as files were closed is held by them
 pub closed_holds : {D : Type 0} {g : Ghosts D} (old : Held (FileStore D g)) (files : Files D) → IsCopied old files
-    → (t : Tables) → ShowsOffice (file_state old) t → HoldsOffice (image_of g files) t
+    → (t : Tables) → ShowsOffice (file_state old) t → FilesHoldOffice (image_of g files) t
 closed_holds old files copied t shows =
     ((file_state old).committed.trees, copied.seen.both, ((file_state old).committed, refl, shows copied.was_open))
 

@@ -87,9 +87,9 @@ abbrev pub LeavesMigrated : State → Trees → Type 0
 LeavesMigrated old trees = IsTrue old.is_open × ((t : Tables) → HoldsFirst old.committed t → (db : Database) × (trees ≡ db.trees) × IsMigrated t old.committed db × KeepsRest old.committed db)
 
 -- Each table of the office stood there in its form. One of version 1 was migrated; of one of version 2 the last commit is as it was.
-abbrev pub Readied : Bool → State → State → Type 0
-Readied true old new = HasForms true old.committed.schema × Migrated old new
-Readied false old new = (IsTrue new.is_open → HasForms false old.committed.schema) × Refused old new
+abbrev pub IsMadeCurrent : Bool → State → State → Type 0
+IsMadeCurrent true old new = HasForms true old.committed.schema × Migrated old new
+IsMadeCurrent false old new = (IsTrue new.is_open → HasForms false old.committed.schema) × Refused old new
 
 abbrev pub origin_of : Bool → Origin
 origin_of true = from.Migrated
@@ -109,8 +109,8 @@ LeavesOffice g old trees =
 -- an office of version 2 was there, in its form, and is as it was; or one of version 1 was, in its form, and it was migrated; or nothing answered, no name of a table
 -- was taken, and an office was made
 abbrev pub Enters : {S : Type 0} → Ghosts S → Origin → Held S → Held S → Type 0
-Enters g from.Found old new = Answered g old is_version_two × Readied false (state g old) (state g new)
-Enters g from.Migrated old new = Answered g old is_version_one × Readied true (state g old) (state g new)
+Enters g from.Found old new = Answered g old is_version_two × IsMadeCurrent false (state g old) (state g new)
+Enters g from.Migrated old new = Answered g old is_version_one × IsMadeCurrent true (state g old) (state g new)
 Enters g from.Made old new = HasNoVersion g old × (takes_a_name old.schema ≡ false) × Founded (state g old) (state g new)
 
 -- what answered is another version or no single row; or nothing answered, and the name of a table is taken

@@ -33,12 +33,12 @@ abbrev pub StandForOffice : Tables → Trees → Type 0
 StandForOffice t trees = (db : Database) × (trees ≡ db.trees) × HasOffice db t
 
 -- two files with these bytes hold a database, and its trees are those of an office with this content, of this program or of an earlier one
-abbrev pub HoldsOffice : Image → Tables → Type 0
-HoldsOffice image t = (db : Trees) × ∥ HoldsDatabase image db ∥₁ × StandForOffice t db
+abbrev pub FilesHoldOffice : Image → Tables → Type 0
+FilesHoldOffice image t = (db : Trees) × ∥ HoldsDatabase image db ∥₁ × StandForOffice t db
 
 -- they hold none, neither of this program nor of an earlier one
 abbrev pub HoldsNoOffice : Image → Type 0
-HoldsNoOffice image = (t : Tables) → HoldsOffice image t → ⊥
+HoldsNoOffice image = (t : Tables) → FilesHoldOffice image t → ⊥
 
 -- what stood there was entered: its content is kept, be it of this program or of an earlier one, and a stop leaves what was or what an opening may commit
 pub record Entered {S : Type 0} (g : StoreGhosts S) (origin : Origin) (before now : Held S) : Type 0 where
@@ -83,7 +83,7 @@ module _ {D : Type 0} {g : Ghosts D} where
   -- the office that they hold is shown; one of version 1 has its content: its notices ask for no performance securities, there are none of these, and no late
   -- withdrawals where it had no table of them
   abbrev pub OpensHeld : Image → Held (FileStore D g) → Type 0
-  OpensHeld image now = HasCleanDisk (file_state now) → (t : Tables) → HoldsOffice image t → ShowsTables (file_state now) t
+  OpensHeld image now = HasCleanDisk (file_state now) → (t : Tables) → FilesHoldOffice image t → ShowsTables (file_state now) t
 
   -- it shows what was shown when the files were closed, by this program or by an earlier one
   abbrev pub OpensAgain : Files D → Held (FileStore D g) → Type 0
@@ -109,7 +109,7 @@ module _ {D : Type 0} {g : Ghosts D} where
   pub record IsPutDown (last : Held (FileStore D g)) (store : FileStore D g) : Type 0 where
     pub clean : IsClean (view store) → HasCleanDisk (file_state last)
     pub left : IsClean (view store) → LeavesOffices (file_state last) → (image : Image) → (store_state store).may_leave image
-        → ∥ ((u : Tables) × MayLeave (file_state last) u × HoldsOffice image u) ∥₁
+        → ∥ ((u : Tables) × MayLeave (file_state last) u × FilesHoldOffice image u) ∥₁
 
   -- What was found stays: the files hold it, or, where they couldn't be closed, a stop leaves it or what the opening committed.
   abbrev pub LeavesFound : (Trees → Type 0) → Held (FileStore D g) → Leftover D g → Type 0

@@ -5,7 +5,7 @@ ghost use Rattle.sqlite.specs.State.{HasCleanDisk, Survives};
 ghost use Rattle.office_rows.specs.declared.stored.FormerNotice.{FormerNotice};
 ghost use Rattle.office_sql.specs.First.{TellsFirst};
 ghost use Rattle.office_sql.specs.Steps.{Refused};
-ghost use Rattle.office_store.specs.Founding.{Migrated, LeavesMigrated, Readied, LeavesReadied};
+ghost use Rattle.office_store.specs.Founding.{Migrated, LeavesMigrated, IsMadeCurrent, LeavesReadied};
 
 use crate::forms::check_forms;
 use crate::found::{OpenFault, opening, still_open};
@@ -66,7 +66,7 @@ pub(crate) fn ready<S: Alter>(
     conn: &mut Connection<S>,
     is_first: bool,
 ) -> Result<(), OpenFault>
-    ensures readied { HasCleanDisk (state S.Store conn.new) → OnOk result (Readied is_first (state S.Store conn.old) (state S.Store conn.new)) }
+    ensures readied { HasCleanDisk (state S.Store conn.new) → OnOk result (IsMadeCurrent is_first (state S.Store conn.old) (state S.Store conn.new)) }
     ensures is_open { HasCleanDisk (state S.Store conn.new) → OnOk result (IsTrue (state S.Store conn.new).is_open) }
     ensures cause { IfErr result (λ e. e ≡ OpenFault.NotAnOffice → ⊥) }
     ensures kept { HasCleanDisk (state S.Store conn.new) → OnErr result (Refused (state S.Store conn.old) (state S.Store conn.new)) }

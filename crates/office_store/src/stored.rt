@@ -3,8 +3,8 @@ ghost use Rattle.sqlite.specs.Held.{state};
 
 use crate::shelf::SqlShelf;
 use office_base::shelf::ShelfFault;
+use office_base::stored::StoredShelf;
 use sqlite::Alter;
-use stored_shelf::stored::StoredShelf;
 
 impl<S: Alter> StoredShelf for SqlShelf<S> {
     ghost store = { record { is_open = λ shelf. (state S.Store shelf.0).is_open; disk_faults = λ shelf. (state S.Store shelf.0).faults } };

@@ -15,27 +15,27 @@ abbrev pub values_of : List ℕ → List (List ℕ × List ℕ) → List (List �
 values_of name fields = map (λ f. f.1) (filter (λ f. str_eq_ignore_ascii_case f.0 name) fields)
 
 -- the number that one or more ASCII digits write, however many they are
-abbrev pub number_of : List ℕ → Option ℕ
-number_of text = if nat_lt 0 (length text) && list_all is_ascii_digit text then Some (digits_value 10 text) else None
+abbrev pub written_number : List ℕ → Option ℕ
+written_number text = if nat_lt 0 (length text) && list_all is_ascii_digit text then Some (digits_value 10 text) else None
 
 -- the length that the values of Content-Length write: 0 where there is no such field, none where there are several or it is no number
 abbrev pub length_of : List (List ℕ) → Option ℕ
 length_of [] = Some 0
-length_of (value ∷ []) = number_of value
+length_of (value ∷ []) = written_number value
 length_of (value ∷ other ∷ more) = None
 
 -- how many bytes the body has, or the refusal, from the written length, the count of fields and the values of Transfer-Encoding:
 -- a fault of the length comes first, then more than 64 fields or a length above 65,536, then any transfer coding
-abbrev pub framing : Option ℕ → ℕ → List (List ℕ) → Result ℕ ReadFault
-framing None count codings = Err fault.BadHead
-framing (Some len) count codings =
+abbrev pub body_length_of : Option ℕ → ℕ → List (List ℕ) → Result ℕ ReadFault
+body_length_of None count codings = Err fault.BadHead
+body_length_of (Some len) count codings =
     if nat_lt 64 count || nat_lt 65536 len then Err fault.TooLong
     else if nat_lt 0 (length codings) then Err fault.Coding
     else Ok len
 
 -- the same of a head
 abbrev pub framing_of : HeadView → Result ℕ ReadFault
-framing_of head = framing (length_of (values_of (codes "content-length") head.fields)) (length head.fields) (values_of (codes "transfer-encoding") head.fields)
+framing_of head = body_length_of (length_of (values_of (codes "content-length") head.fields)) (length head.fields) (values_of (codes "transfer-encoding") head.fields)
 
 -- what a look-up tells of the values that it found: none, the one, or that there are several
 abbrev pub Tells : FieldValue → List (List ℕ) → Type 0

@@ -1,6 +1,6 @@
 //! Where the body of a request ends (RFC 9112, section 6).
 ghost use Rattle.std.specs.Prelude.{◌≡◌, ◌≤◌, min, length, option_map, codes, IfOk, OnOk};
-ghost use Rattle.office_wire.specs.Fields.{number_of, length_of, values_of, framing_of};
+ghost use Rattle.office_wire.specs.Fields.{written_number, length_of, values_of, framing_of};
 
 use crate::fault::ReadFault;
 use crate::fields::FieldValue;
@@ -14,7 +14,7 @@ const MOST_BODY: u32 = 65_536;
 
 /// The number that one or more ASCII digits write, and one more than the most bytes of a body where it is above these.
 fn capped_number(text: &[u8]) -> Option<u32>
-    ensures { result ≡ option_map (min 65537) (number_of text.now) }
+    ensures { result ≡ option_map (min 65537) (written_number text.now) }
 {
     if text.is_empty() {
         return None;
@@ -44,7 +44,7 @@ fn capped_length(head: &Head) -> Option<u32>
 }
 
 /// How many bytes the body has, or why the request is refused.
-pub fn framing(head: &Head) -> Result<usize, ReadFault>
+pub fn body_length_of(head: &Head) -> Result<usize, ReadFault>
     ensures framed { result ≡ framing_of head.now }
     ensures body { IfOk result (λ n. n ≤ 65536) }
     ensures fields { OnOk result (length head.now.fields ≤ 64) }

@@ -84,13 +84,13 @@ impl Model for Head {
     ghost use Rattle.std.specs.Prelude.{map};
     ghost use Rattle.httparse.specs.Spans.{span_bytes, header_bytes};
     ghost use Rattle.office_wire.specs.Head.{HeadView};
-    ghost use Rattle.office_wire.specs.Inside.HeadBytes.{IsKept};
+    ghost use Rattle.office_wire.specs.Inside.HeadBytes.{HeadIsKept};
 
     ghost Value = { HeadView };
 
     ghost view = { λ s. record { method = span_bytes s.bytes.items s.method; target = span_bytes s.bytes.items s.target; fields = map (header_bytes s.bytes.items) s.fields.items } };
 
-    ghost invariant = { λ s. IsKept s.bytes.items s.method s.target s.fields.items };
+    ghost invariant = { λ s. HeadIsKept s.bytes.items s.method s.target s.fields.items };
 }
 
 impl Head {

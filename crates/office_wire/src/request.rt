@@ -8,7 +8,7 @@ ghost use Rattle.office_wire.specs.Request.{IsRequestRead, IsRefused, IsCutReque
 use crate::counted::CountedReader;
 use crate::fault::ReadFault;
 use crate::fields::FieldValue;
-use crate::framing::framing;
+use crate::framing::body_length_of;
 use crate::head::{Head, read_head};
 use crate::reading::fill;
 use std::alloc::Global;
@@ -117,7 +117,7 @@ pub fn read_request<R: BufRead>(
     ensures spent { reader.new.left ≤ reader.old.left }
 {
     let head = read_head(alloc, reader)?;
-    let length = framing(&head)?;
+    let length = body_length_of(&head)?;
     match read_body(alloc, reader, length)? {
         Some(body) => Ok(Request { head, body }),
         None => Err(ReadFault::BadHead),

@@ -1,7 +1,7 @@
 //! `procure`: a public procurement office at the command line.
 #![tactic(auto)]
 
-use office_acts::queries::Query;
+use office_commands::queries::Query;
 use procure_config::fault::{ProgramFault, exit_code};
 use procure_config::job::{Job, job_of};
 use procure_config::notice::notice_named;

@@ -70,9 +70,9 @@ abbrev pub table_at : List ℕ → Members → Members
 table_at key members = unwrap_or (option_and_then as_table (get_member key members)) no_members
 
 -- a member that is missing or wrong is named
-unfoldable pub needed : {A : Type 0} → SettingName → Option A → Result A SettingsFault
-needed name (Some value) = Ok value
-needed name None = Err (Member name)
+unfoldable pub setting_or_fault : {A : Type 0} → SettingName → Option A → Result A SettingsFault
+setting_or_fault name (Some value) = Ok value
+setting_or_fault name None = Err (Member name)
 
 -- a step, and where it gives a value the next one
 infixl 10 ◌>>=◌
@@ -83,20 +83,20 @@ Err fault >>= next = Err fault
 -- the buyer that a table gives, or its first faulty member
 unfoldable pub buyer_of : Members → Result Buyer SettingsFault
 buyer_of members = do
-  id ← needed BuyerId (text_in is_id_text (codes "id") members)
-  name ← needed BuyerName (text_in is_line_text (codes "name") members)
+  id ← setting_or_fault BuyerId (text_in is_id_text (codes "id") members)
+  name ← setting_or_fault BuyerName (text_in is_line_text (codes "name") members)
   Ok (record { id = id; name = name })
 
 -- the settings that a table gives, or its first faulty member
 unfoldable pub settings_of : Members → Result Settings SettingsFault
 settings_of members = do
-  prefix ← needed Prefix (text_in is_prefix_text (codes "prefix") members)
-  currency ← needed Currency (text_in is_currency_code (codes "currency") members)
-  language ← needed Language (text_in is_language_code (codes "language") members)
-  base ← needed Base (text_in is_line_text (codes "base") members)
-  publisher ← needed Publisher (text_in is_line_text (codes "publisher") members)
-  extensions ← needed Extensions (lines_at (codes "extensions") members)
-  clerk_key ← needed ClerkKey (digest_at (codes "clerk_key") members)
+  prefix ← setting_or_fault Prefix (text_in is_prefix_text (codes "prefix") members)
+  currency ← setting_or_fault Currency (text_in is_currency_code (codes "currency") members)
+  language ← setting_or_fault Language (text_in is_language_code (codes "language") members)
+  base ← setting_or_fault Base (text_in is_line_text (codes "base") members)
+  publisher ← setting_or_fault Publisher (text_in is_line_text (codes "publisher") members)
+  extensions ← setting_or_fault Extensions (lines_at (codes "extensions") members)
+  clerk_key ← setting_or_fault ClerkKey (digest_at (codes "clerk_key") members)
   buyer ← buyer_of (table_at (codes "buyer") members)
   Ok (record {
     prefix = prefix;

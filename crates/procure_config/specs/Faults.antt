@@ -3,7 +3,7 @@ use Rattle.std.specs.Prelude.{codes, ◌≡◌, ◌≢◌, ℕ, List, ◌++◌, 
 use Rattle.clap.specs.Words.{kind_of}
 use Rattle.clap.specs.declared.error.Error.{Error}
 use Rattle.clap.specs.declared.error.kind.ErrorKind.TheVariants.{OutOfMemory}
-use Rattle.office_values.specs.Refusals.{name_of}
+use Rattle.office_values.specs.Refusals.{name_of_refusal}
 use Rattle.office_values.specs.declared.refusal.Refusal.TheVariants.{NoRoute, Unavailable}
 use Rattle.procure_config.specs.Configuration.{name_text}
 use Rattle.procure_config.specs.declared.settings.SettingsFault.{SettingsFault}
@@ -19,7 +19,7 @@ line_of (Settings (Some member)) = Some (codes "procure: settings " ++ name_text
 line_of Store = Some (codes "procure: store")
 line_of Input = Some (codes "procure: input")
 line_of Output = Some (codes "procure: output")
-line_of (Refused refusal) = Some (codes "procure: " ++ name_of refusal)
+line_of (Refused refusal) = Some (codes "procure: " ++ name_of_refusal refusal)
 
 -- the exit status
 abbrev pub exit_of : ProgramFault → ℕ

@@ -129,13 +129,13 @@ asked_as name rows =
     else None
 
 -- what a subcommand that was met asks for
-abbrev pub asked_in : Option (Text × List Row) → Option Asked
-asked_in None = None
-asked_in (Some met) = asked_as met.0 met.1
+abbrev pub job_of_subcommand : Option (Text × List Row) → Option Asked
+job_of_subcommand None = None
+job_of_subcommand (Some met) = asked_as met.0 met.1
 
 -- what the subcommand and the values that clap states for the words ask for
 abbrev pub asked : List Text → Option Asked
-asked words = asked_in (subcommand_of procure words)
+asked words = job_of_subcommand (subcommand_of procure words)
 
 -- the words ask for this job
 abbrev pub AsksFor : List Text → Job → Type 0

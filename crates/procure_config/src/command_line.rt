@@ -15,7 +15,7 @@ pub(crate) const PORT_BOUND: u16 = 65535;
 pub(crate) const COUNT_BOUND: u32 = 1_000_000;
 
 // An argument that must be given.
-fn needed<'a>(alloc: Global, name: &'a str, help: &'a str) -> Arg<'a>
+fn required_argument<'a>(alloc: Global, name: &'a str, help: &'a str) -> Arg<'a>
     ensures rule { rule_of result ≡ spec.needed_rule name.entry.now }
     ensures local { result.global ≡ false }
 {
@@ -27,7 +27,7 @@ fn number<'a>(alloc: Global, name: &'a str, most: u64, help: &'a str) -> Arg<'a>
     ensures rule { rule_of result ≡ spec.number_rule name.entry.now most }
     ensures local { result.global ≡ false }
 {
-    needed(alloc, name, help).value_parser(ValueParser::unsigned(1, most))
+    required_argument(alloc, name, help).value_parser(ValueParser::unsigned(1, most))
 }
 
 // A subcommand over the settings of an office.
@@ -39,7 +39,7 @@ fn over_settings<'a>(
     ensures shape { IfOk result (λ command. app_of command ≡ spec.over_settings name.entry.now) }
     ensures local { IfOk result (λ command. (fields_of command).has_globals ≡ false) }
 {
-    let config = needed(alloc, "CONFIG", "The office's settings, a TOML file");
+    let config = required_argument(alloc, "CONFIG", "The office's settings, a TOML file");
     Command::new(alloc, name).about(about).arg(config)
 }
 
@@ -48,7 +48,7 @@ fn over_store<'a>(alloc: Global, name: &'a str, about: &'a str) -> Result<Comman
     ensures shape { IfOk result (λ command. app_of command ≡ spec.over_store name.entry.now) }
     ensures local { IfOk result (λ command. (fields_of command).has_globals ≡ false) }
 {
-    let store = needed(
+    let store = required_argument(
         alloc,
         "DB",
         "The office's file, which is made where there is none",
@@ -61,7 +61,7 @@ fn over_notice<'a>(alloc: Global, name: &'a str, about: &'a str) -> Result<Comma
     ensures shape { IfOk result (λ command. app_of command ≡ spec.over_notice name.entry.now) }
     ensures local { IfOk result (λ command. (fields_of command).has_globals ≡ false) }
 {
-    let notice = needed(alloc, "NOTICE", "The notice's identifier");
+    let notice = required_argument(alloc, "NOTICE", "The notice's identifier");
     over_store(alloc, name, about)?.arg(notice)
 }
 

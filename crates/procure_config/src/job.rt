@@ -162,8 +162,8 @@ fn asked_as<'a>(name: &str, met: &ArgMatches<'a>) -> Option<Job<'a>>
 }
 
 // What the subcommand that was met asks for.
-fn asked_in<'a>(matches: &ArgMatches<'a>) -> Option<Job<'a>>
-    ensures { option_map asked_by result ≡ spec.asked_in (subcommand_rows_of matches.now) }
+fn job_of_subcommand<'a>(matches: &ArgMatches<'a>) -> Option<Job<'a>>
+    ensures { option_map asked_by result ≡ spec.job_of_subcommand (subcommand_rows_of matches.now) }
 {
     let (name, met) = matches.subcommand()?;
     asked_as(name, met)
@@ -195,7 +195,7 @@ pub fn job_of<'a, S: AsStr>(
 {
     let mut command = procure(alloc, version)?;
     let matches = command.try_get_matches_from_mut(words)?;
-    match asked_in(&matches) {
+    match job_of_subcommand(&matches) {
         Some(job) => Ok(job),
         None => Err(no_job(&mut command)),
     }

@@ -188,8 +188,8 @@ fn read_extensions(alloc: Global, table: &Table) -> Result<Option<Extensions>, A
 
 // The value, or that the member of this name is faulty.
 #[tactic(auto, unfolding(crate::specs::Configuration::needed))]
-fn needed<T: Drop>(name: SettingName, value: Option<T>) -> Result<T, SettingsFault>
-    ensures { result ≡ spec.needed name value }
+fn setting_or_fault<T: Drop>(name: SettingName, value: Option<T>) -> Result<T, SettingsFault>
+    ensures { result ≡ spec.setting_or_fault name value }
 {
     match value {
         Some(value) => Ok(value),
@@ -212,8 +212,8 @@ fn find_table<'a>(table: &'a Table, key: &str) -> Option<&'a Table>
 fn buyer_of(alloc: Global, table: &Table) -> Result<Buyer, SettingsFault>
     ensures { ReadsAs result (spec.buyer_of (table_view table.now)) }
 {
-    let id = needed(SettingName::BuyerId, read_id(table))?;
-    let name = needed(SettingName::BuyerName, read_line(alloc, table, "name")?)?;
+    let id = setting_or_fault(SettingName::BuyerId, read_id(table))?;
+    let name = setting_or_fault(SettingName::BuyerName, read_line(alloc, table, "name")?)?;
     Ok(Buyer { id, name })
 }
 
@@ -232,16 +232,16 @@ fn read_buyer(alloc: Global, table: &Table) -> Result<Buyer, SettingsFault>
 fn settings_of(alloc: Global, table: &Table) -> Result<Settings, SettingsFault>
     ensures { ReadsAs result (spec.settings_of (table_view table.now)) }
 {
-    let prefix = needed(SettingName::Prefix, read_prefix(table))?;
-    let currency = needed(SettingName::Currency, read_currency(table))?;
-    let language = needed(SettingName::Language, read_language(table))?;
-    let base = needed(SettingName::Base, read_line(alloc, table, "base")?)?;
-    let publisher = needed(
+    let prefix = setting_or_fault(SettingName::Prefix, read_prefix(table))?;
+    let currency = setting_or_fault(SettingName::Currency, read_currency(table))?;
+    let language = setting_or_fault(SettingName::Language, read_language(table))?;
+    let base = setting_or_fault(SettingName::Base, read_line(alloc, table, "base")?)?;
+    let publisher = setting_or_fault(
         SettingName::Publisher,
         read_line(alloc, table, "publisher")?,
     )?;
-    let extensions = needed(SettingName::Extensions, read_extensions(alloc, table)?)?;
-    let clerk_key = needed(SettingName::ClerkKey, read_clerk_key(table))?;
+    let extensions = setting_or_fault(SettingName::Extensions, read_extensions(alloc, table)?)?;
+    let clerk_key = setting_or_fault(SettingName::ClerkKey, read_clerk_key(table))?;
     let buyer = read_buyer(alloc, table)?;
     Ok(Settings {
         prefix,

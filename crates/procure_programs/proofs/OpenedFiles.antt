@@ -14,13 +14,14 @@ use Rattle.office_values.specs.declared.settings.Settings.{Settings}
 use Rattle.office_base.specs.Shelves.{Keeps, Meaning}
 use Rattle.office_base.specs.Tables.{Tables}
 use Rattle.office_sql.specs.Steps.{ShowsTables}
+use Rattle.office_publications.specs.Keys.{KeysMayChange, SameButKey}
 use Rattle.office_desk.specs.Desks.{DeskOf}
-use Rattle.office_store.specs.Reopening.{HoldsOffice, OpensHeld}
+use Rattle.office_store.specs.Reopening.{FilesHoldOffice, OpensHeld}
 use Rattle.office_store.specs.SqlMeaning.{LeavesNoOther, LeavesShown, sql_meaning}
 use Rattle.office_wire.specs.Runs.{Step, office_left}
 use Rattle.office_http.specs.Answering.{Held, office_answers}
 use Rattle.procure_programs.specs.Placed.{OpensEmpty}
-use Rattle.procure_programs.specs.Serving.{DayIn, DaysFollow, GoesOnIn, HaveOffice, MayBeFound, ServesFiles, ServesOpened, StandsIn, StopsIn, WasServed}
+use Rattle.procure_programs.specs.Serving.{DayIn, DaysFollow, FilesGoOn, HaveOffice, KeysFollow, LedOn, MayBeFound, ServesFiles, ServesOpened, StandsIn, StopsIn, WasServed, under_settings}
 use Rattle.procure_programs.proofs.ServingSteps.{office_on, served_none, served_still}
 
 module _ {D : Type 0} {g : Ghosts D} where
@@ -32,7 +33,7 @@ module _ {D : Type 0} {g : Ghosts D} where
 
   -- what is found of closed files holds what was shown as they were closed
   holds_found : (last : Connected (FileStore D g)) (files : Files D) → IsCopied last files → (now : Image) → MayBeFound g files now
-      → (t : Tables) → ShowsTables (file_state last) t → HoldsOffice now t
+      → (t : Tables) → ShowsTables (file_state last) t → FilesHoldOffice now t
   holds_found last files copied now (mid, which, log) t shows =
       let trees = (file_state last).committed.trees in
       let there : HoldsAlone mid trees = elim which [
@@ -40,8 +41,8 @@ module _ {D : Type 0} {g : Ghosts D} where
         | inr after ↦ copied.left mid after
       ] in
       elim log [
-        | inl same ↦ subst (λ (image : Image). HoldsOffice image t) (sym same) (trees, there.both, ((file_state last).committed, refl, inl (shows copied.was_open)))
-        | inr same ↦ subst (λ (image : Image). HoldsOffice image t) (sym same) (trees, there.alone, ((file_state last).committed, refl, inl (shows copied.was_open)))
+        | inl same ↦ subst (λ (image : Image). FilesHoldOffice image t) (sym same) (trees, there.both, ((file_state last).committed, refl, inl (shows copied.was_open)))
+        | inr same ↦ subst (λ (image : Image). FilesHoldOffice image t) (sym same) (trees, there.alone, ((file_state last).committed, refl, inl (shows copied.was_open)))
       ]
 
   pub closes : (image : Image) (settings : Settings) (most : ℕ) (old new : Connected (FileStore D g) × ℕ) (files : Files D)
@@ -88,7 +89,7 @@ both_days last n m h xs few (ys, more, left) =
     let bound : length (xs ++ ys) ≤ n + m = rw (length-append xs ys) (omega (arith, few, more)) in
     (xs ++ ys, bound, subst (StandsIn last) (sym (office_on office_answers xs ys h)) left)
 
-days_closed : (settings : Settings) (first mid last : Image) (n m : ℕ) → GoesOnIn first settings n mid → GoesOnIn mid settings m last → GoesOnIn first settings (n + m) last
+days_closed : (settings : Settings) (first mid last : Image) (n m : ℕ) → FilesGoOn first settings n mid → FilesGoOn mid settings m last → FilesGoOn first settings (n + m) last
 days_closed settings first mid last n m before behind h are stands =
     let (xs, few, there) = before h are stands in
     both_days last n m h xs few (behind (office_left office_answers h xs) (settings_stay xs h ∙ are) there)
@@ -106,3 +107,34 @@ days_stopped settings first mid last n m before behind h are stands =
 
 pub days_follow : DaysFollow
 days_follow = record { closed = days_closed; stopped = days_stopped }
+
+-- ---- under another key of the clerk
+
+-- an office stands in the files under another key too
+stands_under : KeysMayChange → (before after : Settings) (image : Image) (h : Held) → SameButKey before after → h.settings ≡ before → StandsIn image h → StandsIn image (under_settings after h)
+stands_under changes before after image h same are stands =
+    (stands.0, stands.1, changes h.settings after h.tables (subst (λ (u : Settings). SameButKey u after) (sym are) same) stands.2)
+
+-- what the office is at the end of the first day, under the key of the second
+second_day : KeysMayChange → (before after : Settings) (mid : Image) (h : Held) (xs : List Step) → SameButKey before after → h.settings ≡ before
+    → StandsIn mid (office_left office_answers h xs) → StandsIn mid (under_settings after (office_left office_answers h xs))
+second_day changes before after mid h xs same are = stands_under changes before after mid (office_left office_answers h xs) same (settings_stay xs h ∙ are)
+
+led_on : (after : Settings) (last : Image) (n m : ℕ) (h : Held) (xs : List Step) → length xs ≤ n → LeftIn last m (under_settings after (office_left office_answers h xs)) → LedOn after n m last h
+led_on after last n m h xs few (ys, more, left) = (xs, ys, few, more, left)
+
+keys_closed : KeysMayChange → (before after : Settings) (first mid last : Image) (n m : ℕ) → SameButKey before after → FilesGoOn first before n mid → FilesGoOn mid after m last
+    → (h : Held) → h.settings ≡ before → StandsIn first h → LedOn after n m last h
+keys_closed changes before after first mid last n m same earlier behind h are stands =
+    let (xs, few, there) = earlier h are stands in
+    led_on after last n m h xs few (behind (under_settings after (office_left office_answers h xs)) refl (second_day changes before after mid h xs same are there))
+
+keys_stopped : KeysMayChange → (before after : Settings) (first mid last : Image) (n m : ℕ) → SameButKey before after → DayIn first before n mid → DayIn mid after m last
+    → (h : Held) → h.settings ≡ before → StandsIn first h → ∥ LedOn after n m last h ∥₁
+keys_stopped changes before after first mid last n m same earlier behind h are stands =
+    ∥∥₁_elim (as_stopped before first mid n earlier h are stands) squash₁ (λ (one : LeftIn mid n h).
+    ∥∥₁_map (as_stopped after mid last m behind (under_settings after (office_left office_answers h one.0)) refl (second_day changes before after mid h one.0 same are one.2))
+    (λ (other : LeftIn last m (under_settings after (office_left office_answers h one.0))). led_on after last n m h one.0 one.1 other))
+
+pub keys_follow : KeysMayChange → KeysFollow
+keys_follow changes = record { closed = keys_closed changes; stopped = keys_stopped changes }

@@ -8,7 +8,7 @@ use Rattle.office_wire.specs.Runs.{Answers, IsOneAtMost, Step, office_left}
 use Rattle.office_http.specs.Answering.{Held, IsWholeAfter, LeftAfter, StandsAs, is_accepted, meant_in, office_answers}
 use Rattle.office_http.specs.Joined.{StepsAreKept}
 use Rattle.office_http.specs.Stops.{LeftBySteps, StopsBy, StopsOnce}
-use Rattle.procure_programs.specs.Serving.{KeepsServing, Serves, WasServed}
+use Rattle.procure_programs.specs.Serving.{TurnsKeepCommands, TakesTurns, WasServed}
 
 -- the office after two lists of steps
 pub office_on : {S : Type 0} (A : Answers S) (xs ys : List Step) (s : S) → office_left A s (xs ++ ys) ≡ office_left A (office_left A s xs) ys
@@ -69,17 +69,17 @@ stops_none M shelf h = record { left = λ u may. may; sound = λ before. before 
 pub once_none : {S : Type 0} (M : Meaning S) (moment : ℕ) (office : DeskOf S) → StopsOnce M moment office office
 once_none M moment office honest h held = ([], tt, held, stops_none M office.shelf h)
 
-pub served_none : {S : Type 0} (M : Meaning S) (n : ℕ) (office : DeskOf S) → Serves M n office office
+pub served_none : {S : Type 0} (M : Meaning S) (n : ℕ) (office : DeskOf S) → TakesTurns M n office office
 served_none M n office honest h held = ([], omega arith, held, stops_none M office.shelf h)
 
 -- a question changes nothing
-pub served_still : {S : Type 0} (M : Meaning S) (n : ℕ) (first old new : DeskOf S) → Serves M n first old → Keeps M old.shelf new.shelf → new.settings ≡ old.settings → Serves M n first new
+pub served_still : {S : Type 0} (M : Meaning S) (n : ℕ) (first old new : DeskOf S) → TakesTurns M n first old → Keeps M old.shelf new.shelf → new.settings ≡ old.settings → TakesTurns M n first new
 served_still M n first old new so_far keeps same honest h held =
     let (xs, few, ((are, now), stands), stops) = so_far (keeps.before honest) h held in
     (xs, few, ((same ∙ are, keeps.same honest _ now), stands), stops_still M first.shelf old.shelf new.shelf h xs stops keeps honest)
 
-pub served_on : {S : Type 0} (M : Meaning S) (n moment : ℕ) (first old new : DeskOf S) → (M.honest new.shelf → M.honest old.shelf) → Serves M n first old
-    → StopsOnce M moment old new → Serves M (n + 1) first new
+pub served_on : {S : Type 0} (M : Meaning S) (n moment : ℕ) (first old new : DeskOf S) → (M.honest new.shelf → M.honest old.shelf) → TakesTurns M n first old
+    → StopsOnce M moment old new → TakesTurns M (n + 1) first new
 served_on M n moment first old new before so_far once honest h held =
     let (xs, few, now, stops) = so_far (before honest) h held in
     let (ys, one, after, more) = once honest (office_left office_answers h xs) now in
@@ -88,20 +88,20 @@ served_on M n moment first old new before so_far once honest h held =
     (xs ++ ys, bound, subst (λ (k : Held). StandsAs M new k) (sym (office_on office_answers xs ys h)) after, stops_on M first.shelf old.shelf new.shelf h xs ys stops more)
 
 -- fewer than were allowed
-pub served_within : {S : Type 0} (M : Meaning S) (n most : ℕ) (old new : DeskOf S) → n ≤ most → Serves M n old new → Serves M most old new
+pub served_within : {S : Type 0} (M : Meaning S) (n most : ℕ) (old new : DeskOf S) → n ≤ most → TakesTurns M n old new → TakesTurns M most old new
 served_within M n most old new within so_far honest h held =
     let (xs, few, now, stops) = so_far honest h held in
     (xs, omega (arith, within, few), now, stops)
 
 -- and what was accepted is kept
-pub serving_kept : {S : Type 0} (M : Meaning S) (most : ℕ) (old new : DeskOf S) → StepsAreKept → Serves M most old new → KeepsServing M most old new
+pub serving_kept : {S : Type 0} (M : Meaning S) (most : ℕ) (old new : DeskOf S) → StepsAreKept → TakesTurns M most old new → TurnsKeepCommands M most old new
 serving_kept M most old new law serves honest h held xs reached =
     let (steps, few, left, _) = serves honest h held in
     (steps, few, left, law xs h reached steps)
 
 -- an office was made of a shelf and served, and its shelf given back
 pub was_served : {S : Type 0} (M : Meaning S) (most : ℕ) (settings : Settings) (shelf left : S) (begun ended : DeskOf S) → begun ≡ record { shelf = shelf; settings = settings }
-    → left ≡ ended.shelf → (M.honest ended.shelf → M.honest begun.shelf) → Serves M most begun ended → WasServed M most settings shelf left
+    → left ≡ ended.shelf → (M.honest ended.shelf → M.honest begun.shelf) → TakesTurns M most begun ended → WasServed M most settings shelf left
 was_served M most settings shelf left begun ended is out before serves =
     subst (λ (s : _). WasServed M most settings shelf s) (sym out)
-    (subst (λ (d : DeskOf _). M.honest ended.shelf → M.honest d.shelf) is before, (ended.settings, subst (λ (d : DeskOf _). Serves M most d ended) is serves))
+    (subst (λ (d : DeskOf _). M.honest ended.shelf → M.honest d.shelf) is before, (ended.settings, subst (λ (d : DeskOf _). TakesTurns M most d ended) is serves))

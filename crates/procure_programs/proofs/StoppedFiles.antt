@@ -11,9 +11,9 @@ use Rattle.office_values.specs.declared.settings.Settings.{Settings}
 use Rattle.office_base.specs.Tables.{Tables}
 use Rattle.office_machine.specs.Accounts.{TablesAreInOrder}
 use Rattle.office_publications.specs.Publishing.{publishing}
-use Rattle.office_publications.specs.Standing.{Stands}
+use Rattle.office_publications.specs.Standing.{IsReached}
 use Rattle.office_sql.specs.Steps.{MayLeave}
-use Rattle.office_store.specs.Reopening.{HoldsOffice, IsPutDown, OpensHeld}
+use Rattle.office_store.specs.Reopening.{FilesHoldOffice, IsPutDown, OpensHeld}
 use Rattle.office_store.specs.SqlMeaning.{LeavesNoOther, LeavesShown, sql_meaning}
 use Rattle.office_wire.specs.Runs.{Step, office_left}
 use Rattle.office_http.specs.Answering.{Held, IsWholeAfter, LeftAfter, is_accepted, meant_in, office_answers}
@@ -30,7 +30,7 @@ record IsLeftWhole (h : Held) (most : ℕ) (u : Tables) : Type 0 where
   done : List Step
   few : length done ≤ most
   is : u ≡ (office_left office_answers h done).tables
-  stands : Stands h.settings u
+  stands : IsReached h.settings u
 
 -- one step leaves what was before it, or what is after it
 left_or_whole : (accepted busy : Bool) (Before IsAfter : Type 0) → LeftAfter accepted busy Before IsAfter → Before ⊎ IsAfter
@@ -72,14 +72,14 @@ module _ {D : Type 0} {g : Ghosts D} (image : Image) (settings : Settings) (most
         | inl was ↦ (
           [],
           omega arith,
-          (sorted, inl (subst (HoldsOffice now) (alone early h.tables shows u was) found.2), stands),
+          (sorted, inl (subst (FilesHoldOffice now) (alone early h.tables shows u was) found.2), stands),
         )
         | inr whole ↦
             let k : Held = office_left office_answers h whole.done in
             let same : k.settings ≡ h.settings = settings_stay whole.done h in
-            let there : Stands k.settings k.tables = subst (λ (s : Settings). Stands s k.tables) (sym same) (subst (Stands h.settings) whole.is whole.stands) in (
+            let there : IsReached k.settings k.tables = subst (λ (s : Settings). IsReached s k.tables) (sym same) (subst (IsReached h.settings) whole.is whole.stands) in (
               whole.done,
               omega (arith, whole.few, few),
-              (order (publishing k.settings) there.commands k.tables there.reaches, inl (subst (HoldsOffice now) whole.is found.2), there),
+              (order (publishing k.settings) there.commands k.tables there.reaches, inl (subst (FilesHoldOffice now) whole.is found.2), there),
             )
       ])

@@ -15,21 +15,22 @@ use Rattle.office_values.specs.declared.settings.Settings.{Settings}
 use Rattle.office_base.specs.Shelves.{Meaning}
 use Rattle.office_base.specs.Tables.{Tables, IsSorted, no_tables}
 use Rattle.office_machine.specs.Machine.{Given, Reaches}
+use Rattle.office_publications.specs.Keys.{SameButKey}
 use Rattle.office_publications.specs.Publishing.{publishing}
-use Rattle.office_publications.specs.Standing.{Stands}
+use Rattle.office_publications.specs.Standing.{IsReached}
 use Rattle.office_desk.specs.Desks.{DeskOf}
-use Rattle.office_desk.specs.Steps.{IsKept}
-use Rattle.office_store.specs.Reopening.{HoldsOffice, OpensHeld}
+use Rattle.office_desk.specs.Steps.{OfficeIsKept}
+use Rattle.office_store.specs.Reopening.{FilesHoldOffice, OpensHeld}
 use Rattle.office_store.specs.SqlMeaning.{LeavesNoOther, LeavesShown, sql_meaning}
 use Rattle.office_wire.specs.Runs.{Step, office_left}
 use Rattle.office_http.specs.Answering.{Held, StandsAs, office_answers}
-use Rattle.office_http.specs.Joined.{joined_steps}
+use Rattle.office_http.specs.Joined.{accepted_steps}
 use Rattle.office_http.specs.Stops.{StopsBy}
 use Rattle.procure_programs.specs.Placed.{HoldNothing, OpensEmpty}
 
 -- the office after so many steps at most, and what a stop may leave of it by then
-abbrev pub Serves : {S : Type 0} → Meaning S → ℕ → DeskOf S → DeskOf S → Type 0
-Serves M most old new =
+abbrev pub TakesTurns : {S : Type 0} → Meaning S → ℕ → DeskOf S → DeskOf S → Type 0
+TakesTurns M most old new =
     M.honest new.shelf → (h : Held) → StandsAs M old h
     → (steps : List Step) × (length steps ≤ most) × StandsAs M new (office_left office_answers h steps) × StopsBy M old.shelf new.shelf h steps
 
@@ -37,7 +38,7 @@ Serves M most old new =
 abbrev pub WasServed : {S : Type 0} → Meaning S → ℕ → Settings → S → S → Type 0
 WasServed M most settings old new =
     (M.honest new → M.honest old)
-    × ((now : Settings) × Serves M most (record { shelf = old; settings = settings }) (record { shelf = new; settings = now }))
+    × ((now : Settings) × TakesTurns M most (record { shelf = old; settings = settings }) (record { shelf = new; settings = now }))
 
 -- an office was opened in two files with these bytes and served under these settings, and this shelf is left: what they had was shown, and a stop could leave that
 -- and nothing else
@@ -50,23 +51,23 @@ pub record ServesOpened {D : Type 0} {g : Ghosts D} (image : Image) (settings : 
   pub served : WasServed (sql_meaning over_files) most settings opened left
 
 -- so it is, and all accepted commands, these joined, are kept
-abbrev pub KeepsServing : {S : Type 0} → Meaning S → ℕ → DeskOf S → DeskOf S → Type 0
-KeepsServing M most old new =
+abbrev pub TurnsKeepCommands : {S : Type 0} → Meaning S → ℕ → DeskOf S → DeskOf S → Type 0
+TurnsKeepCommands M most old new =
     M.honest new.shelf → (h : Held) → StandsAs M old h → (xs : List Given) → Reaches (publishing h.settings) xs h.tables
     → (steps : List Step) × (length steps ≤ most) × StandsAs M new (office_left office_answers h steps)
-    × IsKept h.settings (joined_steps h steps xs) (office_left office_answers h steps).tables
+    × OfficeIsKept h.settings (accepted_steps h steps xs) (office_left office_answers h steps).tables
 
 -- two files with these bytes have an office with this content: they hold it, or they hold nothing yet, and it is the empty one
 abbrev pub HaveOffice : Image → Tables → Type 0
-HaveOffice image t = HoldsOffice image t ⊎ (HoldNothing image × (t ≡ no_tables))
+HaveOffice image t = FilesHoldOffice image t ⊎ (HoldNothing image × (t ≡ no_tables))
 
 -- an office stands in two files with these bytes, as its commands left it
 abbrev pub StandsIn : Image → Held → Type 0
-StandsIn image h = IsSorted h.tables × HaveOffice image h.tables × Stands h.settings h.tables
+StandsIn image h = IsSorted h.tables × HaveOffice image h.tables × IsReached h.settings h.tables
 
 -- under these settings an office goes on from one pair of files to the other, by so many steps at most
-abbrev pub GoesOnIn : Image → Settings → ℕ → Image → Type 0
-GoesOnIn first settings most last =
+abbrev pub FilesGoOn : Image → Settings → ℕ → Image → Type 0
+FilesGoOn first settings most last =
     (h : Held) → h.settings ≡ settings → StandsIn first h
     → (steps : List Step) × (length steps ≤ most) × StandsIn last (office_left office_answers h steps)
 
@@ -78,7 +79,7 @@ StopsIn first settings most last =
 
 -- a day goes from one pair of files to the other: these were closed in the end, or a stop left them
 abbrev pub DayIn : Image → Settings → ℕ → Image → Type 0
-DayIn first settings most last = GoesOnIn first settings most last ⊎ StopsIn first settings most last
+DayIn first settings most last = FilesGoOn first settings most last ⊎ StopsIn first settings most last
 
 -- what is found of two files: what they read as, or what a stop leaves of them, with the log or without it
 abbrev pub MayBeFound : {D : Type 0} → Ghosts D → Files D → Image → Type 0
@@ -89,7 +90,7 @@ MayBeFound g files image =
 -- office goes on in whatever is found of them, be it the database file alone.
 abbrev pub ServesFiles : {D : Type 0} → Ghosts D → Image → Settings → ℕ → Files D → Type 0
 ServesFiles g image settings most files =
-    AreClean g files.log files.db → (now : Image) → MayBeFound g files now → GoesOnIn image settings most now
+    AreClean g files.log files.db → (now : Image) → MayBeFound g files now → FilesGoOn image settings most now
 
 -- The office in two files was served by so many steps at most, and a stop came before they were closed. Where the disk gave back what was written, the office goes
 -- on in whatever the stop leaves of these files: the log and the database file together.
@@ -98,7 +99,25 @@ StopsFiles image settings most store = IsClean (view store) → (now : Image) �
 
 -- Where a day finds the files as another left them, both are one; and so it is of days that end by a stop, whichever of them do.
 pub record DaysFollow : Type 0 where
-  pub closed : (settings : Settings) (first mid last : Image) (n m : ℕ) → GoesOnIn first settings n mid → GoesOnIn mid settings m last
-      → GoesOnIn first settings (n + m) last
+  pub closed : (settings : Settings) (first mid last : Image) (n m : ℕ) → FilesGoOn first settings n mid → FilesGoOn mid settings m last
+      → FilesGoOn first settings (n + m) last
   pub stopped : (settings : Settings) (first mid last : Image) (n m : ℕ) → DayIn first settings n mid → DayIn mid settings m last
       → StopsIn first settings (n + m) last
+
+-- the office that is held, under other settings
+abbrev pub under_settings : Settings → Held → Held
+under_settings settings h = record h { settings = settings }
+
+-- two days lead on to files in which it stands: so many steps at most, and under other settings so many more
+abbrev pub LedOn : Settings → ℕ → ℕ → Image → Held → Type 0
+LedOn after n m last h =
+    (steps : List Step) × (later : List Step) × (length steps ≤ n) × (length later ≤ m)
+    × StandsIn last (office_left office_answers (under_settings after (office_left office_answers h steps)) later)
+
+-- Where a day finds the files as another left them, and the clerk's key is another from then on, all else being the same, the office goes on under the new key
+-- from where the earlier day left it: with its rows and its releases, whichever of the days end by a stop.
+pub record KeysFollow : Type 0 where
+  pub closed : (before after : Settings) (first mid last : Image) (n m : ℕ) → SameButKey before after → FilesGoOn first before n mid → FilesGoOn mid after m last
+      → (h : Held) → h.settings ≡ before → StandsIn first h → LedOn after n m last h
+  pub stopped : (before after : Settings) (first mid last : Image) (n m : ℕ) → SameButKey before after → DayIn first before n mid → DayIn mid after m last
+      → (h : Held) → h.settings ≡ before → StandsIn first h → ∥ LedOn after n m last h ∥₁

@@ -1,8 +1,8 @@
 -- What a program shows of an office.
 use Rattle.std.specs.Prelude.{ℕ, Result, Ok, Err, Vec}
 use Rattle.std.specs.declared.alloc.Global.{Global}
-use Rattle.office_acts.specs.declared.command.Caller.TheVariants.{Public}
-use Rattle.office_acts.specs.declared.queries.Query.{Query}
+use Rattle.office_commands.specs.declared.command.Caller.TheVariants.{Public}
+use Rattle.office_commands.specs.declared.queries.Query.{Query}
 use Rattle.office_values.specs.declared.settings.Settings.{Settings}
 use Rattle.office_base.specs.Tables.{Tables}
 use Rattle.office_desk.specs.Steps.{IsSeen}

@@ -3,7 +3,7 @@ use Rattle.std.specs.Prelude.{◌≡◌, ◌⊎◌, ℕ, zero, suc, ◌<◌, Boo
 use Rattle.std.specs.Result.{result_unwrap_or}
 use Rattle.office_base.specs.Shelves.{Meaning}
 use Rattle.office_base.specs.declared.shelf.ShelfFault.{ShelfFault}
-use Rattle.stored_shelf.specs.Shutting.{Standing, TellsShut}
+use Rattle.office_base.specs.Shutting.{Standing, TellsShut}
 use Rattle.office_desk.specs.Desks.{DeskOf}
 use Rattle.office_http.specs.Stops.{StopsOnce}
 use Rattle.procure_config.specs.declared.fault.ProgramFault.{ProgramFault}
@@ -23,13 +23,13 @@ pub record ServesAndAsks {S : Type 0} (M : Meaning S) (store : Standing S) (old 
   pub settings : new.settings ≡ served.settings
 
 -- one connection: it couldn't be taken, or it was served and the store isn't known to be shut
-abbrev pub GoesOn : {S : Type 0} → Meaning S → Standing S → DeskOf S → DeskOf S → Type 0
-GoesOn M store old new = (new ≡ old) ⊎ ((answer : Result Bool ShelfFault) × ServesAndAsks M store old new answer × (is_known_shut answer ≡ false))
+abbrev pub IsOneTurn : {S : Type 0} → Meaning S → Standing S → DeskOf S → DeskOf S → Type 0
+IsOneTurn M store old new = (new ≡ old) ⊎ ((answer : Result Bool ShelfFault) × ServesAndAsks M store old new answer × (is_known_shut answer ≡ false))
 
 -- so many connections, one after another
 abbrev pub GoesOnFor : {S : Type 0} → Meaning S → Standing S → ℕ → DeskOf S → DeskOf S → Type 0
 GoesOnFor M store zero old new = new ≡ old
-GoesOnFor {S = S} M store (suc n) old new = (mid : DeskOf S) × GoesOnFor M store n old mid × GoesOn M store mid new
+GoesOnFor {S = S} M store (suc n) old new = (mid : DeskOf S) × GoesOnFor M store n old mid × IsOneTurn M store mid new
 
 -- what comes behind them where not all connections are taken: one more, behind which the store is shut; or the clock can't be read
 abbrev pub EndsBy : {S : Type 0} → Meaning S → Standing S → ProgramFault → DeskOf S → DeskOf S → Type 0

@@ -1,20 +1,20 @@
 //! What the programs do with an office that is kept, whatever keeps it.
 ghost use Rattle.std.specs.Prelude.{IfOk};
 ghost use Rattle.office_base.specs.Shelves.{Keeps};
-ghost use Rattle.procure_programs.specs.Serving.{Serves, WasServed};
+ghost use Rattle.procure_programs.specs.Serving.{TakesTurns, WasServed};
 
 use crate::config::no_memory;
 use crate::serving::serve;
 use crate::showing::show;
-use office_acts::queries::Query;
 use office_base::shelf::{Lookups, Shelf};
+use office_base::stored::StoredShelf;
+use office_commands::queries::Query;
 use office_desk::desk::Desk;
 use office_http::office::Office;
 use office_values::settings::Settings;
 use procure_config::fault::ProgramFault;
 use std::io::Write;
 use std::net::{Ipv4Addr, TcpListener};
-use stored_shelf::stored::StoredShelf;
 
 // Serves so many connections on 127.0.0.1 and this port. `Input` also where the port can't be had.
 fn serve_at<H: StoredShelf + Drop>(
@@ -24,7 +24,7 @@ fn serve_at<H: StoredShelf + Drop>(
     count: u32,
 ) -> Result<(), ProgramFault>
     ensures before { H.meaning.honest office.new.shelf → H.meaning.honest office.old.shelf }
-    ensures serves { Serves H.meaning count office.old office.new }
+    ensures serves { TakesTurns H.meaning count office.old office.new }
 {
     let Ok(listener) = TcpListener::bind(rt, (Ipv4Addr::LOCALHOST, port)) else {
         return Err(ProgramFault::Input);

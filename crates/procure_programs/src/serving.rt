@@ -1,11 +1,12 @@
 //! An office that is served over connections of TCP, one after another.
 ghost use Rattle.std.specs.Prelude.{◌≡◌, ◌⊎◌, IfErr};
 ghost use Rattle.office_http.specs.Stops.{StopsOnce};
-ghost use Rattle.procure_programs.specs.Serving.{KeepsServing, Serves};
+ghost use Rattle.procure_programs.specs.Serving.{TurnsKeepCommands, TakesTurns};
 ghost use Rattle.procure_programs.specs.Turns.{ServesInTurn};
 
 use crate::clock::moment_now;
 use office_base::shelf::{Lookups, Shelf};
+use office_base::stored::StoredShelf;
 use office_http::answering::fault_response;
 use office_http::laws;
 use office_http::office::{Office, serve_one};
@@ -20,7 +21,6 @@ use std::io;
 use std::io::BufReader;
 use std::net::{TcpListener, TcpStream};
 use std::time::{Clock, Duration};
-use stored_shelf::stored::StoredShelf;
 
 /// How many seconds a read or a write of a socket may wait.
 pub const PATIENCE: u64 = 10;
@@ -94,11 +94,11 @@ pub fn serve<C: Clock, H: StoredShelf + Drop>(
     count: u32,
 ) -> Result<(), ProgramFault>
     ensures before { H.meaning.honest office.new.shelf → H.meaning.honest office.old.shelf }
-    ensures serves { Serves H.meaning count office.old office.new }
-    ensures kept { KeepsServing H.meaning count office.old office.new }
+    ensures serves { TakesTurns H.meaning count office.old office.new }
+    ensures kept { TurnsKeepCommands H.meaning count office.old office.new }
     ensures turns { ServesInTurn H.meaning H.store count office.old office.new result }
     ensures fault { IfErr result (λ fault. (fault ≡ ProgramFault.Store) ⊎ (fault ≡ ProgramFault.Input)) }
 {
-    laws::kept();
+    laws::accounts_and_fates();
     take_turns(clock, alloc, listener, office, count)
 }

@@ -6,14 +6,14 @@ use Rattle.std.specs.Cmp.Lexicographic.{nat_list_cmp_total}
 use Rattle.std.specs.declared.cmp.Ordering.{Ordering}
 use Rattle.std.specs.declared.cmp.Ordering.TheVariants.{Less, Equal, Greater}
 use Rattle.office_values.specs.Ids.{id_cmp}
-use Rattle.office_acts.specs.declared.budget.BudgetRow.{BudgetRow}
+use Rattle.office_commands.specs.declared.budget.BudgetRow.{BudgetRow}
 use Rattle.office_base.specs.Rows.{by_order, row_at}
 use Rattle.office_base.specs.Tables.{Tables, find_line, line_at}
 use Rattle.office_base.specs.Standings.{find_standing, columns_at, columns_of_row, standing_key, standing_of, standings}
-use Rattle.tender_core.specs.Rules.Import.{columns_after, after_row, after_rows, some_row, line_put, appropriation_of, free_of, cuts_nothing, cuts_too_much, passes_limit, import_conditions, import_effect}
-use Rattle.tender_core.specs.Agreeing.{AgreeOnRows, ImportsAgree}
+use Rattle.tender_core.specs.Rules.Import.{columns_after, after_row, after_rows, any_while_walking, imported_line_put, appropriation_of, free_of, cuts_nothing, cuts_too_much, passes_limit, cuts_below_zero, import_lacks, import_tests, import_puts}
+use Rattle.tender_core.specs.Agreeing.{AgreeOnRows, ImportsAgree, import_on}
+use Rattle.tender_core.specs.declared.import.ImportRows.{ImportRows}
 use Rattle.office_base.specs.declared.records.LineRow.{LineRow}
-use Rattle.office_base.specs.declared.records.ClockRow.{ClockRow}
 use Rattle.office_base.specs.declared.puts.Put.{Put}
 use Rattle.office_base.specs.declared.puts.Put.TheVariants as puts
 use Rattle.office_base.specs.declared.standing.Columns.{Columns}
@@ -50,29 +50,33 @@ agree_after_rows m n [] others h all = all
 agree_after_rows m n (row ∷ rows) others h all =
     agree_after_rows (after_row m row) (after_row n row) rows others (agree_after m n row rows h.0 h.1) (agree_after m n row others h.0 all)
 
-pub some_row-agree : (test : Option Columns → BudgetRow → Bool) (m n : List Standing) (rows : List BudgetRow) → AgreeOnRows m n rows → some_row test m rows ≡ some_row test n rows
-some_row-agree test m n [] h = refl
-some_row-agree test m n (row ∷ rows) h =
-    ap (λ c. test c row || some_row test (after_row m row) rows) h.0
-    ∙ ap (λ b. test (columns_at n row.line) row || b) (some_row-agree test (after_row m row) (after_row n row) rows (agree_after m n row rows h.0 h.1))
+pub any_while_walking-agree : (test : Option Columns → BudgetRow → Bool) (m n : List Standing) (rows : List BudgetRow) → AgreeOnRows m n rows → any_while_walking test m rows ≡ any_while_walking test n rows
+any_while_walking-agree test m n [] h = refl
+any_while_walking-agree test m n (row ∷ rows) h =
+    ap (λ c. test c row || any_while_walking test (after_row m row) rows) h.0
+    ∙ ap (λ b. test (columns_at n row.line) row || b) (any_while_walking-agree test (after_row m row) (after_row n row) rows (agree_after m n row rows h.0 h.1))
 
-pub lines_put-agree : (m n : List Standing) (rows : List BudgetRow) → AgreeOnRows m n rows → map (line_put m) rows ≡ map (line_put n) rows
+pub lines_put-agree : (m n : List Standing) (rows : List BudgetRow) → AgreeOnRows m n rows → map (imported_line_put m) rows ≡ map (imported_line_put n) rows
 lines_put-agree m n [] h = refl
 lines_put-agree m n (row ∷ rows) h =
     let put : Option Columns → Put = λ c. puts.Line (record { line = row.line; title = row.title; appropriation = appropriation_of c; free = free_of c }) in
-    ap (λ c. put c ∷ map (line_put m) rows) h.0
-    ∙ ap (λ ps. line_put n row ∷ ps) (lines_put-agree m n rows h.1)
+    ap (λ c. put c ∷ map (imported_line_put m) rows) h.0
+    ∙ ap (λ ps. imported_line_put n row ∷ ps) (lines_put-agree m n rows h.1)
 
 -- the import is refused alike, and puts the same
-pub tests-agree : (m n : List Standing) (exists : Bool) (rows : List BudgetRow) → AgreeOnRows m n rows → import_conditions m exists rows ≡ import_conditions n exists rows
-tests-agree m n exists rows h =
-    rw (some_row-agree cuts_nothing m n rows h, some_row-agree cuts_too_much m n rows h, some_row-agree passes_limit m n rows h) refl
+pub tests-agree : (m n : List Standing) (rows : ImportRows) → AgreeOnRows m n rows.file.rows → import_tests (import_on m rows) ≡ import_tests (import_on n rows)
+tests-agree m n rows h =
+    rw (any_while_walking-agree cuts_nothing m n rows.file.rows h, any_while_walking-agree cuts_too_much m n rows.file.rows h, any_while_walking-agree passes_limit m n rows.file.rows h) refl
 
-pub puts-agree : (clock : ClockRow) (t : ℕ) (batch : List ℕ) (m n : List Standing) (rows : List BudgetRow) → AgreeOnRows m n rows
-    → import_effect clock t batch m rows ≡ import_effect clock t batch n rows
-puts-agree clock t batch m n rows h =
-    ap (λ ps. ps ++ (puts.Batch (record { batch = batch; moment = t; rows = length rows }) ∷ puts.Clock (record clock { moment = t }) ∷ []))
-    (lines_put-agree (after_rows m rows) (after_rows n rows) rows (agree_after_rows m n rows rows h h))
+pub puts-agree : (m n : List Standing) (rows : ImportRows) (t : ℕ) (batch : List ℕ) → AgreeOnRows m n rows.file.rows
+    → import_puts (import_on m rows) t batch ≡ import_puts (import_on n rows) t batch
+puts-agree m n rows t batch h =
+    let file = rows.file.rows in
+    ap (λ ps. ps ++ (puts.Batch (record { batch = batch; moment = t; rows = length file }) ∷ puts.Clock (record rows.clock { moment = t }) ∷ []))
+    (lines_put-agree (after_rows m file) (after_rows n file) file (agree_after_rows m n file file h h))
+
+pub lacks-agree : (m n : List Standing) (rows : ImportRows) → AgreeOnRows m n rows.file.rows → import_lacks (import_on m rows) ≡ import_lacks (import_on n rows)
+lacks-agree m n rows h = any_while_walking-agree cuts_below_zero m n rows.file.rows h
 
 standing_step : (q : List ℕ) (x : LineRow) (found : Option LineRow) (rest : Option Standing) → rest ≡ option_map standing_of found
     → (c : Ordering) → by_order c None (Some (standing_of x)) rest ≡ option_map standing_of (by_order c None (Some x) found)
@@ -94,4 +98,4 @@ pub columns_at-standings : (t : Tables) (q : List ℕ) → columns_at (standings
 columns_at-standings t q = ap (option_and_then (λ (x : Standing). x.columns)) (find_standing-map t.lines q) ∙ columns_step (line_at q t)
 
 pub imports_agree : ImportsAgree
-imports_agree = record { tests = tests-agree; puts = puts-agree; columns = columns_at-standings }
+imports_agree = record { tests = tests-agree; puts = puts-agree; lacks = lacks-agree; columns = columns_at-standings }

@@ -1,16 +1,22 @@
 -- An opening puts the readings of its tenders.
-use Rattle.std.proofs.Common.{◌≡◌, refl, ap, ◌∷◌, [], ◌++◌, List, ℕ, map, Some, None}
-use Rattle.office_acts.specs.declared.item.Item.{Item}
+use Rattle.std.proofs.Common.{◌≡◌, refl, ap, ◌∷◌, [], ◌++◌, List, ℕ, map, Option, Some, None}
+use Rattle.office_commands.specs.declared.item.Item.{Item}
 use Rattle.office_base.specs.declared.reading.Reading.{Reading}
 use Rattle.office_base.specs.declared.puts.Put.TheVariants as puts
-use Rattle.office_base.specs.RuleParts.{clock_put}
-use Rattle.tender_core.specs.Rules.Open.{SealedTender, opened_put, opened_notice, with_reading, read_put, ReadingsArePut}
+use Rattle.office_base.specs.Transitions.{clock_put}
+use Rattle.tender_core.specs.Rules.Open.{SealedTender, opened_put, opened_notice, open_puts, opened_with, with_reading, read_put, ReadingsArePut}
+use Rattle.tender_core.specs.declared.opening.OpenRows.{OpenRows}
+use Rattle.office_base.specs.declared.records.NoticeRow.{NoticeRow}
 
 tenders_put : (read : List ℕ → List Item → Reading) (tenders : List SealedTender)
     → map (opened_put read) tenders ≡ map read_put (map (with_reading read) tenders)
 tenders_put read [] = refl
 tenders_put read (tender ∷ tenders) = ap (λ ps. opened_put read tender ∷ ps) (tenders_put read tenders)
 
+by_notice : (read : List ℕ → List Item → Reading) (rows : OpenRows) (t : ℕ) (tenders : List SealedTender) (notice : Option NoticeRow)
+    → open_puts read (record rows { notice = notice }) t tenders ≡ opened_with rows.clock t notice (map (with_reading read) tenders)
+by_notice read rows t tenders None = refl
+by_notice read rows t tenders (Some n) = ap (λ ps. ps ++ (puts.Notice (opened_notice t n) ∷ clock_put rows.clock t ∷ [])) (tenders_put read tenders)
+
 pub readings_put : ReadingsArePut
-readings_put read clock t None tenders = refl
-readings_put read clock t (Some n) tenders = ap (λ ps. ps ++ (puts.Notice (opened_notice t n) ∷ clock_put clock t ∷ [])) (tenders_put read tenders)
+readings_put read rows t tenders = by_notice read rows t tenders rows.notice

@@ -6,9 +6,9 @@ use Rattle.std.specs.Cmp.Lexicographic.{nat_list_cmp_total}
 use Rattle.std.specs.Ordering.{eq_by_cmp}
 use Rattle.office_values.specs.Ids.{id_cmp}
 use Rattle.std.proofs.lemmas.List.Elements.{All-weaker}
-use Rattle.office_acts.specs.declared.budget.BudgetRow.{BudgetRow}
+use Rattle.office_commands.specs.declared.budget.BudgetRow.{BudgetRow}
 use Rattle.office_base.specs.Standings.{find_standing, columns_at, standing_key}
-use Rattle.tender_core.specs.Rules.Import.{after_row, after_rows, some_row, columns_after, is_cut}
+use Rattle.tender_core.specs.Rules.Import.{after_row, after_rows, any_while_walking, columns_after, is_cut}
 use Rattle.office_base.specs.declared.standing.Columns.{Columns}
 use Rattle.office_base.specs.declared.standing.Standing.{Standing}
 use Rattle.office_base.specs.RowLaws.{RowsAreKept}
@@ -80,10 +80,10 @@ or_assoc false b c = refl
 
 pub next_found : (test : Option Columns → BudgetRow → Bool) (rows rest : List BudgetRow) (row : BudgetRow) (m m' : List Standing) (held : Option Columns) (before here all found : Bool)
     → rows ≡ row ∷ rest → m' ≡ after_row m row → held ≡ columns_at m row.line → here ≡ test held row → all ≡ before || here
-    → before || some_row test m rows ≡ found → all || some_row test m' rest ≡ found
+    → before || any_while_walking test m rows ≡ found → all || any_while_walking test m' rest ≡ found
 next_found test rows rest row m m' held before here all found split taken at found_here joined h =
-    ap (λ x. all || some_row test x rest) taken
-    ∙ ap (λ x. x || some_row test (after_row m row) rest) (joined ∙ ap (λ x. before || x) (found_here ∙ ap (λ x. test x row) at))
-    ∙ or_assoc before (test (columns_at m row.line) row) (some_row test (after_row m row) rest)
-    ∙ ap (λ x. before || some_row test m x) (sym split)
+    ap (λ x. all || any_while_walking test x rest) taken
+    ∙ ap (λ x. x || any_while_walking test (after_row m row) rest) (joined ∙ ap (λ x. before || x) (found_here ∙ ap (λ x. test x row) at))
+    ∙ or_assoc before (test (columns_at m row.line) row) (any_while_walking test (after_row m row) rest)
+    ∙ ap (λ x. before || any_while_walking test m x) (sym split)
     ∙ h

@@ -1,23 +1,21 @@
 -- A decision looks at the lines that its command names, and at no other: lines that agree there are decided on alike. So it may be
 -- given these alone, in place of all lines of the office.
-use Rattle.std.specs.Prelude.{◌≡◌, ℕ, Bool, List, Option, filter, option_map}
+use Rattle.std.specs.Prelude.{◌≡◌, ℕ, List, filter, option_map}
 use Rattle.std.specs.List.{AllByRecursion}
-use Rattle.office_acts.specs.declared.budget.BudgetRow.{BudgetRow}
-use Rattle.office_acts.specs.declared.lot.NewLot.{NewLot}
-use Rattle.office_acts.specs.declared.notice.NewNotice.{NewNotice}
+use Rattle.office_commands.specs.declared.budget.BudgetRow.{BudgetRow}
+use Rattle.office_commands.specs.declared.lot.NewLot.{NewLot}
+use Rattle.office_commands.specs.declared.notice.NewNotice.{NewNotice}
 use Rattle.office_base.specs.Tables.{Tables, find_line, line_at}
 use Rattle.office_base.specs.Standings.{columns_at, columns_of_row, standings}
 use Rattle.office_base.specs.declared.standing.Standing.{Standing}
 use Rattle.office_base.specs.declared.records.LineRow.{LineRow}
-use Rattle.office_base.specs.declared.records.NoticeRow.{NoticeRow}
 use Rattle.office_base.specs.declared.records.LotRow.{LotRow}
-use Rattle.office_base.specs.declared.records.EnvelopeRow.{EnvelopeRow}
-use Rattle.office_base.specs.declared.records.SecurityRow.{SecurityRow}
-use Rattle.office_base.specs.declared.records.AwardRow.{AwardRow}
-use Rattle.office_base.specs.declared.records.ClockRow.{ClockRow}
-use Rattle.tender_core.specs.Rules.Import.{import_conditions, import_effect}
-use Rattle.tender_core.specs.Rules.Publish.{publish_conditions, publish_effect}
-use Rattle.tender_core.specs.Rules.Cancel.{is_open_lot, cancel_effect}
+use Rattle.tender_core.specs.Rules.Import.{import_lacks, import_tests, import_puts}
+use Rattle.tender_core.specs.Rules.Publish.{publish_tests, publish_puts}
+use Rattle.tender_core.specs.Rules.Cancel.{is_open_lot, cancel_lacks, cancel_puts}
+use Rattle.tender_core.specs.declared.cancel.CancelRows.{CancelRows}
+use Rattle.tender_core.specs.declared.import.ImportRows.{ImportRows}
+use Rattle.tender_core.specs.declared.publish.PublishRows.{PublishRows}
 
 -- the same columns at each line that the rows of a file name
 abbrev pub AgreeOnRows : List Standing → List Standing → List BudgetRow → Type 0
@@ -31,24 +29,33 @@ AgreeOnNewLots m n lots = AllByRecursion (λ (lot : NewLot). find_line m lot.lin
 abbrev pub AgreeOnLots : List LineRow → List LineRow → List LotRow → Type 0
 AgreeOnLots m n lots = AllByRecursion (λ (l : LotRow). find_line m l.line ≡ find_line n l.line) lots
 
+-- the rows of an import, of a publication and of a cancellation with these lines in place of theirs
+abbrev pub import_on : List Standing → ImportRows → ImportRows
+import_on lines rows = record rows { file = record { lines = lines; rows = rows.file.rows } }
+
+abbrev pub publish_on : List LineRow → PublishRows → PublishRows
+publish_on lines rows = record rows { lines = lines }
+
+abbrev pub cancel_on : List LineRow → CancelRows → CancelRows
+cancel_on lines rows = record rows { lines = lines }
+
 pub record ImportsAgree : Type 0 where
-  pub tests : (m n : List Standing) (exists : Bool) (rows : List BudgetRow) → AgreeOnRows m n rows
-      → import_conditions m exists rows ≡ import_conditions n exists rows
-  pub puts : (clock : ClockRow) (t : ℕ) (batch : List ℕ) (m n : List Standing) (rows : List BudgetRow) → AgreeOnRows m n rows
-      → import_effect clock t batch m rows ≡ import_effect clock t batch n rows
+  pub tests : (m n : List Standing) (rows : ImportRows) → AgreeOnRows m n rows.file.rows → import_tests (import_on m rows) ≡ import_tests (import_on n rows)
+  pub puts : (m n : List Standing) (rows : ImportRows) (t : ℕ) (batch : List ℕ) → AgreeOnRows m n rows.file.rows
+      → import_puts (import_on m rows) t batch ≡ import_puts (import_on n rows) t batch
+  pub lacks : (m n : List Standing) (rows : ImportRows) → AgreeOnRows m n rows.file.rows → import_lacks (import_on m rows) ≡ import_lacks (import_on n rows)
   -- the columns of a line in the office are those of its row
   pub columns : (s : Tables) (line : List ℕ) → columns_at (standings s) line ≡ option_map columns_of_row (line_at line s)
 
 pub record PublishesAgree : Type 0 where
-  pub tests : (m n : List LineRow) (exists : Bool) (t : ℕ) (content : NewNotice) → AgreeOnNewLots m n content.lots
-      → publish_conditions m exists t content ≡ publish_conditions n exists t content
-  pub puts : (clock : ClockRow) (t : ℕ) (notice : List ℕ) (m n : List LineRow) (content : NewNotice) → AgreeOnNewLots m n content.lots
-      → publish_effect clock t notice m content ≡ publish_effect clock t notice n content
+  pub tests : (m n : List LineRow) (rows : PublishRows) (t : ℕ) (content : NewNotice) → AgreeOnNewLots m n content.lots
+      → publish_tests (publish_on m rows) t content ≡ publish_tests (publish_on n rows) t content
+  pub puts : (m n : List LineRow) (rows : PublishRows) (t : ℕ) (notice : List ℕ) (content : NewNotice) → AgreeOnNewLots m n content.lots
+      → publish_puts (publish_on m rows) t notice content ≡ publish_puts (publish_on n rows) t notice content
 
 -- of a cancellation, the lines of the lots that are still open
-abbrev pub CancelsAgree : Type 0
-CancelsAgree =
-    (clock : ClockRow) (t : ℕ) (m n : List LineRow) (notice : Option NoticeRow) (lots : List LotRow) (awards : List AwardRow)
-    (envelopes : List EnvelopeRow) (securities : List SecurityRow)
-    → AgreeOnLots m n (filter is_open_lot lots)
-    → cancel_effect clock t m notice lots awards envelopes securities ≡ cancel_effect clock t n notice lots awards envelopes securities
+pub record CancelsAgree : Type 0 where
+  pub lacks : (m n : List LineRow) (rows : CancelRows) → AgreeOnLots m n (filter is_open_lot rows.lots)
+      → cancel_lacks (cancel_on m rows) ≡ cancel_lacks (cancel_on n rows)
+  pub puts : (m n : List LineRow) (rows : CancelRows) (t : ℕ) → AgreeOnLots m n (filter is_open_lot rows.lots)
+      → cancel_puts (cancel_on m rows) t ≡ cancel_puts (cancel_on n rows) t

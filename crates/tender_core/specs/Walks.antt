@@ -1,7 +1,7 @@
 -- The lines that a budget file names, as they stand before it.
 use Rattle.std.specs.Prelude.{ℕ, ◌≤◌, List, Option, Some, None, All, IsSome}
 use Rattle.std.specs.List.{AllByRecursion}
-use Rattle.office_acts.specs.declared.budget.BudgetRow.{BudgetRow}
+use Rattle.office_commands.specs.declared.budget.BudgetRow.{BudgetRow}
 use Rattle.office_base.specs.Standings.{find_standing}
 use Rattle.office_base.specs.declared.standing.Columns.{Columns}
 use Rattle.office_base.specs.declared.standing.Standing.{Standing}

@@ -1,8 +1,8 @@
 //! Who gives a command, and when.
 ghost use Rattle.std.specs.Prelude.{◌≡◌, max};
 
-use office_acts::command::Caller;
 use office_base::records::ClockRow;
+use office_commands::command::Caller;
 use office_values::moment::Moment;
 
 /// Who gives a command, and the moment that is handed in.

@@ -4,8 +4,8 @@ ghost use Rattle.office_values.specs.Money.{total_limit};
 ghost use Rattle.tender_core.specs.Walks.{AreNamed, AreAtMost};
 
 use keyed_table::table::Table;
-use office_acts::budget::BudgetRows;
 use office_base::standing::Standing;
+use office_commands::budget::BudgetRows;
 use std::marker::Model;
 
 /// The rows of a budget file with the lines that they name, as these stand before it: each row's line is among them, without columns

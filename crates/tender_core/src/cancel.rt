@@ -1,25 +1,25 @@
 //! The decision on the cancellation of a notice.
-ghost use Rattle.std.specs.Prelude.{◌≡◌, ◌∷◌, ◌++◌, [], IfOk, IfErr, IfSome, IfNone, OnOk, Some, true};
+ghost use Rattle.std.specs.Prelude.{◌≡◌, ◌∷◌, ◌++◌, [], IfOk, IfErr, IfSome, IfNone, OnOk, Some, true, false};
 ghost use Rattle.std.specs.List.{list_any};
 ghost use Rattle.office_values.specs.declared.refusal.Refusal.TheVariants.{Unavailable};
 ghost use Rattle.office_base.specs.Deciding.{Decides};
 ghost use Rattle.office_base.specs.Rules.{first_of};
-ghost use Rattle.office_base.specs.RuleParts.{has_all_releases, clock_put};
+ghost use Rattle.office_base.specs.Transitions.{has_all_releases, clock_put};
 ghost use Rattle.office_base.specs.declared.puts.Put.TheVariants as puts;
-ghost use Rattle.tender_core.specs.Rules.Cancel.{is_open_lot, cancelled_notice, cancel_tests, cancel_puts, cancel_effect};
+ghost use Rattle.tender_core.specs.Rules.Cancel.{is_open_lot, cancelled_notice, cancel_lacks, cancel_tests, cancel_puts};
 
 use crate::ended::{
     is_open, push_awards, push_drops, push_envelopes, push_lines, push_lots, push_securities,
+    some_lacks_line,
 };
 use keyed_table::table::Table;
 use office_base::counts::ReleaseCount;
-use office_base::parts::{at_moment, has_all_releases};
 use office_base::puts::Put;
 use office_base::records::{
     AwardRow, ClockRow, EnvelopeRow, LineRow, LotRow, NoticeRow, NoticeState, SecurityRow,
 };
-use office_base::row::copy_of;
 use office_base::rows::Rows;
+use office_base::transitions::{at_moment, has_all_releases};
 use office_values::moment::Moment;
 use office_values::refusal::{Refusal, Thing};
 use std::alloc::Global;
@@ -44,8 +44,8 @@ fn some_is_open(lots: &[LotRow]) -> bool
     lots.iter().any(|row| is_open(row))
 }
 
-// The first refusal whose condition holds.
-fn refusal_of(rows: &CancelRows) -> Option<Refusal>
+/// Why the cancellation of a notice is refused.
+pub fn refusal(rows: &CancelRows) -> Option<Refusal>
     ensures { result ≡ first_of (cancel_tests rows.now) }
 {
     if rows.notice.is_none() {
@@ -83,28 +83,30 @@ fn push_notice(
     made: &mut Vec<Put>,
     t: Moment,
     clock: ClockRow,
-    notice: &NoticeRow,
+    notice: NoticeRow,
 ) -> Result<(), Refusal>
-    ensures puts { OnOk result (made.new.items ≡ made.old.items ++ (puts.Notice (cancelled_notice notice.now) ∷ clock_put clock t ∷ [])) }
+    ensures puts { OnOk result (made.new.items ≡ made.old.items ++ (puts.Notice (cancelled_notice notice) ∷ clock_put clock t ∷ [])) }
     ensures fault { IfErr result (λ e. e ≡ Unavailable) }
 {
-    let row = cancelled(copy_of(notice)?).ok_or(Refusal::Unavailable)?;
+    let row = cancelled(notice).ok_or(Refusal::Unavailable)?;
     made.push(Put::Notice(row))?;
     made.push(Put::Clock(at_moment(clock, t)))?;
     Ok(())
 }
 
-// The lines, the lots, their awards, their tenders and the securities of these, the notice and the clock.
-fn cancel_puts(
-    alloc: Global,
-    t: Moment,
-    rows: &CancelRows,
-    notice: &NoticeRow,
-) -> Result<Vec<Put>, Refusal>
-    ensures puts { IfOk result (λ made. made.items ≡ cancel_effect rows.now.clock t rows.now.lines (Some notice.now) rows.now.lots rows.now.awards rows.now.envelopes rows.now.securities) }
+/// What the cancellation of a notice puts: the lines, the lots, their awards, their tenders and the securities of these, the notice and
+/// the clock. `Unavailable` where the notice or the line of a lot that ends isn't there, the notice counts no more releases, or a line
+/// would have more free than 10^15.
+pub fn puts(alloc: Global, t: Moment, rows: CancelRows) -> Result<Vec<Put>, Refusal>
+    ensures puts { IfOk result (λ made. made.items ≡ cancel_puts rows t) }
+    ensures whole { IfOk result (λ _. cancel_lacks rows ≡ false) }
     ensures fault { IfErr result (λ e. e ≡ Unavailable) }
 {
+    let notice = rows.notice.ok_or(Refusal::Unavailable)?;
     let lots = rows.lots.as_slice();
+    if some_lacks_line(&rows.lines, lots) {
+        return Err(Refusal::Unavailable);
+    }
     let mut made = Vec::new(alloc);
     push_lines(&mut made, &rows.lines, lots)?;
     push_lots(&mut made, lots)?;
@@ -119,13 +121,10 @@ fn cancel_puts(
 /// Decides the cancellation of a notice: its refusal, or what it puts. Of the lines, those of the lots that are open are looked at.
 #[tactic(auto, unfolding(office_base::specs::Deciding::Decides))]
 pub fn decide_cancel(alloc: Global, t: Moment, rows: CancelRows) -> Result<Vec<Put>, Refusal>
-    ensures { Decides result (first_of (cancel_tests rows)) (cancel_puts rows t) }
+    ensures { Decides result (first_of (cancel_tests rows)) (cancel_lacks rows) (cancel_puts rows t) }
 {
-    if let Some(why) = refusal_of(&rows) {
-        return Err(why);
-    }
-    match &rows.notice {
-        Some(notice) => cancel_puts(alloc, t, &rows, notice),
-        None => Err(Refusal::Unavailable),
+    match refusal(&rows) {
+        Some(why) => Err(why),
+        None => puts(alloc, t, rows),
     }
 }

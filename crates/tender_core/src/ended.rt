@@ -1,8 +1,9 @@
 //! What ends with the lots of a notice that is cancelled.
 ghost use Rattle.std.specs.Prelude.{◌≡◌, ◌++◌, ◌<◌, ◌^◌, IfOk, IfErr, OnOk, filter, map};
+ghost use Rattle.std.specs.List.{list_any};
 ghost use Rattle.office_values.specs.declared.refusal.Refusal.TheVariants.{Unavailable};
-ghost use Rattle.office_base.specs.RuleParts.{security_returned};
-ghost use Rattle.tender_core.specs.Rules.Cancel.{is_open_lot, ends, freed, line_put, cancelled_lot, lot_put, is_ended_award, cancelled_award, award_put, is_ended_envelope, returned_envelope, envelope_put, drop_put, is_ended_security};
+ghost use Rattle.office_base.specs.Transitions.{security_returned};
+ghost use Rattle.tender_core.specs.Rules.Cancel.{is_open_lot, lacks_line, ends, freed, freed_line_put, cancelled_lot, cancelled_lot_put, is_ended_award, cancelled_award, award_put, is_ended_envelope, returned_envelope, envelope_put, drop_put, is_ended_security};
 
 use keyed_table::table::Table;
 use office_base::puts::Put;
@@ -39,6 +40,18 @@ fn ends(lots: &[LotRow], notice: &Id, lot: &Id) -> bool
     false
 }
 
+/// Whether the line of a lot that ends isn't there.
+pub fn some_lacks_line(lines: &Table<LineRow>, lots: &[LotRow]) -> bool
+    ensures { result ≡ list_any (lacks_line lines.now) (filter is_open_lot lots.now) }
+{
+    for row in lots {
+        if is_open(row) && lines.get(&row.line).is_none() {
+            return true;
+        }
+    }
+    false
+}
+
 // What the lots that end have reserved of a line.
 fn freed(line: &Id, lots: &[LotRow]) -> u128
     ensures sum { result ≡ freed line.now (filter is_open_lot lots.now) }
@@ -56,7 +69,7 @@ fn freed(line: &Id, lots: &[LotRow]) -> u128
 // The line of a lot, with what all lots that end had reserved of it free again. A line that isn't there, or a sum above the greatest
 // one, is a fault of the store, since no office that commands lead to has it.
 fn line_put(lines: &Table<LineRow>, lots: &[LotRow], lot: &LotRow) -> Result<Put, Refusal>
-    ensures put { IfOk result (λ put. put ≡ line_put lines.now (filter is_open_lot lots.now) lot.now) }
+    ensures put { IfOk result (λ put. put ≡ freed_line_put lines.now (filter is_open_lot lots.now) lot.now) }
     ensures fault { IfErr result (λ e. e ≡ Unavailable) }
 {
     match lines.get(&lot.line) {
@@ -79,7 +92,7 @@ pub fn push_lines(
     lines: &Table<LineRow>,
     lots: &[LotRow],
 ) -> Result<(), Refusal>
-    ensures puts { OnOk result (made.new.items ≡ made.old.items ++ map (line_put lines.now (filter is_open_lot lots.now)) (filter is_open_lot lots.now)) }
+    ensures puts { OnOk result (made.new.items ≡ made.old.items ++ map (freed_line_put lines.now (filter is_open_lot lots.now)) (filter is_open_lot lots.now)) }
     ensures fault { IfErr result (λ e. e ≡ Unavailable) }
 {
     for row in lots {
@@ -104,7 +117,7 @@ fn cancelled_lot(lot: &LotRow) -> Result<LotRow, AllocError>
 
 /// The lots that end.
 pub fn push_lots(made: &mut Vec<Put>, lots: &[LotRow]) -> Result<(), Refusal>
-    ensures puts { OnOk result (made.new.items ≡ made.old.items ++ map lot_put (filter is_open_lot lots.now)) }
+    ensures puts { OnOk result (made.new.items ≡ made.old.items ++ map cancelled_lot_put (filter is_open_lot lots.now)) }
     ensures fault { IfErr result (λ e. e ≡ Unavailable) }
 {
     for row in lots {
@@ -115,8 +128,8 @@ pub fn push_lots(made: &mut Vec<Put>, lots: &[LotRow]) -> Result<(), Refusal>
     Ok(())
 }
 
-// Whether it is an active award of a lot that ends.
-fn is_ended_award(lots: &[LotRow], award: &AwardRow) -> bool
+/// Whether it is an active award of a lot that ends.
+pub fn is_ended_award(lots: &[LotRow], award: &AwardRow) -> bool
     ensures { result ≡ is_ended_award lots.now award.now }
 {
     award.state == AwardState::Active && ends(lots, &award.notice, &award.lot)

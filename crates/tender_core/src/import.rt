@@ -5,18 +5,18 @@ ghost use Rattle.office_values.specs.declared.refusal.Refusal.TheVariants.{Unava
 ghost use Rattle.office_base.specs.Standings.{columns_at, find_standing};
 ghost use Rattle.office_base.specs.Deciding.{Decides};
 ghost use Rattle.office_base.specs.Rules.{first_of};
-ghost use Rattle.tender_core.specs.Rules.Import.{is_cut, columns_after, after_row, after_rows, some_row, cuts_nothing, cuts_too_much, passes_limit, import_tests, import_puts, line_put, puts_after, appropriation_of, free_of};
+ghost use Rattle.tender_core.specs.Rules.Import.{is_cut, columns_after, after_row, after_rows, any_while_walking, cuts_nothing, cuts_too_much, passes_limit, cuts_below_zero, import_lacks, import_tests, import_puts, imported_line_put, puts_after, appropriation_of, free_of};
 ghost use Rattle.tender_core.specs.Walks.{AreNamed, IsAtMost, AreAtMost};
 
 use crate::budget_file::BudgetFile;
 use keyed_table::table::Table;
-use office_acts::budget::{BudgetKind, BudgetRow};
 use office_base::counts::RowCount;
 use office_base::laws::rows_are_kept;
-use office_base::parts::at_moment;
 use office_base::puts::Put;
 use office_base::records::{BatchRow, ClockRow, LineRow};
 use office_base::standing::{Columns, Standing};
+use office_base::transitions::at_moment;
+use office_commands::budget::{BudgetKind, BudgetRow};
 use office_values::id::Id;
 use office_values::moment::Moment;
 use office_values::money::{TOTAL_LIMIT, Total};
@@ -40,6 +40,7 @@ struct Findings {
     unknown: bool,
     short: bool,
     past: bool,
+    lacking: bool,
 }
 
 // The columns of a line, where the office holds it.
@@ -88,6 +89,7 @@ fn findings_at(held: Option<Columns>, row: &BudgetRow) -> Findings
     ensures unknown { result.unknown ≡ cuts_nothing held row.now }
     ensures short { result.short ≡ cuts_too_much held row.now }
     ensures past { result.past ≡ passes_limit held row.now }
+    ensures lacking { result.lacking ≡ cuts_below_zero held row.now }
     ensures small { row.now.amount ≤ total_limit }
 {
     let (appropriation, free) = amounts(held);
@@ -97,11 +99,13 @@ fn findings_at(held: Option<Columns>, row: &BudgetRow) -> Findings
             unknown: false,
             short: false,
             past: appropriation + amount > TOTAL_LIMIT as u128,
+            lacking: false,
         },
         BudgetKind::Cut => Findings {
             unknown: held.is_none(),
             short: free < amount,
             past: false,
+            lacking: appropriation < amount,
         },
     }
 }
@@ -111,11 +115,13 @@ fn joined(first: Findings, second: Findings) -> Findings
     ensures unknown { result.unknown ≡ (first.unknown || second.unknown) }
     ensures short { result.short ≡ (first.short || second.short) }
     ensures past { result.past ≡ (first.past || second.past) }
+    ensures lacking { result.lacking ≡ (first.lacking || second.lacking) }
 {
     Findings {
         unknown: first.unknown || second.unknown,
         short: first.short || second.short,
         past: first.past || second.past,
+        lacking: first.lacking || second.lacking,
     }
 }
 
@@ -137,15 +143,17 @@ fn take_rows(lines: &mut Table<Standing>, rows: &[BudgetRow]) -> Findings
     requires named { AreNamed lines.old rows.now }
     requires fit { AreAtMost total_limit lines.old }
     ensures lines { lines.new ≡ after_rows lines.old rows.now }
-    ensures unknown { result.unknown ≡ some_row cuts_nothing lines.old rows.now }
-    ensures short { result.short ≡ some_row cuts_too_much lines.old rows.now }
-    ensures past { result.past ≡ some_row passes_limit lines.old rows.now }
+    ensures unknown { result.unknown ≡ any_while_walking cuts_nothing lines.old rows.now }
+    ensures short { result.short ≡ any_while_walking cuts_too_much lines.old rows.now }
+    ensures past { result.past ≡ any_while_walking passes_limit lines.old rows.now }
+    ensures lacking { result.lacking ≡ any_while_walking cuts_below_zero lines.old rows.now }
 {
     rows_are_kept::<Standing>();
     let mut all = Findings {
         unknown: false,
         short: false,
         past: false,
+        lacking: false,
     };
     for row in rows {
         let here = findings_at(columns_at(lines, &row.line), row);
@@ -158,7 +166,7 @@ fn take_rows(lines: &mut Table<Standing>, rows: &[BudgetRow]) -> Findings
 // The line of a row, with its columns after all rows. A column that is no sum of money is a fault of the store, since no office
 // that commands lead to has it.
 fn line_put(after: &Table<Standing>, row: &BudgetRow) -> Result<Put, Refusal>
-    ensures put { IfOk result (λ put. put ≡ line_put after.now row.now) }
+    ensures put { IfOk result (λ put. put ≡ imported_line_put after.now row.now) }
     ensures fault { IfErr result (λ e. e ≡ Unavailable) }
 {
     let (appropriation, free) = amounts(columns_at(after, &row.line));
@@ -197,7 +205,8 @@ fn import_puts(
     Ok(made)
 }
 
-/// Decides the import of a budget file: its refusal, or what it puts.
+/// Decides the import of a budget file: its refusal, or what it puts. `Unavailable` where a row would cut more than is appropriated to its
+/// line, of which as much is free, or a line would have more free than 10^15, as in no office that commands reach.
 #[tactic(auto, unfolding(office_base::specs::Deciding::Decides))]
 pub fn decide_import(
     alloc: Global,
@@ -205,7 +214,7 @@ pub fn decide_import(
     rows: ImportRows,
     batch: Id,
 ) -> Result<Vec<Put>, Refusal>
-    ensures { Decides result (first_of (import_tests rows)) (import_puts rows t batch) }
+    ensures { Decides result (first_of (import_tests rows)) (import_lacks rows) (import_puts rows t batch) }
 {
     let ImportRows {
         batch: held,
@@ -225,6 +234,9 @@ pub fn decide_import(
     }
     if budget.as_slice().len() > ROW_LIMIT || found.past {
         return Err(Refusal::LimitReached);
+    }
+    if found.lacking {
+        return Err(Refusal::Unavailable);
     }
     import_puts(alloc, t, clock, batch, &lines, budget.as_slice())
 }

@@ -5,7 +5,7 @@ pub mod amend_notice;
 pub mod asking;
 pub mod budget_file;
 pub mod cancel;
-mod ended;
+pub mod ended;
 pub mod import;
 pub mod laws;
 pub mod modify;

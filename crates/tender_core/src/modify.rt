@@ -1,17 +1,17 @@
 //! The decision on the modification of a tender.
-ghost use Rattle.std.specs.Prelude.{◌≡◌, ◌+◌, IfOk, IfErr, Some};
+ghost use Rattle.std.specs.Prelude.{◌≡◌, ◌+◌, IfOk, IfErr, false};
 ghost use Rattle.office_values.specs.declared.refusal.Refusal.TheVariants.{Unavailable};
 ghost use Rattle.sha2.specs.Sha256.{sha256};
 ghost use Rattle.office_base.specs.Deciding.{Decides};
 ghost use Rattle.office_base.specs.Rules.{first_of};
-ghost use Rattle.tender_core.specs.Rules.Modify.{replacing, modify_tests, modify_puts, modify_effect};
+ghost use Rattle.tender_core.specs.Rules.Modify.{replacing, modify_lacks, modify_tests, modify_puts};
 
 use crate::receipts::{length_of, next_receipt, receipt_clock};
 use crate::tenders::{is_by, is_past_deadline, withdrawn};
-use office_acts::command::Caller;
-use office_acts::sealed::{Sealed, SealedBytes};
 use office_base::puts::Put;
 use office_base::records::{ClockRow, EnvelopeRow, EnvelopeState, NoticeRow, SealRow};
+use office_commands::command::Caller;
+use office_commands::sealed::{Sealed, SealedBytes};
 use office_values::given::GivenNumber;
 use office_values::moment::Moment;
 use office_values::refusal::{Refusal, Thing};
@@ -53,21 +53,47 @@ fn replacing(
     }
 }
 
-// The old tender, whose bytes are dropped, the new one with its bytes, and the clock.
-fn modify_puts(
+/// Why the modification of a tender is refused.
+pub fn refusal(t: Moment, caller: &Caller, rows: &ModifyRows) -> Option<Refusal>
+    ensures { result ≡ first_of (modify_tests rows.now t caller.now) }
+{
+    let Some(row) = &rows.envelope else {
+        return Some(Refusal::NoSuch(Thing::Tender));
+    };
+    if !is_by(caller, &row.tenderer) {
+        return Some(Refusal::NotYourTender);
+    }
+    if is_past_deadline(t, &rows.notice) {
+        return Some(Refusal::DeadlinePassed);
+    }
+    if row.state != EnvelopeState::Sealed {
+        return Some(Refusal::NotSealed);
+    }
+    if next_receipt(&rows.clock).is_none() {
+        return Some(Refusal::LimitReached);
+    }
+    None
+}
+
+/// What the modification of a tender puts: the old tender, whose bytes are dropped, the new one with its bytes, and the clock.
+/// `Unavailable` where the tender or its notice isn't there, or all receipts are given out.
+pub fn puts(
     alloc: Global,
     t: Moment,
-    clock: ClockRow,
-    row: EnvelopeRow,
-    receipt: GivenNumber,
+    rows: ModifyRows,
     sealed: &Sealed<'_>,
 ) -> Result<Vec<Put>, Refusal>
-    requires { receipt ≡ clock.receipts + 1 }
-    ensures puts { IfOk result (λ made. made.items ≡ modify_effect sha256 clock t (Some row) sealed.now) }
+    ensures puts { IfOk result (λ made. made.items ≡ modify_puts sha256 rows t sealed.now) }
+    ensures whole { IfOk result (λ _. modify_lacks rows ≡ false) }
     ensures fault { IfErr result (λ e. e ≡ Unavailable) }
 {
+    let row = rows.envelope.ok_or(Refusal::Unavailable)?;
+    if rows.notice.is_none() {
+        return Err(Refusal::Unavailable);
+    }
+    let receipt = next_receipt(&rows.clock).ok_or(Refusal::Unavailable)?;
     let old = row.receipt;
-    let new = replacing(&clock, t, &row, receipt, sealed);
+    let new = replacing(&rows.clock, t, &row, receipt, sealed);
     let mut made = Vec::with_capacity(alloc, 5)?;
     made.push(Put::Envelope(withdrawn(row)))?;
     made.push(Put::DropSeal(old))?;
@@ -76,7 +102,7 @@ fn modify_puts(
         receipt,
         bytes: SealedBytes::copy_of(alloc, sealed)?,
     }))?;
-    made.push(receipt_clock(clock, t, receipt))?;
+    made.push(receipt_clock(rows.clock, t, receipt))?;
     Ok(made)
 }
 
@@ -89,27 +115,10 @@ pub fn decide_modify(
     rows: ModifyRows,
     sealed: &Sealed<'_>,
 ) -> Result<Vec<Put>, Refusal>
-    ensures { Decides result (first_of (modify_tests rows t caller.now)) (modify_puts sha256 rows t sealed.now) }
+    ensures { Decides result (first_of (modify_tests rows t caller.now)) (modify_lacks rows) (modify_puts sha256 rows t sealed.now) }
 {
-    let ModifyRows {
-        envelope,
-        notice,
-        clock,
-    } = rows;
-    let Some(row) = envelope else {
-        return Err(Refusal::NoSuch(Thing::Tender));
-    };
-    if !is_by(caller, &row.tenderer) {
-        return Err(Refusal::NotYourTender);
+    match refusal(t, caller, &rows) {
+        Some(why) => Err(why),
+        None => puts(alloc, t, rows, sealed),
     }
-    if is_past_deadline(t, &notice) {
-        return Err(Refusal::DeadlinePassed);
-    }
-    if row.state != EnvelopeState::Sealed {
-        return Err(Refusal::NotSealed);
-    }
-    let Some(receipt) = next_receipt(&clock) else {
-        return Err(Refusal::LimitReached);
-    };
-    modify_puts(alloc, t, clock, row, receipt, sealed)
 }

@@ -1,17 +1,17 @@
 //! The decision on the opening of the tenders of a notice.
-ghost use Rattle.std.specs.Prelude.{◌≡◌, ◌++◌, IfSome, IfNone, IfErr, OnOk, Some, true, false, map, filter};
+ghost use Rattle.std.specs.Prelude.{◌≡◌, ◌++◌, IfSome, IfNone, IfOk, IfErr, OnOk, Some, true, map, filter};
 ghost use Rattle.office_values.specs.declared.refusal.Refusal.TheVariants.{Unavailable};
 ghost use Rattle.office_base.specs.Deciding.{Decides};
 ghost use Rattle.office_base.specs.Rules.{first_of};
-ghost use Rattle.office_base.specs.RuleParts.{has_all_releases};
-ghost use Rattle.tender_core.specs.Rules.Open.{is_sealed_envelope, read_envelope, read_put, opened_notice, open_tests, opened_with};
+ghost use Rattle.office_base.specs.Transitions.{has_all_releases};
+ghost use Rattle.tender_core.specs.Rules.Open.{is_sealed_envelope, read_envelope, read_put, opened_notice, open_lacks, open_tests, opened_with};
 
 use office_base::counts::ReleaseCount;
-use office_base::parts::at_moment;
 use office_base::puts::Put;
 use office_base::reading::Reading;
 use office_base::records::{ClockRow, EnvelopeRow, EnvelopeState, NoticeRow, NoticeState};
 use office_base::rows::Rows;
+use office_base::transitions::{at_moment, has_all_releases};
 use office_values::moment::Moment;
 use office_values::refusal::{Refusal, Thing};
 use std::alloc::Global;
@@ -74,7 +74,6 @@ fn push_tenders(made: &mut Vec<Put>, tenders: &[OpenedTender]) -> Result<(), Ref
 // The notice, opened at this moment, with one release more; None exactly where it has all that it can have.
 fn opened(t: Moment, notice: NoticeRow) -> Option<NoticeRow>
     ensures found { IfSome result (λ row. row ≡ opened_notice t notice) }
-    ensures few { IfSome result (λ _. has_all_releases (Some notice) ≡ false) }
     ensures none { IfNone result (has_all_releases (Some notice) ≡ true) }
 {
     let releases = ReleaseCount::read(notice.releases.get() + 1)?;
@@ -86,6 +85,49 @@ fn opened(t: Moment, notice: NoticeRow) -> Option<NoticeRow>
     })
 }
 
+/// Why the opening of the tenders of a notice is refused.
+pub fn refusal(t: Moment, rows: &OpenRows) -> Option<Refusal>
+    ensures { result ≡ first_of (open_tests rows.now t) }
+{
+    let Some(row) = &rows.notice else {
+        return Some(Refusal::NoSuch(Thing::Notice));
+    };
+    if row.state == NoticeState::Cancelled {
+        return Some(Refusal::NotOpenForTenders);
+    }
+    if t.second() < row.deadline.second() {
+        return Some(Refusal::TooEarlyToOpen);
+    }
+    if row.state == NoticeState::Opened {
+        return Some(Refusal::AlreadyOpened);
+    }
+    if has_all_releases(&rows.notice) {
+        return Some(Refusal::LimitReached);
+    }
+    None
+}
+
+/// What the opening of these tenders puts: the sealed ones of the notice, each with what was read in it. `Unavailable` where the notice
+/// isn't there, or counts no more releases.
+pub fn puts(
+    alloc: Global,
+    t: Moment,
+    rows: OpenRows,
+    tenders: Rows<OpenedTender>,
+) -> Result<Vec<Put>, Refusal>
+    ensures puts { IfOk result (λ made. made.items ≡ opened_with rows.clock t rows.notice tenders) }
+    ensures fault { IfErr result (λ e. e ≡ Unavailable) }
+{
+    let notice = rows.notice.ok_or(Refusal::Unavailable)?;
+    let notice = opened(t, notice).ok_or(Refusal::Unavailable)?;
+    let mut made = Vec::new(alloc);
+    made.reserve(tenders.as_slice().len().saturating_add(2))?;
+    push_tenders(&mut made, tenders.as_slice())?;
+    made.push(Put::Notice(notice))?;
+    made.push(Put::Clock(at_moment(rows.clock, t)))?;
+    Ok(made)
+}
+
 /// Decides the opening of the tenders of a notice: its refusal, or what it puts. The tenders are the sealed ones of the notice, each
 /// with what was read in it.
 #[tactic(auto, unfolding(office_base::specs::Deciding::Decides))]
@@ -95,28 +137,10 @@ pub fn decide_open(
     rows: OpenRows,
     tenders: Rows<OpenedTender>,
 ) -> Result<Vec<Put>, Refusal>
-    ensures { Decides result (first_of (open_tests rows t)) (opened_with rows.clock t rows.notice tenders) }
+    ensures { Decides result (first_of (open_tests rows t)) (open_lacks rows) (opened_with rows.clock t rows.notice tenders) }
 {
-    let OpenRows { notice, clock } = rows;
-    let Some(row) = notice else {
-        return Err(Refusal::NoSuch(Thing::Notice));
-    };
-    if row.state == NoticeState::Cancelled {
-        return Err(Refusal::NotOpenForTenders);
+    match refusal(t, &rows) {
+        Some(why) => Err(why),
+        None => puts(alloc, t, rows, tenders),
     }
-    if t.second() < row.deadline.second() {
-        return Err(Refusal::TooEarlyToOpen);
-    }
-    if row.state == NoticeState::Opened {
-        return Err(Refusal::AlreadyOpened);
-    }
-    let Some(row) = opened(t, row) else {
-        return Err(Refusal::LimitReached);
-    };
-    let mut made = Vec::new(alloc);
-    made.reserve(tenders.as_slice().len().saturating_add(2))?;
-    push_tenders(&mut made, tenders.as_slice())?;
-    made.push(Put::Notice(row))?;
-    made.push(Put::Clock(at_moment(clock, t)))?;
-    Ok(made)
 }

@@ -3,24 +3,24 @@ ghost use Rattle.std.specs.Prelude.{◌≡◌, ◌+◌, ◌++◌, ◌&&◌, IfOk
 ghost use Rattle.std.specs.List.{list_any};
 ghost use Rattle.sha2.specs.Sha256.{sha256};
 ghost use Rattle.office_values.specs.declared.refusal.Refusal.TheVariants.{Unavailable};
-ghost use Rattle.office_acts.specs.declared.command.Caller.TheVariants.{Tenderer};
+ghost use Rattle.office_commands.specs.declared.command.Caller.TheVariants.{Tenderer};
 ghost use Rattle.office_base.specs.Deciding.{Decides};
 ghost use Rattle.office_base.specs.Rows.{holds_of};
 ghost use Rattle.office_base.specs.Rules.{first_of};
-ghost use Rattle.office_base.specs.RuleParts.{put_if, receipt_clock};
-ghost use Rattle.tender_core.specs.Rules.Present.{is_sealed_by, asks_security, is_too_small, received, security_row, security_put, seal_puts, received_puts, present_tests, present_puts};
+ghost use Rattle.office_base.specs.Transitions.{put_if, receipt_clock};
+ghost use Rattle.tender_core.specs.Rules.Present.{is_sealed_by, asks_security, is_too_small, received, security_row, security_put, seal_puts, received_puts, present_lacks, present_tests, present_puts};
 
 use crate::receipts::{length_of, next_receipt, receipt_clock};
 use crate::tenders::{is_by, is_in_time};
-use office_acts::command::Caller;
-use office_acts::sealed::{Sealed, SealedBytes};
-use office_acts::tender::NamedSecurity;
 use office_base::puts::Put;
 use office_base::records::{
     ClockRow, EnvelopeRow, EnvelopeState, LotRow, NoticeRow, NoticeState, SealRow, SecurityRow,
     SecurityState,
 };
 use office_base::rows::Rows;
+use office_commands::command::Caller;
+use office_commands::sealed::{Sealed, SealedBytes};
+use office_commands::tender::NamedSecurity;
 use office_values::given::GivenNumber;
 use office_values::id::Id;
 use office_values::moment::Moment;
@@ -81,11 +81,11 @@ fn isnt_asked(lot: &LotRow, security: &Option<NamedSecurity>) -> bool
     lot.security.units() == 0 && security.is_some()
 }
 
-// The first refusal whose condition holds.
-fn refusal_of(
-    rows: &PresentRows,
+/// Why a tender that is presented is refused.
+pub fn refusal(
     t: Moment,
     caller: &Caller,
+    rows: &PresentRows,
     security: &Option<NamedSecurity>,
 ) -> Option<Refusal>
     ensures { result ≡ first_of (present_tests rows.now t caller.now security.now) }
@@ -229,6 +229,36 @@ fn received_puts(
     Ok(made)
 }
 
+/// What a tender that is presented puts. `Unavailable` where no tenderer presents it, or all receipts are given out.
+pub fn puts(
+    alloc: Global,
+    t: Moment,
+    caller: &Caller,
+    rows: PresentRows,
+    notice: Id,
+    lot: Id,
+    security: Option<NamedSecurity>,
+    sealed: &Sealed<'_>,
+) -> Result<Vec<Put>, Refusal>
+    ensures puts { IfOk result (λ made. made.items ≡ present_puts sha256 rows t caller.now notice lot security sealed.now) }
+    ensures fault { IfErr result (λ e. e ≡ Unavailable) }
+{
+    let Caller::Tenderer(tenderer) = caller else {
+        return Err(Refusal::Unavailable);
+    };
+    let number = next_receipt(&rows.clock).ok_or(Refusal::Unavailable)?;
+    let receipt = Receipt {
+        clock: rows.clock,
+        t,
+        tenderer: *tenderer,
+        notice,
+        lot,
+        number,
+        in_time: is_in_time(t, &rows.notice),
+    };
+    received_puts(alloc, &receipt, &security, sealed)
+}
+
 /// Decides a tender that is presented: its refusal, or what it puts. Tenderers alone may present one.
 #[tactic(auto, unfolding(office_base::specs::Deciding::Decides))]
 pub fn decide_present(
@@ -241,25 +271,10 @@ pub fn decide_present(
     security: Option<NamedSecurity>,
     sealed: &Sealed<'_>,
 ) -> Result<Vec<Put>, Refusal>
-    ensures { Decides result (first_of (present_tests rows t caller.now security)) (present_puts sha256 rows t caller.now notice lot security sealed.now) }
+    ensures { Decides result (first_of (present_tests rows t caller.now security)) (present_lacks rows) (present_puts sha256 rows t caller.now notice lot security sealed.now) }
 {
-    if let Some(why) = refusal_of(&rows, t, caller, &security) {
-        return Err(why);
+    match refusal(t, caller, &rows, &security) {
+        Some(why) => Err(why),
+        None => puts(alloc, t, caller, rows, notice, lot, security, sealed),
     }
-    let Caller::Tenderer(tenderer) = caller else {
-        return Err(Refusal::Unavailable);
-    };
-    let Some(number) = next_receipt(&rows.clock) else {
-        return Err(Refusal::Unavailable);
-    };
-    let receipt = Receipt {
-        clock: rows.clock,
-        t,
-        tenderer: *tenderer,
-        notice,
-        lot,
-        number,
-        in_time: is_in_time(t, &rows.notice),
-    };
-    received_puts(alloc, &receipt, &security, sealed)
 }

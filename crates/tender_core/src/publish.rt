@@ -6,17 +6,17 @@ ghost use Rattle.office_base.specs.Tables.{find_line};
 ghost use Rattle.office_base.specs.Joined.{free_in};
 ghost use Rattle.office_base.specs.Deciding.{Decides};
 ghost use Rattle.office_base.specs.Rules.{first_of};
-ghost use Rattle.office_base.specs.RuleParts.{clock_put};
-ghost use Rattle.tender_core.specs.Rules.Publish.{wanted, is_on_no_line, is_short, has_too_many_items, publish_tests, publish_puts, line_put, lot_put, notice_put, publish_conditions, late_puts};
+ghost use Rattle.office_base.specs.Transitions.{clock_put};
+ghost use Rattle.tender_core.specs.Rules.Publish.{wanted, is_on_no_line, is_short, has_too_many_items, publish_lacks, publish_tests, publish_puts, reserving_line_put, new_lot_put, notice_put, late_puts};
 
 use keyed_table::table::Table;
-use office_acts::amounts::amount_of;
-use office_acts::lot::NewLot;
-use office_acts::notice::{LateWithdrawal, NewNotice};
 use office_base::counts::{AmendmentCount, ReleaseCount};
-use office_base::parts::at_moment;
 use office_base::puts::Put;
 use office_base::records::{ClockRow, LateRow, LineRow, LotRow, LotState, NoticeRow, NoticeState};
+use office_base::transitions::at_moment;
+use office_commands::amounts::amount_of;
+use office_commands::lot::NewLot;
+use office_commands::notice::{LateWithdrawal, NewNotice};
 use office_values::id::Id;
 use office_values::moment::Moment;
 use office_values::money::Total;
@@ -96,15 +96,16 @@ fn is_too_long(lots: &[NewLot]) -> bool
     lots.len() > LOT_LIMIT || some_has_too_many_items(lots)
 }
 
-// The first refusal whose condition holds.
-fn refusal_of(lines: &Table<LineRow>, exists: bool, t: Moment, new: &NewNotice) -> Option<Refusal>
-    ensures { result ≡ first_of (publish_conditions lines.now exists t new.now) }
+/// Why the publication of a notice is refused.
+pub fn refusal(t: Moment, rows: &PublishRows, new: &NewNotice) -> Option<Refusal>
+    ensures { result ≡ first_of (publish_tests rows.now t new.now) }
 {
+    let lines = &rows.lines;
     let lots = new.lots.as_slice();
     if is_on_no_line(lines, lots) {
         return Some(Refusal::NoSuch(Thing::Line));
     }
-    if exists {
+    if rows.notice.is_some() {
         return Some(Refusal::Exists);
     }
     if new.deadline.second() <= t.second() {
@@ -121,7 +122,7 @@ fn refusal_of(lines: &Table<LineRow>, exists: bool, t: Moment, new: &NewNotice) 
 
 // The line of a lot, with what all lots want of it no longer free.
 fn line_put(lines: &Table<LineRow>, lots: &[NewLot], lot: &NewLot) -> Result<Put, Refusal>
-    ensures put { IfOk result (λ put. put ≡ line_put lines.now lots.now lot.now) }
+    ensures put { IfOk result (λ put. put ≡ reserving_line_put lines.now lots.now lot.now) }
     ensures fault { IfErr result (λ e. e ≡ Unavailable) }
 {
     match lines.get(&lot.line) {
@@ -138,7 +139,7 @@ fn line_put(lines: &Table<LineRow>, lots: &[NewLot], lot: &NewLot) -> Result<Put
 
 // The lines of all lots.
 fn push_lines(made: &mut Vec<Put>, lines: &Table<LineRow>, lots: &[NewLot]) -> Result<(), Refusal>
-    ensures puts { OnOk result (made.new.items ≡ made.old.items ++ map (line_put lines.now lots.now) lots.now) }
+    ensures puts { OnOk result (made.new.items ≡ made.old.items ++ map (reserving_line_put lines.now lots.now) lots.now) }
     ensures fault { IfErr result (λ e. e ≡ Unavailable) }
 {
     for lot in lots {
@@ -149,7 +150,7 @@ fn push_lines(made: &mut Vec<Put>, lines: &Table<LineRow>, lots: &[NewLot]) -> R
 
 // The lot, undecided, with its estimate reserved.
 fn lot_put(notice: Id, lot: NewLot) -> Put
-    ensures { result ≡ lot_put notice lot }
+    ensures { result ≡ new_lot_put notice lot }
 {
     Put::Lot(LotRow {
         notice,
@@ -166,7 +167,7 @@ fn lot_put(notice: Id, lot: NewLot) -> Put
 
 // All lots.
 fn push_lots(made: &mut Vec<Put>, notice: Id, lots: Vec<NewLot>) -> Result<(), Refusal>
-    ensures puts { OnOk result (made.new.items ≡ made.old.items ++ map (lot_put notice) lots.items) }
+    ensures puts { OnOk result (made.new.items ≡ made.old.items ++ map (new_lot_put notice) lots.items) }
     ensures fault { IfErr result (λ e. e ≡ Unavailable) }
 {
     for lot in lots {
@@ -194,7 +195,7 @@ fn push_notice(
     notice: Id,
     new: NewNotice,
 ) -> Result<(), Refusal>
-    ensures puts { OnOk result (made.new.items ≡ made.old.items ++ map (lot_put notice) new.lots ++ (notice_put t notice new ∷ clock_put clock t ∷ [])) }
+    ensures puts { OnOk result (made.new.items ≡ made.old.items ++ map (new_lot_put notice) new.lots ++ (notice_put t notice new ∷ clock_put clock t ∷ [])) }
     ensures fault { IfErr result (λ e. e ≡ Unavailable) }
 {
     push_lots(made, notice, new.lots.into_vec())?;
@@ -216,15 +217,16 @@ fn push_notice(
     Ok(())
 }
 
-// The lines, the lots, the notice and the clock, and what the notice says of late withdrawals.
-fn publish_puts(
+/// What the publication of a notice puts: the lines, the lots, the notice and the clock, and what the notice says of late withdrawals.
+/// `Unavailable` where the line of a lot isn't there.
+pub fn puts(
     alloc: Global,
     t: Moment,
-    rows: &PublishRows,
+    rows: PublishRows,
     notice: Id,
     new: NewNotice,
 ) -> Result<Vec<Put>, Refusal>
-    ensures puts { IfOk result (λ made. made.items ≡ publish_puts rows.now t notice new) }
+    ensures puts { IfOk result (λ made. made.items ≡ publish_puts rows t notice new) }
     ensures fault { IfErr result (λ e. e ≡ Unavailable) }
 {
     let lots = new.lots.as_slice();
@@ -245,10 +247,10 @@ pub fn decide_publish(
     notice: Id,
     new: NewNotice,
 ) -> Result<Vec<Put>, Refusal>
-    ensures { Decides result (first_of (publish_tests rows t new)) (publish_puts rows t notice new) }
+    ensures { Decides result (first_of (publish_tests rows t new)) (publish_lacks rows) (publish_puts rows t notice new) }
 {
-    match refusal_of(&rows.lines, rows.notice.is_some(), t, &new) {
+    match refusal(t, &rows, &new) {
         Some(why) => Err(why),
-        None => publish_puts(alloc, t, &rows, notice, new),
+        None => puts(alloc, t, rows, notice, new),
     }
 }

@@ -1,11 +1,11 @@
 //! Receipts, as they are given out.
 ghost use Rattle.std.specs.Prelude.{◌≡◌, ◌+◌, IfSome, IfNone, true, false, length};
-ghost use Rattle.office_base.specs.RuleParts.{has_all_receipts, receipt_clock};
+ghost use Rattle.office_base.specs.Transitions.{has_all_receipts, receipt_clock};
 
-use office_acts::sealed::Sealed;
 use office_base::counts::TenderLength;
 use office_base::puts::Put;
 use office_base::records::ClockRow;
+use office_commands::sealed::Sealed;
 use office_values::given::{GivenNumber, LastNumber};
 use office_values::moment::Moment;
 

@@ -1,12 +1,13 @@
 //! The decision on the registration of a tenderer.
-ghost use Rattle.std.specs.Prelude.{◌≡◌};
+ghost use Rattle.std.specs.Prelude.{◌≡◌, IfOk, IfErr};
+ghost use Rattle.office_values.specs.declared.refusal.Refusal.TheVariants.{Unavailable};
 ghost use Rattle.office_base.specs.Deciding.{Decides};
 ghost use Rattle.office_base.specs.Rules.{first_of};
-ghost use Rattle.tender_core.specs.Rules.Register.{register_tests, register_puts};
+ghost use Rattle.tender_core.specs.Rules.Register.{register_lacks, register_tests, register_puts};
 
-use office_base::parts::at_moment;
 use office_base::puts::Put;
 use office_base::records::{ClockRow, TendererRow};
+use office_base::transitions::at_moment;
 use office_values::id::Id;
 use office_values::moment::Moment;
 use office_values::refusal::Refusal;
@@ -20,6 +21,41 @@ pub struct RegisterRows {
     pub clock: ClockRow,
 }
 
+/// Why the registration of a tenderer is refused.
+pub fn refusal(rows: &RegisterRows, tenderer: &Id) -> Option<Refusal>
+    ensures { result ≡ first_of (register_tests rows.now tenderer.now) }
+{
+    // The clerk's own name is taken.
+    if rows.tenderer.is_some() || tenderer.as_bytes() == b"clerk".as_slice() {
+        return Some(Refusal::Exists);
+    }
+    None
+}
+
+/// What the registration of a tenderer puts, with the SHA-256 of the tenderer's key.
+pub fn puts(
+    alloc: Global,
+    t: Moment,
+    rows: RegisterRows,
+    tenderer: Id,
+    name: TextLine,
+    address: TextLine,
+    key: [u8; 32],
+) -> Result<Vec<Put>, Refusal>
+    ensures puts { IfOk result (λ made. made.items ≡ register_puts rows t tenderer name address key) }
+    ensures fault { IfErr result (λ e. e ≡ Unavailable) }
+{
+    let mut made = Vec::with_capacity(alloc, 2)?;
+    made.push(Put::Tenderer(TendererRow {
+        tenderer,
+        name,
+        address,
+        key,
+    }))?;
+    made.push(Put::Clock(at_moment(rows.clock, t)))?;
+    Ok(made)
+}
+
 /// Decides the registration of a tenderer, with the SHA-256 of the tenderer's key: its refusal, or what it puts.
 #[tactic(auto, unfolding(office_base::specs::Deciding::Decides))]
 pub fn decide_register(
@@ -31,23 +67,10 @@ pub fn decide_register(
     address: TextLine,
     key: [u8; 32],
 ) -> Result<Vec<Put>, Refusal>
-    ensures { Decides result (first_of (register_tests rows tenderer)) (register_puts rows t tenderer name address key) }
+    ensures { Decides result (first_of (register_tests rows tenderer)) (register_lacks rows) (register_puts rows t tenderer name address key) }
 {
-    let RegisterRows {
-        tenderer: held,
-        clock,
-    } = rows;
-    // The clerk's own name is taken.
-    if held.is_some() || tenderer.as_bytes() == b"clerk".as_slice() {
-        return Err(Refusal::Exists);
+    match refusal(&rows, &tenderer) {
+        Some(why) => Err(why),
+        None => puts(alloc, t, rows, tenderer, name, address, key),
     }
-    let mut made = Vec::with_capacity(alloc, 2)?;
-    made.push(Put::Tenderer(TendererRow {
-        tenderer,
-        name,
-        address,
-        key,
-    }))?;
-    made.push(Put::Clock(at_moment(clock, t)))?;
-    Ok(made)
 }

@@ -1,13 +1,13 @@
 //! Tenders and their tenderers.
 ghost use Rattle.std.specs.Prelude.{◌≡◌};
-ghost use Rattle.office_acts.specs.Callers.{is_by};
+ghost use Rattle.office_commands.specs.Callers.{is_by};
 ghost use Rattle.office_base.specs.Rows.{holds_of};
-ghost use Rattle.office_base.specs.RuleParts.{is_in_time, is_late, is_past_deadline};
+ghost use Rattle.office_base.specs.Transitions.{is_in_time, is_late, is_past_deadline};
 ghost use Rattle.tender_core.specs.Rules.Modify.{withdrawn};
 
-use office_acts::command::Caller;
-use office_base::parts;
 use office_base::records::{EnvelopeRow, EnvelopeState, LateRow, NoticeRow};
+use office_base::transitions;
+use office_commands::command::Caller;
 use office_values::id::Id;
 use office_values::moment::Moment;
 
@@ -27,7 +27,7 @@ pub fn is_in_time(t: Moment, notice: &Option<NoticeRow>) -> bool
     ensures { result ≡ holds_of (is_in_time t) notice.now }
 {
     match notice {
-        Some(row) => parts::is_in_time(t, row),
+        Some(row) => transitions::is_in_time(t, row),
         None => false,
     }
 }
@@ -37,7 +37,7 @@ pub fn is_past_deadline(t: Moment, notice: &Option<NoticeRow>) -> bool
     ensures { result ≡ holds_of (is_past_deadline t) notice.now }
 {
     match notice {
-        Some(row) => parts::is_past_deadline(t, row),
+        Some(row) => transitions::is_past_deadline(t, row),
         None => false,
     }
 }

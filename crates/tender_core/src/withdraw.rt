@@ -1,20 +1,20 @@
 //! The decision on the withdrawal of a tender.
-ghost use Rattle.std.specs.Prelude.{◌≡◌, ◌++◌, IfErr, OnOk, IfOk, Some, None};
+ghost use Rattle.std.specs.Prelude.{◌≡◌, ◌++◌, IfErr, OnOk, IfOk, Some, None, false};
 ghost use Rattle.office_values.specs.declared.refusal.Refusal.TheVariants.{Unavailable};
 ghost use Rattle.office_base.specs.Deciding.{Decides};
 ghost use Rattle.office_base.specs.Rows.{holds_of};
 ghost use Rattle.office_base.specs.Rules.{first_of};
-ghost use Rattle.office_base.specs.RuleParts.{is_expired, is_late, put_if, security_settled};
-ghost use Rattle.tender_core.specs.Rules.Withdraw.{cant_be_taken_back, is_decided, taken_back_puts, withdraw_tests, withdraw_puts};
+ghost use Rattle.office_base.specs.Transitions.{is_expired, is_late, put_if, security_settled};
+ghost use Rattle.tender_core.specs.Rules.Withdraw.{cant_be_taken_back, is_decided, taken_back_puts, withdraw_lacks, withdraw_tests, withdraw_puts};
 
-use crate::tenders::{is_by, is_past_deadline, withdrawn};
-use office_acts::command::Caller;
-use office_base::parts::{at_moment, is_expired, passed_over, settled};
+use crate::tenders::{is_by, is_late, is_past_deadline, withdrawn};
 use office_base::puts::Put;
 use office_base::records::{
     ClockRow, EnvelopeRow, EnvelopeState, LateRow, LotRow, LotState, NoticeRow, SecurityRow,
     SecurityState,
 };
+use office_base::transitions::{at_moment, is_expired, lacks_security, passed_over, settled};
+use office_commands::command::Caller;
 use office_values::moment::Moment;
 use office_values::refusal::{Refusal, Thing};
 use std::alloc::Global;
@@ -78,8 +78,8 @@ fn push_settled(
     Ok(())
 }
 
-// What a withdrawal puts, before the deadline or from then on.
-fn puts_of(
+// What is put of this tender and this security, before the deadline or from then on.
+fn taken_back(
     alloc: Global,
     t: Moment,
     clock: ClockRow,
@@ -105,6 +105,51 @@ fn puts_of(
     Ok(made)
 }
 
+/// Why the withdrawal of a tender is refused.
+pub fn refusal(t: Moment, caller: &Caller, rows: &WithdrawRows) -> Option<Refusal>
+    ensures { result ≡ first_of (withdraw_tests rows.now t caller.now) }
+{
+    let Some(row) = &rows.envelope else {
+        return Some(Refusal::NoSuch(Thing::Tender));
+    };
+    if !is_by(caller, &row.tenderer) {
+        return Some(Refusal::NotYourTender);
+    }
+    let is_past = is_past_deadline(t, &rows.notice);
+    let is_late = rows.late.is_some() && is_past;
+    if is_past && !is_late {
+        return Some(Refusal::DeadlinePassed);
+    }
+    if cant_be_taken_back(is_late, row) {
+        return Some(Refusal::NotSealed);
+    }
+    if is_late && is_decided(row, &rows.lot) {
+        return Some(Refusal::AlreadyDecided);
+    }
+    if is_late && is_over(t, &rows.notice) {
+        return Some(Refusal::Expired);
+    }
+    None
+}
+
+/// What the withdrawal of a tender puts. `Unavailable` where the tender, its notice, its lot or the security that it names isn't
+/// there.
+pub fn puts(alloc: Global, t: Moment, rows: WithdrawRows) -> Result<Vec<Put>, Refusal>
+    ensures puts { IfOk result (λ made. made.items ≡ withdraw_puts rows t) }
+    ensures whole { IfOk result (λ _. withdraw_lacks rows ≡ false) }
+    ensures fault { IfErr result (λ e. e ≡ Unavailable) }
+{
+    let late = is_late(&rows.late, t, &rows.notice);
+    let envelope = rows.envelope.ok_or(Refusal::Unavailable)?;
+    if rows.notice.is_none() || rows.lot.is_none() {
+        return Err(Refusal::Unavailable);
+    }
+    if lacks_security(&envelope, &rows.security) {
+        return Err(Refusal::Unavailable);
+    }
+    taken_back(alloc, t, rows.clock, envelope, rows.security, late)
+}
+
 /// Decides the withdrawal of a tender: its refusal, or what it puts.
 #[tactic(auto, unfolding(office_base::specs::Deciding::Decides))]
 pub fn decide_withdraw(
@@ -113,35 +158,10 @@ pub fn decide_withdraw(
     caller: &Caller,
     rows: WithdrawRows,
 ) -> Result<Vec<Put>, Refusal>
-    ensures { Decides result (first_of (withdraw_tests rows t caller.now)) (withdraw_puts rows t) }
+    ensures { Decides result (first_of (withdraw_tests rows t caller.now)) (withdraw_lacks rows) (withdraw_puts rows t) }
 {
-    let WithdrawRows {
-        envelope,
-        notice,
-        lot,
-        late,
-        security,
-        clock,
-    } = rows;
-    let Some(row) = envelope else {
-        return Err(Refusal::NoSuch(Thing::Tender));
-    };
-    if !is_by(caller, &row.tenderer) {
-        return Err(Refusal::NotYourTender);
+    match refusal(t, caller, &rows) {
+        Some(why) => Err(why),
+        None => puts(alloc, t, rows),
     }
-    let is_past = is_past_deadline(t, &notice);
-    let is_late = late.is_some() && is_past;
-    if is_past && !is_late {
-        return Err(Refusal::DeadlinePassed);
-    }
-    if cant_be_taken_back(is_late, &row) {
-        return Err(Refusal::NotSealed);
-    }
-    if is_late && is_decided(&row, &lot) {
-        return Err(Refusal::AlreadyDecided);
-    }
-    if is_late && is_over(t, &notice) {
-        return Err(Refusal::Expired);
-    }
-    puts_of(alloc, t, clock, row, security, is_late)
 }

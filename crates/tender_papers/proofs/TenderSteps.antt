@@ -4,8 +4,8 @@ use Rattle.std.proofs.lemmas.List.{append-nil}
 use Rattle.std.specs.Prelude.{Bool, true, false, ◌&&◌, cond, option_map, option_and_then, is_some}
 use Rattle.std.specs.List.{filter_map, list_all, cons_option}
 use Rattle.tender_papers.specs.Files.{but_last, last_of}
-use Rattle.tender_papers.specs.Tender.{Paper, body_of, is_item, item_of, item_of_four, stated_of, stated_of_four}
-use Rattle.tender_papers.specs.Inside.TenderParts.{end_of}
+use Rattle.tender_papers.specs.Tender.{Paper, paper_below_head, is_item, item_record_of, item_of_four, stated_of, stated_of_four}
+use Rattle.tender_papers.specs.Inside.TenderParts.{tender_ended_by}
 use Rattle.tender_papers.specs.declared.tender.ItemRecord.{ItemRecord}
 
 -- item records before what is read below them
@@ -23,7 +23,7 @@ no_sum_of_four a [] c d row h = cc h
 no_sum_of_four a (x ∷ xs) c d row h = unstated _ _ _ _ refl
 
 -- an item record states no sum
-no_sum : (r : List (List ℕ)) (row : ItemRecord) → Some row ≡ item_of r → stated_of r ≡ None
+no_sum : (r : List (List ℕ)) (row : ItemRecord) → Some row ≡ item_record_of r → stated_of r ≡ None
 no_sum [] row h = refl
 no_sum (a ∷ []) row h = refl
 no_sum (a ∷ b ∷ []) row h = refl
@@ -42,19 +42,19 @@ with_row front row true rows None = refl
 with_row front row true rows (Some s) = ap (λ (rs : List ItemRecord). Some (rs, s)) (sym (append_assoc front (row ∷ []) rows))
 
 -- an item record, and what is below it
-pub body_more : (front : List ItemRecord) (r : List (List ℕ)) (rs : List (List (List ℕ))) (row : ItemRecord) → Some row ≡ item_of r
-    → body_before front (body_of (r ∷ rs)) ≡ body_before (front ++ row ∷ []) (body_of rs)
-unfolding body_of but_last last_of
+pub body_more : (front : List ItemRecord) (r : List (List ℕ)) (rs : List (List (List ℕ))) (row : ItemRecord) → Some row ≡ item_record_of r
+    → body_before front (paper_below_head (r ∷ rs)) ≡ body_before (front ++ row ∷ []) (paper_below_head rs)
+unfolding paper_below_head but_last last_of
 body_more front r [] row is = ap (λ (o : Option ℕ). body_before front (option_map (λ s. ([], s)) o)) (no_sum r row is)
 body_more front r (x ∷ rs) row is =
     let below = but_last (x ∷ rs) in
     let stated = option_and_then stated_of (last_of (x ∷ rs)) in
-    ap (λ o. body_before front (body_with o (list_all is_item below) (filter_map item_of below) stated)) (sym is)
-    ∙ with_row front row (list_all is_item below) (filter_map item_of below) stated
+    ap (λ o. body_before front (body_with o (list_all is_item below) (filter_map item_record_of below) stated)) (sym is)
+    ∙ with_row front row (list_all is_item below) (filter_map item_record_of below) stated
 
 -- a record that is no item record
-pub body_stops : (front : List ItemRecord) (r : List (List ℕ)) (rs : List (List (List ℕ))) → None ≡ item_of r → body_before front (body_of (r ∷ rs)) ≡ end_of front r rs
-unfolding body_of but_last last_of
+pub body_stops : (front : List ItemRecord) (r : List (List ℕ)) (rs : List (List (List ℕ))) → None ≡ item_record_of r → body_before front (paper_below_head (r ∷ rs)) ≡ tender_ended_by front r rs
+unfolding paper_below_head but_last last_of
 body_stops front r [] no_item = by (stated_of r)
   where
     by : (stated : Option ℕ) → body_before front (option_map (λ s. ([], s)) stated) ≡ option_map (λ s. (front, s)) stated
@@ -62,9 +62,9 @@ body_stops front r [] no_item = by (stated_of r)
     by (Some s) = ap (λ (rs : List ItemRecord). Some (rs, s)) (append-nil front)
 body_stops front r (x ∷ rs) no_item =
     let below = but_last (x ∷ rs) in
-    ap (λ o. body_before front (body_with o (list_all is_item below) (filter_map item_of below) (option_and_then stated_of (last_of (x ∷ rs))))) (sym no_item)
+    ap (λ o. body_before front (body_with o (list_all is_item below) (filter_map item_record_of below) (option_and_then stated_of (last_of (x ∷ rs))))) (sym no_item)
 
 -- no closing record
-pub body_none : (front : List ItemRecord) → body_before front (body_of []) ≡ None
-unfolding body_of but_last last_of
+pub body_none : (front : List ItemRecord) → body_before front (paper_below_head []) ≡ None
+unfolding paper_below_head but_last last_of
 body_none front = refl

@@ -5,7 +5,7 @@ use Rattle.std.specs.List.{count_by, filter_map, list_all, sum_by}
 use Rattle.office_values.specs.Ids.{same_id}
 use Rattle.office_values.specs.Money.{amount_limit}
 use Rattle.office_values.specs.Numbers.{number_of}
-use Rattle.office_acts.specs.declared.item.Item.{Item}
+use Rattle.office_commands.specs.declared.item.Item.{Item}
 use Rattle.office_base.specs.declared.reading.Reading.{Reading}
 use Rattle.office_base.specs.declared.reading.Reading.TheVariants as reading
 use Rattle.tender_papers.specs.Files.{Four, four_of, is_word, says, but_last, last_of}
@@ -22,8 +22,8 @@ item_of_four (name, quantity, unit, total) =
     (number_of total)) (number_of unit)) (number_of quantity)
 
 -- the item record that a record is
-abbrev pub item_of : List (List ℕ) → Option ItemRecord
-item_of fields = option_and_then item_of_four (four_of fields)
+abbrev pub item_record_of : List (List ℕ) → Option ItemRecord
+item_record_of fields = option_and_then item_of_four (four_of fields)
 
 -- the sum that four fields state: `TOTAL`, two empty fields and a number
 abbrev pub stated_of_four : Four → Option ℕ
@@ -35,40 +35,40 @@ abbrev pub stated_of : List (List ℕ) → Option ℕ
 stated_of fields = option_and_then stated_of_four (four_of fields)
 
 -- whether a record is the head
-abbrev pub is_head : List (List ℕ) → Bool
-is_head = says (codes "item", codes "quantity", codes "unit", codes "total")
+abbrev pub is_tender_head : List (List ℕ) → Bool
+is_tender_head = says (codes "item", codes "quantity", codes "unit", codes "total")
 
 -- whether a record is an item record
 abbrev pub is_item : List (List ℕ) → Bool
-is_item fields = is_some (item_of fields)
+is_item fields = is_some (item_record_of fields)
 
 -- what a tender says: its item records, and the sum that it states
 abbrev pub Paper : Type 0
 Paper = List ItemRecord × ℕ
 
 -- below the head: the last record states the sum, and all before it are item records
-unfoldable pub body_of : List (List (List ℕ)) → Option Paper
-body_of records =
+unfoldable pub paper_below_head : List (List (List ℕ)) → Option Paper
+paper_below_head records =
     if list_all is_item (but_last records)
-    then option_map (λ stated. (filter_map item_of (but_last records), stated)) (option_and_then stated_of (last_of records))
+    then option_map (λ stated. (filter_map item_record_of (but_last records), stated)) (option_and_then stated_of (last_of records))
     else None
 
 -- a tender that has the form: a head, item records, and a closing record
 abbrev pub paper_of : List (List (List ℕ)) → Option Paper
 paper_of [] = None
-paper_of (head ∷ rest) = if is_head head then body_of rest else None
+paper_of (head ∷ rest) = if is_tender_head head then paper_below_head rest else None
 
 -- quantity times unit price
-abbrev pub price_of : ItemRecord → ℕ
-price_of row = row.quantity * row.unit
+abbrev pub item_price : ItemRecord → ℕ
+item_price row = row.quantity * row.unit
 
 -- the corrected sum: what the item records come to, by their quantities and unit prices alone (UNCITRAL Model Law 2011, article 43)
 abbrev pub corrected_of : List ItemRecord → ℕ
-corrected_of rows = sum_by price_of rows
+corrected_of rows = sum_by item_price rows
 
 -- whether the total of an item record is wrong
 abbrev pub is_wrong : ItemRecord → Bool
-is_wrong row = not (row.total == price_of row)
+is_wrong row = not (row.total == item_price row)
 
 -- the figures that the correction puts right: totals of item records, and the stated sum
 abbrev pub corrections_of : List ItemRecord → ℕ → ℕ

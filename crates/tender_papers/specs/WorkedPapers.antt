@@ -1,9 +1,9 @@
 -- Worked examples of files and texts.
 use Rattle.std.specs.Prelude.{ℕ, suc, List, [], ◌∷◌, codes, replicate, Some, None, false}
 use Rattle.std.proofs.Math.Nat.{zero-lt-suc}
-use Rattle.office_acts.specs.declared.budget.BudgetKind.TheVariants.{Add}
-use Rattle.office_acts.specs.declared.budget.BudgetRow.{BudgetRow}
-use Rattle.office_acts.specs.declared.item.Item.{Item}
+use Rattle.office_commands.specs.declared.budget.BudgetKind.TheVariants.{Add}
+use Rattle.office_commands.specs.declared.budget.BudgetRow.{BudgetRow}
+use Rattle.office_commands.specs.declared.item.Item.{Item}
 use Rattle.office_base.specs.declared.ledger.LedgerRow.{LedgerRow}
 use Rattle.office_base.specs.declared.reading.Reading.{Reading}
 use Rattle.office_base.specs.declared.records.EnvelopeRow.{EnvelopeRow}

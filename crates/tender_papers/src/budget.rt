@@ -3,11 +3,11 @@ ghost use Rattle.std.specs.Prelude.{◌≡◌, ◌+◌, ◌<◌, ◌^◌, length
 ghost use Rattle.csv.specs.Records.{fields_of};
 ghost use Rattle.tender_papers.specs.Files.{csv_records};
 ghost use Rattle.tender_papers.specs.Inside.Reading.{IsReading, records_left};
-ghost use Rattle.tender_papers.specs.Budget.{Gives, budget_of, is_head, kind_of, row_of, row_of_four, rows_from};
+ghost use Rattle.tender_papers.specs.Budget.{Gives, budget_of, is_budget_head, budget_kind_of, row_of, row_of_four, rows_from};
 
 use crate::records::{four_fields, next_record, records_of, says, total_in};
 use csv::{ByteRecord, Reader};
-use office_acts::budget::{BudgetKind, BudgetRow, BudgetRows};
+use office_commands::budget::{BudgetKind, BudgetRow, BudgetRows};
 use office_values::id::Id;
 use office_values::text::TextLine;
 use std::alloc::{AllocError, AllocFailed, Global};
@@ -46,7 +46,7 @@ impl<T: Drop> From<AllocFailed<T>> for BudgetFault {
 
 // The kind of row that a word names.
 fn kind_in(word: &[u8]) -> Option<BudgetKind>
-    ensures { result ≡ kind_of word.now }
+    ensures { result ≡ budget_kind_of word.now }
 {
     if word == b"add".as_slice() {
         Some(BudgetKind::Add)
@@ -102,8 +102,8 @@ fn row_in(alloc: Global, row: &ByteRecord) -> Result<Option<BudgetRow>, AllocErr
 }
 
 // Whether a record is the head.
-fn is_head(row: &ByteRecord) -> bool
-    ensures { result ≡ is_head (fields_of row.now) }
+fn is_budget_head(row: &ByteRecord) -> bool
+    ensures { result ≡ is_budget_head (fields_of row.now) }
 {
     says(row, b"line", b"kind", b"amount", b"title")
 }
@@ -140,7 +140,7 @@ pub fn read_budget(alloc: Global, text: &[u8]) -> Result<BudgetRows, BudgetFault
 {
     let mut reader = records_of(alloc, text);
     let mut row = ByteRecord::new(alloc);
-    if !next_record(&mut reader, &mut row)? || !is_head(&row) {
+    if !next_record(&mut reader, &mut row)? || !is_budget_head(&row) {
         return Err(BudgetFault::BadRow(1));
     }
     read_rows(alloc, &mut reader, &mut row)

@@ -3,15 +3,15 @@ ghost use Rattle.std.specs.Prelude.{◌≡◌, ◌≤◌, ◌*◌, ◌^◌, IfOk
 ghost use Rattle.std.specs.List.{count_by, list_all};
 ghost use Rattle.csv.specs.Records.{fields_of};
 ghost use Rattle.tender_papers.specs.Files.{csv_records};
-ghost use Rattle.tender_papers.specs.Tender.{are_for, body_of, corrected_of, corrections_of, is_for, is_head, is_unit, is_wrong, item_of, item_of_four, paper_of, reading_of, stated_of};
+ghost use Rattle.tender_papers.specs.Tender.{are_for, paper_below_head, corrected_of, corrections_of, is_for, is_tender_head, is_unit, is_wrong, item_record_of, item_of_four, paper_of, reading_of, stated_of};
 ghost use Rattle.tender_papers.specs.Inside.Reading.{IsReading, records_left};
-ghost use Rattle.tender_papers.specs.Inside.TenderParts.{corrected_amount, end_of};
+ghost use Rattle.tender_papers.specs.Inside.TenderParts.{corrected_amount, tender_ended_by};
 
 use crate::records::{four_fields, next_record, records_of, says, total_in};
 use csv::{ByteRecord, Reader};
-use office_acts::item::Item;
 use office_base::counts::CorrectionCount;
 use office_base::reading::Reading;
+use office_commands::item::Item;
 use office_values::money::{AMOUNT_LIMIT, Amount, Total};
 use office_values::text::Bytes;
 use std::alloc::{AllocError, Global};
@@ -82,7 +82,7 @@ fn item_in_fields(
 
 // The item record that a record is.
 fn item_in(alloc: Global, row: &ByteRecord) -> Result<Option<ItemRecord>, AllocError>
-    ensures { IfOk result (λ found. found ≡ item_of (fields_of row.now)) }
+    ensures { IfOk result (λ found. found ≡ item_record_of (fields_of row.now)) }
 {
     match four_fields(row) {
         Some((name, quantity, unit, total)) => item_in_fields(alloc, name, quantity, unit, total),
@@ -103,8 +103,8 @@ fn stated_in(row: &ByteRecord) -> Option<Total>
 }
 
 // Whether a record is the head.
-fn is_head(row: &ByteRecord) -> bool
-    ensures { result ≡ is_head (fields_of row.now) }
+fn is_tender_head(row: &ByteRecord) -> bool
+    ensures { result ≡ is_tender_head (fields_of row.now) }
 {
     says(row, b"item", b"quantity", b"unit", b"total")
 }
@@ -116,7 +116,7 @@ fn read_end(
     rows: Vec<ItemRecord>,
 ) -> Result<Option<Paper>, AllocError>
     requires { IsReading reader.old }
-    ensures { IfOk result (λ paper. paper ≡ end_of rows.items (fields_of row.old) (records_left reader.old)) }
+    ensures { IfOk result (λ paper. paper ≡ tender_ended_by rows.items (fields_of row.old) (records_left reader.old)) }
 {
     let Some(stated) = stated_in(row) else {
         return Ok(None);
@@ -134,7 +134,7 @@ fn read_body(
     row: &mut ByteRecord,
 ) -> Result<Option<Paper>, AllocError>
     requires { IsReading reader.old }
-    ensures { IfOk result (λ paper. paper ≡ body_of (records_left reader.old)) }
+    ensures { IfOk result (λ paper. paper ≡ paper_below_head (records_left reader.old)) }
 {
     let mut rows = Vec::new(alloc);
     'records: while next_record(reader, row)? {
@@ -152,7 +152,7 @@ fn read_paper(alloc: Global, bytes: &[u8]) -> Result<Option<Paper>, AllocError>
 {
     let mut reader = records_of(alloc, bytes);
     let mut row = ByteRecord::new(alloc);
-    if !next_record(&mut reader, &mut row)? || !is_head(&row) {
+    if !next_record(&mut reader, &mut row)? || !is_tender_head(&row) {
         return Ok(None);
     }
     read_body(alloc, &mut reader, &mut row)

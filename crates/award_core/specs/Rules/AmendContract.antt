@@ -1,23 +1,22 @@
 -- A contract is raised or cut.
-use Rattle.std.specs.Prelude.{ℕ, ◌+◌, ◌-◌, Bool, true, false, not, ◌&&◌, ◌||◌, List, [], ◌∷◌, Option, Some, is_some, nat_lt, nat_le, length}
+use Rattle.std.specs.Prelude.{ℕ, ◌+◌, ◌-◌, Bool, true, false, not, ◌&&◌, ◌||◌, List, [], ◌∷◌, Some, is_some, nat_lt, nat_le, length}
 use Rattle.std.specs.List.{list_any}
 use Rattle.office_values.specs.Ids.{same_id}
 use Rattle.office_base.specs.Limits.{entry_limit}
-use Rattle.office_acts.specs.declared.contract.ChangeKind.{ChangeKind}
-use Rattle.office_acts.specs.declared.contract.ChangeKind.TheVariants as change_kinds
+use Rattle.office_commands.specs.declared.contract.ChangeKind.{ChangeKind}
+use Rattle.office_commands.specs.declared.contract.ChangeKind.TheVariants as change_kinds
 use Rattle.office_base.specs.declared.records.EntryKind.{EntryKind}
 use Rattle.office_base.specs.declared.records.EntryKind.TheVariants as entry_kinds
 use Rattle.office_values.specs.declared.refusal.Thing.TheVariants as things
 use Rattle.office_values.specs.declared.refusal.Refusal.{Refusal}
 use Rattle.office_values.specs.declared.refusal.Refusal.TheVariants.{NoSuch, Exists, InsufficientFunds, MoreThanOutstanding, ContractEnded, LimitReached}
 use Rattle.office_base.specs.Rows.{holds_of}
-use Rattle.office_base.specs.RuleParts.{clock_put, released, has_all_releases}
-use Rattle.office_base.specs.Joined.{free_in, outstanding}
+use Rattle.office_base.specs.Transitions.{clock_put, with_next_release, has_all_releases, puts_if}
+use Rattle.office_base.specs.Joined.{free_in, is_overdrawn, outstanding}
 use Rattle.office_base.specs.declared.records.LineRow.{LineRow}
 use Rattle.office_base.specs.declared.records.NoticeRow.{NoticeRow}
 use Rattle.office_base.specs.declared.records.ContractRow.{ContractRow}
 use Rattle.office_base.specs.declared.records.EntryRow.{EntryRow}
-use Rattle.office_base.specs.declared.records.ClockRow.{ClockRow}
 use Rattle.office_base.specs.declared.puts.Put.TheVariants as puts
 use Rattle.office_base.specs.declared.puts.Put.{Put}
 use Rattle.office_base.specs.Tables.{Tables, contract_at, entries_of_contract}
@@ -49,17 +48,6 @@ abbrev pub entry_kind : ChangeKind → EntryKind
 entry_kind change_kinds.Raise = entry_kinds.Raise
 entry_kind change_kinds.Cut = entry_kinds.Cut
 
--- the contract, its entries, its notice, and its lot's line
-abbrev pub amend_contract_conditions : Option ContractRow → List EntryRow → Option NoticeRow → Option LineRow → List ℕ → ChangeKind → ℕ → List (Bool × Refusal)
-amend_contract_conditions contract entries notice line entry kind amount =
-    (not (is_some contract), NoSuch things.Contract)
-    ∷ (list_any (is_taken entry) entries, Exists)
-    ∷ (holds_of is_running contract && is_raising kind && nat_lt (free_in line) amount, InsufficientFunds)
-    ∷ (not (is_raising kind) && holds_of (is_beyond entries amount) contract, MoreThanOutstanding)
-    ∷ (holds_of has_ended contract, ContractEnded)
-    ∷ (has_all_entries entries || has_all_releases notice, LimitReached)
-    ∷ []
-
 -- the line of a raise, and of a cut
 abbrev pub line_after : ChangeKind → ℕ → LineRow → LineRow
 line_after change_kinds.Raise amount r = record r { free = r.free - amount }
@@ -68,15 +56,6 @@ line_after change_kinds.Cut amount r = record r { free = r.free + amount }
 abbrev pub change_row : ℕ → ContractRow → List ℕ → ChangeKind → ℕ → List ℕ → EntryRow
 change_row t c entry kind amount rationale =
     record { contract = c.contract; entry = entry; kind = entry_kind kind; amount = amount; moment = t; rationale = Some rationale }
-
-abbrev pub amend_contract_effect : ClockRow → ℕ → Option ContractRow → Option NoticeRow → Option LineRow → List ℕ → ChangeKind → ℕ → List ℕ → List Put
-amend_contract_effect clock t (Some c) (Some n) (Some r) entry kind amount rationale =
-    puts.Entry (change_row t c entry kind amount rationale)
-    ∷ puts.Line (line_after kind amount r)
-    ∷ puts.Notice (released n)
-    ∷ clock_put clock t
-    ∷ []
-amend_contract_effect clock t contract notice line entry kind amount rationale = []
 
 -- the rows that the amendment of a contract looks at
 abbrev pub amend_contract_rows : Tables → ℕ → AmendContractRows
@@ -88,9 +67,29 @@ amend_contract_rows s contract = record {
   clock = s.clock;
 }
 
--- when it is refused, by these rows, and what it puts
-abbrev pub amend_contract_tests : AmendContractRows → List ℕ → ChangeKind → ℕ → List (Bool × Refusal)
-amend_contract_tests rows entry kind amount = amend_contract_conditions rows.contract rows.entries rows.notice rows.line entry kind amount
+-- what is lacking where the contract is there: its notice, its lot's line, or what came to it
+abbrev pub amend_contract_lacks : AmendContractRows → Bool
+amend_contract_lacks rows =
+    holds_of (λ (c : ContractRow). not (is_some rows.notice) || not (is_some rows.line) || is_overdrawn rows.entries c) rows.contract
 
+-- when it is refused, by these rows
+abbrev pub amend_contract_tests : AmendContractRows → List ℕ → ChangeKind → ℕ → List (Bool × Refusal)
+amend_contract_tests rows entry kind amount =
+    (not (is_some rows.contract), NoSuch things.Contract)
+    ∷ (list_any (is_taken entry) rows.entries, Exists)
+    ∷ (holds_of is_running rows.contract && is_raising kind && nat_lt (free_in rows.line) amount, InsufficientFunds)
+    ∷ (not (is_raising kind) && holds_of (is_beyond rows.entries amount) rows.contract, MoreThanOutstanding)
+    ∷ (holds_of has_ended rows.contract, ContractEnded)
+    ∷ (has_all_entries rows.entries || has_all_releases rows.notice, LimitReached)
+    ∷ []
+
+-- what it puts: the change, the line, the notice and the clock
 abbrev pub amend_contract_puts : AmendContractRows → ℕ → List ℕ → ChangeKind → ℕ → List ℕ → List Put
-amend_contract_puts rows t entry kind amount rationale = amend_contract_effect rows.clock t rows.contract rows.notice rows.line entry kind amount rationale
+amend_contract_puts rows t entry kind amount rationale =
+    puts_if (λ (c : ContractRow). puts_if (λ (n : NoticeRow). puts_if (λ (r : LineRow).
+    puts.Entry (change_row t c entry kind amount rationale)
+    ∷ puts.Line (line_after kind amount r)
+    ∷ puts.Notice (with_next_release n)
+    ∷ clock_put rows.clock t
+    ∷ []
+    ) rows.line) rows.notice) rows.contract

@@ -7,7 +7,7 @@ use Rattle.office_values.specs.declared.refusal.Refusal.{Refusal}
 use Rattle.office_values.specs.declared.refusal.Refusal.TheVariants.{NoSuch, NotOpened, AlreadyDecided, NotAllExamined, Expired, InsufficientFunds, LimitReached}
 use Rattle.office_base.specs.Rows.{holds_of}
 use Rattle.office_base.specs.Joined.{free_in}
-use Rattle.office_base.specs.RuleParts.{clock_put, award_clock, released, has_all_releases, is_expired, securities_returned}
+use Rattle.office_base.specs.Transitions.{clock_put, award_clock, with_next_release, has_all_releases, is_expired, securities_returned, puts_if}
 use Rattle.office_base.specs.States.{is_opened, is_read, is_undecided}
 use Rattle.office_base.specs.declared.records.LotState.TheVariants as lot_states
 use Rattle.office_base.specs.declared.records.AwardState.TheVariants as award_states
@@ -97,19 +97,6 @@ reserved_in (Some l) = l.reserved
 abbrev pub is_above : ℕ → EnvelopeRow → Bool
 is_above funds e = nat_lt funds (price_of e)
 
--- the notice, the lot, its line, its envelopes
-abbrev pub award_conditions : ℕ → Option NoticeRow → Option LotRow → Option LineRow → List EnvelopeRow → List (Bool × Refusal)
-award_conditions t notice lot line envelopes =
-    (not (is_some notice), NoSuch things.Notice)
-    ∷ (not (is_some lot), NoSuch things.Lot)
-    ∷ (holds_of (λ (n : NoticeRow). not (is_opened n.state)) notice, NotOpened)
-    ∷ (holds_of (λ (l : LotRow). not (is_undecided l.state)) lot, AlreadyDecided)
-    ∷ (list_any isnt_examined envelopes, NotAllExamined)
-    ∷ (list_any is_admissible envelopes && holds_of (is_expired t) notice, Expired)
-    ∷ (holds_of (is_above (reserved_in lot + free_in line)) (winner notice envelopes), InsufficientFunds)
-    ∷ (has_all_releases notice, LimitReached)
-    ∷ []
-
 -- the lot without a winner, and with one
 abbrev pub unsuccessful : LotRow → LotRow
 unsuccessful l = record l { state = lot_states.Unsuccessful; reserved = 0 }
@@ -133,22 +120,16 @@ abbrev pub decision_puts : ClockRow → ℕ → NoticeRow → LotRow → LineRow
 decision_puts clock t n l r None securities =
     puts.Lot (unsuccessful l)
     ∷ puts.Line (record r { free = r.free + l.reserved })
-    ∷ puts.Notice (released n)
+    ∷ puts.Notice (with_next_release n)
     ∷ clock_put clock t
     ∷ securities_returned securities
 decision_puts clock t n l r (Some e) securities =
     puts.Award (award_row clock t l e)
     ∷ puts.Lot (awarded e l)
     ∷ puts.Line (record r { free = (r.free + l.reserved) - price_of e })
-    ∷ puts.Notice (released n)
+    ∷ puts.Notice (with_next_release n)
     ∷ award_clock clock t
     ∷ []
-
--- with the lot's securities
-abbrev pub award_effect : ClockRow → ℕ → Option NoticeRow → Option LotRow → Option LineRow → List EnvelopeRow → List SecurityRow → List Put
-award_effect clock t (Some n) (Some l) (Some r) envelopes securities =
-    decision_puts clock t n l r (winner (Some n) envelopes) securities
-award_effect clock t notice lot line envelopes securities = []
 
 -- the rows that an award looks at
 abbrev pub award_rows : Tables → List ℕ → List ℕ → AwardRows
@@ -161,9 +142,26 @@ award_rows s notice lot = record {
   clock = s.clock;
 }
 
--- when it is refused, by these rows, and what it puts
-abbrev pub award_tests : AwardRows → ℕ → List (Bool × Refusal)
-award_tests rows t = award_conditions t rows.notice rows.lot rows.line rows.envelopes
+-- what is lacking where the lot is there: its line
+abbrev pub award_lacks : AwardRows → Bool
+award_lacks rows = is_some rows.lot && not (is_some rows.line)
 
+-- when it is refused, by these rows
+abbrev pub award_tests : AwardRows → ℕ → List (Bool × Refusal)
+award_tests rows t =
+    (not (is_some rows.notice), NoSuch things.Notice)
+    ∷ (not (is_some rows.lot), NoSuch things.Lot)
+    ∷ (holds_of (λ (n : NoticeRow). not (is_opened n.state)) rows.notice, NotOpened)
+    ∷ (holds_of (λ (l : LotRow). not (is_undecided l.state)) rows.lot, AlreadyDecided)
+    ∷ (list_any isnt_examined rows.envelopes, NotAllExamined)
+    ∷ (list_any is_admissible rows.envelopes && holds_of (is_expired t) rows.notice, Expired)
+    ∷ (holds_of (is_above (reserved_in rows.lot + free_in rows.line)) (winner rows.notice rows.envelopes), InsufficientFunds)
+    ∷ (has_all_releases rows.notice, LimitReached)
+    ∷ []
+
+-- what it puts
 abbrev pub award_puts : AwardRows → ℕ → List Put
-award_puts rows t = award_effect rows.clock t rows.notice rows.lot rows.line rows.envelopes rows.securities
+award_puts rows t =
+    puts_if (λ (n : NoticeRow). puts_if (λ (l : LotRow). puts_if (λ (r : LineRow).
+    decision_puts rows.clock t n l r (winner (Some n) rows.envelopes) rows.securities
+    ) rows.line) rows.lot) rows.notice

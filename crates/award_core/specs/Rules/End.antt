@@ -1,13 +1,13 @@
 -- The end of a contract: what is outstanding is free again.
-use Rattle.std.specs.Prelude.{ℕ, ◌+◌, Bool, not, List, [], ◌∷◌, ◌++◌, Option, Some, is_some}
-use Rattle.office_acts.specs.declared.contract.How.{How}
-use Rattle.office_acts.specs.declared.contract.How.TheVariants as hows
+use Rattle.std.specs.Prelude.{ℕ, ◌+◌, Bool, not, ◌&&◌, ◌||◌, List, [], ◌∷◌, ◌++◌, Option, Some, is_some, nat_lt}
+use Rattle.office_commands.specs.declared.contract.How.{How}
+use Rattle.office_commands.specs.declared.contract.How.TheVariants as hows
 use Rattle.office_values.specs.declared.refusal.Thing.TheVariants as things
 use Rattle.office_values.specs.declared.refusal.Refusal.{Refusal}
 use Rattle.office_values.specs.declared.refusal.Refusal.TheVariants.{NoSuch, ContractEnded, LimitReached}
 use Rattle.office_base.specs.Rows.{holds_of}
-use Rattle.office_base.specs.RuleParts.{clock_put, released, has_all_releases, performance_settled, put_if}
-use Rattle.office_base.specs.Joined.{outstanding}
+use Rattle.office_base.specs.Transitions.{clock_put, with_next_release, has_all_releases, performance_settled, put_if, puts_if}
+use Rattle.office_base.specs.Joined.{is_overdrawn, outstanding}
 use Rattle.award_core.specs.Rules.AmendContract.{has_ended}
 use Rattle.office_base.specs.declared.records.LineRow.{LineRow}
 use Rattle.office_base.specs.declared.records.NoticeRow.{NoticeRow}
@@ -23,14 +23,6 @@ use Rattle.office_base.specs.Tables.{Tables, contract_at, performance_at, entrie
 use Rattle.office_base.specs.Parents.{notice_of_contract, lot_of_contract, line_of_lot}
 use Rattle.award_core.specs.declared.end.EndRows.{EndRows}
 
--- the contract, and its notice
-abbrev pub end_conditions : Option ContractRow → Option NoticeRow → List (Bool × Refusal)
-end_conditions contract notice =
-    (not (is_some contract), NoSuch things.Contract)
-    ∷ (holds_of has_ended contract, ContractEnded)
-    ∷ (has_all_releases notice, LimitReached)
-    ∷ []
-
 abbrev pub ended_contract : ℕ → How → List EntryRow → ContractRow → ContractRow
 ended_contract t how entries c = record c { ended = Some t; how = Some how; released = outstanding entries c }
 
@@ -44,15 +36,9 @@ abbrev pub end_parts : ClockRow → ℕ → How → ContractRow → List EntryRo
 end_parts clock t how c entries n r =
     puts.Contract (ended_contract t how entries c)
     ∷ puts.Line (record r { free = r.free + outstanding entries c })
-    ∷ puts.Notice (released n)
+    ∷ puts.Notice (with_next_release n)
     ∷ clock_put clock t
     ∷ []
-
--- with its performance security
-abbrev pub end_effect : ClockRow → ℕ → How → Option ContractRow → List EntryRow → Option NoticeRow → Option LineRow → Option PerformanceRow → List Put
-end_effect clock t how (Some c) entries (Some n) (Some r) performance =
-    end_parts clock t how c entries n r ++ put_if (performance_settled (ended_state how)) performance
-end_effect clock t how contract entries notice line performance = []
 
 -- the rows that the end of a contract looks at
 abbrev pub end_rows : Tables → ℕ → EndRows
@@ -65,9 +51,30 @@ end_rows s contract = record {
   clock = s.clock;
 }
 
--- when it is refused, by these rows, and what it puts
-abbrev pub end_tests : EndRows → List (Bool × Refusal)
-end_tests rows = end_conditions rows.contract rows.notice
+-- the notice asks for a performance security, and it isn't there
+abbrev pub lacks_performance : NoticeRow → Option PerformanceRow → Bool
+lacks_performance n performance = nat_lt 0 n.performance && not (is_some performance)
 
+-- what is lacking where the contract is there: its notice, its lot's line, the performance security that its notice asks for, or what came
+-- to it
+abbrev pub end_lacks : EndRows → Bool
+end_lacks rows =
+    holds_of (λ (c : ContractRow).
+    not (is_some rows.notice) || not (is_some rows.line) || holds_of (λ (n : NoticeRow). lacks_performance n rows.performance) rows.notice
+    || is_overdrawn rows.entries c
+    ) rows.contract
+
+-- when it is refused, by these rows
+abbrev pub end_tests : EndRows → List (Bool × Refusal)
+end_tests rows =
+    (not (is_some rows.contract), NoSuch things.Contract)
+    ∷ (holds_of has_ended rows.contract, ContractEnded)
+    ∷ (has_all_releases rows.notice, LimitReached)
+    ∷ []
+
+-- what it puts, with its performance security
 abbrev pub end_puts : EndRows → ℕ → How → List Put
-end_puts rows t how = end_effect rows.clock t how rows.contract rows.entries rows.notice rows.line rows.performance
+end_puts rows t how =
+    puts_if (λ (c : ContractRow). puts_if (λ (n : NoticeRow). puts_if (λ (r : LineRow).
+    end_parts rows.clock t how c rows.entries n r ++ put_if (performance_settled (ended_state how)) rows.performance
+    ) rows.line) rows.notice) rows.contract

@@ -7,12 +7,11 @@ use Rattle.office_values.specs.declared.refusal.Refusal.TheVariants.{BadBody, No
 use Rattle.office_values.specs.declared.refusal.BadPart.TheVariants.{Field}
 use Rattle.office_values.specs.declared.refusal.Field.TheVariants.{Quality}
 use Rattle.office_base.specs.Rows.{holds_of}
-use Rattle.office_base.specs.RuleParts.{clock_put}
+use Rattle.office_base.specs.Transitions.{clock_put, puts_if}
 use Rattle.office_base.specs.States.{is_read, is_undecided}
 use Rattle.office_base.specs.declared.records.NoticeRow.{NoticeRow}
 use Rattle.office_base.specs.declared.records.LotRow.{LotRow}
 use Rattle.office_base.specs.declared.records.EnvelopeRow.{EnvelopeRow}
-use Rattle.office_base.specs.declared.records.ClockRow.{ClockRow}
 use Rattle.office_base.specs.declared.puts.Put.TheVariants as puts
 use Rattle.office_base.specs.declared.puts.Put.{Put}
 use Rattle.office_base.specs.Tables.{Tables, envelope_at}
@@ -39,15 +38,6 @@ isnt_read e = not (is_read e.state)
 abbrev pub cant_be_examined : EnvelopeRow → Bool
 cant_be_examined e = not (is_priced e.reading) || is_some e.responsive || e.failed
 
--- the envelope, its notice and its lot
-abbrev pub examine_conditions : Option EnvelopeRow → Option NoticeRow → Option LotRow → Bool → Option ℕ → List (Bool × Refusal)
-examine_conditions envelope notice lot responsive quality =
-    (is_some envelope && holds_of (is_bad_quality responsive quality) notice, (BadBody (Field Quality)))
-    ∷ (not (is_some envelope), NoSuch things.Tender)
-    ∷ (holds_of isnt_read envelope, NotOpened)
-    ∷ (holds_of cant_be_examined envelope || holds_of (λ (l : LotRow). not (is_undecided l.state)) lot, AlreadyDecided)
-    ∷ []
-
 -- the quality that is given, or the one that stands where none is
 abbrev pub quality_after : Option ℕ → Option ℕ → Option ℕ
 quality_after None held = held
@@ -55,10 +45,6 @@ quality_after (Some quality) held = Some quality
 
 abbrev pub examined : Bool → Option ℕ → EnvelopeRow → EnvelopeRow
 examined responsive quality e = record e { responsive = Some responsive; quality = quality_after quality e.quality }
-
-abbrev pub examine_effect : ClockRow → ℕ → Option EnvelopeRow → Bool → Option ℕ → List Put
-examine_effect clock t None responsive quality = []
-examine_effect clock t (Some e) responsive quality = puts.Envelope (examined responsive quality e) ∷ clock_put clock t ∷ []
 
 -- the rows that an examination looks at
 abbrev pub examine_rows : Tables → ℕ → ExamineRows
@@ -69,9 +55,20 @@ examine_rows s receipt = record {
   clock = s.clock;
 }
 
--- when it is refused, by these rows, and what it puts
-abbrev pub examine_tests : ExamineRows → Bool → Option ℕ → List (Bool × Refusal)
-examine_tests rows responsive quality = examine_conditions rows.envelope rows.notice rows.lot responsive quality
+-- what is lacking where the tender is there: its notice or its lot
+abbrev pub examine_lacks : ExamineRows → Bool
+examine_lacks rows = is_some rows.envelope && (not (is_some rows.notice) || not (is_some rows.lot))
 
+-- when it is refused, by these rows
+abbrev pub examine_tests : ExamineRows → Bool → Option ℕ → List (Bool × Refusal)
+examine_tests rows responsive quality =
+    (is_some rows.envelope && holds_of (is_bad_quality responsive quality) rows.notice, (BadBody (Field Quality)))
+    ∷ (not (is_some rows.envelope), NoSuch things.Tender)
+    ∷ (holds_of isnt_read rows.envelope, NotOpened)
+    ∷ (holds_of cant_be_examined rows.envelope || holds_of (λ (l : LotRow). not (is_undecided l.state)) rows.lot, AlreadyDecided)
+    ∷ []
+
+-- what it puts: the tender and the clock
 abbrev pub examine_puts : ExamineRows → ℕ → Bool → Option ℕ → List Put
-examine_puts rows t responsive quality = examine_effect rows.clock t rows.envelope responsive quality
+examine_puts rows t responsive quality =
+    puts_if (λ (e : EnvelopeRow). puts.Envelope (examined responsive quality e) ∷ clock_put rows.clock t ∷ []) rows.envelope

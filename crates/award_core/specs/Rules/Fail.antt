@@ -1,11 +1,11 @@
 -- A winner who doesn't sign is passed over (Model Law, article 22): the award fails, and the security is forfeited.
-use Rattle.std.specs.Prelude.{ℕ, ◌+◌, Bool, not, List, [], ◌∷◌, ◌++◌, Option, Some, is_some, nat_lt}
+use Rattle.std.specs.Prelude.{ℕ, ◌+◌, Bool, not, ◌&&◌, ◌||◌, List, [], ◌∷◌, ◌++◌, Option, is_some, nat_lt}
 use Rattle.office_base.specs.Limits.{days}
 use Rattle.office_values.specs.declared.refusal.Thing.TheVariants as things
 use Rattle.office_values.specs.declared.refusal.Refusal.{Refusal}
 use Rattle.office_values.specs.declared.refusal.Refusal.TheVariants.{NoSuch, AlreadyDecided, Expired, Standstill, LimitReached}
 use Rattle.office_base.specs.Rows.{holds_of}
-use Rattle.office_base.specs.RuleParts.{clock_put, released, has_all_releases, is_expired, passed_over, security_settled, put_if}
+use Rattle.office_base.specs.Transitions.{clock_put, with_next_release, has_all_releases, is_expired, lacks_security, passed_over, security_settled, put_if, puts_if}
 use Rattle.office_base.specs.States.{is_active}
 use Rattle.office_base.specs.declared.records.LotState.TheVariants as lot_states
 use Rattle.office_base.specs.declared.records.AwardState.TheVariants as award_states
@@ -13,9 +13,7 @@ use Rattle.office_base.specs.declared.records.SecurityState.TheVariants.{Forfeit
 use Rattle.office_base.specs.declared.records.NoticeRow.{NoticeRow}
 use Rattle.office_base.specs.declared.records.LotRow.{LotRow}
 use Rattle.office_base.specs.declared.records.EnvelopeRow.{EnvelopeRow}
-use Rattle.office_base.specs.declared.records.SecurityRow.{SecurityRow}
 use Rattle.office_base.specs.declared.records.AwardRow.{AwardRow}
-use Rattle.office_base.specs.declared.records.ClockRow.{ClockRow}
 use Rattle.office_base.specs.declared.puts.Put.TheVariants as puts
 use Rattle.office_base.specs.declared.puts.Put.{Put}
 use Rattle.office_base.specs.Tables.{Tables, award_at}
@@ -33,17 +31,13 @@ abbrev pub is_standing_still : ℕ → Option NoticeRow → AwardRow → Bool
 is_standing_still t notice a = holds_of (λ (n : NoticeRow). stands_still t n a) notice
 
 -- an award that stands, in effect, after its standstill
-abbrev pub standing_conditions : ℕ → Option AwardRow → Option NoticeRow → List (Bool × Refusal)
-standing_conditions t award notice =
+abbrev pub standing_tests : ℕ → Option AwardRow → Option NoticeRow → List (Bool × Refusal)
+standing_tests t award notice =
     (holds_of isnt_active award, AlreadyDecided)
     ∷ (holds_of (is_expired t) notice, Expired)
     ∷ (holds_of (is_standing_still t notice) award, Standstill)
     ∷ (has_all_releases notice, LimitReached)
     ∷ []
-
--- the award, and its notice
-abbrev pub fail_conditions : ℕ → Option AwardRow → Option NoticeRow → List (Bool × Refusal)
-fail_conditions t award notice = (not (is_some award), NoSuch things.Award) ∷ standing_conditions t award notice
 
 abbrev pub failed_award : AwardRow → AwardRow
 failed_award a = record a { state = award_states.Failed }
@@ -51,17 +45,6 @@ failed_award a = record a { state = award_states.Failed }
 -- what was reserved stays so
 abbrev pub undecided_again : LotRow → LotRow
 undecided_again l = record l { state = lot_states.Undecided }
-
--- the award, its notice, its lot, its tender, and that tender's security
-abbrev pub fail_effect : ClockRow → ℕ → Option AwardRow → Option NoticeRow → Option LotRow → Option EnvelopeRow → Option SecurityRow → List Put
-fail_effect clock t (Some a) (Some n) (Some l) envelope security =
-    puts.Award (failed_award a)
-    ∷ puts.Lot (undecided_again l)
-    ∷ puts.Notice (released n)
-    ∷ clock_put clock t
-    ∷ put_if (λ e. puts.Envelope (passed_over e)) envelope
-    ++ put_if (security_settled Forfeited) security
-fail_effect clock t award notice lot envelope security = []
 
 -- the rows that the failing of an award looks at
 abbrev pub fail_rows : Tables → ℕ → FailRows
@@ -74,9 +57,25 @@ fail_rows s award = record {
   clock = s.clock;
 }
 
--- when it is refused, by these rows, and what it puts
-abbrev pub fail_tests : FailRows → ℕ → List (Bool × Refusal)
-fail_tests rows t = fail_conditions t rows.award rows.notice
+-- what is lacking where the award is there: its notice, its lot, its tender, or the security that this names
+abbrev pub fail_lacks : FailRows → Bool
+fail_lacks rows =
+    is_some rows.award
+    && (not (is_some rows.notice) || not (is_some rows.lot) || not (is_some rows.envelope)
+    || holds_of (λ (e : EnvelopeRow). lacks_security e rows.security) rows.envelope)
 
+-- when it is refused, by these rows
+abbrev pub fail_tests : FailRows → ℕ → List (Bool × Refusal)
+fail_tests rows t = (not (is_some rows.award), NoSuch things.Award) ∷ standing_tests t rows.award rows.notice
+
+-- what it puts: the award, its lot, its notice and the clock, its tender, and that tender's security
 abbrev pub fail_puts : FailRows → ℕ → List Put
-fail_puts rows t = fail_effect rows.clock t rows.award rows.notice rows.lot rows.envelope rows.security
+fail_puts rows t =
+    puts_if (λ (a : AwardRow). puts_if (λ (n : NoticeRow). puts_if (λ (l : LotRow).
+    puts.Award (failed_award a)
+    ∷ puts.Lot (undecided_again l)
+    ∷ puts.Notice (with_next_release n)
+    ∷ clock_put rows.clock t
+    ∷ put_if (λ e. puts.Envelope (passed_over e)) rows.envelope
+    ++ put_if (security_settled Forfeited) rows.security
+    ) rows.lot) rows.notice) rows.award

@@ -1,41 +1,25 @@
 -- A payment under a contract.
-use Rattle.std.specs.Prelude.{ℕ, Bool, not, ◌||◌, List, [], ◌∷◌, Option, Some, None, is_some}
+use Rattle.std.specs.Prelude.{ℕ, Bool, not, ◌&&◌, ◌||◌, List, [], ◌∷◌, None, is_some}
 use Rattle.std.specs.List.{list_any}
 use Rattle.office_base.specs.declared.records.EntryKind.TheVariants as entry_kinds
 use Rattle.office_values.specs.declared.refusal.Thing.TheVariants as things
 use Rattle.office_values.specs.declared.refusal.Refusal.{Refusal}
 use Rattle.office_values.specs.declared.refusal.Refusal.TheVariants.{NoSuch, Exists, MoreThanOutstanding, ContractEnded, LimitReached}
 use Rattle.office_base.specs.Rows.{holds_of}
-use Rattle.office_base.specs.RuleParts.{clock_put, released, has_all_releases}
+use Rattle.office_base.specs.Transitions.{clock_put, with_next_release, has_all_releases, puts_if}
 use Rattle.award_core.specs.Rules.AmendContract.{has_ended, is_beyond, is_taken, has_all_entries}
 use Rattle.office_base.specs.declared.records.NoticeRow.{NoticeRow}
 use Rattle.office_base.specs.declared.records.ContractRow.{ContractRow}
 use Rattle.office_base.specs.declared.records.EntryRow.{EntryRow}
-use Rattle.office_base.specs.declared.records.ClockRow.{ClockRow}
 use Rattle.office_base.specs.declared.puts.Put.TheVariants as puts
 use Rattle.office_base.specs.declared.puts.Put.{Put}
 use Rattle.office_base.specs.Tables.{Tables, contract_at, entries_of_contract}
 use Rattle.office_base.specs.Parents.{notice_of_contract}
 use Rattle.award_core.specs.declared.pay.PayRows.{PayRows}
 
--- the contract, its entries, and its notice
-abbrev pub pay_conditions : Option ContractRow → List EntryRow → Option NoticeRow → List ℕ → ℕ → List (Bool × Refusal)
-pay_conditions contract entries notice entry amount =
-    (not (is_some contract), NoSuch things.Contract)
-    ∷ (list_any (is_taken entry) entries, Exists)
-    ∷ (holds_of (is_beyond entries amount) contract, MoreThanOutstanding)
-    ∷ (holds_of has_ended contract, ContractEnded)
-    ∷ (has_all_entries entries || has_all_releases notice, LimitReached)
-    ∷ []
-
 abbrev pub payment_row : ℕ → ContractRow → List ℕ → ℕ → EntryRow
 payment_row t c entry amount =
     record { contract = c.contract; entry = entry; kind = entry_kinds.Payment; amount = amount; moment = t; rationale = None }
-
-abbrev pub pay_effect : ClockRow → ℕ → Option ContractRow → Option NoticeRow → List ℕ → ℕ → List Put
-pay_effect clock t (Some c) (Some n) entry amount =
-    puts.Entry (payment_row t c entry amount) ∷ puts.Notice (released n) ∷ clock_put clock t ∷ []
-pay_effect clock t contract notice entry amount = []
 
 -- the rows that a payment looks at
 abbrev pub pay_rows : Tables → ℕ → PayRows
@@ -46,9 +30,23 @@ pay_rows s contract = record {
   clock = s.clock;
 }
 
--- when it is refused, by these rows, and what it puts
-abbrev pub pay_tests : PayRows → List ℕ → ℕ → List (Bool × Refusal)
-pay_tests rows entry amount = pay_conditions rows.contract rows.entries rows.notice entry amount
+-- what is lacking where the contract is there: its notice
+abbrev pub pay_lacks : PayRows → Bool
+pay_lacks rows = is_some rows.contract && not (is_some rows.notice)
 
+-- when it is refused, by these rows
+abbrev pub pay_tests : PayRows → List ℕ → ℕ → List (Bool × Refusal)
+pay_tests rows entry amount =
+    (not (is_some rows.contract), NoSuch things.Contract)
+    ∷ (list_any (is_taken entry) rows.entries, Exists)
+    ∷ (holds_of (is_beyond rows.entries amount) rows.contract, MoreThanOutstanding)
+    ∷ (holds_of has_ended rows.contract, ContractEnded)
+    ∷ (has_all_entries rows.entries || has_all_releases rows.notice, LimitReached)
+    ∷ []
+
+-- what it puts: the payment, the notice and the clock
 abbrev pub pay_puts : PayRows → ℕ → List ℕ → ℕ → List Put
-pay_puts rows t entry amount = pay_effect rows.clock t rows.contract rows.notice entry amount
+pay_puts rows t entry amount =
+    puts_if (λ (c : ContractRow). puts_if (λ (n : NoticeRow).
+    puts.Entry (payment_row t c entry amount) ∷ puts.Notice (with_next_release n) ∷ clock_put rows.clock t ∷ []
+    ) rows.notice) rows.contract

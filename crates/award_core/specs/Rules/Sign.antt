@@ -1,12 +1,12 @@
 -- The signing of a contract (Model Law, article 22).
-use Rattle.std.specs.Prelude.{ℕ, Bool, not, ◌&&◌, List, [], ◌∷◌, ◌++◌, Option, Some, None, is_some, nat_lt, nat_eq}
-use Rattle.office_acts.specs.declared.tender.NamedSecurity.{NamedSecurity}
+use Rattle.std.specs.Prelude.{ℕ, Bool, not, ◌&&◌, ◌||◌, List, [], ◌∷◌, ◌++◌, Option, Some, None, is_some, nat_lt, nat_eq}
+use Rattle.office_commands.specs.declared.tender.NamedSecurity.{NamedSecurity}
 use Rattle.office_values.specs.declared.refusal.Thing.TheVariants as things
 use Rattle.office_values.specs.declared.refusal.Refusal.{Refusal}
 use Rattle.office_values.specs.declared.refusal.Refusal.TheVariants.{NoSuch, SecurityMissing, SecurityTooSmall, SecurityNotAsked}
 use Rattle.office_base.specs.Rows.{holds_of}
-use Rattle.office_base.specs.RuleParts.{clock_put, released, securities_returned, put_if}
-use Rattle.award_core.specs.Rules.Fail.{standing_conditions}
+use Rattle.office_base.specs.Transitions.{clock_put, with_next_release, securities_returned, put_if, puts_if}
+use Rattle.award_core.specs.Rules.Fail.{standing_tests}
 use Rattle.office_base.specs.declared.records.LotState.TheVariants as lot_states
 use Rattle.office_base.specs.declared.records.AwardState.TheVariants as award_states
 use Rattle.office_base.specs.declared.records.NoticeRow.{NoticeRow}
@@ -28,20 +28,11 @@ use Rattle.award_core.specs.declared.sign.SignRows.{SignRows}
 abbrev pub is_missing : Option NamedSecurity → NoticeRow → Bool
 is_missing named n = nat_lt 0 n.performance && not (is_some named)
 
-abbrev pub is_too_small : Option NamedSecurity → NoticeRow → Bool
-is_too_small named n = holds_of (λ (s : NamedSecurity). nat_lt s.amount n.performance) named
+abbrev pub performance_is_too_small : Option NamedSecurity → NoticeRow → Bool
+performance_is_too_small named n = holds_of (λ (s : NamedSecurity). nat_lt s.amount n.performance) named
 
 abbrev pub isnt_asked : Option NamedSecurity → NoticeRow → Bool
 isnt_asked named n = nat_eq n.performance 0 && is_some named
-
--- the award, its notice, and the performance security that is named: else refused as a failing is
-abbrev pub sign_conditions : ℕ → Option AwardRow → Option NoticeRow → Option NamedSecurity → List (Bool × Refusal)
-sign_conditions t award notice named =
-    (not (is_some award), NoSuch things.Award)
-    ∷ (holds_of (is_missing named) notice, SecurityMissing)
-    ∷ (holds_of (is_too_small named) notice, SecurityTooSmall)
-    ∷ (holds_of (isnt_asked named) notice, SecurityNotAsked)
-    ∷ standing_conditions t award notice
 
 abbrev pub signed_award : AwardRow → AwardRow
 signed_award a = record a { state = award_states.Signed }
@@ -81,14 +72,9 @@ sign_parts clock t a n l envelope securities =
     puts.Award (signed_award a)
     ∷ puts.Lot (contracted_lot l)
     ∷ puts.Contract (contract_row t a (tenderer_in envelope))
-    ∷ puts.Notice (released n)
+    ∷ puts.Notice (with_next_release n)
     ∷ clock_put clock t
     ∷ securities_returned securities
-
-abbrev pub sign_effect : ClockRow → ℕ → Option AwardRow → Option NoticeRow → Option LotRow → Option EnvelopeRow → List SecurityRow → Option NamedSecurity → List Put
-sign_effect clock t (Some a) (Some n) (Some l) envelope securities named =
-    sign_parts clock t a n l envelope securities ++ put_if (performance_put a) named
-sign_effect clock t award notice lot envelope securities named = []
 
 -- the rows that the signing of a contract looks at
 abbrev pub sign_rows : Tables → ℕ → SignRows
@@ -101,9 +87,22 @@ sign_rows s award = record {
   clock = s.clock;
 }
 
--- when it is refused, by these rows, and what it puts
-abbrev pub sign_tests : SignRows → ℕ → Option NamedSecurity → List (Bool × Refusal)
-sign_tests rows t named = sign_conditions t rows.award rows.notice named
+-- what is lacking where the award is there: its notice, its lot or its tender
+abbrev pub sign_lacks : SignRows → Bool
+sign_lacks rows = is_some rows.award && (not (is_some rows.notice) || not (is_some rows.lot) || not (is_some rows.envelope))
 
+-- when it is refused, by these rows and the performance security that is named: else as a failing is
+abbrev pub sign_tests : SignRows → ℕ → Option NamedSecurity → List (Bool × Refusal)
+sign_tests rows t named =
+    (not (is_some rows.award), NoSuch things.Award)
+    ∷ (holds_of (is_missing named) rows.notice, SecurityMissing)
+    ∷ (holds_of (performance_is_too_small named) rows.notice, SecurityTooSmall)
+    ∷ (holds_of (isnt_asked named) rows.notice, SecurityNotAsked)
+    ∷ standing_tests t rows.award rows.notice
+
+-- what it puts
 abbrev pub sign_puts : SignRows → ℕ → Option NamedSecurity → List Put
-sign_puts rows t named = sign_effect rows.clock t rows.award rows.notice rows.lot rows.envelope rows.securities named
+sign_puts rows t named =
+    puts_if (λ (a : AwardRow). puts_if (λ (n : NoticeRow). puts_if (λ (l : LotRow).
+    sign_parts rows.clock t a n l rows.envelope rows.securities ++ put_if (performance_put a) named
+    ) rows.lot) rows.notice) rows.award

@@ -20,6 +20,6 @@ abbrev pub IsIndexOf : BTreeMap (String Global) ℕ → List Data → Type 0
 IsIndexOf by_id ds = (i : List ℕ) → get_by_text by_id i ≡ place_in i ds
 
 -- an index of these items, or none at all
-abbrev pub Serves : Option (BTreeMap (String Global) ℕ) → List Data → Type 0
-Serves None ds = Unit {0}
-Serves (Some by_id) ds = IsIndexOf by_id ds
+abbrev pub IndexServes : Option (BTreeMap (String Global) ℕ) → List Data → Type 0
+IndexServes None ds = Unit {0}
+IndexServes (Some by_id) ds = IsIndexOf by_id ds

@@ -30,21 +30,21 @@ IsOrdered (member k d ms) = AllAbove k ms × IsOrdered ms
 
 -- a value that reads back from its text: each object in the order of its names, each number an integer of 64 bits
 abbrev mutual
-  pub IsKept : Data → Type 0
-  IsKept null = ⊤
-  IsKept (boolean b) = ⊤
-  IsKept (number n) = IsInRange n
-  IsKept (string s) = ⊤
-  IsKept (array ds) = AreItemsKept ds
-  IsKept (object ms) = IsOrdered ms × AreMembersKept ms
+  pub TextIsKept : Data → Type 0
+  TextIsKept null = ⊤
+  TextIsKept (boolean b) = ⊤
+  TextIsKept (number n) = IsInRange n
+  TextIsKept (string s) = ⊤
+  TextIsKept (array ds) = AreItemsKept ds
+  TextIsKept (object ms) = IsOrdered ms × AreMembersKept ms
 
   pub AreItemsKept : Items → Type 0
   AreItemsKept no_items = ⊤
-  AreItemsKept (item d ds) = IsKept d × AreItemsKept ds
+  AreItemsKept (item d ds) = TextIsKept d × AreItemsKept ds
 
   pub AreMembersKept : Members → Type 0
   AreMembersKept no_members = ⊤
-  AreMembersKept (member k d ms) = IsKept d × AreMembersKept ms
+  AreMembersKept (member k d ms) = TextIsKept d × AreMembersKept ms
 
 -- a value ends before this text
 abbrev pub EndsBefore : List ℕ → Type 0
@@ -101,7 +101,7 @@ pub record FoundAt (name : List ℕ) (ts : Members) (rest value : List ℕ) : Ty
   pub old : Data
   pub others : Members
   pub found : get_member name ts ≡ Some old
-  pub kept : IsKept old × AreMembersKept others
+  pub kept : TextIsKept old × AreMembersKept others
   pub text : value ≡ compact_text old ++ (members_text true others ++ rest)
 
 -- the same of the items of a list: what is written of it, and the items that are left

@@ -5,7 +5,7 @@ use Rattle.serde_json.specs.Find.{get_member}
 use Rattle.serde_json.specs.View.{items_of}
 use Rattle.ocds_merge.specs.Identified.{id_of, is_id_list}
 use Rattle.ocds_merge.specs.Merge.{put_present}
-use Rattle.ocds_merge.specs.Compile.{without}
+use Rattle.ocds_merge.specs.Compile.{members_without}
 
 abbrev pub items_list : Items → List Data
 items_list no_items = []
@@ -56,7 +56,7 @@ abbrev mutual
 
   pub step_members : Members → Members → Members
   step_members ts no_members = ts
-  step_members ts (member k d ms) = step_members (put_present k (step (get_member k ts) d) (without k ts)) ms
+  step_members ts (member k d ms) = step_members (put_present k (step (get_member k ts) d) (members_without k ts)) ms
 
 -- no item has this id
 abbrev pub Lacks : List ℕ → List Data → Type 0

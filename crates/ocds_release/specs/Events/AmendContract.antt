@@ -2,8 +2,8 @@
 use Rattle.std.specs.Prelude.{ℕ, List, [], ◌∷◌, codes}
 use Rattle.serde_json.specs.Data.{Data}
 use Rattle.office_values.specs.declared.settings.Settings.{Settings}
-use Rattle.office_acts.specs.declared.contract.ChangeKind.{ChangeKind}
-use Rattle.office_acts.specs.declared.contract.ChangeKind.TheVariants.{Raise, Cut}
+use Rattle.office_commands.specs.declared.contract.ChangeKind.{ChangeKind}
+use Rattle.office_commands.specs.declared.contract.ChangeKind.TheVariants.{Raise, Cut}
 use Rattle.ocds_release.specs.Objects.{text, decimal_id, array_of, object_of, money}
 use Rattle.ocds_release.specs.Texts.{raised_text, cut_text}
 use Rattle.ocds_release.specs.Amendments.{amendment}

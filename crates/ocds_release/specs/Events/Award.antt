@@ -9,8 +9,8 @@ use Rattle.ocds_release.specs.Releases.{release, tags}
 use Rattle.ocds_release.specs.declared.event.Awarded.{Awarded}
 
 -- the winner, who is a supplier now (OCDS 1.1, Organization, codelist partyRole)
-abbrev pub winner : Awarded → Data
-winner e = object_of (
+abbrev pub winner_party : Awarded → Data
+winner_party e = object_of (
     (codes "id", text (tenderer_id e.winner.id))
     ∷ (codes "roles", texts (codes "tenderer" ∷ codes "supplier" ∷ []))
     ∷ [])
@@ -30,6 +30,6 @@ award_data currency t e = object_of (
 abbrev pub award_release : Settings → ℕ → ℕ → Awarded → Data
 award_release settings seq t e = release settings seq t e.notice (
     tags (codes "award" ∷ [])
-    ∷ (codes "parties", array_of (winner e ∷ []))
+    ∷ (codes "parties", array_of (winner_party e ∷ []))
     ∷ (codes "awards", array_of (award_data settings.currency t e ∷ []))
     ∷ [])

@@ -2,7 +2,7 @@
 use Rattle.std.specs.Prelude.{ℕ, List, [], ◌∷◌, codes, map}
 use Rattle.serde_json.specs.Data.{Data, object}
 use Rattle.office_values.specs.declared.settings.Settings.{Settings}
-use Rattle.ocds_release.specs.Objects.{text, texts, four_digit_id, array_of, put_filled}
+use Rattle.ocds_release.specs.Objects.{text, texts, four_digit_id, array_of, put_unless_empty}
 use Rattle.ocds_release.specs.Amendments.{amendment}
 use Rattle.ocds_release.specs.Awards.{ended_award}
 use Rattle.ocds_release.specs.Tenders.{lot_in_status, tender_members}
@@ -10,14 +10,14 @@ use Rattle.ocds_release.specs.Releases.{release}
 use Rattle.ocds_release.specs.declared.event.NoticeCancelled.{NoticeCancelled}
 
 -- a lot that was cancelled
-abbrev pub cancelled_lot : List ℕ → Data
-cancelled_lot lot = lot_in_status (codes "cancelled") lot
+abbrev pub cancelled_lot_data : List ℕ → Data
+cancelled_lot_data lot = lot_in_status (codes "cancelled") lot
 
 -- the tender with its status, the lots that were cancelled, and the cancellation as an amendment (OCDS 1.1, Tender)
 abbrev pub cancelled_tender : ℕ → ℕ → NoticeCancelled → Data
-cancelled_tender seq t e = object (put_filled (codes "amendments")
+cancelled_tender seq t e = object (put_unless_empty (codes "amendments")
     (array_of (amendment (four_digit_id seq) t e.rationale (text (codes "Cancelled")) ∷ []))
-    (tender_members e.notice e.status (array_of (map cancelled_lot e.lots))))
+    (tender_members e.notice e.status (array_of (map cancelled_lot_data e.lots))))
 
 -- tag `tenderCancellation`, and `awardCancellation` too where an award ends
 abbrev pub cancel_tag : List ℕ → Data

@@ -7,8 +7,8 @@ use Rattle.ocds_release.specs.Releases.{release, tags}
 use Rattle.ocds_release.specs.declared.event.ContractEnded.{ContractEnded}
 
 -- the contract, which is over (OCDS 1.1, codelist contractStatus)
-abbrev pub ended_contract : ℕ → Data
-ended_contract contract = object_of (
+abbrev pub ended_contract_data : ℕ → Data
+ended_contract_data contract = object_of (
     (codes "id", decimal_id contract)
     ∷ (codes "awardID", decimal_id contract)
     ∷ (codes "status", text (codes "terminated"))
@@ -18,5 +18,5 @@ ended_contract contract = object_of (
 abbrev pub end_release : Settings → ℕ → ℕ → ContractEnded → Data
 end_release settings seq t e = release settings seq t e.notice (
     tags (codes "contractTermination" ∷ [])
-    ∷ (codes "contracts", array_of (ended_contract e.contract ∷ []))
+    ∷ (codes "contracts", array_of (ended_contract_data e.contract ∷ []))
     ∷ [])

@@ -3,14 +3,14 @@ use Rattle.std.specs.Prelude.{ℕ, List, [], ◌∷◌, ◌++◌, codes, map}
 use Rattle.serde_json.specs.Data.{Data, Members, object, no_members, number, unsigned}
 use Rattle.office_values.specs.Moments.{moment_text}
 use Rattle.office_values.specs.declared.settings.Settings.{Settings}
-use Rattle.office_acts.specs.declared.item.Item.{Item}
-use Rattle.office_acts.specs.declared.lot.NewLot.{NewLot}
-use Rattle.office_acts.specs.declared.notice.Criteria.{Criteria}
-use Rattle.office_acts.specs.declared.notice.Criteria.TheVariants.{Price, Points}
+use Rattle.office_commands.specs.declared.item.Item.{Item}
+use Rattle.office_commands.specs.declared.lot.NewLot.{NewLot}
+use Rattle.office_commands.specs.declared.notice.Criteria.{Criteria}
+use Rattle.office_commands.specs.declared.notice.Criteria.TheVariants.{Price, Points}
 use Rattle.office_base.specs.Sums.{sum_over}
 use Rattle.ocds_release.specs.LotsInOrder.{lots_in_order}
 use Rattle.ocds_release.specs.Objects.{text, texts, array_of, object_of, with_entries, money}
-use Rattle.ocds_release.specs.Texts.{buyer_id, item_id}
+use Rattle.ocds_release.specs.Texts.{buyer_id, item_id_text}
 use Rattle.ocds_release.specs.Releases.{release, tags, buyer_of}
 use Rattle.ocds_release.specs.declared.event.Published.{Published}
 
@@ -32,7 +32,7 @@ published_lot currency lot = object_of (
 abbrev pub published_item : List ℕ → Item → Data
 published_item lot item = object_of (
     (codes "description", text item.title)
-    ∷ (codes "id", text (item_id lot item.id))
+    ∷ (codes "id", text (item_id_text lot item.id))
     ∷ (codes "quantity", number (unsigned item.quantity))
     ∷ (codes "relatedLot", text lot)
     ∷ [])

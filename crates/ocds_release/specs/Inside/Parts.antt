@@ -3,7 +3,7 @@ use Rattle.std.specs.Prelude.{ℕ, List, [], ◌∷◌}
 use Rattle.std.specs.Borrow.{Bor}
 use Rattle.serde_json.specs.Data.{Data, number, unsigned}
 use Rattle.office_values.specs.Moments.{moment_text}
-use Rattle.ocds_release.specs.Texts.{ocid_text, release_id, item_id, moved_text, raised_text, cut_text, address, buyer_id, tenderer_id}
+use Rattle.ocds_release.specs.Texts.{ocid_text, release_id, item_id_text, moved_text, raised_text, cut_text, address, buyer_id, tenderer_id}
 use Rattle.ocds_release.specs.Objects.{Entry, text, texts, money, decimal_id, four_digit_id, buyer_reference, tenderer_reference}
 use Rattle.ocds_release.specs.declared.part.Part.{Part}
 use Rattle.ocds_release.specs.declared.part.Part.TheVariants as parts
@@ -23,7 +23,7 @@ data_of (parts.Tenderer id name) = tenderer_reference id name.now
 data_of (parts.TendererId id) = text (tenderer_id id)
 data_of (parts.Ocid prefix notice) = text (ocid_text prefix notice)
 data_of (parts.ReleaseId prefix notice seq) = text (release_id prefix notice seq)
-data_of (parts.ItemId lot id) = text (item_id lot id)
+data_of (parts.ItemId lot id) = text (item_id_text lot id)
 data_of (parts.Moved before after) = text (moved_text before after)
 data_of (parts.Raised amount) = text (raised_text amount)
 data_of (parts.Cut amount) = text (cut_text amount)

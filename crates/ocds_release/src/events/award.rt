@@ -1,7 +1,7 @@
 //! An award.
 ghost use Rattle.std.specs.Prelude.{◌≡◌, IfOk};
 ghost use Rattle.serde_json.specs.View.{view};
-ghost use Rattle.ocds_release.specs.Events.Award.{award_release, winner as winning_party, award_data};
+ghost use Rattle.ocds_release.specs.Events.Award.{award_release, winner_party as winning_party, award_data};
 
 use crate::event::Awarded;
 use crate::object::{Object, list_of_one, object_with};

@@ -3,7 +3,7 @@ ghost use Rattle.std.specs.Prelude.{◌≡◌, IfOk, map};
 ghost use Rattle.serde_json.specs.View.{view};
 ghost use Rattle.ocds_release.specs.Awards.{ended_award};
 ghost use Rattle.ocds_release.specs.Tenders.{lot_in_status};
-ghost use Rattle.ocds_release.specs.Events.Cancel.{cancel_release, cancelled_lot, cancelled_tender, cancel_tag};
+ghost use Rattle.ocds_release.specs.Events.Cancel.{cancel_release, cancelled_lot_data, cancelled_tender, cancel_tag};
 
 use crate::amendment::amendment_of;
 use crate::event::NoticeCancelled;
@@ -21,7 +21,7 @@ use serde_json::{Value, json};
 use std::alloc::{AllocError, Global};
 
 fn lots_of(alloc: Global, lots: &[Id]) -> Result<Vec<Value>, AllocError>
-    ensures { IfOk result (λ list. map view list.items ≡ map cancelled_lot lots.now) }
+    ensures { IfOk result (λ list. map view list.items ≡ map cancelled_lot_data lots.now) }
 {
     let mut list = Vec::new(alloc);
     for lot in lots {

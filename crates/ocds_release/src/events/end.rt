@@ -1,7 +1,7 @@
 //! The end of a contract.
 ghost use Rattle.std.specs.Prelude.{◌≡◌, IfOk};
 ghost use Rattle.serde_json.specs.View.{view};
-ghost use Rattle.ocds_release.specs.Events.End.{end_release, ended_contract};
+ghost use Rattle.ocds_release.specs.Events.End.{end_release, ended_contract_data};
 
 use crate::event::ContractEnded;
 use crate::object::{list_of_one, object_with};
@@ -15,7 +15,7 @@ use serde_json::Value;
 use std::alloc::{AllocError, Global};
 
 fn contract_of(alloc: Global, contract: GivenNumber) -> Result<Value, AllocError>
-    ensures { IfOk result (λ v. view v ≡ ended_contract contract) }
+    ensures { IfOk result (λ v. view v ≡ ended_contract_data contract) }
 {
     let number = contract.get();
     object_with(

@@ -1,7 +1,7 @@
 //! The opening of tenders.
 ghost use Rattle.std.specs.Prelude.{◌≡◌, IfOk, map};
 ghost use Rattle.serde_json.specs.View.{view};
-ghost use Rattle.ocds_release.specs.Tenderers.{tenderer_of};
+ghost use Rattle.ocds_release.specs.Tenderers.{tenderer_shown};
 ghost use Rattle.ocds_release.specs.Events.Open.{open_release, opened_party, tenderer_reference_of, opened_tender};
 
 use crate::event::Opened;
@@ -18,7 +18,7 @@ use std::alloc::{AllocError, Global};
 
 // The tenderer as a party.
 fn party_of(alloc: Global, row: &TendererRow) -> Result<Value, AllocError>
-    ensures { IfOk result (λ v. view v ≡ opened_party (tenderer_of row.now)) }
+    ensures { IfOk result (λ v. view v ≡ opened_party (tenderer_shown row.now)) }
 {
     let address = object_with(
         alloc,
@@ -38,7 +38,7 @@ fn party_of(alloc: Global, row: &TendererRow) -> Result<Value, AllocError>
 }
 
 fn parties_of(alloc: Global, rows: &[TendererRow]) -> Result<Vec<Value>, AllocError>
-    ensures { IfOk result (λ list. map view list.items ≡ map opened_party (map tenderer_of rows.now)) }
+    ensures { IfOk result (λ list. map view list.items ≡ map opened_party (map tenderer_shown rows.now)) }
 {
     let mut list = Vec::new(alloc);
     for row in rows {
@@ -48,7 +48,7 @@ fn parties_of(alloc: Global, rows: &[TendererRow]) -> Result<Vec<Value>, AllocEr
 }
 
 fn references_of(alloc: Global, rows: &[TendererRow]) -> Result<Vec<Value>, AllocError>
-    ensures { IfOk result (λ list. map view list.items ≡ map tenderer_reference_of (map tenderer_of rows.now)) }
+    ensures { IfOk result (λ list. map view list.items ≡ map tenderer_reference_of (map tenderer_shown rows.now)) }
 {
     let mut list = Vec::new(alloc);
     for row in rows {

@@ -1,13 +1,13 @@
 //! The ledger.
 ghost use Rattle.std.specs.Prelude.{◌≡◌, true};
-ghost use Rattle.office_acts.specs.Rights.{may_look};
-ghost use Rattle.office_acts.specs.declared.command.QueryKind.TheVariants as kinds;
-ghost use Rattle.office_acts.specs.declared.queries.Query.TheVariants.{Ledger};
+ghost use Rattle.office_commands.specs.Rights.{may_look};
+ghost use Rattle.office_commands.specs.declared.command.QueryKind.TheVariants as kinds;
+ghost use Rattle.office_commands.specs.declared.queries.Query.TheVariants.{Ledger};
 ghost use Rattle.office_base.specs.Shelves.{Looks};
 ghost use Rattle.office_desk.specs.Steps.{IsShown, read_text};
 
-use office_acts::command::Caller;
 use office_base::shelf::Lookups;
+use office_commands::command::Caller;
 use office_values::refusal::Refusal;
 use std::alloc::Global;
 use tender_papers::ledger::ledger_text;

@@ -1,19 +1,19 @@
 //! A look at a budget line.
 ghost use Rattle.std.specs.Prelude.{◌≡◌, true, IfOk};
-ghost use Rattle.office_acts.specs.Rights.{may_look};
-ghost use Rattle.office_acts.specs.declared.command.QueryKind.TheVariants as kinds;
-ghost use Rattle.office_acts.specs.declared.queries.Query.TheVariants.{Line};
+ghost use Rattle.office_commands.specs.Rights.{may_look};
+ghost use Rattle.office_commands.specs.declared.command.QueryKind.TheVariants as kinds;
+ghost use Rattle.office_commands.specs.declared.queries.Query.TheVariants.{Line};
 ghost use Rattle.office_base.specs.Shelves.{Looks};
 ghost use Rattle.office_machine.specs.Replies.{LineSeen};
 ghost use Rattle.office_plans.specs.Replies.{reply_text};
 ghost use Rattle.office_desk.specs.Steps.{IsShown, read_text};
 
-use office_acts::command::Caller;
 use office_base::laws;
 use office_base::ledger::Pots;
 use office_base::pots::pots_of_line;
 use office_base::records::LineRow;
 use office_base::shelf::Lookups;
+use office_commands::command::Caller;
 use office_plans::objects::{Plain, object_text};
 use office_values::id::Id;
 use office_values::refusal::{Refusal, Thing};

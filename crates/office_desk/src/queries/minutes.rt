@@ -1,19 +1,19 @@
 //! The minutes of an opening.
 ghost use Rattle.std.specs.Prelude.{◌≡◌, true, IfOk, IfErr, filter, map, unwrap_or};
-ghost use Rattle.office_acts.specs.Rights.{may_look};
-ghost use Rattle.office_acts.specs.declared.command.QueryKind.TheVariants as kinds;
-ghost use Rattle.office_acts.specs.declared.queries.Query.TheVariants.{Minutes};
+ghost use Rattle.office_commands.specs.Rights.{may_look};
+ghost use Rattle.office_commands.specs.declared.command.QueryKind.TheVariants as kinds;
+ghost use Rattle.office_commands.specs.declared.queries.Query.TheVariants.{Minutes};
 ghost use Rattle.office_values.specs.declared.refusal.Refusal.TheVariants.{Unavailable};
 ghost use Rattle.office_base.specs.Shelves.{Looks};
 ghost use Rattle.office_machine.specs.Sights.{is_read_envelope, minuted};
-ghost use Rattle.office_plans.specs.Replies.{opened_tender};
+ghost use Rattle.office_plans.specs.Replies.{minuted_tender};
 ghost use Rattle.office_desk.specs.Steps.{IsShown, read_text};
 ghost use Rattle.tender_papers.specs.Minutes.{minutes_text};
 
-use office_acts::command::Caller;
 use office_base::laws;
 use office_base::records::{EnvelopeRow, EnvelopeState, LotRow, NoticeRow, NoticeState};
 use office_base::shelf::Lookups;
+use office_commands::command::Caller;
 use office_values::id::Id;
 use office_values::refusal::{Refusal, Thing};
 use std::alloc::Global;
@@ -29,7 +29,7 @@ fn keep_opened(envelopes: &mut Vec<EnvelopeRow>)
 // What minutes say of a tender that was opened: its tenderer is looked up. In an office that commands lead to, the tenderer is there,
 // and the tender was read.
 fn load_tender<H: Lookups>(shelf: &mut H, row: &EnvelopeRow) -> Result<OpenedTender, Refusal>
-    ensures looks { Looks H.meaning shelf.old shelf.new (λ s. IfOk result (λ tender. tender ≡ opened_tender (minuted s.tenderers row.now))) }
+    ensures looks { Looks H.meaning shelf.old shelf.new (λ s. IfOk result (λ tender. tender ≡ minuted_tender (minuted s.tenderers row.now))) }
     ensures fault { IfErr result (λ e. e ≡ Unavailable) }
 {
     let Some(reading) = row.reading else {
@@ -53,7 +53,7 @@ fn load_tenders<H: Lookups>(
     rows: &[EnvelopeRow],
 ) -> Result<Vec<OpenedTender>, Refusal>
     ensures looks { Looks H.meaning shelf.old shelf.new (λ s. IfOk result (λ tenders. tenders.items
-        ≡ map opened_tender (map (minuted s.tenderers) rows.now))) }
+        ≡ map minuted_tender (map (minuted s.tenderers) rows.now))) }
     ensures fault { IfErr result (λ e. e ≡ Unavailable) }
 {
     laws::looks_follow::<H>();

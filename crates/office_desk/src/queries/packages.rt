@@ -1,15 +1,17 @@
 //! The packages of a notice's releases and of its record.
-ghost use Rattle.std.specs.Prelude.{◌≡◌, true};
-ghost use Rattle.office_acts.specs.Rights.{may_look};
-ghost use Rattle.office_acts.specs.declared.command.QueryKind.TheVariants as kinds;
-ghost use Rattle.office_acts.specs.declared.queries.Query.TheVariants.{Record, Releases};
+ghost use Rattle.std.specs.Prelude.{◌≡◌, true, OnOk};
+ghost use Rattle.office_commands.specs.Rights.{may_look};
+ghost use Rattle.office_commands.specs.declared.command.QueryKind.TheVariants as kinds;
+ghost use Rattle.office_commands.specs.declared.queries.Query.TheVariants.{Record, Releases};
 ghost use Rattle.office_base.specs.Shelves.{Looks};
-ghost use Rattle.office_desk.specs.Steps.{IsSeen, read_text};
+ghost use Rattle.office_base.specs.Tables.{Tables};
+ghost use Rattle.office_desk.specs.Steps.{HasShown, IsSeen, read_text};
 
-use office_acts::command::Caller;
+mod texts;
+
 use office_base::laws;
 use office_base::shelf::Lookups;
-use office_publisher::packages;
+use office_commands::command::Caller;
 use office_values::id::Id;
 use office_values::refusal::{Refusal, Thing};
 use office_values::settings::Settings;
@@ -24,13 +26,14 @@ pub(crate) fn look_at_releases<H: Lookups>(
     notice: Id,
 ) -> Result<Vec<u8>, Refusal>
     requires { may_look caller.now kinds.Releases ≡ true }
-    ensures { Looks H.meaning shelf.old shelf.new (λ s. IsSeen settings.now caller.now (Releases notice) s (read_text result)) }
+    ensures looks { Looks H.meaning shelf.old shelf.new (λ s. IsSeen settings.now caller.now (Releases notice) s (read_text result)) }
+    ensures shown { H.meaning.honest shelf.new → (s : Tables) → H.meaning.holds shelf.old s → OnOk result (HasShown (Releases notice) s) }
 {
     laws::looks_follow::<H>();
-    if shelf.get_notice(&notice)?.is_none() {
+    let Some(row) = shelf.get_notice(&notice)? else {
         return Err(Refusal::NoSuch(Thing::Notice));
-    }
-    packages::releases_text(alloc, shelf, settings, &notice)
+    };
+    texts::releases_text(alloc, shelf, settings, &notice, row.releases)
 }
 
 /// The package of a notice's record.
@@ -42,11 +45,12 @@ pub(crate) fn look_at_record<H: Lookups>(
     notice: Id,
 ) -> Result<Vec<u8>, Refusal>
     requires { may_look caller.now kinds.Record ≡ true }
-    ensures { Looks H.meaning shelf.old shelf.new (λ s. IsSeen settings.now caller.now (Record notice) s (read_text result)) }
+    ensures looks { Looks H.meaning shelf.old shelf.new (λ s. IsSeen settings.now caller.now (Record notice) s (read_text result)) }
+    ensures shown { H.meaning.honest shelf.new → (s : Tables) → H.meaning.holds shelf.old s → OnOk result (HasShown (Record notice) s) }
 {
     laws::looks_follow::<H>();
-    if shelf.get_notice(&notice)?.is_none() {
+    let Some(row) = shelf.get_notice(&notice)? else {
         return Err(Refusal::NoSuch(Thing::Notice));
-    }
-    packages::record_text(alloc, shelf, settings, &notice)
+    };
+    texts::record_text(alloc, shelf, settings, &notice, row.releases)
 }

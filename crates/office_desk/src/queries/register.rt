@@ -1,18 +1,18 @@
 //! The register of a notice's tenders.
 ghost use Rattle.std.specs.Prelude.{◌≡◌, true, IfOk, map};
-ghost use Rattle.office_acts.specs.Rights.{may_look};
-ghost use Rattle.office_acts.specs.declared.command.QueryKind.TheVariants as kinds;
-ghost use Rattle.office_acts.specs.declared.queries.Query.TheVariants.{Register};
+ghost use Rattle.office_commands.specs.Rights.{may_look};
+ghost use Rattle.office_commands.specs.declared.command.QueryKind.TheVariants as kinds;
+ghost use Rattle.office_commands.specs.declared.queries.Query.TheVariants.{Register};
 ghost use Rattle.office_base.specs.Shelves.{Looks};
 ghost use Rattle.office_machine.specs.Replies.{Registry};
 ghost use Rattle.office_machine.specs.Sights.{registered};
 ghost use Rattle.office_plans.specs.Replies.{reply_text};
 ghost use Rattle.office_desk.specs.Steps.{IsShown, read_text};
 
-use office_acts::command::Caller;
 use office_base::laws;
 use office_base::records::EnvelopeRow;
 use office_base::shelf::Lookups;
+use office_commands::command::Caller;
 use office_values::id::Id;
 use office_values::refusal::{Refusal, Thing};
 use std::alloc::{AllocError, Global};

@@ -1,19 +1,19 @@
 //! A look at a security.
 ghost use Rattle.std.specs.Prelude.{◌≡◌, ◌||◌, true, IfOk};
-ghost use Rattle.office_acts.specs.Callers.{is_by};
-ghost use Rattle.office_acts.specs.Rights.{is_clerk, may_look};
-ghost use Rattle.office_acts.specs.declared.command.QueryKind.TheVariants as kinds;
-ghost use Rattle.office_acts.specs.declared.queries.Query.TheVariants.{Security};
+ghost use Rattle.office_commands.specs.Callers.{is_by};
+ghost use Rattle.office_commands.specs.Rights.{is_clerk, may_look};
+ghost use Rattle.office_commands.specs.declared.command.QueryKind.TheVariants as kinds;
+ghost use Rattle.office_commands.specs.declared.queries.Query.TheVariants.{Security};
 ghost use Rattle.office_base.specs.Shelves.{Looks};
 ghost use Rattle.office_machine.specs.Replies.{Security as SecuritySeen};
 ghost use Rattle.office_plans.specs.Replies.{reply_text};
 ghost use Rattle.office_desk.specs.Steps.{IsShown, read_text};
 
-use office_acts::command::Caller;
 use office_base::records::SecurityRow;
 use office_base::shelf::Lookups;
+use office_commands::command::Caller;
 use office_plans::objects::{Plain, object_text};
-use office_plans::reply::security_word;
+use office_plans::words::security_word;
 use office_values::given::AskedNumber;
 use office_values::id::Id;
 use office_values::refusal::{Refusal, Thing};

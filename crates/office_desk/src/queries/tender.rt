@@ -1,32 +1,22 @@
 //! A look at a tender.
 ghost use Rattle.std.specs.Prelude.{◌≡◌, true, IfOk};
-ghost use Rattle.office_acts.specs.Rights.{may_look};
-ghost use Rattle.office_acts.specs.declared.command.QueryKind.TheVariants as kinds;
-ghost use Rattle.office_acts.specs.declared.queries.Query.TheVariants.{Tender};
+ghost use Rattle.office_commands.specs.Rights.{may_look};
+ghost use Rattle.office_commands.specs.declared.command.QueryKind.TheVariants as kinds;
+ghost use Rattle.office_commands.specs.declared.queries.Query.TheVariants.{Tender};
 ghost use Rattle.office_base.specs.Shelves.{Looks};
 ghost use Rattle.office_machine.specs.Replies.{Tender as TenderSeen};
 ghost use Rattle.office_plans.specs.Replies.{reply_text};
 ghost use Rattle.office_desk.specs.Steps.{IsShown, read_text};
 
-use office_acts::command::Caller;
 use office_base::records::EnvelopeRow;
 use office_base::shelf::Lookups;
-use office_plans::objects::{Plain, object_text};
-use office_plans::reply::state_word;
-use office_values::given::{AskedNumber, GivenNumber};
+use office_commands::command::Caller;
+use office_plans::objects::{Plain, number_of, object_text};
+use office_plans::words::state_word;
+use office_values::given::AskedNumber;
 use office_values::refusal::{Refusal, Thing};
 use std::alloc::{AllocError, Global};
 use tender_core::tenders::is_by;
-
-// The number of the security, where there is one.
-fn number_of(security: Option<GivenNumber>) -> Option<u64>
-    ensures { result ≡ security }
-{
-    match security {
-        Some(number) => Some(number.get()),
-        None => None,
-    }
-}
 
 // What is seen of a tender, in JSON.
 fn tender_text(alloc: Global, row: &EnvelopeRow) -> Result<Vec<u8>, AllocError>

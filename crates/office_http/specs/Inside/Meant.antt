@@ -4,7 +4,7 @@ use Rattle.office_values.specs.declared.settings.Settings.{Settings}
 use Rattle.office_base.specs.Tables.{Tables}
 use Rattle.office_base.specs.Shelves.{Meaning}
 use Rattle.office_machine.specs.Machine.{IsCommand, IsRegistered}
-use Rattle.office_publications.specs.Standing.{Stands}
+use Rattle.office_publications.specs.Standing.{IsReached}
 use Rattle.office_http.specs.Meaning.{Meant, Refuses, Gives, Sees}
 use Rattle.office_http.specs.Answering.{StopsAfter, answer_bytes, tables_left}
 
@@ -16,7 +16,7 @@ CanBeMeant s (Sees caller query) = Unit {0}
 
 -- a shelf holds this office, which stands as its commands left it
 abbrev pub HoldsStanding : {S : Type 0} → Meaning S → Settings → S → Tables → Type 0
-HoldsStanding M settings new s = M.holds new s × Stands settings s
+HoldsStanding M settings new s = M.holds new s × IsReached settings s
 
 -- what was meant was answered with this text, perhaps with Unavailable, the shelf holds the office after it, and a stop leaves what it then may
 abbrev pub Answered : {S : Type 0} → Meaning S → Settings → S → S → Tables → ℕ → Meant → List ℕ → Type 0
@@ -27,4 +27,4 @@ Answered M settings old new s moment m text =
 -- so is whatever can be meant
 abbrev pub AnswersMeant : {S : Type 0} → Meaning S → Settings → S → S → ℕ → (Tables → Meant) → List ℕ → Type 0
 AnswersMeant M settings old new moment m text =
-    M.honest new → (s : Tables) → M.holds old s → Stands settings s → CanBeMeant s (m s) → Answered M settings old new s moment (m s) text
+    M.honest new → (s : Tables) → M.holds old s → IsReached settings s → CanBeMeant s (m s) → Answered M settings old new s moment (m s) text

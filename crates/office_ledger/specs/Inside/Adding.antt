@@ -2,13 +2,12 @@
 use Rattle.std.specs.Prelude.{ℕ, ◌+◌, ◌-◌, ◌*◌, ◌^◌, ◌<◌, Bool, false, cond, ◌&&◌, nat_eq, nat_le, List, [], ◌∷◌, ◌++◌, Option, Some, None}
 use Rattle.office_values.specs.Ids.{same_id}
 use Rattle.office_values.specs.Money.{total_limit}
+use Rattle.office_base.specs.EntrySums.{sums_with_entry}
 use Rattle.office_base.specs.LineSums.{outstanding_in, paid_in}
 use Rattle.office_base.specs.Tables.{same_number}
 use Rattle.office_base.specs.declared.ledger.ContractSums.{ContractSums}
 use Rattle.office_base.specs.declared.ledger.LedgerRow.{LedgerRow}
 use Rattle.office_base.specs.declared.ledger.Pots.{Pots}
-use Rattle.office_base.specs.declared.records.EntryKind.{EntryKind}
-use Rattle.office_base.specs.declared.records.EntryKind.TheVariants.{Raise, Cut, Payment}
 use Rattle.office_ledger.specs.declared.joined.JoinedRow.{JoinedRow}
 use Rattle.office_ledger.specs.declared.joined.JoinedLot.{JoinedLot}
 use Rattle.office_ledger.specs.declared.joined.JoinedContract.{JoinedContract}
@@ -23,17 +22,9 @@ use Rattle.office_ledger.specs.declared.ledger_sums.OpenLine.{OpenLine}
 abbrev pub opened : JoinedContract → OpenContract
 opened c = record { contract = c.contract; sums = record { gained = c.signed; lost = c.released; paid = 0 } }
 
--- the sums with an entry of this kind and amount
-abbrev pub with_kind : EntryKind → ℕ → ContractSums → ContractSums
-with_kind Raise amount sums = record { gained = sums.gained + amount; lost = sums.lost; paid = sums.paid }
-with_kind Cut amount sums = record { gained = sums.gained; lost = sums.lost + amount; paid = sums.paid }
-with_kind Payment amount sums = record { gained = sums.gained; lost = sums.lost + amount; paid = sums.paid + amount }
-
-abbrev pub sums_with : JoinedEntry → ContractSums → ContractSums
-sums_with e sums = with_kind e.kind e.amount sums
-
+-- with an entry more
 abbrev pub contract_with : JoinedEntry → OpenContract → OpenContract
-contract_with e current = record { contract = current.contract; sums = sums_with e current.sums }
+contract_with e current = record { contract = current.contract; sums = sums_with_entry e.kind e.amount current.sums }
 
 -- what was taken from a contract beyond what was put in
 abbrev pub overdrawn_in : ContractSums → ℕ
@@ -162,9 +153,9 @@ abbrev pub take_row : JoinedRow → Added → Added
 take_row r s = record (enter_line r s) { sums = take_perhaps take_lot r.lot (enter_line r s).sums }
 
 -- rows that come one after another
-abbrev pub takes : {R S : Type 0} → (R → S → S) → List R → S → S
-takes take [] s = s
-takes take (r ∷ rs) s = takes take rs (take r s)
+abbrev pub fold_rows : {R S : Type 0} → (R → S → S) → List R → S → S
+fold_rows take [] s = s
+fold_rows take (r ∷ rs) s = fold_rows take rs (take r s)
 
 abbrev pub added : List JoinedRow → Added
-added rows = takes take_row rows nothing_added
+added rows = fold_rows take_row rows nothing_added

@@ -1,47 +1,48 @@
 -- The sums of contracts as their joined rows come, lot by lot.
 use Rattle.std.specs.Prelude.{ℕ, ◌+◌, ◌*◌, ◌^◌, ◌<◌, Bool, false, cond, ◌&&◌, List, [], ◌∷◌, ◌++◌, Option, Some, None}
 use Rattle.office_values.specs.Ids.{same_id}
+use Rattle.office_base.specs.EntrySums.{sums_with_entry}
 use Rattle.office_base.specs.Tables.{same_number}
 use Rattle.office_base.specs.declared.ledger.ContractSums.{ContractSums}
 use Rattle.office_ledger.specs.declared.joined.JoinedLot.{JoinedLot}
 use Rattle.office_ledger.specs.declared.joined.JoinedContract.{JoinedContract}
 use Rattle.office_ledger.specs.declared.joined.JoinedEntry.{JoinedEntry}
-use Rattle.office_ledger.specs.declared.contract_list.ComingContract.{ComingContract}
-use Rattle.office_ledger.specs.Inside.Adding.{sums_with, takes}
+use Rattle.office_ledger.specs.declared.contract_list.CurrentContract.{CurrentContract}
+use Rattle.office_ledger.specs.Inside.Adding.{fold_rows}
 
 -- the contracts that are done, and the one whose rows are coming
 pub record Listed : Type 0 where
   pub done : List ContractSums
-  pub coming : Option ComingContract
+  pub current : Option CurrentContract
 
 abbrev pub nothing_listed : Listed
-nothing_listed = record { done = []; coming = None }
+nothing_listed = record { done = []; current = None }
 
-abbrev pub with_coming : Option ComingContract → List ContractSums → List ContractSums
-with_coming None done = done
-with_coming (Some c) done = done ++ c.sums ∷ []
+abbrev pub with_current : Option CurrentContract → List ContractSums → List ContractSums
+with_current None done = done
+with_current (Some c) done = done ++ c.sums ∷ []
 
 -- all of them
 abbrev pub all_listed : Listed → List ContractSums
-all_listed s = with_coming s.coming s.done
+all_listed s = with_current s.current s.done
 
-abbrev pub is_coming : JoinedLot → ℕ → Option ComingContract → Bool
-is_coming l contract None = false
-is_coming l contract (Some c) = same_id c.notice l.notice && same_id c.lot l.lot && same_number c.contract contract
+abbrev pub is_current : JoinedLot → ℕ → Option CurrentContract → Bool
+is_current l contract None = false
+is_current l contract (Some c) = same_id c.notice l.notice && same_id c.lot l.lot && same_number c.contract contract
 
-abbrev pub coming_of : JoinedLot → JoinedContract → ComingContract
-coming_of l c = record { notice = l.notice; lot = l.lot; contract = c.contract; sums = record { gained = c.signed; lost = c.released; paid = 0 } }
+abbrev pub current_of : JoinedLot → JoinedContract → CurrentContract
+current_of l c = record { notice = l.notice; lot = l.lot; contract = c.contract; sums = record { gained = c.signed; lost = c.released; paid = 0 } }
 
 -- the first row of a contract ends the one before
 abbrev pub enter_listed : JoinedLot → JoinedContract → Listed → Listed
-enter_listed l c s = cond (is_coming l c.contract s.coming) s (record { done = all_listed s; coming = Some (coming_of l c) })
+enter_listed l c s = cond (is_current l c.contract s.current) s (record { done = all_listed s; current = Some (current_of l c) })
 
-abbrev pub entry_coming : JoinedEntry → Option ComingContract → Option ComingContract
-entry_coming e None = None
-entry_coming e (Some c) = Some (record c { sums = sums_with e c.sums })
+abbrev pub entry_of_current : JoinedEntry → Option CurrentContract → Option CurrentContract
+entry_of_current e None = None
+entry_of_current e (Some c) = Some (record c { sums = sums_with_entry e.kind e.amount c.sums })
 
 abbrev pub list_entry : JoinedEntry → Listed → Listed
-list_entry e s = record s { coming = entry_coming e s.coming }
+list_entry e s = record s { current = entry_of_current e s.current }
 
 abbrev pub list_perhaps : Option JoinedEntry → Listed → Listed
 list_perhaps None s = s
@@ -58,9 +59,9 @@ abbrev pub list_lot : JoinedLot → Listed → Listed
 list_lot l s = list_lot_by l l.contract s
 
 abbrev pub listed : List JoinedLot → Listed
-listed rows = takes list_lot rows nothing_listed
+listed rows = fold_rows list_lot rows nothing_listed
 
 -- so many entries more find room in 128 bits
-abbrev pub EntriesFit : ℕ → Option ComingContract → Type 0
+abbrev pub EntriesFit : ℕ → Option CurrentContract → Type 0
 EntriesFit n None = Unit {0}
 EntriesFit n (Some c) = (c.sums.gained + n * 2 ^ 50 < 2 ^ 128) × (c.sums.lost + n * 2 ^ 50 < 2 ^ 128) × (c.sums.paid + n * 2 ^ 50 < 2 ^ 128)

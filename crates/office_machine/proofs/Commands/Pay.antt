@@ -1,38 +1,180 @@
 -- A payment keeps the laws of the office.
-use Rattle.std.proofs.Common.{arith, ℕ, List, [], ◌∷◌, refl}
-use Rattle.std.specs.Prelude.{max, option_map}
-use Rattle.office_acts.specs.declared.commands.Command.TheVariants.{Pay}
+use Rattle.std.specs.Prelude.{max, Option}
+use Rattle.std.proofs.Common.{◌≡◌, ℕ, ◌+◌, ◌≤◌, Bool, true, false, cond, List, [], ◌∷◌, Some, None, is_some, refl, sym, ◌∙◌, ap, subst, arith, not}
+use Rattle.std.specs.List.{AllByRecursion}
+use Rattle.office_values.specs.Ids.{same_id}
+use Rattle.office_values.specs.declared.refusal.Refusal.{Refusal}
+use Rattle.office_commands.specs.declared.command.Caller.{Caller}
+use Rattle.office_commands.specs.declared.commands.Command.TheVariants.{Pay}
+use Rattle.office_commands.specs.declared.commands.Command.TheVariants as commands
+use Rattle.office_base.specs.Tables.{IsSorted, same_number, Tables, notice_at, lot_at, contract_at, find_entry, put_entry, entries_of_contract, after_puts, of_notice}
+use Rattle.office_base.specs.Rules.{first_of}
+use Rattle.office_base.specs.Transitions.{with_next_release, clock_put, has_all_releases}
+use Rattle.office_base.specs.declared.records.NoticeRow.{NoticeRow}
+use Rattle.office_base.specs.declared.records.LotRow.{LotRow}
+use Rattle.office_base.specs.declared.records.ContractRow.{ContractRow}
+use Rattle.office_base.specs.declared.records.EntryRow.{EntryRow}
+use Rattle.office_base.specs.Joined.{plus, minus, outstanding}
+use Rattle.office_base.specs.Parents.{notice_of_contract, lot_of_contract}
+use Rattle.office_base.specs.declared.records.ClockRow.{ClockRow}
 use Rattle.office_base.specs.declared.puts.Put.TheVariants as puts
-use Rattle.office_base.specs.RuleParts.{has_all_releases}
-use Rattle.office_base.specs.Parents.{notice_of_contract}
-use Rattle.office_base.specs.Tables.{contract_at}
-use Rattle.award_core.specs.Rules.Pay.{pay_rows, pay_tests, pay_effect, pay_puts}
-use Rattle.office_machine.proofs.Lawful.{Lawful}
-use Rattle.office_machine.proofs.Passed.{none_holds, not_false, neither}
-use Rattle.office_machine.proofs.PayKeeps.{pay_keeps}
-use Rattle.office_machine.proofs.QuietFates as quiet_fates
-use Rattle.office_machine.proofs.SpokenOf.{of_contract}
-use Rattle.office_machine.proofs.Tail.{moved, front}
-use Rattle.office_machine.proofs.Tails.{on_contract}
-use Rattle.office_machine.specs.Replies.{OfContract, contract_release, left_of}
-use Rattle.office_machine.specs.Rule.{notice_in_contract}
-use Rattle.office_machine.proofs.RowsApart.{pay_rows_apart}
+use Rattle.award_core.specs.Rules.AmendContract.{is_beyond, has_ended}
+use Rattle.award_core.specs.Rules.Pay.{payment_row, pay_rows, pay_tests, pay_puts, pay_lacks}
+use Rattle.office_machine.specs.Parents.{HaveParents}
+use Rattle.office_machine.specs.Machine.{Given, time_of, command_tests, effect}
+use Rattle.office_machine.specs.Readings.{Readings}
+use Rattle.office_machine.specs.Moves.{moves, line_in}
+use Rattle.office_machine.proofs.Parents.ParentsPut.{Grows, AllParents}
+use Rattle.office_machine.proofs.Commands.Tail.{on_contract, moved, front}
+use Rattle.office_machine.proofs.FateLaws.QuietFates.{Stands, contract_notice, kept_after, one_more}
+use Rattle.office_machine.proofs.Parents.RowsHave.{entry_has}
+use Rattle.office_machine.proofs.Accounts.Aside.{kept_aside}
+use Rattle.office_base.proofs.RowLaws.Keyed.{found_key}
+use Rattle.office_machine.proofs.Accounts.Kept.{AccountsStand, PotsAre, ContractIs}
+use Rattle.office_machine.proofs.Accounts.Joins.{outstanding-own}
+use Rattle.office_machine.proofs.Passed.{none_holds, not_false, not_both, at_least, witness, test_of, neither}
+use Rattle.office_machine.proofs.Accounts.Entered.{not_taken, contracts_are, no_contract_are, gains, losses, payments}
+use Rattle.office_machine.proofs.Commands.Footprint.{Entries}
+use Rattle.office_machine.proofs.Commands.Lawful.{Lawful, Moving}
+use Rattle.office_machine.proofs.Parents.SpokenOf.{of_contract}
+use Rattle.office_machine.proofs.FateLaws.Views.{View}
+use Rattle.office_machine.proofs.FateLaws.Seen.{seen, IsQuiet}
+use Rattle.office_machine.proofs.FateLaws.FatesHold.{Keeps, given}
+use Rattle.office_machine.proofs.Worlds.WorldsPut.{IsPlain, plain_pairs}
+use Rattle.office_machine.proofs.Rows.Keyed as keyed
+
+-- the accounts
+module _ (readings : Readings) (xs : List Given) (s : Tables) (moment : ℕ) (caller : Caller) (c : ℕ) (entry : List ℕ) (amount : ℕ) (kept : AccountsStand xs s) (order : IsSorted s) where
+  abbrev x : Given
+  x = record { before = s; moment = moment; caller = caller; command = commands.Pay c entry amount }
+
+  module _ (r : ContractRow) (l : LotRow) (n : NoticeRow) (is : contract_at c s ≡ Some r) (lot : lot_at (r.notice, r.lot) s ≡ Some l) (notice : notice_at r.notice s ≡ Some n)
+      (new : find_entry s.entries (c, entry) ≡ None) (enough : amount ≤ outstanding s.entries r) where
+    abbrev row : EntryRow
+    row = payment_row (time_of x) r entry amount
+
+    abbrev s' : Tables
+    s' = record s { entries = put_entry s.entries row }
+
+    number : r.contract ≡ c
+    number = found_key keyed.contracts s.contracts c r is
+
+    contract_is : ContractIs xs s c r
+    contract_is = kept.contracts c r is
+
+    -- the line of the move
+    line : line_in (lot_of_contract (contract_at c s) s) ≡ l.line
+    line = ap line_in (ap (λ o. lot_of_contract o s) is ∙ lot)
+
+    new_here : find_entry s.entries (r.contract, entry) ≡ None
+    new_here = ap (λ c. find_entry s.entries (c, entry)) number ∙ new
+
+    zero_at : (b : Bool) → ◌≡◌ {A = ℕ} 0 (cond b 0 0)
+    zero_at true = refl
+    zero_at false = refl
+
+    within : minus s.entries r + amount ≤ plus s.entries r + 0
+    within = omega (arith, enough, contract_is.within)
+
+    moved_of : (q : List ℕ) → cond (same_id (line_in (lot_of_contract (contract_at c s) s)) q) amount 0 ≡ cond (same_id l.line q) amount 0
+    moved_of q = ap (λ n. cond (same_id n q) amount 0) line
+
+    pots : (q : List ℕ) → PotsAre (moves (x ∷ xs)) s' q
+    pots q = record {
+      appropriation_is = omega (arith, old.appropriation_is);
+      free_is = omega (arith, old.free_is);
+      reserved_is = omega (arith, old.reserved_is);
+      gains_are = omega (arith, old.gains_are, gains x xs s kept order c r l row is lot number new_here (λ n. zero_at (same_number c n)) (λ n. refl) within q, zero_at (same_id l.line q));
+      losses_are = omega (arith, old.losses_are, moved_of q, losses x xs s kept order c r l row is lot number new_here (λ n. zero_at (same_number c n)) (λ n. refl) within q);
+      paid_is = omega (arith, old.paid_is, moved_of q, payments x xs s kept order c r l row is lot number new_here (λ n. zero_at (same_number c n)) (λ n. refl) within q);
+      none_spent = omega (arith, old.none_spent);
+    }
+      where
+        old : PotsAre (moves xs) s q
+        old = kept.pots q
+
+    entered_keeps : AccountsStand (x ∷ xs) s'
+    entered_keeps = record {
+      pots = pots;
+      lots = λ k l h. let old = kept.lots k l h in record { of_notice = old.of_notice; on_line = old.on_line; held = old.held };
+      awards = λ a w h. let old = kept.awards a w h in record { drawn = old.drawn; of_lot = old.of_lot };
+      one_active = kept.one_active;
+      contracts = contracts_are x xs s kept order c r l row is lot number new_here (λ n. zero_at (same_number c n)) (λ n. refl) within s';
+      no_contract = no_contract_are x xs s kept order c r l row is lot number new_here (λ n. zero_at (same_number c n)) (λ n. refl) within s';
+    }
+
+    effect_is : pay_puts (record { contract = Some r; entries = []; notice = Some n; clock = s.clock }) (time_of x) entry amount ≡ effect readings x
+    effect_is = λ i. pay_puts (record { contract = sym is i; entries = []; notice = (sym (ap (λ o. notice_of_contract o s) is ∙ notice) i); clock = s.clock }) (time_of x) entry amount
+
+    keeps : AccountsStand (x ∷ xs) (after_puts (effect readings x) s)
+    keeps = subst (λ ps. AccountsStand (x ∷ xs) (after_puts ps s)) effect_is
+        (kept_aside (x ∷ xs) (puts.Notice (with_next_release n) ∷ clock_put s.clock (time_of x) ∷ []) s' (tt, (omega arith, tt)) entered_keeps)
+
+  module _ (allowed : first_of (command_tests x) ≡ None) where
+    passes : AllByRecursion (λ (test : Bool × Refusal). test.0 ≡ false) (command_tests x)
+    passes = none_holds (command_tests x) allowed
+
+    found_contract : (r : ContractRow) × (contract_at c s ≡ Some r)
+    found_contract = witness (contract_at c s) (not_false _ passes.0)
+
+    pub pay_keeps : AccountsStand (x ∷ xs) (after_puts (effect readings x) s)
+    pay_keeps =
+        let r = found_contract.0 in
+        let is = found_contract.1 in
+        let lot = witness _ (kept.contracts c r is).of_lot in
+        let notice = witness _ (kept.lots (r.notice, r.lot) lot.0 lot.1).of_notice in
+        let runs : is_some r.ended ≡ false = test_of has_ended (contract_at c s) r is false passes.1.1.1.0 in
+        let beyond = not_both _ _ (test_of (is_beyond (entries_of_contract c s) amount) (contract_at c s) r is false passes.1.1.0) runs in
+        let own = outstanding-own s.entries c r (found_key keyed.contracts s.contracts c r is) in
+        let left = at_least _ _ beyond in
+        keeps r lot.0 notice.0 is lot.1 notice.1 (not_taken s.entries c entry passes.1.0) (omega (arith, left, own))
+
+-- what is put touches no tender and no security
+quiet_puts : (V : View) (clock : ClockRow) (t : ℕ) (c : Option ContractRow) (n : Option NoticeRow) (entry : List ℕ) (amount : ℕ) → Stands V n
+    → AllByRecursion (IsQuiet V clock.receipts) (pay_puts (record { contract = c; entries = []; notice = n; clock = clock }) t entry amount)
+quiet_puts V clock t (Some c) (Some n) entry amount h = (tt, (h n refl, (refl, tt)))
+quiet_puts V clock t None _ entry amount h = tt
+quiet_puts V clock t (Some c) None entry amount h = tt
+
+-- no tender and no security is decided, and none comes in
+fates_kept : (readings : Readings) (contract : ℕ) (entry : List ℕ) (amount : ℕ) → Keeps readings (Pay contract entry amount)
+fates_kept readings contract entry amount xs t m caller kept own allowed =
+    kept_after readings (given t m caller (Pay contract entry amount) ∷ xs) _ t
+    (quiet_puts (seen t) t.clock (max m t.clock.moment) (contract_at contract t) (notice_of_contract (contract_at contract t) t) entry amount (λ n found. contract_notice t (contract_at contract t) n found))
+    (one_more readings xs (given t m caller (Pay contract entry amount)) t kept refl (λ r. refl) (λ s. refl))
+
+module _ (s u : Tables) (have : HaveParents s s) (g : Grows s u) where
+  -- what its rows speak of is there
+  parents_of : (clock : ClockRow) (t contract : ℕ) (c : Option ContractRow) (n : Option NoticeRow) (entry : List ℕ) (amount : ℕ) → contract_at contract s ≡ c → AllParents u (pay_puts (record { contract = c; entries = []; notice = n; clock = clock }) t entry amount)
+  parents_of clock t contract (Some c) (Some n) entry amount is = (record { contract = entry_has s u have g contract c is }, (tt, (tt, tt)))
+  parents_of clock t contract None n entry amount is = tt
+  parents_of clock t contract (Some c) None entry amount is = tt
+
+-- it puts the same in both worlds
+plain : (clock : ClockRow) (t : ℕ) (c : Option ContractRow) (n : Option NoticeRow) (entry : List ℕ) (amount : ℕ) → AllByRecursion IsPlain (pay_puts (record { contract = c; entries = []; notice = n; clock = clock }) t entry amount)
+plain clock t (Some c) (Some n) entry amount = (tt, (tt, (tt, tt)))
+plain clock t None n entry amount = tt
+plain clock t (Some c) None entry amount = tt
+
+-- its contract's notice is there
+none_lacking : (s : Tables) → HaveParents s s → (contract : ℕ) (o : Option ContractRow) → contract_at contract s ≡ o → pay_lacks (record { contract = o; entries = []; notice = notice_of_contract o s; clock = s.clock }) ≡ false
+none_lacking s have contract None is = refl
+none_lacking s have contract (Some c) is = ap not (have.contracts contract c is).notice
 
 pub pay : (contract : ℕ) (entry : List ℕ) (amount : ℕ) → Lawful (Pay contract entry amount)
 pay contract entry amount = record {
-  in_order = λ s t caller. (omega arith, (omega arith, (omega arith, (omega arith, (omega arith, tt)))));
-  accounts = λ readings xs s moment caller kept order own allowed. pay_keeps readings xs s moment caller contract entry amount kept order allowed;
-  fates = λ readings. quiet_fates.pay_keeps readings contract entry amount;
+  touches = Entries ∷ [];
+  alone = (refl, refl);
+  accounts = Moving (λ readings xs s moment caller kept order own allowed. pay_keeps readings xs s moment caller contract entry amount kept order allowed);
+  fates = λ readings. fates_kept readings contract entry amount;
   tail = λ readings s moment caller have allowed.
       let tests = none_holds (pay_tests (pay_rows s contract) entry amount) allowed in
       let of = of_contract s have contract (not_false _ tests.0) in
-      moved refl (λ i. pay_effect s.clock (max moment s.clock.moment) (of.is i) (of.notice i) entry amount)
+      moved refl (λ i. pay_puts (record { contract = of.is i; entries = []; notice = of.notice i; clock = s.clock }) (max moment s.clock.moment) entry amount)
       (front (puts.Entry _ ∷ []) (refl, tt)
-      (on_contract readings s moment caller have contract of (neither _ (has_all_releases (notice_of_contract (contract_at contract s) s)) tests.1.1.1.1.0).1));
-  apart = λ before after i. record {
-    tests = λ s t caller. pay_tests (pay_rows_apart before s contract i) entry amount;
-    puts = λ readings s t caller. pay_puts (pay_rows_apart before s contract i) t entry amount;
-    publishes = λ s. option_map notice_in_contract (contract_at contract s);
-    reply = λ readings s u t caller. OfContract contract (left_of (contract_at contract u) u.entries) (contract_release (contract_at contract s) s.notices) t;
-  };
+      (on_contract contract of (neither _ (has_all_releases (notice_of_contract (contract_at contract s) s)) tests.1.1.1.1.0).1));
+  parents = λ readings s moment caller order have registered may allowed u grown later. parents_of s u have grown s.clock _ contract (contract_at contract s) (notice_of_contract (contract_at contract s) s) entry amount refl;
+  lacks = λ xs s moment caller whole allowed. none_lacking s whole.parents contract (contract_at contract s) refl;
+  alike = λ th W s es' ss' all seals readings t caller quiet.
+      plain_pairs th W (pay_puts (record { contract = contract_at contract s; entries = []; notice = (notice_of_contract (contract_at contract s) s); clock = s.clock }) t entry amount) (plain s.clock t (contract_at contract s) (notice_of_contract (contract_at contract s) s) entry amount);
 }

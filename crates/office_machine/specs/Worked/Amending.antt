@@ -1,6 +1,6 @@
 -- Worked examples of amending: the deadline of a notice moves.
 use Rattle.std.specs.Prelude.{◌++◌, ◌+◌, ◌-◌, ◌∷◌, ◌≡◌, None, Some, [], codes, map, ℕ}
-use Rattle.office_acts.specs.declared.commands.Command.TheVariants.{AmendNotice, Cancel, Open}
+use Rattle.office_commands.specs.declared.commands.Command.TheVariants.{AmendNotice, Cancel, Open}
 use Rattle.office_values.specs.declared.refusal.Refusal.TheVariants.{DeadlineEarlier, DeadlinePassed, LimitReached, NoSuch, NotOpenForTenders, TooEarlyToOpen}
 use Rattle.office_values.specs.declared.refusal.Thing.TheVariants as things
 use Rattle.office_base.specs.Tables.{Tables}

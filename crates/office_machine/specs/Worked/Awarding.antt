@@ -1,8 +1,8 @@
 -- Worked examples of awarding: the lowest price, the better receipt, points, nobody, and what is reserved.
 use Rattle.std.specs.Prelude.{◌++◌, ◌-◌, ◌∷◌, ◌≡◌, ◌≤◌, List, None, Some, [], codes, true, ℕ}
 use Prim.Native.Nat.{suc-le-suc, zero-le}
-use Rattle.office_acts.specs.declared.commands.Command.TheVariants.{Award, Examine}
-use Rattle.office_acts.specs.declared.notice.Criteria.TheVariants.{Points, Price}
+use Rattle.office_commands.specs.declared.commands.Command.TheVariants.{Award, Examine}
+use Rattle.office_commands.specs.declared.notice.Criteria.TheVariants.{Points, Price}
 use Rattle.office_values.specs.declared.refusal.Refusal.TheVariants.{AlreadyDecided, Expired, InsufficientFunds, NoSuch, NotAllExamined, NotOpened}
 use Rattle.office_values.specs.declared.refusal.Thing.TheVariants as things
 use Rattle.office_base.specs.declared.records.AwardState.TheVariants as award_in

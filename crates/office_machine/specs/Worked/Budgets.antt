@@ -1,11 +1,11 @@
 -- Worked examples of budgets: files of appropriations, and what anybody sees of a line.
 use Rattle.std.specs.Prelude.{◌++◌, ◌∷◌, ◌≡◌, ◌≤◌, List, [], codes, replicate, ℕ}
 use Prim.Native.Nat.{suc-le-suc, zero-le}
-use Rattle.office_acts.specs.declared.budget.BudgetKind.TheVariants.{Add, Cut}
-use Rattle.office_acts.specs.declared.budget.BudgetRow.{BudgetRow}
-use Rattle.office_acts.specs.declared.command.Caller.TheVariants.{Public}
-use Rattle.office_acts.specs.declared.commands.Command.TheVariants.{Import}
-use Rattle.office_acts.specs.declared.queries.Query.TheVariants as queries
+use Rattle.office_commands.specs.declared.budget.BudgetKind.TheVariants.{Add, Cut}
+use Rattle.office_commands.specs.declared.budget.BudgetRow.{BudgetRow}
+use Rattle.office_commands.specs.declared.command.Caller.TheVariants.{Public}
+use Rattle.office_commands.specs.declared.commands.Command.TheVariants.{Import}
+use Rattle.office_commands.specs.declared.queries.Query.TheVariants as queries
 use Rattle.office_values.specs.declared.refusal.Refusal.TheVariants.{Exists, InsufficientFunds, LimitReached, NoSuch}
 use Rattle.office_values.specs.declared.refusal.Thing.TheVariants as things
 use Rattle.office_machine.specs.Replies.{Imported, LedgerSeen, LineSeen, Refused}

@@ -1,9 +1,9 @@
 -- Worked examples of cancelling: what a cancellation gives back, before the opening and after it.
 use Rattle.std.specs.Prelude.{◌++◌, ◌∷◌, ◌≡◌, List, [], codes, map}
-use Rattle.office_acts.specs.declared.command.Caller.TheVariants.{Public}
-use Rattle.office_acts.specs.declared.commands.Command.TheVariants.{Present}
-use Rattle.office_acts.specs.declared.notice.Criteria.TheVariants.{Price}
-use Rattle.office_acts.specs.declared.queries.Query.TheVariants as queries
+use Rattle.office_commands.specs.declared.command.Caller.TheVariants.{Public}
+use Rattle.office_commands.specs.declared.commands.Command.TheVariants.{Present}
+use Rattle.office_commands.specs.declared.notice.Criteria.TheVariants.{Price}
+use Rattle.office_commands.specs.declared.queries.Query.TheVariants as queries
 use Rattle.office_values.specs.declared.refusal.Refusal.TheVariants.{AlreadyDecided, NoSuch, NotOpenForTenders, NotOpened, NothingToCancel}
 use Rattle.office_values.specs.declared.refusal.Thing.TheVariants as things
 use Rattle.office_base.specs.declared.records.AwardRow.{AwardRow}

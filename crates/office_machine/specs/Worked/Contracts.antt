@@ -1,14 +1,14 @@
 -- Worked examples of contracts: raised, cut, paid and ended.
 use Rattle.std.specs.Prelude.{◌++◌, ◌+◌, ◌∷◌, ◌≡◌, List, None, Some, [], codes, suc, zero, ℕ}
 use Prim.Native.Nat.{suc-le-suc, zero-le}
-use Rattle.office_acts.specs.declared.command.Caller.TheVariants.{Public}
-use Rattle.office_acts.specs.declared.commands.Command.TheVariants.{AmendContract, Award, End, Pay, Present}
-use Rattle.office_acts.specs.declared.contract.ChangeKind.{ChangeKind}
-use Rattle.office_acts.specs.declared.contract.ChangeKind.TheVariants as changes
-use Rattle.office_acts.specs.declared.contract.How.{How}
-use Rattle.office_acts.specs.declared.contract.How.TheVariants.{ForDefault, Regular}
-use Rattle.office_acts.specs.declared.notice.Criteria.TheVariants.{Price}
-use Rattle.office_acts.specs.declared.queries.Query.TheVariants as queries
+use Rattle.office_commands.specs.declared.command.Caller.TheVariants.{Public}
+use Rattle.office_commands.specs.declared.commands.Command.TheVariants.{AmendContract, Award, End, Pay, Present}
+use Rattle.office_commands.specs.declared.contract.ChangeKind.{ChangeKind}
+use Rattle.office_commands.specs.declared.contract.ChangeKind.TheVariants as changes
+use Rattle.office_commands.specs.declared.contract.How.{How}
+use Rattle.office_commands.specs.declared.contract.How.TheVariants.{ForDefault, Regular}
+use Rattle.office_commands.specs.declared.notice.Criteria.TheVariants.{Price}
+use Rattle.office_commands.specs.declared.queries.Query.TheVariants as queries
 use Rattle.office_values.specs.declared.refusal.Refusal.TheVariants.{ContractEnded, Exists, InsufficientFunds, LimitReached, MoreThanOutstanding, NoSuch}
 use Rattle.office_values.specs.declared.refusal.Thing.TheVariants as things
 use Rattle.office_base.specs.Tables.{Tables}

@@ -1,8 +1,8 @@
 -- Worked examples of examining: opened tenders are found responsive or not, and where points decide of some quality.
 use Rattle.std.specs.Prelude.{◌++◌, ◌∷◌, ◌≡◌, Bool, List, None, Option, Some, [], codes, false, true, ℕ}
 use Prim.Native.Nat.{suc-le-suc, zero-le}
-use Rattle.office_acts.specs.declared.commands.Command.TheVariants.{Examine}
-use Rattle.office_acts.specs.declared.notice.Criteria.TheVariants.{Points}
+use Rattle.office_commands.specs.declared.commands.Command.TheVariants.{Examine}
+use Rattle.office_commands.specs.declared.notice.Criteria.TheVariants.{Points}
 use Rattle.office_values.specs.declared.refusal.BadPart.TheVariants.{Field}
 use Rattle.office_values.specs.declared.refusal.Field.TheVariants as fields
 use Rattle.office_values.specs.declared.refusal.Refusal.TheVariants.{AlreadyDecided, BadBody, NoSuch, NotOpened}

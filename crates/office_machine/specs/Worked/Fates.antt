@@ -1,6 +1,6 @@
 -- Worked examples of fates: what accepted commands make of each tender and each security, receipt by receipt.
 use Rattle.std.specs.Prelude.{◌++◌, ◌∷◌, ◌≡◌, List, None, Option, Some, [], codes, map, ℕ}
-use Rattle.office_acts.specs.declared.commands.Command.TheVariants.{Modify, Withdraw}
+use Rattle.office_commands.specs.declared.commands.Command.TheVariants.{Modify, Withdraw}
 use Rattle.office_values.specs.declared.refusal.Refusal.TheVariants.{AlreadyDecided, DeadlinePassed, NotOpenForTenders, NotSealed}
 use Rattle.office_base.specs.declared.records.EnvelopeState.{EnvelopeState}
 use Rattle.office_base.specs.declared.records.EnvelopeState.TheVariants as envelope

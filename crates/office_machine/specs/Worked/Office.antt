@@ -1,21 +1,21 @@
 -- The office of the worked examples: its lines, notices, lots, tenderers and moments, and words for what is asked and told.
 use Rattle.std.specs.Prelude.{◌%◌, ◌&&◌, ◌*◌, ◌++◌, ◌+◌, ◌-◌, ◌/◌, ◌∷◌, ◌≤◌, Bool, List, None, Option, Some, [], codes, cond, false, map, nat_eq, nat_le, option_map, true, ℕ}
 use Prim.Native.Nat.{suc-le-suc, zero-le}
-use Rattle.office_acts.specs.declared.budget.BudgetKind.{BudgetKind}
-use Rattle.office_acts.specs.declared.budget.BudgetKind.TheVariants.{Add}
-use Rattle.office_acts.specs.declared.budget.BudgetRow.{BudgetRow}
-use Rattle.office_acts.specs.declared.command.Caller.{Caller}
-use Rattle.office_acts.specs.declared.command.Caller.TheVariants.{Clerk, Tenderer}
-use Rattle.office_acts.specs.declared.commands.Command.{Command}
-use Rattle.office_acts.specs.declared.commands.Command.TheVariants.{Award, Cancel, Examine, Fail, Import, Open, Present, Publish, Register, Sign}
-use Rattle.office_acts.specs.declared.item.Item.{Item}
-use Rattle.office_acts.specs.declared.lot.NewLot.{NewLot}
-use Rattle.office_acts.specs.declared.notice.Criteria.{Criteria}
-use Rattle.office_acts.specs.declared.notice.Criteria.TheVariants.{Price}
-use Rattle.office_acts.specs.declared.notice.NewNotice.{NewNotice}
-use Rattle.office_acts.specs.declared.notice.LateWithdrawal.TheVariants.{Refused, Forfeits}
-use Rattle.office_acts.specs.declared.queries.Query.{Query}
-use Rattle.office_acts.specs.declared.tender.NamedSecurity.{NamedSecurity}
+use Rattle.office_commands.specs.declared.budget.BudgetKind.{BudgetKind}
+use Rattle.office_commands.specs.declared.budget.BudgetKind.TheVariants.{Add}
+use Rattle.office_commands.specs.declared.budget.BudgetRow.{BudgetRow}
+use Rattle.office_commands.specs.declared.command.Caller.{Caller}
+use Rattle.office_commands.specs.declared.command.Caller.TheVariants.{Clerk, Tenderer}
+use Rattle.office_commands.specs.declared.commands.Command.{Command}
+use Rattle.office_commands.specs.declared.commands.Command.TheVariants.{Award, Cancel, Examine, Fail, Import, Open, Present, Publish, Register, Sign}
+use Rattle.office_commands.specs.declared.item.Item.{Item}
+use Rattle.office_commands.specs.declared.lot.NewLot.{NewLot}
+use Rattle.office_commands.specs.declared.notice.Criteria.{Criteria}
+use Rattle.office_commands.specs.declared.notice.Criteria.TheVariants.{Price}
+use Rattle.office_commands.specs.declared.notice.NewNotice.{NewNotice}
+use Rattle.office_commands.specs.declared.notice.LateWithdrawal.TheVariants.{Refused, Forfeits}
+use Rattle.office_commands.specs.declared.queries.Query.{Query}
+use Rattle.office_commands.specs.declared.tender.NamedSecurity.{NamedSecurity}
 use Rattle.office_values.specs.declared.refusal.Refusal.{Refusal}
 use Rattle.office_base.specs.Joined.{pots_of}
 use Rattle.office_base.specs.Tables.{Tables, line_at, no_tables}
@@ -31,7 +31,7 @@ use Rattle.office_base.specs.declared.records.SecurityRow.{SecurityRow}
 use Rattle.office_base.specs.declared.records.SecurityState.{SecurityState}
 use Rattle.office_machine.specs.Machine.{Given, Means}
 use Rattle.office_machine.specs.Replies.{Refused, Reply}
-use Rattle.office_machine.specs.Requests.{Asks, Looks, Request, all_joined, last_office, office_after, reply_to}
+use Rattle.office_machine.specs.Requests.{Asks, Looks, Request, all_accepted, last_office, office_after, reply_to}
 use Rattle.office_machine.specs.Sights.{Packages}
 
 -- How tenders read in these examples.
@@ -296,4 +296,4 @@ states_of_securities asked = map (λ (s : SecurityRow). s.state) (office asked).
 
 -- the accepted commands among these, the last one first
 abbrev pub accepted : List Request → List Given
-accepted asked = all_joined means no_tables [] asked
+accepted asked = all_accepted means no_tables [] asked

@@ -1,8 +1,8 @@
 -- Worked examples of opening: when tenders are opened, how they read, and what the minutes say.
 use Rattle.std.specs.Prelude.{◌++◌, ◌+◌, ◌-◌, ◌∷◌, ◌≡◌, List, None, Option, Some, [], codes, map, ℕ}
-use Rattle.office_acts.specs.declared.command.Caller.TheVariants.{Public}
-use Rattle.office_acts.specs.declared.commands.Command.TheVariants.{Withdraw}
-use Rattle.office_acts.specs.declared.queries.Query.TheVariants as queries
+use Rattle.office_commands.specs.declared.command.Caller.TheVariants.{Public}
+use Rattle.office_commands.specs.declared.commands.Command.TheVariants.{Withdraw}
+use Rattle.office_commands.specs.declared.queries.Query.TheVariants as queries
 use Rattle.office_values.specs.declared.refusal.Refusal.TheVariants.{AlreadyOpened, NoSuch, NotOpenForTenders, TooEarlyToOpen}
 use Rattle.office_values.specs.declared.refusal.Thing.TheVariants as things
 use Rattle.office_base.specs.declared.reading.Reading.{Reading}

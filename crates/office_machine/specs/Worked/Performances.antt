@@ -1,9 +1,9 @@
 -- Worked examples of performance securities: asked for at the signing, held, returned and forfeited at the end of the contract.
 use Rattle.std.specs.Prelude.{◌++◌, ◌∷◌, ◌≡◌, List, None, Option, Some, [], codes, map, ℕ}
-use Rattle.office_acts.specs.declared.commands.Command.TheVariants.{End, Publish, Sign}
-use Rattle.office_acts.specs.declared.contract.How.TheVariants as hows
-use Rattle.office_acts.specs.declared.notice.Criteria.TheVariants.{Price}
-use Rattle.office_acts.specs.declared.tender.NamedSecurity.{NamedSecurity}
+use Rattle.office_commands.specs.declared.commands.Command.TheVariants.{End, Publish, Sign}
+use Rattle.office_commands.specs.declared.contract.How.TheVariants as hows
+use Rattle.office_commands.specs.declared.notice.Criteria.TheVariants.{Price}
+use Rattle.office_commands.specs.declared.tender.NamedSecurity.{NamedSecurity}
 use Rattle.office_values.specs.declared.refusal.Refusal.TheVariants.{ContractEnded, SecurityMissing, SecurityNotAsked, SecurityTooSmall}
 use Rattle.office_base.specs.declared.records.PerformanceRow.{PerformanceRow}
 use Rattle.office_base.specs.declared.records.SecurityState.{SecurityState}
@@ -32,7 +32,7 @@ signs_with named = by_clerk standstill_end (Sign 1 named)
 abbrev pub p1 : ℕ → Option NamedSecurity
 p1 amount = secured (codes "P1") amount
 
-abbrev pub ends : Rattle.office_acts.specs.declared.contract.How.How → Request
+abbrev pub ends : Rattle.office_commands.specs.declared.contract.How.How → Request
 ends how = by_clerk standstill_end (End 1 how)
 
 abbrev pub states_of_performances : List Request → List SecurityState

@@ -1,11 +1,11 @@
 -- Worked examples of publishing: what a notice reserves, and when it is refused.
 use Rattle.std.specs.Prelude.{◌++◌, ◌∷◌, ◌≡◌, List, None, [], codes, suc, zero, ℕ}
 use Prim.Native.Nat.{suc-le-suc, zero-le}
-use Rattle.office_acts.specs.declared.budget.BudgetKind.TheVariants.{Add}
-use Rattle.office_acts.specs.declared.commands.Command.TheVariants.{Import, Publish}
-use Rattle.office_acts.specs.declared.item.Item.{Item}
-use Rattle.office_acts.specs.declared.lot.NewLot.{NewLot}
-use Rattle.office_acts.specs.declared.notice.Criteria.TheVariants.{Price}
+use Rattle.office_commands.specs.declared.budget.BudgetKind.TheVariants.{Add}
+use Rattle.office_commands.specs.declared.commands.Command.TheVariants.{Import, Publish}
+use Rattle.office_commands.specs.declared.item.Item.{Item}
+use Rattle.office_commands.specs.declared.lot.NewLot.{NewLot}
+use Rattle.office_commands.specs.declared.notice.Criteria.TheVariants.{Price}
 use Rattle.office_values.specs.declared.refusal.Refusal.TheVariants.{DeadlinePassed, Exists, InsufficientFunds, LimitReached, NoSuch}
 use Rattle.office_values.specs.declared.refusal.Thing.TheVariants as things
 use Rattle.office_base.specs.Joined.{ledger_of}

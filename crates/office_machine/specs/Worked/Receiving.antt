@@ -1,7 +1,7 @@
 -- Worked examples of receiving: sealed tenders come in time, late, twice, or to the wrong place.
 use Rattle.std.specs.Prelude.{◌++◌, ◌+◌, ◌∷◌, ◌≡◌, None, Some, [], codes, false, ℕ}
-use Rattle.office_acts.specs.declared.commands.Command.TheVariants.{Present}
-use Rattle.office_acts.specs.declared.notice.Criteria.TheVariants.{Price}
+use Rattle.office_commands.specs.declared.commands.Command.TheVariants.{Present}
+use Rattle.office_commands.specs.declared.notice.Criteria.TheVariants.{Price}
 use Rattle.office_values.specs.declared.refusal.Refusal.TheVariants.{AlreadyPresented, LimitReached, NoSuch, NotOpenForTenders}
 use Rattle.office_values.specs.declared.refusal.Thing.TheVariants as things
 use Rattle.office_base.specs.Tables.{Tables}

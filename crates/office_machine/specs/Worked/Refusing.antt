@@ -1,9 +1,9 @@
 -- Worked examples of refusals: which of several is answered, and that nothing changes.
 use Rattle.std.specs.Prelude.{◌++◌, ◌+◌, ◌-◌, ◌∷◌, ◌≡◌, List, None, Some, [], codes, true}
-use Rattle.office_acts.specs.declared.command.Caller.TheVariants.{Clerk, Public, Tenderer}
-use Rattle.office_acts.specs.declared.commands.Command.TheVariants.{Examine, Open, Present, Publish, Withdraw}
-use Rattle.office_acts.specs.declared.notice.Criteria.TheVariants.{Price}
-use Rattle.office_acts.specs.declared.queries.Query.TheVariants as queries
+use Rattle.office_commands.specs.declared.command.Caller.TheVariants.{Clerk, Public, Tenderer}
+use Rattle.office_commands.specs.declared.commands.Command.TheVariants.{Examine, Open, Present, Publish, Withdraw}
+use Rattle.office_commands.specs.declared.notice.Criteria.TheVariants.{Price}
+use Rattle.office_commands.specs.declared.queries.Query.TheVariants as queries
 use Rattle.office_values.specs.declared.refusal.BadPart.TheVariants.{Field}
 use Rattle.office_values.specs.declared.refusal.Field.TheVariants as fields
 use Rattle.office_values.specs.declared.refusal.Refusal.TheVariants.{AlreadyPresented, BadBody, DeadlinePassed, Exists, Expired, Forbidden, NoSuch, NotOpenForTenders, NotYourTender, SecurityMissing, TooEarlyToOpen, Unavailable}

@@ -1,8 +1,8 @@
 -- Worked examples of releases: which commands publish one, and how many there may be.
 use Rattle.std.specs.Prelude.{◌++◌, ◌∷◌, ◌≡◌, List, Some, [], codes, map, replicate, ℕ}
-use Rattle.office_acts.specs.declared.commands.Command.TheVariants.{AmendContract, AmendNotice, End, Pay}
-use Rattle.office_acts.specs.declared.contract.ChangeKind.TheVariants as changes
-use Rattle.office_acts.specs.declared.contract.How.TheVariants.{Regular}
+use Rattle.office_commands.specs.declared.commands.Command.TheVariants.{AmendContract, AmendNotice, End, Pay}
+use Rattle.office_commands.specs.declared.contract.ChangeKind.TheVariants as changes
+use Rattle.office_commands.specs.declared.contract.How.TheVariants.{Regular}
 use Rattle.office_values.specs.declared.refusal.Refusal.TheVariants.{LimitReached}
 use Rattle.office_base.specs.Tables.{Tables}
 use Rattle.office_base.specs.declared.records.EnvelopeState.TheVariants as envelope

@@ -1,6 +1,6 @@
 -- Worked examples of modifying and withdrawing sealed tenders.
 use Rattle.std.specs.Prelude.{◌++◌, ◌-◌, ◌∷◌, ◌≡◌, List, None, Some, [], codes, ℕ}
-use Rattle.office_acts.specs.declared.commands.Command.TheVariants.{Modify, Withdraw}
+use Rattle.office_commands.specs.declared.commands.Command.TheVariants.{Modify, Withdraw}
 use Rattle.office_values.specs.declared.refusal.Refusal.TheVariants.{DeadlinePassed, LimitReached, NoSuch, NotSealed, NotYourTender}
 use Rattle.office_values.specs.declared.refusal.Thing.TheVariants as things
 use Rattle.office_base.specs.Tables.{Tables}

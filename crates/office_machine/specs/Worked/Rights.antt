@@ -1,11 +1,11 @@
 -- Worked examples of rights: who may give which command.
 use Rattle.std.specs.Prelude.{◌++◌, ◌∷◌, ◌≡◌, List, None, [], codes, false, map, replicate, true}
-use Rattle.office_acts.specs.declared.command.Caller.TheVariants.{Public}
-use Rattle.office_acts.specs.declared.commands.Command.{Command}
-use Rattle.office_acts.specs.declared.commands.Command.TheVariants.{AmendContract, AmendNotice, Award, Cancel, End, Examine, Fail, Import, Modify, Open, Pay, Present, Publish, Register, Sign, Withdraw}
-use Rattle.office_acts.specs.declared.contract.ChangeKind.TheVariants as changes
-use Rattle.office_acts.specs.declared.contract.How.TheVariants.{Regular}
-use Rattle.office_acts.specs.declared.notice.Criteria.TheVariants.{Price}
+use Rattle.office_commands.specs.declared.command.Caller.TheVariants.{Public}
+use Rattle.office_commands.specs.declared.commands.Command.{Command}
+use Rattle.office_commands.specs.declared.commands.Command.TheVariants.{AmendContract, AmendNotice, Award, Cancel, End, Examine, Fail, Import, Modify, Open, Pay, Present, Publish, Register, Sign, Withdraw}
+use Rattle.office_commands.specs.declared.contract.ChangeKind.TheVariants as changes
+use Rattle.office_commands.specs.declared.contract.How.TheVariants.{Regular}
+use Rattle.office_commands.specs.declared.notice.Criteria.TheVariants.{Price}
 use Rattle.office_values.specs.declared.refusal.Refusal.TheVariants.{Forbidden}
 use Rattle.office_machine.specs.Replies.{Refused}
 use Rattle.office_machine.specs.Requests.{Asks, Request}

@@ -1,8 +1,8 @@
 -- Worked examples of seals: two runs that differ in the bytes that one tenderer seals tell nobody else a difference.
 use Rattle.std.specs.Prelude.{◌++◌, ◌∷◌, ◌≡◌, List, None, Option, Some, [], codes, map, ℕ}
-use Rattle.office_acts.specs.declared.command.Caller.TheVariants.{Clerk, Public, Tenderer}
-use Rattle.office_acts.specs.declared.commands.Command.TheVariants.{Modify, Withdraw}
-use Rattle.office_acts.specs.declared.queries.Query.TheVariants as queries
+use Rattle.office_commands.specs.declared.command.Caller.TheVariants.{Clerk, Public, Tenderer}
+use Rattle.office_commands.specs.declared.commands.Command.TheVariants.{Modify, Withdraw}
+use Rattle.office_commands.specs.declared.queries.Query.TheVariants as queries
 use Rattle.office_values.specs.declared.refusal.Refusal.TheVariants.{Forbidden, NotOpened, NotYourTender}
 use Rattle.office_base.specs.declared.reading.Reading.{Reading}
 use Rattle.office_base.specs.declared.reading.Reading.TheVariants.{Priced, Unreadable}
@@ -14,12 +14,12 @@ use Rattle.office_base.specs.declared.records.SecurityState.TheVariants as secur
 use Rattle.office_machine.specs.Fates.{fate_of_tender}
 use Rattle.office_machine.specs.Replies.{Awarded, Minutes, OpenedAll, Received, Refused, Registry, Reply, Security, Tender, Withdrew}
 use Rattle.office_machine.specs.Requests.{AreRequests, Request}
-use Rattle.office_machine.specs.Seals.{PublishesBlindly, SameButSeals, SeesBlindly, without_digest}
-use Rattle.office_machine.specs.Worlds.{Theirs}
+use Rattle.office_machine.specs.Seals.{ReleasesHideSeals, SameButSeals, PackagesHideSeals, without_digest}
+use Rattle.office_machine.specs.Worlds.{ChosenTender}
 use Rattle.office_machine.specs.Worked.Office.{accepted, awards, by, deadline, decided, february, l1, looks, means, n1, office, opens, packages, paving, presents, published, roads, setup, t1, t2, told}
 
 -- T1 and its tenders for the lot
-abbrev pub theirs : Theirs
+abbrev pub theirs : ChosenTender
 theirs = record { who = t1; notice = n1; lot = l1 }
 
 -- T1 presents these bytes and replaces them by those; all look, T1 withdraws, and the clerk opens and awards
@@ -106,9 +106,9 @@ pub record SealsWorked : Type 0 where
   -- they are requests that can be given
   pub can_be_given : AreRequests means (office setup) one
   -- releases without a text tell nothing
-  pub publishes_blindly : PublishesBlindly means
+  pub publishes_blindly : ReleasesHideSeals means
   -- nor do packages without one
-  pub sees_blindly : SeesBlindly packages
+  pub sees_blindly : PackagesHideSeals packages
   -- what is told in the first run
   pub first_is_told : told setup one ≡ telling (codes "500") (codes "4500")
   -- what is told in the other one: the same but for the digests, which T1 alone sees

@@ -1,8 +1,8 @@
 -- Worked examples of tender securities: asked for, named, held, returned and forfeited.
 use Rattle.std.specs.Prelude.{◌++◌, ◌+◌, ◌-◌, ◌∷◌, ◌≡◌, List, None, Option, Some, [], codes, false, ℕ}
-use Rattle.office_acts.specs.declared.commands.Command.TheVariants.{Examine, Present, Withdraw}
-use Rattle.office_acts.specs.declared.notice.Criteria.TheVariants.{Price}
-use Rattle.office_acts.specs.declared.tender.NamedSecurity.{NamedSecurity}
+use Rattle.office_commands.specs.declared.commands.Command.TheVariants.{Examine, Present, Withdraw}
+use Rattle.office_commands.specs.declared.notice.Criteria.TheVariants.{Price}
+use Rattle.office_commands.specs.declared.tender.NamedSecurity.{NamedSecurity}
 use Rattle.office_values.specs.declared.refusal.Refusal.TheVariants.{SecurityMissing, SecurityNotAsked, SecurityTooSmall}
 use Rattle.office_base.specs.declared.records.EnvelopeState.TheVariants as envelope
 use Rattle.office_base.specs.declared.records.SecurityState.{SecurityState}

@@ -1,16 +1,16 @@
 -- A worked example of a whole procurement, from its money to its payments, by all sixteen commands.
 use Rattle.std.specs.Prelude.{◌++◌, ◌∷◌, ◌≡◌, List, None, Some, [], codes, map, true, ℕ}
-use Rattle.office_acts.specs.declared.commands.Command.TheVariants.{AmendContract, AmendNotice, End, Modify, Pay, Withdraw}
-use Rattle.office_acts.specs.declared.contract.ChangeKind.TheVariants as changes
-use Rattle.office_acts.specs.declared.contract.How.TheVariants.{Regular}
-use Rattle.office_acts.specs.declared.notice.Criteria.TheVariants.{Price}
+use Rattle.office_commands.specs.declared.commands.Command.TheVariants.{AmendContract, AmendNotice, End, Modify, Pay, Withdraw}
+use Rattle.office_commands.specs.declared.contract.ChangeKind.TheVariants as changes
+use Rattle.office_commands.specs.declared.contract.How.TheVariants.{Regular}
+use Rattle.office_commands.specs.declared.notice.Criteria.TheVariants.{Price}
 use Rattle.office_base.specs.Tables.{no_tables}
 use Rattle.office_base.specs.declared.records.EnvelopeState.TheVariants as envelope
 use Rattle.office_base.specs.declared.records.LotState.TheVariants as lot_in
 use Rattle.office_base.specs.declared.records.SecurityState.TheVariants as security_in
 use Rattle.office_machine.specs.Fates.{fate_of_security, fate_of_tender}
 use Rattle.office_machine.specs.Machine.{Reaches}
-use Rattle.office_machine.specs.Moves.{Contracted, Free, Move, Outside, Paid, Pot, Reserved, came, moves, went}
+use Rattle.office_machine.specs.Moves.{Contracted, Free, Move, Outside, Paid, Pot, Reserved, inflow, moves, outflow}
 use Rattle.office_machine.specs.Replies.{Awarded, Enrolled, Examined, Failed, Imported, OfContract, OfNotice, OpenedAll, Received, Signed, Withdrew}
 use Rattle.office_machine.specs.Requests.{AreRequests, Request}
 use Rattle.office_machine.specs.Worked.Office.{accepted, awards, by, by_clerk, cancels, decided, examines, fails, february, january, l1, l2, lot, means, money, n1, office, opens, pots, pots_are, presents, publish, published, roads, second_end, signs, standstill_end, states_of_lots, t1, t2, t3, tenderers, told}
@@ -110,9 +110,9 @@ pub record WholeRunWorked : Type 0 where
       ∷ moved Outside Free 1000
       ∷ []
   -- so 1820 came to be free
-  pub came_to_free : came (moves (accepted run)) roads Free ≡ 1820
+  pub came_to_free : inflow (moves (accepted run)) roads Free ≡ 1820
   -- and 1020 went from there, which leaves the 800
-  pub went_from_free : went (moves (accepted run)) roads Free ≡ 1020
+  pub went_from_free : outflow (moves (accepted run)) roads Free ≡ 1020
   -- the fate of each tender
   pub fates_of_tenders : map (fate_of_tender (accepted run)) (1 ∷ 2 ∷ 3 ∷ 4 ∷ [])
       ≡ Some envelope.Withdrawn ∷ Some envelope.Opened ∷ Some envelope.Withdrawn ∷ Some envelope.Opened ∷ []

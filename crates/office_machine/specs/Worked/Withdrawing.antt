@@ -1,7 +1,7 @@
 -- Worked examples of tenders that are withdrawn after the deadline, where their notice lets them at the price of their securities.
 use Rattle.std.specs.Prelude.{◌++◌, ◌+◌, ◌-◌, ◌∷◌, ◌≡◌, List, None, Some, [], codes, true, ℕ}
-use Rattle.office_acts.specs.declared.commands.Command.TheVariants.{Examine, Modify, Publish, Withdraw}
-use Rattle.office_acts.specs.declared.notice.Criteria.TheVariants.{Price}
+use Rattle.office_commands.specs.declared.commands.Command.TheVariants.{Examine, Modify, Publish, Withdraw}
+use Rattle.office_commands.specs.declared.notice.Criteria.TheVariants.{Price}
 use Rattle.office_values.specs.declared.refusal.Refusal.TheVariants.{AlreadyDecided, AlreadyPresented, DeadlinePassed, Expired, NotSealed}
 use Rattle.office_base.specs.declared.reading.Reading.TheVariants.{Priced}
 use Rattle.office_base.specs.declared.records.EnvelopeState.TheVariants as envelope

@@ -1,33 +1,11 @@
--- Rows added up: the entries of a contract, and the ledger line by line.
-use Rattle.std.specs.Prelude.{◌≡◌, ℕ, ◌+◌, ◌*◌, ◌^◌, ◌<◌, List, [], ◌∷◌, ◌++◌, map, Option, Some, None}
+-- Rows added up: the room for the entries of a contract, and the ledger line by line.
+use Rattle.std.specs.Prelude.{◌≡◌, ℕ, ◌+◌, ◌*◌, ◌^◌, ◌<◌, List, ◌++◌, map, Option, Some, None}
 use Rattle.std.specs.List.{AllByRecursion}
 use Rattle.office_base.specs.Tables.{Tables}
 use Rattle.office_base.specs.Joined.{ledger_row, ledger_of, LineFits, LinesFit}
 use Rattle.office_base.specs.declared.ledger.ContractSums.{ContractSums}
 use Rattle.office_base.specs.declared.ledger.LedgerRow.{LedgerRow}
-use Rattle.office_base.specs.declared.records.ContractRow.{ContractRow}
-use Rattle.office_base.specs.declared.records.EntryKind.{EntryKind}
-use Rattle.office_base.specs.declared.records.EntryKind.TheVariants.{Raise, Cut, Payment}
-use Rattle.office_base.specs.declared.records.EntryRow.{EntryRow}
 use Rattle.office_base.specs.declared.records.LineRow.{LineRow}
-
--- the sums of a contract without entries
-abbrev pub bare_sums : ContractRow → ContractSums
-bare_sums c = record { gained = c.signed; lost = c.released; paid = 0 }
-
--- the sums with an entry of this kind and amount
-abbrev pub with_kind : EntryKind → ℕ → ContractSums → ContractSums
-with_kind Raise amount sums = record { gained = sums.gained + amount; lost = sums.lost; paid = sums.paid }
-with_kind Cut amount sums = record { gained = sums.gained; lost = sums.lost + amount; paid = sums.paid }
-with_kind Payment amount sums = record { gained = sums.gained; lost = sums.lost + amount; paid = sums.paid + amount }
-
-abbrev pub with_entry : ContractSums → EntryRow → ContractSums
-with_entry sums e = with_kind e.kind e.amount sums
-
--- the sums with all entries
-abbrev pub with_entries : ContractSums → List EntryRow → ContractSums
-with_entries sums [] = sums
-with_entries sums (e ∷ es) = with_entries (with_entry sums e) es
 
 -- so many more entries find room in 128 bits
 pub record HasRoom (entries : ℕ) (sums : ContractSums) : Type 0 where

@@ -1,32 +1,39 @@
-//! The amendment of a contract, planned.
-ghost use Rattle.std.specs.Prelude.{◌≡◌, ℕ, List, true, IfErr, IfOk, None};
-ghost use Rattle.office_acts.specs.Rights.{may};
-ghost use Rattle.office_acts.specs.declared.command.CommandKind.TheVariants as kinds;
-ghost use Rattle.office_acts.specs.declared.commands.Command.TheVariants.{AmendContract};
+//! The amendment of a contract, planned: its reply, its release, and what it puts.
+ghost use Rattle.std.specs.Prelude.{◌≡◌, ℕ, List, true, IfErr, IfOk, None, Some};
+ghost use Rattle.award_core.specs.Rules.AmendContract.{amend_contract_rows};
+ghost use Rattle.office_commands.specs.Rights.{may};
+ghost use Rattle.office_commands.specs.declared.command.CommandKind.TheVariants as kinds;
+ghost use Rattle.office_commands.specs.declared.commands.Command.TheVariants.{AmendContract};
 ghost use Rattle.office_base.specs.Shelves.{Looks, LooksUp};
 ghost use Rattle.office_base.specs.Tables.{Tables};
 ghost use Rattle.office_machine.specs.Machine.{refusal_of};
-ghost use Rattle.office_values.specs.declared.refusal.Refusal.TheVariants.{Unavailable};
 ghost use Rattle.office_plans.specs.Asking.{given_by};
-ghost use Rattle.office_plans.specs.Replies.{said};
-ghost use Rattle.office_plans.specs.Effects.{HasEffect, accepted_reply};
-ghost use Rattle.award_core.specs.Rules.AmendContract.{amend_contract_rows};
+ghost use Rattle.office_plans.specs.Published.{IsPlanned, accepted_reply};
+ghost use Rattle.office_plans.specs.Released.{IsReleased};
+ghost use Rattle.office_plans.specs.Replies.{reply_text};
+ghost use Rattle.office_values.specs.declared.refusal.Refusal.TheVariants.{Unavailable};
 
 use crate::contract_release::contract_release;
-use crate::decided::planned;
 use crate::outstanding::left_by_change;
 use crate::parents::{line_of_lot, lot_of_contract, notice_of_contract};
 use crate::planned::Planned;
-use crate::reply::Reply;
-use award_core::amend_contract::{AmendContractRows, decide_amend_contract};
-use office_acts::amounts::EntryAmount;
-use office_acts::contract::ChangeKind;
+use crate::published::{Released, make_release, published};
+use crate::replies::contract_text;
+use award_core::amend_contract::{AmendContractRows, puts, refusal};
+use ocds_release::borrowed::BorrowedLine;
+use ocds_release::event::{ContractAmended, Event};
+use office_base::laws::{looks_follow, rows_are_kept};
+use office_base::records::ContractRow;
 use office_base::rows::Rows;
 use office_base::shelf::{Lookups, ShelfFault};
+use office_commands::amounts::EntryAmount;
+use office_commands::contract::ChangeKind;
 use office_machine::laws;
+use office_publications::worth::contract_value_after;
 use office_values::given::AskedNumber;
 use office_values::id::Id;
 use office_values::refusal::Refusal;
+use office_values::settings::Settings;
 use office_values::text::TextLine;
 use std::alloc::Global;
 use tender_core::asking::Asking;
@@ -50,33 +57,68 @@ fn load<H: Lookups>(shelf: &mut H, contract: AskedNumber) -> Result<AmendContrac
     })
 }
 
-// The reply, should the amendment be accepted.
-fn reply_to(
+// What is told of an accepted amendment.
+fn reply(
+    alloc: Global,
     asking: &Asking,
     rows: &AmendContractRows,
     contract: AskedNumber,
     kind: ChangeKind,
     amount: EntryAmount,
-) -> Result<Reply, Refusal>
-    ensures said { IfOk result (λ reply. (s : Tables) (entry rationale : List ℕ) → rows.now ≡ amend_contract_rows s contract
+) -> Result<Vec<u8>, Refusal>
+    ensures told { IfOk result (λ text. (s : Tables) (entry rationale : List ℕ) → rows.now ≡ amend_contract_rows s contract
         → refusal_of (given_by asking.now s (AmendContract contract entry kind amount rationale)) ≡ None
-        → said reply ≡ accepted_reply (given_by asking.now s (AmendContract contract entry kind amount rationale))) }
+        → text.items ≡ reply_text (accepted_reply (given_by asking.now s (AmendContract contract entry kind amount rationale)))) }
     ensures none { IfErr result (λ why. why ≡ Unavailable) }
 {
     laws::outstanding();
     let left = left_by_change(rows, kind, amount)?;
-    Ok(Reply::OfContract {
-        contract,
-        left,
-        release: contract_release(&rows.contract, &rows.notice),
-        moment: asking.time(&rows.clock),
-    })
+    let release = contract_release(&rows.contract, &rows.notice);
+    let t = asking.time(&rows.clock);
+    let text = contract_text(alloc, contract, left, release, t)?;
+    Ok(text)
 }
 
-/// Plans the amendment of a contract.
+// The release of an accepted amendment of this contract. `Unavailable` also where it would be worth more than 10^15, never so in a reached
+// office.
+fn release(
+    alloc: Global,
+    settings: &Settings,
+    asking: &Asking,
+    rows: &AmendContractRows,
+    contract: &ContractRow,
+    entry: Id,
+    kind: ChangeKind,
+    amount: EntryAmount,
+    rationale: &TextLine,
+) -> Result<Released, Refusal>
+    ensures release { IfOk result (λ release. (s : Tables) (number : ℕ) → rows.now ≡ amend_contract_rows s number → rows.now.contract ≡ Some contract.now
+        → IsReleased settings.now (given_by asking.now s (AmendContract number entry kind amount rationale.now)) release) }
+    ensures none { IfErr result (λ why. why ≡ Unavailable) }
+{
+    rows_are_kept::<ContractRow>();
+    let Some(value) = contract_value_after(rows.entries.as_slice(), contract, kind, amount) else {
+        return Err(Refusal::Unavailable);
+    };
+    let rationale = BorrowedLine::of(rationale);
+    let event = Event::AmendContract(ContractAmended {
+        notice: contract.notice,
+        contract: contract.contract,
+        entry,
+        kind,
+        amount,
+        value,
+        rationale,
+    });
+    let t = asking.time(&rows.clock);
+    make_release(alloc, settings, contract.notice, &rows.notice, t, &event)
+}
+
+/// Plans the amendment of a contract: a refusal takes no memory beside the rows.
 pub fn plan<H: Lookups>(
     alloc: Global,
     shelf: &mut H,
+    settings: &Settings,
     asking: &Asking,
     contract: AskedNumber,
     entry: Id,
@@ -85,11 +127,19 @@ pub fn plan<H: Lookups>(
     rationale: TextLine,
 ) -> Result<Planned, Refusal>
     requires { may asking.now.caller.now kinds.AmendContract ≡ true }
-    ensures { Looks H.meaning shelf.old shelf.new (λ s. HasEffect (given_by asking.now s (AmendContract contract entry kind amount rationale)) result) }
+    ensures { Looks H.meaning shelf.old shelf.new (λ s. IsPlanned settings.now (given_by asking.now s (AmendContract contract entry kind amount rationale)) result) }
 {
+    looks_follow::<H>();
     let rows = load(shelf, contract)?;
     let t = asking.time(&rows.clock);
-    let reply = reply_to(asking, &rows, contract, kind, amount)?;
-    let decided = decide_amend_contract(alloc, t, rows, entry, kind, amount, rationale);
-    planned(alloc, decided, &reply)
+    if let Some(why) = refusal(&rows, &entry, kind, amount) {
+        return Err(why);
+    }
+    let text = reply(alloc, asking, &rows, contract, kind, amount)?;
+    let row = rows.contract.as_ref().unwrap();
+    let release = release(
+        alloc, settings, asking, &rows, row, entry, kind, amount, &rationale,
+    )?;
+    let puts = puts(alloc, t, rows, entry, kind, amount, rationale)?;
+    published(alloc, shelf, puts, text, release)
 }

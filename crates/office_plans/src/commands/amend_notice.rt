@@ -1,24 +1,32 @@
-//! The amendment of a notice, planned.
-ghost use Rattle.std.specs.Prelude.{◌≡◌, true};
-ghost use Rattle.office_acts.specs.Rights.{may};
-ghost use Rattle.office_acts.specs.declared.command.CommandKind.TheVariants as kinds;
-ghost use Rattle.office_acts.specs.declared.commands.Command.TheVariants.{AmendNotice};
+//! The amendment of a notice, planned: its reply, its release, and what it puts.
+ghost use Rattle.std.specs.Prelude.{◌≡◌, true, IfErr, IfOk};
+ghost use Rattle.office_commands.specs.Rights.{may};
+ghost use Rattle.office_commands.specs.declared.command.CommandKind.TheVariants as kinds;
+ghost use Rattle.office_commands.specs.declared.commands.Command.TheVariants.{AmendNotice};
 ghost use Rattle.office_base.specs.Shelves.{Looks, LooksUp};
+ghost use Rattle.office_base.specs.Tables.{Tables};
 ghost use Rattle.office_plans.specs.Asking.{given_by};
-ghost use Rattle.office_plans.specs.Effects.{HasEffect};
+ghost use Rattle.office_plans.specs.Published.{IsPlanned};
+ghost use Rattle.office_plans.specs.Released.{IsReleased};
+ghost use Rattle.office_publications.specs.NoticeEvents.{deadline_in};
+ghost use Rattle.office_values.specs.declared.refusal.Refusal.TheVariants.{Unavailable};
 ghost use Rattle.tender_core.specs.Rules.AmendNotice.{amend_notice_rows};
 
-use crate::decided::planned;
 use crate::planned::Planned;
-use crate::releases::next_release;
-use crate::reply::Reply;
+use crate::published::{Released, make_release, published};
+use crate::replies::notice_reply;
+use ocds_release::borrowed::BorrowedLine;
+use ocds_release::event::{Event, NoticeAmended};
+use office_base::laws::looks_follow;
+use office_base::records::NoticeRow;
 use office_base::shelf::{Lookups, ShelfFault};
 use office_values::id::Id;
 use office_values::moment::Moment;
 use office_values::refusal::Refusal;
+use office_values::settings::Settings;
 use office_values::text::TextLine;
 use std::alloc::Global;
-use tender_core::amend_notice::{AmendNoticeRows, decide_amend_notice};
+use tender_core::amend_notice::{AmendNoticeRows, puts, refusal};
 use tender_core::asking::Asking;
 
 // The rows that it is decided on.
@@ -31,26 +39,63 @@ fn load<H: Lookups>(shelf: &mut H, notice: &Id) -> Result<AmendNoticeRows, Shelf
     })
 }
 
-/// Plans the amendment of a notice. Its rationale is kept for the release alone.
+// The deadline that stood before; the first moment where the notice isn't there.
+fn deadline_in(row: &Option<NoticeRow>) -> Moment
+    ensures { result ≡ deadline_in row.now }
+{
+    match row {
+        Some(notice) => notice.deadline,
+        None => Moment::EPOCH,
+    }
+}
+
+// The release of an accepted amendment.
+fn release(
+    alloc: Global,
+    settings: &Settings,
+    asking: &Asking,
+    rows: &AmendNoticeRows,
+    notice: Id,
+    deadline: Moment,
+    rationale: &TextLine,
+) -> Result<Released, Refusal>
+    ensures release { IfOk result (λ release. (s : Tables) → rows.now ≡ amend_notice_rows s notice
+        → IsReleased settings.now (given_by asking.now s (AmendNotice notice deadline rationale.now)) release) }
+    ensures none { IfErr result (λ why. why ≡ Unavailable) }
+{
+    let before = deadline_in(&rows.notice);
+    let rationale = BorrowedLine::of(rationale);
+    let event = Event::Amend(NoticeAmended {
+        notice,
+        before,
+        after: deadline,
+        rationale,
+    });
+    let t = asking.time(&rows.clock);
+    make_release(alloc, settings, notice, &rows.notice, t, &event)
+}
+
+/// Plans the amendment of a notice: a refusal takes no memory beside the rows. Its rationale is kept for the release alone.
 pub fn plan<H: Lookups>(
     alloc: Global,
     shelf: &mut H,
+    settings: &Settings,
     asking: &Asking,
     notice: Id,
     deadline: Moment,
     rationale: TextLine,
 ) -> Result<Planned, Refusal>
     requires { may asking.now.caller.now kinds.AmendNotice ≡ true }
-    ensures { Looks H.meaning shelf.old shelf.new (λ s. HasEffect (given_by asking.now s (AmendNotice notice deadline rationale)) result) }
+    ensures { Looks H.meaning shelf.old shelf.new (λ s. IsPlanned settings.now (given_by asking.now s (AmendNotice notice deadline rationale)) result) }
 {
-    drop(rationale);
+    looks_follow::<H>();
     let rows = load(shelf, &notice)?;
     let t = asking.time(&rows.clock);
-    let reply = Reply::OfNotice {
-        notice,
-        release: next_release(&rows.notice),
-        moment: t,
-    };
-    let decided = decide_amend_notice(alloc, t, rows, deadline);
-    planned(alloc, decided, &reply)
+    if let Some(why) = refusal(t, &rows, deadline) {
+        return Err(why);
+    }
+    let text = notice_reply(alloc, asking, notice, &rows.notice, &rows.clock)?;
+    let release = release(alloc, settings, asking, &rows, notice, deadline, &rationale)?;
+    let puts = puts(alloc, t, rows, deadline)?;
+    published(alloc, shelf, puts, text, release)
 }

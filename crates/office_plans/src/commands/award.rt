@@ -1,29 +1,37 @@
-//! The award of a lot, planned.
-ghost use Rattle.std.specs.Prelude.{◌≡◌, true, option_map};
-ghost use Rattle.office_acts.specs.Rights.{may};
-ghost use Rattle.office_acts.specs.declared.command.CommandKind.TheVariants as kinds;
-ghost use Rattle.office_acts.specs.declared.commands.Command.TheVariants.{Award};
+//! The award of a lot, planned: its reply, its release, and what it puts.
+ghost use Rattle.std.specs.Prelude.{◌≡◌, ◌+◌, ℕ, List, IfErr, IfOk, None, Some, option_map, true};
+ghost use Rattle.award_core.specs.Rules.Award.{award_rows, winner};
+ghost use Rattle.office_commands.specs.Rights.{may};
+ghost use Rattle.office_commands.specs.declared.command.CommandKind.TheVariants as kinds;
+ghost use Rattle.office_commands.specs.declared.commands.Command.TheVariants.{Award};
 ghost use Rattle.office_base.specs.Shelves.{Looks, LooksUp};
+ghost use Rattle.office_base.specs.Tables.{Tables};
 ghost use Rattle.office_machine.specs.Replies as replies;
 ghost use Rattle.office_plans.specs.Asking.{given_by};
-ghost use Rattle.office_plans.specs.Replies.{winning};
-ghost use Rattle.office_plans.specs.Effects.{HasEffect};
-ghost use Rattle.award_core.specs.Rules.Award.{award_rows, weight_in, winner};
+ghost use Rattle.office_plans.specs.Published.{IsPlanned, accepted_reply};
+ghost use Rattle.office_plans.specs.Released.{IsReleased};
+ghost use Rattle.office_plans.specs.Replies.{award_number, award_price, award_tender, reply_text};
+ghost use Rattle.office_values.specs.declared.refusal.Refusal.TheVariants.{Unavailable};
 
-use crate::decided::planned;
+use crate::events::{party_of, status_with};
+use crate::objects::{Plain, object_text};
 use crate::of_lot::{envelopes_of_lot, securities_of_lot};
 use crate::parents::line_of_lot;
 use crate::planned::Planned;
+use crate::published::{Released, make_release, published};
 use crate::releases::next_release;
-use crate::reply::{Reply, Winner};
-use award_core::award::{AwardRows, decide_award};
-use award_core::best::{best_row, price_of};
-use office_acts::notice::Weight;
-use office_base::records::{ClockRow, EnvelopeRow, NoticeRow};
+use award_core::award::{AwardRows, best_tender, puts, refusal};
+use award_core::best::price_of;
+use ocds_release::event::{Awarded, Event, NotAwarded};
+use office_base::laws::looks_follow;
+use office_base::records::{ClockRow, EnvelopeRow, LotState};
 use office_base::shelf::{Lookups, ShelfFault};
+use office_values::given::GivenNumber;
 use office_values::id::Id;
+use office_values::moment::Moment;
 use office_values::refusal::Refusal;
-use std::alloc::Global;
+use office_values::settings::Settings;
+use std::alloc::{AllocError, Global};
 use tender_core::asking::Asking;
 
 // The rows that it is decided on.
@@ -46,50 +54,170 @@ fn load<H: Lookups>(shelf: &mut H, notice: &Id, lot: &Id) -> Result<AwardRows, S
     })
 }
 
-// What the price weighs in a hundred points; 0 where the notice isn't there.
-fn weight_in(notice: &Option<NoticeRow>) -> Weight
-    ensures { result ≡ weight_in notice.now }
+// Of the winner: the number of the award that is made, the price and the tender; none where nobody wins.
+fn winner_numbers(
+    clock: &ClockRow,
+    best: Option<&EnvelopeRow>,
+) -> (Option<u64>, Option<u64>, Option<u64>)
+    ensures award { result.0 ≡ option_map award_number (option_map (replies.winning clock.now) (option_map (λ e. e.now) best.entry)) }
+    ensures price { result.1 ≡ option_map award_price (option_map (replies.winning clock.now) (option_map (λ e. e.now) best.entry)) }
+    ensures tender { result.2 ≡ option_map award_tender (option_map (replies.winning clock.now) (option_map (λ e. e.now) best.entry)) }
 {
-    match notice {
-        Some(row) => row.weight,
-        None => Weight::read(0).unwrap(),
+    match best {
+        Some(row) => (
+            Some(clock.awards.get() + 1),
+            Some(price_of(row).units()),
+            Some(row.receipt.get()),
+        ),
+        None => (None, None, None),
     }
 }
 
-// Who wins, under the number of the next award.
-fn winner(clock: &ClockRow, notice: &Option<NoticeRow>, envelopes: &[EnvelopeRow]) -> Option<Winner>
-    ensures { option_map winning result ≡ option_map (replies.winning clock.now) (winner notice.now envelopes.now) }
+// That a lot is awarded to this tender, or to nobody.
+fn awarded_text(
+    alloc: Global,
+    clock: &ClockRow,
+    lot: Id,
+    best: Option<&EnvelopeRow>,
+    release: u64,
+    moment: Moment,
+) -> Result<Vec<u8>, AllocError>
+    ensures { IfOk result (λ text. text.items
+        ≡ reply_text (replies.Awarded lot (option_map (replies.winning clock.now) (option_map (λ e. e.now) best.entry)) release moment)) }
 {
-    match best_row(weight_in(notice), envelopes) {
-        Some(row) => Some(Winner {
-            award: clock.awards.get() + 1,
-            price: price_of(row),
-            tender: row.receipt,
-        }),
-        None => None,
+    let (award, price, tender) = winner_numbers(clock, best);
+    object_text(
+        alloc,
+        &[
+            ("award", Plain::Count(award)),
+            ("lot", Plain::Id(lot)),
+            ("moment", Plain::Moment(moment)),
+            ("price", Plain::Count(price)),
+            ("release", Plain::Number(release)),
+            ("tender", Plain::Count(tender)),
+        ],
+    )
+}
+
+// What is told of an accepted award.
+fn reply(
+    alloc: Global,
+    asking: &Asking,
+    rows: &AwardRows,
+    lot: Id,
+    best: Option<&EnvelopeRow>,
+) -> Result<Vec<u8>, AllocError>
+    ensures { IfOk result (λ text. (s : Tables) (notice : List ℕ) → rows.now ≡ award_rows s notice lot
+        → option_map (λ e. e.now) best.entry ≡ winner rows.now.notice rows.now.envelopes
+        → text.items ≡ reply_text (accepted_reply (given_by asking.now s (Award notice lot)))) }
+{
+    let release = next_release(&rows.notice);
+    let t = asking.time(&rows.clock);
+    awarded_text(alloc, &rows.clock, lot, best, release, t)
+}
+
+// The release of an award to this tender. `Unavailable` also where all 10^9 numbers of awards are given out, or the row of its tenderer is
+// missing, never so in a reached office.
+fn won<H: Lookups>(
+    alloc: Global,
+    shelf: &mut H,
+    settings: &Settings,
+    asking: &Asking,
+    rows: &AwardRows,
+    notice: Id,
+    lot: Id,
+    best: &EnvelopeRow,
+) -> Result<Released, Refusal>
+    ensures looks { Looks H.meaning shelf.old shelf.new (λ s. IfOk result (λ release. rows.now ≡ award_rows s notice lot
+        → Some best.now ≡ winner rows.now.notice rows.now.envelopes → IsReleased settings.now (given_by asking.now s (Award notice lot)) release)) }
+    ensures none { IfErr result (λ why. why ≡ Unavailable) }
+{
+    let tenderer = shelf.get_tenderer(&best.tenderer)?;
+    let Some(winner) = party_of(best.tenderer, &tenderer) else {
+        return Err(Refusal::Unavailable);
+    };
+    let Some(award) = GivenNumber::read(rows.clock.awards.get() + 1) else {
+        return Err(Refusal::Unavailable);
+    };
+    let event = Event::Award(Awarded {
+        notice,
+        award,
+        lot,
+        winner,
+        price: price_of(best),
+    });
+    let t = asking.time(&rows.clock);
+    make_release(alloc, settings, notice, &rows.notice, t, &event)
+}
+
+// The release where none of the lot's tenders may win.
+fn lost<H: Lookups>(
+    alloc: Global,
+    shelf: &mut H,
+    settings: &Settings,
+    asking: &Asking,
+    rows: &AwardRows,
+    notice: Id,
+    lot: Id,
+) -> Result<Released, Refusal>
+    ensures looks { Looks H.meaning shelf.old shelf.new (λ s. IfOk result (λ release. rows.now ≡ award_rows s notice lot
+        → None ≡ winner rows.now.notice rows.now.envelopes → IsReleased settings.now (given_by asking.now s (Award notice lot)) release)) }
+    ensures none { IfErr result (λ why. why ≡ Unavailable) }
+{
+    let lots = shelf.list_lots_of_notice(&notice)?;
+    let status = status_with(alloc, lots.as_slice(), lot, LotState::Unsuccessful)?;
+    let event = Event::NoAward(NotAwarded {
+        notice,
+        lot,
+        status,
+    });
+    let t = asking.time(&rows.clock);
+    make_release(alloc, settings, notice, &rows.notice, t, &event)
+}
+
+// The release of an accepted award.
+fn release<H: Lookups>(
+    alloc: Global,
+    shelf: &mut H,
+    settings: &Settings,
+    asking: &Asking,
+    rows: &AwardRows,
+    notice: Id,
+    lot: Id,
+    best: Option<&EnvelopeRow>,
+) -> Result<Released, Refusal>
+    ensures looks { Looks H.meaning shelf.old shelf.new (λ s. IfOk result (λ release. rows.now ≡ award_rows s notice lot
+        → option_map (λ e. e.now) best.entry ≡ winner rows.now.notice rows.now.envelopes
+        → IsReleased settings.now (given_by asking.now s (Award notice lot)) release)) }
+    ensures none { IfErr result (λ why. why ≡ Unavailable) }
+{
+    match best {
+        Some(tender) => won(alloc, shelf, settings, asking, rows, notice, lot, tender),
+        None => lost(alloc, shelf, settings, asking, rows, notice, lot),
     }
 }
 
-/// Plans the award of a lot.
+/// Plans the award of a lot: a refusal takes no memory beside the rows.
 pub fn plan<H: Lookups>(
     alloc: Global,
     shelf: &mut H,
+    settings: &Settings,
     asking: &Asking,
     notice: Id,
     lot: Id,
 ) -> Result<Planned, Refusal>
     requires { may asking.now.caller.now kinds.Award ≡ true }
-    ensures { Looks H.meaning shelf.old shelf.new (λ s. HasEffect (given_by asking.now s (Award notice lot)) result) }
+    ensures { Looks H.meaning shelf.old shelf.new (λ s. IsPlanned settings.now (given_by asking.now s (Award notice lot)) result) }
 {
+    looks_follow::<H>();
     let rows = load(shelf, &notice, &lot)?;
     let t = asking.time(&rows.clock);
-    let best = winner(&rows.clock, &rows.notice, rows.envelopes.as_slice());
-    let reply = Reply::Awarded {
-        lot,
-        best,
-        release: next_release(&rows.notice),
-        moment: t,
-    };
-    let decided = decide_award(alloc, t, rows);
-    planned(alloc, decided, &reply)
+    let best = best_tender(&rows);
+    if let Some(why) = refusal(t, &rows, best) {
+        return Err(why);
+    }
+    let text = reply(alloc, asking, &rows, lot, best)?;
+    let release = release(alloc, shelf, settings, asking, &rows, notice, lot, best)?;
+    let puts = puts(alloc, t, rows)?;
+    published(alloc, shelf, puts, text, release)
 }

@@ -1,43 +1,39 @@
-//! A cancellation, planned.
-ghost use Rattle.std.specs.Prelude.{◌≡◌, ℕ, IfOk, List, filter, map, true};
-ghost use Rattle.office_acts.specs.Rights.{may};
-ghost use Rattle.office_acts.specs.declared.command.CommandKind.TheVariants as kinds;
-ghost use Rattle.office_acts.specs.declared.commands.Command.TheVariants.{Cancel};
-ghost use Rattle.office_base.specs.Deciding.{Decides};
-ghost use Rattle.office_base.specs.Rules.{first_of};
+//! A cancellation, planned: its reply, its release, and what it puts.
+ghost use Rattle.std.specs.Prelude.{◌≡◌, IfErr, IfOk, filter, map, true};
+ghost use Rattle.office_commands.specs.Rights.{may};
+ghost use Rattle.office_commands.specs.declared.command.CommandKind.TheVariants as kinds;
+ghost use Rattle.office_commands.specs.declared.commands.Command.TheVariants.{Cancel};
 ghost use Rattle.office_base.specs.Shelves.{Looks};
 ghost use Rattle.office_base.specs.Tables.{Tables};
 ghost use Rattle.office_plans.specs.Asking.{given_by};
 ghost use Rattle.office_plans.specs.Named.{line_of_lot, lines_named, cancel_named};
-ghost use Rattle.office_plans.specs.Effects.{HasEffect};
-ghost use Rattle.tender_core.specs.Rules.Cancel.{is_open_lot, cancel_rows, cancel_tests, cancel_puts};
+ghost use Rattle.office_plans.specs.Published.{IsPlanned};
+ghost use Rattle.office_plans.specs.Released.{IsReleased};
+ghost use Rattle.office_values.specs.declared.refusal.Refusal.TheVariants.{Unavailable};
+ghost use Rattle.tender_core.specs.Rules.Cancel.{is_open_lot};
 
-use crate::decided::planned;
+use crate::events::{ended_awards, open_lots};
 use crate::lines::load_line;
 use crate::planned::Planned;
-use crate::releases::next_release;
-use crate::reply::Reply;
+use crate::published::{Released, make_release, published};
+use crate::replies::notice_reply;
 use keyed_table::table::Table;
-use office_base::laws::rows_are_kept;
-use office_base::puts::Put;
-use office_base::records::{LineRow, LotRow, LotState};
+use ocds_release::borrowed::{BorrowedLine, Listed};
+use ocds_release::event::{Event, NoticeCancelled};
+use ocds_release::tender_status::{states_cancelled, status_of};
+use office_base::laws::{looks_follow, rows_are_kept};
+use office_base::records::{LineRow, LotRow};
 use office_base::rows::Rows;
 use office_base::shelf::{Lookups, ShelfFault};
 use office_values::id::Id;
-use office_values::moment::Moment;
 use office_values::refusal::Refusal;
+use office_values::settings::Settings;
 use office_values::text::TextLine;
 use std::alloc::Global;
 use tender_core::asking::Asking;
-use tender_core::cancel::{CancelRows, decide_cancel};
+use tender_core::cancel::{CancelRows, puts, refusal};
+use tender_core::ended::is_open;
 use tender_core::laws::cancels_agree;
-
-// Whether the lot is still undecided or awarded.
-fn is_open(lot: &LotRow) -> bool
-    ensures { result ≡ is_open_lot lot.now }
-{
-    matches!(lot.state, LotState::Undecided | LotState::Awarded)
-}
 
 // The lines of the lots that are open.
 fn load_lines<H: Lookups>(
@@ -56,7 +52,7 @@ fn load_lines<H: Lookups>(
     Ok(lines)
 }
 
-// The rows that it is decided on.
+// The rows that it is decided on: of the lines those of the open lots, on which the decision is the same as on all lines of the office.
 fn load<H: Lookups>(alloc: Global, shelf: &mut H, notice: &Id) -> Result<CancelRows, ShelfFault>
     ensures { Looks H.meaning shelf.old shelf.new (λ s. IfOk result (λ rows. rows ≡ cancel_named s notice.now)) }
 {
@@ -78,35 +74,61 @@ fn load<H: Lookups>(alloc: Global, shelf: &mut H, notice: &Id) -> Result<CancelR
     })
 }
 
-// The decision, which is the same on the lines of the lots that are open as on all lines of the office.
-fn decide(alloc: Global, t: Moment, rows: CancelRows) -> Result<Vec<Put>, Refusal>
-    ensures { (s : Tables) (notice : List ℕ) → rows ≡ cancel_named s notice
-        → Decides result (first_of (cancel_tests (cancel_rows s notice))) (cancel_puts (cancel_rows s notice) t) }
+// The release of an accepted cancellation: of the lots that are open, and the active awards of these.
+fn release(
+    alloc: Global,
+    settings: &Settings,
+    asking: &Asking,
+    rows: &CancelRows,
+    notice: Id,
+    rationale: &TextLine,
+) -> Result<Released, Refusal>
+    ensures release { IfOk result (λ release. (s : Tables) → rows.now ≡ cancel_named s notice
+        → IsReleased settings.now (given_by asking.now s (Cancel notice rationale.now)) release) }
+    ensures none { IfErr result (λ why. why ≡ Unavailable) }
 {
-    rows_are_kept::<LineRow>();
-    cancels_agree();
-    decide_cancel(alloc, t, rows)
+    let lots = rows.lots.as_slice();
+    let awards = rows.awards.as_slice();
+    let open = open_lots(alloc, lots)?;
+    let ended = ended_awards(alloc, lots, awards)?;
+    let states = states_cancelled(alloc, lots)?;
+    let lots = Listed::of(open.as_slice());
+    let awards = Listed::of(ended.as_slice());
+    let rationale = BorrowedLine::of(rationale);
+    let status = status_of(states.as_slice());
+    let event = Event::Cancel(NoticeCancelled {
+        notice,
+        lots,
+        awards,
+        rationale,
+        status,
+    });
+    let t = asking.time(&rows.clock);
+    make_release(alloc, settings, notice, &rows.notice, t, &event)
 }
 
-/// Plans a cancellation. Its rationale is kept for the release alone.
+/// Plans a cancellation: a refusal takes no memory beside the rows. Its rationale is kept for the release alone.
 pub fn plan<H: Lookups>(
     alloc: Global,
     shelf: &mut H,
+    settings: &Settings,
     asking: &Asking,
     notice: Id,
     rationale: TextLine,
 ) -> Result<Planned, Refusal>
     requires { may asking.now.caller.now kinds.Cancel ≡ true }
-    ensures { Looks H.meaning shelf.old shelf.new (λ s. HasEffect (given_by asking.now s (Cancel notice rationale)) result) }
+    ensures { Looks H.meaning shelf.old shelf.new (λ s. IsPlanned settings.now (given_by asking.now s (Cancel notice rationale)) result) }
 {
-    drop(rationale);
+    looks_follow::<H>();
+    rows_are_kept::<LineRow>();
+    cancels_agree();
     let rows = load(alloc, shelf, &notice)?;
     let t = asking.time(&rows.clock);
-    let reply = Reply::OfNotice {
-        notice,
-        release: next_release(&rows.notice),
-        moment: t,
-    };
-    let decided = decide(alloc, t, rows);
-    planned(alloc, decided, &reply)
+    if let Some(why) = refusal(&rows) {
+        return Err(why);
+    }
+    let text = notice_reply(alloc, asking, notice, &rows.notice, &rows.clock)?;
+    let release = release(alloc, settings, asking, &rows, notice, &rationale)?;
+    let puts = puts(alloc, t, rows)?;
+    published(alloc, shelf, puts, text, release)
 }

@@ -1,31 +1,36 @@
-//! The end of a contract, planned.
-ghost use Rattle.std.specs.Prelude.{◌≡◌, true, IfErr, IfOk, None};
-ghost use Rattle.office_acts.specs.Rights.{may};
-ghost use Rattle.office_acts.specs.declared.command.CommandKind.TheVariants as kinds;
-ghost use Rattle.office_acts.specs.declared.commands.Command.TheVariants.{End};
-ghost use Rattle.office_acts.specs.declared.contract.How.{How};
+//! The end of a contract, planned: its reply, its release, and what it puts.
+ghost use Rattle.std.specs.Prelude.{◌≡◌, ℕ, true, IfErr, IfOk, None, Some};
+ghost use Rattle.award_core.specs.Rules.End.{end_rows};
+ghost use Rattle.office_commands.specs.Rights.{may};
+ghost use Rattle.office_commands.specs.declared.command.CommandKind.TheVariants as kinds;
+ghost use Rattle.office_commands.specs.declared.commands.Command.TheVariants.{End};
+ghost use Rattle.office_commands.specs.declared.contract.How.{How};
 ghost use Rattle.office_base.specs.Shelves.{Looks, LooksUp};
 ghost use Rattle.office_base.specs.Tables.{Tables};
 ghost use Rattle.office_machine.specs.Machine.{refusal_of};
-ghost use Rattle.office_values.specs.declared.refusal.Refusal.TheVariants.{Unavailable};
 ghost use Rattle.office_plans.specs.Asking.{given_by};
-ghost use Rattle.office_plans.specs.Replies.{said};
-ghost use Rattle.office_plans.specs.Effects.{HasEffect, accepted_reply};
-ghost use Rattle.award_core.specs.Rules.End.{end_rows};
+ghost use Rattle.office_plans.specs.Published.{IsPlanned, accepted_reply};
+ghost use Rattle.office_plans.specs.Released.{IsReleased};
+ghost use Rattle.office_plans.specs.Replies.{reply_text};
+ghost use Rattle.office_values.specs.declared.refusal.Refusal.TheVariants.{Unavailable};
 
 use crate::contract_release::contract_release;
-use crate::decided::planned;
 use crate::outstanding::left_by_end;
 use crate::parents::{line_of_lot, lot_of_contract, notice_of_contract};
 use crate::planned::Planned;
-use crate::reply::Reply;
-use award_core::end::{EndRows, decide_end};
-use office_acts::contract::How;
+use crate::published::{Released, make_release, published};
+use crate::replies::contract_text;
+use award_core::end::{EndRows, puts, refusal};
+use ocds_release::event::{ContractEnded, Event};
+use office_base::laws::looks_follow;
+use office_base::records::ContractRow;
 use office_base::rows::Rows;
 use office_base::shelf::{Lookups, ShelfFault};
+use office_commands::contract::How;
 use office_machine::laws;
 use office_values::given::AskedNumber;
 use office_values::refusal::Refusal;
+use office_values::settings::Settings;
 use std::alloc::Global;
 use tender_core::asking::Asking;
 
@@ -50,36 +55,66 @@ fn load<H: Lookups>(shelf: &mut H, contract: AskedNumber) -> Result<EndRows, She
     })
 }
 
-// The reply, should the end be accepted.
-fn reply_to(asking: &Asking, rows: &EndRows, contract: AskedNumber) -> Result<Reply, Refusal>
-    ensures said { IfOk result (λ reply. (s : Tables) (how : How) → rows.now ≡ end_rows s contract → refusal_of (given_by asking.now s (End contract how)) ≡ None
-        → said reply ≡ accepted_reply (given_by asking.now s (End contract how))) }
+// What is told of an accepted end.
+fn reply(
+    alloc: Global,
+    asking: &Asking,
+    rows: &EndRows,
+    contract: AskedNumber,
+) -> Result<Vec<u8>, Refusal>
+    ensures told { IfOk result (λ text. (s : Tables) (how : How) → rows.now ≡ end_rows s contract → refusal_of (given_by asking.now s (End contract how)) ≡ None
+        → text.items ≡ reply_text (accepted_reply (given_by asking.now s (End contract how)))) }
     ensures none { IfErr result (λ why. why ≡ Unavailable) }
 {
     laws::outstanding();
     let left = left_by_end(rows)?;
-    Ok(Reply::OfContract {
-        contract,
-        left,
-        release: contract_release(&rows.contract, &rows.notice),
-        moment: asking.time(&rows.clock),
-    })
+    let release = contract_release(&rows.contract, &rows.notice);
+    let t = asking.time(&rows.clock);
+    let text = contract_text(alloc, contract, left, release, t)?;
+    Ok(text)
 }
 
-/// Plans the end of a contract.
+// The release of an accepted end of this contract.
+fn release(
+    alloc: Global,
+    settings: &Settings,
+    asking: &Asking,
+    rows: &EndRows,
+    contract: &ContractRow,
+) -> Result<Released, Refusal>
+    ensures release { IfOk result (λ release. (s : Tables) (number : ℕ) (how : How) → rows.now ≡ end_rows s number
+        → rows.now.contract ≡ Some contract.now → IsReleased settings.now (given_by asking.now s (End number how)) release) }
+    ensures none { IfErr result (λ why. why ≡ Unavailable) }
+{
+    let event = Event::End(ContractEnded {
+        notice: contract.notice,
+        contract: contract.contract,
+    });
+    let t = asking.time(&rows.clock);
+    make_release(alloc, settings, contract.notice, &rows.notice, t, &event)
+}
+
+/// Plans the end of a contract: a refusal takes no memory beside the rows.
 pub fn plan<H: Lookups>(
     alloc: Global,
     shelf: &mut H,
+    settings: &Settings,
     asking: &Asking,
     contract: AskedNumber,
     how: How,
 ) -> Result<Planned, Refusal>
     requires { may asking.now.caller.now kinds.End ≡ true }
-    ensures { Looks H.meaning shelf.old shelf.new (λ s. HasEffect (given_by asking.now s (End contract how)) result) }
+    ensures { Looks H.meaning shelf.old shelf.new (λ s. IsPlanned settings.now (given_by asking.now s (End contract how)) result) }
 {
+    looks_follow::<H>();
     let rows = load(shelf, contract)?;
     let t = asking.time(&rows.clock);
-    let reply = reply_to(asking, &rows, contract)?;
-    let decided = decide_end(alloc, t, rows, how);
-    planned(alloc, decided, &reply)
+    if let Some(why) = refusal(&rows) {
+        return Err(why);
+    }
+    let text = reply(alloc, asking, &rows, contract)?;
+    let row = rows.contract.as_ref().unwrap();
+    let release = release(alloc, settings, asking, &rows, row)?;
+    let puts = puts(alloc, t, rows, how)?;
+    published(alloc, shelf, puts, text, release)
 }

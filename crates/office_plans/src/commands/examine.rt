@@ -1,23 +1,27 @@
-//! The examination of a tender, planned.
-ghost use Rattle.std.specs.Prelude.{◌≡◌, true};
-ghost use Rattle.office_acts.specs.Rights.{may};
-ghost use Rattle.office_acts.specs.declared.command.CommandKind.TheVariants as kinds;
-ghost use Rattle.office_acts.specs.declared.commands.Command.TheVariants.{Examine};
-ghost use Rattle.office_base.specs.Shelves.{Looks, LooksUp};
-ghost use Rattle.office_plans.specs.Asking.{given_by};
-ghost use Rattle.office_plans.specs.Effects.{HasEffect};
+//! The examination of a tender, planned: its reply, and what it puts.
+ghost use Rattle.std.specs.Prelude.{◌≡◌, IfOk, true};
 ghost use Rattle.award_core.specs.Rules.Examine.{examine_rows};
+ghost use Rattle.office_commands.specs.Rights.{may};
+ghost use Rattle.office_commands.specs.declared.command.CommandKind.TheVariants as kinds;
+ghost use Rattle.office_commands.specs.declared.commands.Command.TheVariants.{Examine};
+ghost use Rattle.office_base.specs.Shelves.{Looks, LooksUp};
+ghost use Rattle.office_machine.specs.Replies.{Examined};
+ghost use Rattle.office_plans.specs.Asking.{given_by};
+ghost use Rattle.office_plans.specs.Published.{IsPlanned};
+ghost use Rattle.office_plans.specs.Replies.{reply_text};
+ghost use Rattle.office_values.specs.declared.settings.Settings.{Settings};
 
-use crate::decided::planned;
+use crate::objects::{Plain, object_text};
 use crate::parents::{lot_of_envelope, notice_of_envelope};
 use crate::planned::Planned;
-use crate::reply::Reply;
-use award_core::examine::{ExamineRows, decide_examine};
-use office_acts::tender::Quality;
+use crate::published::silent;
+use award_core::examine::{ExamineRows, puts, refusal};
 use office_base::shelf::{Lookups, ShelfFault};
+use office_commands::tender::Quality;
 use office_values::given::AskedNumber;
+use office_values::moment::Moment;
 use office_values::refusal::Refusal;
-use std::alloc::Global;
+use std::alloc::{AllocError, Global};
 use tender_core::asking::Asking;
 
 // The rows that it is decided on.
@@ -36,7 +40,26 @@ fn load<H: Lookups>(shelf: &mut H, receipt: AskedNumber) -> Result<ExamineRows, 
     })
 }
 
-/// Plans the examination of a tender.
+// What is told of an accepted examination.
+fn reply(
+    alloc: Global,
+    receipt: AskedNumber,
+    responsive: bool,
+    moment: Moment,
+) -> Result<Vec<u8>, AllocError>
+    ensures { IfOk result (λ text. text.items ≡ reply_text (Examined receipt responsive moment)) }
+{
+    object_text(
+        alloc,
+        &[
+            ("moment", Plain::Moment(moment)),
+            ("responsive", Plain::Truth(responsive)),
+            ("tender", Plain::Number(receipt.get())),
+        ],
+    )
+}
+
+/// Plans the examination of a tender: a refusal takes no memory beside the rows.
 pub fn plan<H: Lookups>(
     alloc: Global,
     shelf: &mut H,
@@ -46,18 +69,14 @@ pub fn plan<H: Lookups>(
     quality: Option<Quality>,
 ) -> Result<Planned, Refusal>
     requires { may asking.now.caller.now kinds.Examine ≡ true }
-    ensures { Looks H.meaning shelf.old shelf.new (λ s. HasEffect (given_by asking.now s (Examine receipt responsive quality)) result) }
+    ensures { (settings : Settings) → Looks H.meaning shelf.old shelf.new (λ s. IsPlanned settings (given_by asking.now s (Examine receipt responsive quality)) result) }
 {
     let rows = load(shelf, receipt)?;
     let t = asking.time(&rows.clock);
-    let decided = decide_examine(alloc, t, rows, responsive, quality);
-    planned(
-        alloc,
-        decided,
-        &Reply::Examined {
-            receipt,
-            responsive,
-            moment: t,
-        },
-    )
+    if let Some(why) = refusal(&rows, responsive, &quality) {
+        return Err(why);
+    }
+    let text = reply(alloc, receipt, responsive, t)?;
+    let puts = puts(alloc, t, rows, responsive, quality)?;
+    Ok(silent(puts, text))
 }

@@ -1,23 +1,33 @@
-//! The failing of an award, planned.
-ghost use Rattle.std.specs.Prelude.{◌≡◌, true};
-ghost use Rattle.office_acts.specs.Rights.{may};
-ghost use Rattle.office_acts.specs.declared.command.CommandKind.TheVariants as kinds;
-ghost use Rattle.office_acts.specs.declared.commands.Command.TheVariants.{Fail};
-ghost use Rattle.office_base.specs.Shelves.{Looks, LooksUp};
-ghost use Rattle.office_plans.specs.Asking.{given_by};
-ghost use Rattle.office_plans.specs.Effects.{HasEffect};
+//! The failing of an award, planned: its reply, its release, and what it puts.
+ghost use Rattle.std.specs.Prelude.{◌≡◌, ℕ, true, IfErr, IfOk, Some};
 ghost use Rattle.award_core.specs.Rules.Fail.{fail_rows};
+ghost use Rattle.office_commands.specs.Rights.{may};
+ghost use Rattle.office_commands.specs.declared.command.CommandKind.TheVariants as kinds;
+ghost use Rattle.office_commands.specs.declared.commands.Command.TheVariants.{Fail};
+ghost use Rattle.office_base.specs.Shelves.{Looks, LooksUp};
+ghost use Rattle.office_base.specs.Tables.{Tables};
+ghost use Rattle.office_machine.specs.Replies.{Failed};
+ghost use Rattle.office_plans.specs.Asking.{given_by};
+ghost use Rattle.office_plans.specs.Published.{IsPlanned, accepted_reply};
+ghost use Rattle.office_plans.specs.Released.{IsReleased};
+ghost use Rattle.office_plans.specs.Replies.{reply_text};
+ghost use Rattle.office_values.specs.declared.refusal.Refusal.TheVariants.{Unavailable};
 
-use crate::decided::planned;
+use crate::objects::{Plain, object_text};
 use crate::parents::{envelope_of_award, lot_of_award, notice_of_award, security_of_envelope};
 use crate::planned::Planned;
-use crate::releases::award_release;
-use crate::reply::Reply;
-use award_core::fail::{FailRows, decide_fail};
+use crate::published::{Released, make_release, published};
+use crate::releases::release_of_award;
+use award_core::fail::{FailRows, puts, refusal};
+use ocds_release::event::{AwardFailed, Event};
+use office_base::laws::looks_follow;
+use office_base::records::AwardRow;
 use office_base::shelf::{Lookups, ShelfFault};
 use office_values::given::AskedNumber;
+use office_values::moment::Moment;
 use office_values::refusal::Refusal;
-use std::alloc::Global;
+use office_values::settings::Settings;
+use std::alloc::{AllocError, Global};
 use tender_core::asking::Asking;
 
 // The rows that it is decided on.
@@ -40,23 +50,80 @@ fn load<H: Lookups>(shelf: &mut H, award: AskedNumber) -> Result<FailRows, Shelf
     })
 }
 
-/// Plans that the winner of an award is passed over.
+// That an award fails, by these values.
+fn failed_text(
+    alloc: Global,
+    award: AskedNumber,
+    release: u64,
+    moment: Moment,
+) -> Result<Vec<u8>, AllocError>
+    ensures { IfOk result (λ text. text.items ≡ reply_text (Failed award release moment)) }
+{
+    object_text(
+        alloc,
+        &[
+            ("award", Plain::Number(award.get())),
+            ("moment", Plain::Moment(moment)),
+            ("release", Plain::Number(release)),
+        ],
+    )
+}
+
+// What is told of an accepted failing.
+fn reply(
+    alloc: Global,
+    asking: &Asking,
+    rows: &FailRows,
+    award: AskedNumber,
+) -> Result<Vec<u8>, AllocError>
+    ensures { IfOk result (λ text. (s : Tables) → rows.now ≡ fail_rows s award
+        → text.items ≡ reply_text (accepted_reply (given_by asking.now s (Fail award)))) }
+{
+    let release = release_of_award(&rows.award, &rows.notice);
+    let t = asking.time(&rows.clock);
+    failed_text(alloc, award, release, t)
+}
+
+// The release of an accepted failing of this award.
+fn release(
+    alloc: Global,
+    settings: &Settings,
+    asking: &Asking,
+    rows: &FailRows,
+    award: &AwardRow,
+) -> Result<Released, Refusal>
+    ensures release { IfOk result (λ release. (s : Tables) (number : ℕ) → rows.now ≡ fail_rows s number → rows.now.award ≡ Some award.now
+        → IsReleased settings.now (given_by asking.now s (Fail number)) release) }
+    ensures none { IfErr result (λ why. why ≡ Unavailable) }
+{
+    let event = Event::Fail(AwardFailed {
+        notice: award.notice,
+        award: award.award,
+    });
+    let t = asking.time(&rows.clock);
+    make_release(alloc, settings, award.notice, &rows.notice, t, &event)
+}
+
+/// Plans that the winner of an award is passed over: a refusal takes no memory beside the rows.
 pub fn plan<H: Lookups>(
     alloc: Global,
     shelf: &mut H,
+    settings: &Settings,
     asking: &Asking,
     award: AskedNumber,
 ) -> Result<Planned, Refusal>
     requires { may asking.now.caller.now kinds.Fail ≡ true }
-    ensures { Looks H.meaning shelf.old shelf.new (λ s. HasEffect (given_by asking.now s (Fail award)) result) }
+    ensures { Looks H.meaning shelf.old shelf.new (λ s. IsPlanned settings.now (given_by asking.now s (Fail award)) result) }
 {
+    looks_follow::<H>();
     let rows = load(shelf, award)?;
     let t = asking.time(&rows.clock);
-    let reply = Reply::Failed {
-        award,
-        release: award_release(&rows.award, &rows.notice),
-        moment: t,
-    };
-    let decided = decide_fail(alloc, t, rows);
-    planned(alloc, decided, &reply)
+    if let Some(why) = refusal(t, &rows) {
+        return Err(why);
+    }
+    let text = reply(alloc, asking, &rows, award)?;
+    let row = rows.award.as_ref().unwrap();
+    let release = release(alloc, settings, asking, &rows, row)?;
+    let puts = puts(alloc, t, rows)?;
+    published(alloc, shelf, puts, text, release)
 }

@@ -1,37 +1,34 @@
-//! The import of a budget file, planned.
-ghost use Rattle.std.specs.Prelude.{◌≡◌, IfOk, List, true};
-ghost use Rattle.office_acts.specs.Rights.{may};
-ghost use Rattle.office_acts.specs.declared.command.CommandKind.TheVariants as kinds;
-ghost use Rattle.office_acts.specs.declared.commands.Command.TheVariants.{Import};
-ghost use Rattle.office_acts.specs.declared.budget.BudgetRow.{BudgetRow};
-ghost use Rattle.office_base.specs.Deciding.{Decides};
-ghost use Rattle.office_base.specs.Rules.{first_of};
+//! The import of a budget file, planned: its reply, and what it puts.
+ghost use Rattle.std.specs.Prelude.{◌≡◌, IfOk, true};
+ghost use Rattle.office_commands.specs.Rights.{may};
+ghost use Rattle.office_commands.specs.declared.command.CommandKind.TheVariants as kinds;
+ghost use Rattle.office_commands.specs.declared.commands.Command.TheVariants.{Import};
 ghost use Rattle.office_base.specs.Shelves.{Looks};
-ghost use Rattle.office_base.specs.Tables.{Tables};
+ghost use Rattle.office_machine.specs.Replies.{Imported};
 ghost use Rattle.office_plans.specs.Asking.{given_by};
 ghost use Rattle.office_plans.specs.Named.{import_named};
-ghost use Rattle.office_plans.specs.Effects.{HasEffect};
-ghost use Rattle.tender_core.specs.Rules.Import.{import_rows, import_tests, import_puts};
+ghost use Rattle.office_plans.specs.Published.{IsPlanned};
+ghost use Rattle.office_plans.specs.Replies.{reply_text};
+ghost use Rattle.office_values.specs.declared.settings.Settings.{Settings};
 
-use crate::decided::planned;
+use crate::objects::{Plain, object_text};
 use crate::planned::Planned;
-use crate::reply::Reply;
+use crate::published::silent;
 use crate::standings::load_standings;
-use office_acts::budget::BudgetRows;
 use office_base::laws::rows_are_kept;
-use office_base::puts::Put;
 use office_base::shelf::{Lookups, ShelfFault};
 use office_base::standing::Standing;
+use office_commands::budget::BudgetRows;
 use office_values::id::Id;
 use office_values::moment::Moment;
 use office_values::refusal::Refusal;
-use std::alloc::Global;
+use std::alloc::{AllocError, Global};
 use tender_core::asking::Asking;
 use tender_core::budget_file::BudgetFile;
 use tender_core::import::{ImportRows, decide_import};
 use tender_core::laws::imports_agree;
 
-// The rows that it is decided on.
+// The rows that it is decided on: of the lines those that its own rows name, on which the decision is the same as on all lines of the office.
 fn load<H: Lookups>(
     alloc: Global,
     shelf: &mut H,
@@ -50,17 +47,21 @@ fn load<H: Lookups>(
     })
 }
 
-// The decision, which is the same on the lines that the file names as on all lines of the office.
-fn decide(alloc: Global, t: Moment, rows: ImportRows, batch: Id) -> Result<Vec<Put>, Refusal>
-    ensures { (s : Tables) (budget : List BudgetRow) → rows ≡ import_named s batch budget
-        → Decides result (first_of (import_tests (import_rows s batch budget))) (import_puts (import_rows s batch budget) t batch) }
+// What is told of an accepted import of so many rows.
+fn reply(alloc: Global, batch: Id, rows: u64, moment: Moment) -> Result<Vec<u8>, AllocError>
+    ensures { IfOk result (λ text. text.items ≡ reply_text (Imported batch rows moment)) }
 {
-    rows_are_kept::<Standing>();
-    imports_agree();
-    decide_import(alloc, t, rows, batch)
+    object_text(
+        alloc,
+        &[
+            ("batch", Plain::Id(batch)),
+            ("moment", Plain::Moment(moment)),
+            ("rows", Plain::Number(rows)),
+        ],
+    )
 }
 
-/// Plans the import of a budget file.
+/// Plans the import of a budget file: a refusal takes no memory beside the rows.
 pub fn plan<H: Lookups>(
     alloc: Global,
     shelf: &mut H,
@@ -69,16 +70,14 @@ pub fn plan<H: Lookups>(
     rows: BudgetRows,
 ) -> Result<Planned, Refusal>
     requires { may asking.now.caller.now kinds.Import ≡ true }
-    ensures { Looks H.meaning shelf.old shelf.new (λ s. HasEffect (given_by asking.now s (Import batch rows)) result) }
+    ensures { (settings : Settings) → Looks H.meaning shelf.old shelf.new (λ s. IsPlanned settings (given_by asking.now s (Import batch rows)) result) }
 {
+    rows_are_kept::<Standing>();
+    imports_agree();
     let count = rows.as_slice().len() as u64;
     let loaded = load(alloc, shelf, &batch, rows)?;
     let t = asking.time(&loaded.clock);
-    let reply = Reply::Imported {
-        batch,
-        rows: count,
-        moment: t,
-    };
-    let decided = decide(alloc, t, loaded, batch);
-    planned(alloc, decided, &reply)
+    let puts = decide_import(alloc, t, loaded, batch)?;
+    let text = reply(alloc, batch, count, t)?;
+    Ok(silent(puts, text))
 }

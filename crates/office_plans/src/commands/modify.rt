@@ -1,29 +1,31 @@
-//! The modification of a tender, planned.
-ghost use Rattle.std.specs.Prelude.{◌≡◌, true};
-ghost use Rattle.office_acts.specs.Rights.{may};
-ghost use Rattle.office_acts.specs.declared.command.CommandKind.TheVariants as kinds;
-ghost use Rattle.office_acts.specs.declared.commands.Command.TheVariants.{Modify};
+//! The modification of a tender, planned: its reply, and what it puts.
+ghost use Rattle.std.specs.Prelude.{◌≡◌, IfOk, true};
+ghost use Rattle.sha2.specs.Sha256.{sha256};
+ghost use Rattle.office_commands.specs.Rights.{may};
+ghost use Rattle.office_commands.specs.declared.command.CommandKind.TheVariants as kinds;
+ghost use Rattle.office_commands.specs.declared.commands.Command.TheVariants.{Modify};
 ghost use Rattle.office_base.specs.Shelves.{Looks, LooksUp};
+ghost use Rattle.office_machine.specs.Replies.{received_reply};
 ghost use Rattle.office_plans.specs.Asking.{given_by};
-ghost use Rattle.office_plans.specs.Replies.{said};
-ghost use Rattle.office_plans.specs.Effects.{HasEffect};
-ghost use Rattle.office_machine.specs.OfficeMeans.{office_readings};
-ghost use Rattle.office_machine.specs.Replies.{modify_reply};
-ghost use Rattle.tender_core.specs.Rules.Modify.{modify_rows};
+ghost use Rattle.office_plans.specs.Published.{IsPlanned};
+ghost use Rattle.office_plans.specs.Replies.{reply_text};
+ghost use Rattle.office_values.specs.declared.settings.Settings.{Settings};
+ghost use Rattle.tender_core.specs.Rules.Modify.{modify_rows, replacing};
 
-use crate::decided::planned;
+use crate::objects::number_of;
 use crate::parents::notice_of_envelope;
 use crate::planned::Planned;
-use crate::reply::Reply;
-use office_acts::sealed::Sealed;
-use office_base::records::EnvelopeState;
+use crate::published::silent;
+use crate::replies::received_text;
+use office_base::records::{ClockRow, EnvelopeRow, EnvelopeState};
 use office_base::shelf::{Lookups, ShelfFault};
+use office_commands::sealed::Sealed;
 use office_values::given::AskedNumber;
 use office_values::moment::Moment;
-use office_values::refusal::{Refusal, Thing};
-use std::alloc::Global;
+use office_values::refusal::Refusal;
+use std::alloc::{AllocError, Global};
 use tender_core::asking::Asking;
-use tender_core::modify::{ModifyRows, decide_modify};
+use tender_core::modify::{ModifyRows, puts, refusal};
 
 // The rows that it is decided on.
 fn load<H: Lookups>(shelf: &mut H, receipt: AskedNumber) -> Result<ModifyRows, ShelfFault>
@@ -39,29 +41,23 @@ fn load<H: Lookups>(shelf: &mut H, receipt: AskedNumber) -> Result<ModifyRows, S
     })
 }
 
-// The reply: the receipt of the tender that comes in the place of the other, with the same security.
-fn reply_of(t: Moment, rows: &ModifyRows, sealed: &Sealed<'_>) -> Reply
-    ensures { said result ≡ modify_reply office_readings rows.now.clock t sealed.now rows.now.envelope }
+// What is told of an accepted modification of this tender: the receipt of the one that comes in its place, with the same security.
+fn reply(
+    alloc: Global,
+    t: Moment,
+    clock: &ClockRow,
+    tender: &EnvelopeRow,
+    sealed: &Sealed<'_>,
+) -> Result<Vec<u8>, AllocError>
+    ensures { IfOk result (λ text. text.items ≡ reply_text (received_reply (replacing sha256 clock.now t tender.now sealed.now))) }
 {
-    let Some(row) = &rows.envelope else {
-        return Reply::Refused {
-            why: Refusal::NoSuch(Thing::Tender),
-        };
-    };
-    let security = match row.security {
-        Some(number) => Some(number.get()),
-        None => None,
-    };
-    Reply::Received {
-        digest: sealed.digest(),
-        receipt: rows.clock.receipts.get() + 1,
-        security,
-        state: EnvelopeState::Sealed,
-        moment: t,
-    }
+    let digest = sealed.digest();
+    let receipt = clock.receipts.get() + 1;
+    let security = number_of(tender.security);
+    received_text(alloc, digest, receipt, security, EnvelopeState::Sealed, t)
 }
 
-/// Plans the modification of a tender, which is another in its place.
+/// Plans the modification of a tender, which is another in its place: a refusal takes no memory beside the rows.
 pub fn plan<H: Lookups>(
     alloc: Global,
     shelf: &mut H,
@@ -70,11 +66,15 @@ pub fn plan<H: Lookups>(
     sealed: Sealed<'_>,
 ) -> Result<Planned, Refusal>
     requires { may asking.now.caller.now kinds.Modify ≡ true }
-    ensures { Looks H.meaning shelf.old shelf.new (λ s. HasEffect (given_by asking.now s (Modify receipt sealed.entry)) result) }
+    ensures { (settings : Settings) → Looks H.meaning shelf.old shelf.new (λ s. IsPlanned settings (given_by asking.now s (Modify receipt sealed.entry)) result) }
 {
     let rows = load(shelf, receipt)?;
     let t = asking.time(&rows.clock);
-    let reply = reply_of(t, &rows, &sealed);
-    let decided = decide_modify(alloc, t, asking.caller, rows, &sealed);
-    planned(alloc, decided, &reply)
+    if let Some(why) = refusal(t, asking.caller, &rows) {
+        return Err(why);
+    }
+    let row = rows.envelope.as_ref().unwrap();
+    let text = reply(alloc, t, &rows.clock, row, &sealed)?;
+    let puts = puts(alloc, t, rows, &sealed)?;
+    Ok(silent(puts, text))
 }

@@ -1,36 +1,37 @@
-//! The opening of tenders, planned.
-ghost use Rattle.std.specs.Prelude.{◌≡◌, ℕ, List, true};
-ghost use Rattle.office_acts.specs.Rights.{may};
-ghost use Rattle.office_acts.specs.declared.command.CommandKind.TheVariants as kinds;
-ghost use Rattle.office_acts.specs.declared.commands.Command.TheVariants.{Open};
-ghost use Rattle.office_base.specs.Deciding.{Decides};
-ghost use Rattle.office_base.specs.Rules.{first_of};
+//! The opening of tenders, planned: its reply, its release, and what it puts.
+ghost use Rattle.std.specs.Prelude.{◌≡◌, true, IfErr, IfOk};
+ghost use Rattle.office_commands.specs.Rights.{may};
+ghost use Rattle.office_commands.specs.declared.command.CommandKind.TheVariants as kinds;
+ghost use Rattle.office_commands.specs.declared.commands.Command.TheVariants.{Open};
 ghost use Rattle.office_base.specs.Shelves.{Looks, LooksUp};
+ghost use Rattle.office_machine.specs.Replies.{OpenedAll};
 ghost use Rattle.office_base.specs.Tables.{Tables};
 ghost use Rattle.office_plans.specs.Asking.{given_by};
 ghost use Rattle.office_plans.specs.Opening.{tenders_read};
-ghost use Rattle.office_plans.specs.Effects.{HasEffect};
-ghost use Rattle.office_machine.specs.Rule.{sealed_tenders};
-ghost use Rattle.office_machine.specs.OfficeMeans.{office_readings};
-ghost use Rattle.tender_core.specs.Rules.Open.{open_rows, open_tests, open_puts};
+ghost use Rattle.office_plans.specs.Published.{IsPlanned, accepted_reply};
+ghost use Rattle.office_plans.specs.Released.{IsReleased};
+ghost use Rattle.office_plans.specs.Replies.{reply_text};
+ghost use Rattle.office_values.specs.declared.refusal.Refusal.TheVariants.{Unavailable};
+ghost use Rattle.tender_core.specs.Rules.Open.{open_rows};
 
-use crate::decided::planned;
+use crate::objects::{Plain, object_text};
 use crate::opened::load_tenders;
 use crate::planned::Planned;
+use crate::published::{Released, make_release, published};
 use crate::releases::next_release;
-use crate::reply::Reply;
-use office_base::parts::has_all_releases;
-use office_base::puts::Put;
-use office_base::records::NoticeState;
-use office_base::rows::Rows;
+use crate::tenderers::load_tenderers;
+use ocds_release::borrowed::Tenderers;
+use ocds_release::event::{Event, Opened};
+use office_base::laws::looks_follow;
 use office_base::shelf::{Lookups, ShelfFault};
 use office_values::id::Id;
 use office_values::moment::Moment;
-use office_values::refusal::{Refusal, Thing};
-use std::alloc::Global;
+use office_values::refusal::Refusal;
+use office_values::settings::Settings;
+use std::alloc::{AllocError, Global};
 use tender_core::asking::Asking;
 use tender_core::laws::readings_are_put;
-use tender_core::opening::{OpenRows, OpenedTender, decide_open};
+use tender_core::opening::{OpenRows, OpenedTender, puts, refusal};
 
 // The rows that it is decided on, beside the sealed tenders.
 fn load<H: Lookups>(shelf: &mut H, notice: &Id) -> Result<OpenRows, ShelfFault>
@@ -42,64 +43,94 @@ fn load<H: Lookups>(shelf: &mut H, notice: &Id) -> Result<OpenRows, ShelfFault>
     })
 }
 
-// Its refusal, which doesn't depend on the tenders: so a refused opening reads none.
-fn refusal_of(t: Moment, rows: &OpenRows) -> Option<Refusal>
-    ensures { result ≡ first_of (open_tests rows.now t) }
-{
-    let Some(row) = &rows.notice else {
-        return Some(Refusal::NoSuch(Thing::Notice));
-    };
-    if row.state == NoticeState::Cancelled {
-        return Some(Refusal::NotOpenForTenders);
-    }
-    if t.second() < row.deadline.second() {
-        return Some(Refusal::TooEarlyToOpen);
-    }
-    if row.state == NoticeState::Opened {
-        return Some(Refusal::AlreadyOpened);
-    }
-    if has_all_releases(&rows.notice) {
-        return Some(Refusal::LimitReached);
-    }
-    None
-}
-
-// The decision on tenders that were read.
-fn decide(
+// That so many tenders are opened, by these values.
+fn opened_text(
     alloc: Global,
-    t: Moment,
-    rows: OpenRows,
-    tenders: Rows<OpenedTender>,
-) -> Result<Vec<Put>, Refusal>
-    ensures { (s : Tables) (notice : List ℕ) → rows ≡ open_rows s notice → tenders ≡ tenders_read notice s
-        → Decides result (first_of (open_tests (open_rows s notice) t)) (open_puts office_readings.read (open_rows s notice) t (sealed_tenders notice s)) }
+    notice: Id,
+    count: u64,
+    release: u64,
+    moment: Moment,
+) -> Result<Vec<u8>, AllocError>
+    ensures { IfOk result (λ text. text.items ≡ reply_text (OpenedAll notice count release moment)) }
 {
-    readings_are_put();
-    decide_open(alloc, t, rows, tenders)
+    object_text(
+        alloc,
+        &[
+            ("moment", Plain::Moment(moment)),
+            ("notice", Plain::Id(notice)),
+            ("opened", Plain::Number(count)),
+            ("release", Plain::Number(release)),
+        ],
+    )
 }
 
-/// Plans the opening of the tenders of a notice.
+// What is told of an accepted opening of these tenders.
+fn reply(
+    alloc: Global,
+    asking: &Asking,
+    rows: &OpenRows,
+    notice: Id,
+    tenders: &[OpenedTender],
+) -> Result<Vec<u8>, AllocError>
+    ensures { IfOk result (λ text. (s : Tables) → rows.now ≡ open_rows s notice → tenders.now ≡ tenders_read notice s
+        → text.items ≡ reply_text (accepted_reply (given_by asking.now s (Open notice)))) }
+{
+    let count = tenders.len() as u64;
+    let release = next_release(&rows.notice);
+    let t = asking.time(&rows.clock);
+    opened_text(alloc, notice, count, release, t)
+}
+
+// The release of an accepted opening of these tenders.
+fn release<H: Lookups>(
+    alloc: Global,
+    shelf: &mut H,
+    settings: &Settings,
+    asking: &Asking,
+    rows: &OpenRows,
+    notice: Id,
+    tenders: &[OpenedTender],
+) -> Result<Released, Refusal>
+    ensures looks { Looks H.meaning shelf.old shelf.new (λ s. IfOk result (λ release. rows.now ≡ open_rows s notice → tenders.now ≡ tenders_read notice s
+        → IsReleased settings.now (given_by asking.now s (Open notice)) release)) }
+    ensures none { IfErr result (λ why. why ≡ Unavailable) }
+{
+    let found = load_tenderers(alloc, shelf, tenders)?;
+    let tenderers = Tenderers::of(found.as_slice());
+    let event = Event::Open(Opened { notice, tenderers });
+    let t = asking.time(&rows.clock);
+    make_release(alloc, settings, notice, &rows.notice, t, &event)
+}
+
+/// Plans the opening of the tenders of a notice: a refused one takes no memory beside the notice's row, and reads no tender.
 pub fn plan<H: Lookups>(
     alloc: Global,
     shelf: &mut H,
+    settings: &Settings,
     asking: &Asking,
     notice: Id,
 ) -> Result<Planned, Refusal>
     requires { may asking.now.caller.now kinds.Open ≡ true }
-    ensures { Looks H.meaning shelf.old shelf.new (λ s. HasEffect (given_by asking.now s (Open notice)) result) }
+    ensures { Looks H.meaning shelf.old shelf.new (λ s. IsPlanned settings.now (given_by asking.now s (Open notice)) result) }
 {
+    looks_follow::<H>();
+    readings_are_put();
     let rows = load(shelf, &notice)?;
     let t = asking.time(&rows.clock);
-    if let Some(why) = refusal_of(t, &rows) {
+    if let Some(why) = refusal(t, &rows) {
         return Err(why);
     }
     let tenders = load_tenders(alloc, shelf, &notice)?;
-    let reply = Reply::OpenedAll {
+    let text = reply(alloc, asking, &rows, notice, tenders.as_slice())?;
+    let release = release(
+        alloc,
+        shelf,
+        settings,
+        asking,
+        &rows,
         notice,
-        count: tenders.as_slice().len() as u64,
-        release: next_release(&rows.notice),
-        moment: t,
-    };
-    let decided = decide(alloc, t, rows, tenders);
-    planned(alloc, decided, &reply)
+        tenders.as_slice(),
+    )?;
+    let puts = puts(alloc, t, rows, tenders)?;
+    published(alloc, shelf, puts, text, release)
 }

@@ -1,31 +1,37 @@
-//! A payment, planned.
-ghost use Rattle.std.specs.Prelude.{◌≡◌, ℕ, List, true, IfErr, IfOk, None};
-ghost use Rattle.office_acts.specs.Rights.{may};
-ghost use Rattle.office_acts.specs.declared.command.CommandKind.TheVariants as kinds;
-ghost use Rattle.office_acts.specs.declared.commands.Command.TheVariants.{Pay};
+//! A payment, planned: its reply, its release, and what it puts.
+ghost use Rattle.std.specs.Prelude.{◌≡◌, ℕ, List, true, IfErr, IfOk, None, Some};
+ghost use Rattle.office_commands.specs.Rights.{may};
+ghost use Rattle.office_commands.specs.declared.command.CommandKind.TheVariants as kinds;
+ghost use Rattle.office_commands.specs.declared.commands.Command.TheVariants.{Pay};
 ghost use Rattle.office_base.specs.Shelves.{Looks, LooksUp};
 ghost use Rattle.office_base.specs.Tables.{Tables};
 ghost use Rattle.office_machine.specs.Machine.{refusal_of};
 ghost use Rattle.office_values.specs.declared.refusal.Refusal.TheVariants.{Unavailable};
 ghost use Rattle.office_plans.specs.Asking.{given_by};
-ghost use Rattle.office_plans.specs.Replies.{said};
-ghost use Rattle.office_plans.specs.Effects.{HasEffect, accepted_reply};
+ghost use Rattle.office_plans.specs.Published.{IsPlanned, accepted_reply};
+ghost use Rattle.office_plans.specs.Released.{IsReleased};
+ghost use Rattle.office_plans.specs.Replies.{reply_text};
 ghost use Rattle.award_core.specs.Rules.Pay.{pay_rows};
 
 use crate::contract_release::contract_release;
-use crate::decided::planned;
+use crate::events::party_of;
 use crate::outstanding::left_by_payment;
 use crate::parents::notice_of_contract;
 use crate::planned::Planned;
-use crate::reply::Reply;
-use award_core::pay::{PayRows, decide_pay};
-use office_acts::amounts::EntryAmount;
+use crate::published::{Released, make_release, published};
+use crate::replies::contract_text;
+use award_core::pay::{PayRows, puts, refusal};
+use ocds_release::event::{Event, Paid};
+use office_base::laws::looks_follow;
+use office_base::records::ContractRow;
 use office_base::rows::Rows;
 use office_base::shelf::{Lookups, ShelfFault};
+use office_commands::amounts::EntryAmount;
 use office_machine::laws;
 use office_values::given::AskedNumber;
 use office_values::id::Id;
 use office_values::refusal::Refusal;
+use office_values::settings::Settings;
 use std::alloc::Global;
 use tender_core::asking::Asking;
 
@@ -45,43 +51,80 @@ fn load<H: Lookups>(shelf: &mut H, contract: AskedNumber) -> Result<PayRows, She
     })
 }
 
-// The reply, should the payment be accepted.
-fn reply_to(
+// What is told of an accepted payment.
+fn reply(
+    alloc: Global,
     asking: &Asking,
     rows: &PayRows,
     contract: AskedNumber,
     amount: EntryAmount,
-) -> Result<Reply, Refusal>
-    ensures said { IfOk result (λ reply. (s : Tables) (entry : List ℕ) → rows.now ≡ pay_rows s contract
+) -> Result<Vec<u8>, Refusal>
+    ensures told { IfOk result (λ text. (s : Tables) (entry : List ℕ) → rows.now ≡ pay_rows s contract
         → refusal_of (given_by asking.now s (Pay contract entry amount)) ≡ None
-        → said reply ≡ accepted_reply (given_by asking.now s (Pay contract entry amount))) }
+        → text.items ≡ reply_text (accepted_reply (given_by asking.now s (Pay contract entry amount)))) }
     ensures none { IfErr result (λ why. why ≡ Unavailable) }
 {
     laws::outstanding();
     let left = left_by_payment(rows, amount)?;
-    Ok(Reply::OfContract {
-        contract,
-        left,
-        release: contract_release(&rows.contract, &rows.notice),
-        moment: asking.time(&rows.clock),
-    })
+    let release = contract_release(&rows.contract, &rows.notice);
+    let t = asking.time(&rows.clock);
+    let text = contract_text(alloc, contract, left, release, t)?;
+    Ok(text)
 }
 
-/// Plans a payment under a contract.
+// The release of an accepted payment under this contract. `Unavailable` also where the row of the tenderer who signed it is missing, as
+// never in an office that commands reach.
+fn release<H: Lookups>(
+    alloc: Global,
+    shelf: &mut H,
+    settings: &Settings,
+    asking: &Asking,
+    rows: &PayRows,
+    contract: &ContractRow,
+    entry: Id,
+    amount: EntryAmount,
+) -> Result<Released, Refusal>
+    ensures looks { Looks H.meaning shelf.old shelf.new (λ s. IfOk result (λ release. (number : ℕ) → rows.now ≡ pay_rows s number
+        → rows.now.contract ≡ Some contract.now → IsReleased settings.now (given_by asking.now s (Pay number entry amount)) release)) }
+    ensures none { IfErr result (λ why. why ≡ Unavailable) }
+{
+    let tenderer = shelf.get_tenderer(&contract.tenderer)?;
+    let Some(payee) = party_of(contract.tenderer, &tenderer) else {
+        return Err(Refusal::Unavailable);
+    };
+    let event = Event::Pay(Paid {
+        notice: contract.notice,
+        contract: contract.contract,
+        entry,
+        amount,
+        payee,
+    });
+    let t = asking.time(&rows.clock);
+    make_release(alloc, settings, contract.notice, &rows.notice, t, &event)
+}
+
+/// Plans a payment under a contract: a refusal takes no memory beside the rows.
 pub fn plan<H: Lookups>(
     alloc: Global,
     shelf: &mut H,
+    settings: &Settings,
     asking: &Asking,
     contract: AskedNumber,
     entry: Id,
     amount: EntryAmount,
 ) -> Result<Planned, Refusal>
     requires { may asking.now.caller.now kinds.Pay ≡ true }
-    ensures { Looks H.meaning shelf.old shelf.new (λ s. HasEffect (given_by asking.now s (Pay contract entry amount)) result) }
+    ensures { Looks H.meaning shelf.old shelf.new (λ s. IsPlanned settings.now (given_by asking.now s (Pay contract entry amount)) result) }
 {
+    looks_follow::<H>();
     let rows = load(shelf, contract)?;
     let t = asking.time(&rows.clock);
-    let reply = reply_to(asking, &rows, contract, amount)?;
-    let decided = decide_pay(alloc, t, rows, entry, amount);
-    planned(alloc, decided, &reply)
+    if let Some(why) = refusal(&rows, &entry, amount) {
+        return Err(why);
+    }
+    let text = reply(alloc, asking, &rows, contract, amount)?;
+    let row = rows.contract.as_ref().unwrap();
+    let release = release(alloc, shelf, settings, asking, &rows, row, entry, amount)?;
+    let puts = puts(alloc, t, rows, entry, amount)?;
+    published(alloc, shelf, puts, text, release)
 }

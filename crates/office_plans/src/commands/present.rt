@@ -1,35 +1,37 @@
-//! A tender that is presented, planned.
-ghost use Rattle.std.specs.Prelude.{◌≡◌, ℕ, List, true};
+//! A tender that is presented, planned: its reply, and what it puts.
+ghost use Rattle.std.specs.Prelude.{◌≡◌, ℕ, List, IfOk, cond, option_map, true};
 ghost use Rattle.sha2.specs.Sha256.{sha256};
-ghost use Rattle.office_acts.specs.Rights.{may};
-ghost use Rattle.office_acts.specs.declared.command.Caller.{Caller};
-ghost use Rattle.office_acts.specs.declared.command.CommandKind.TheVariants as kinds;
-ghost use Rattle.office_acts.specs.declared.commands.Command.TheVariants.{Present};
+ghost use Rattle.office_commands.specs.Rights.{may};
+ghost use Rattle.office_commands.specs.declared.command.Caller.{Caller};
+ghost use Rattle.office_commands.specs.declared.command.CommandKind.TheVariants as kinds;
+ghost use Rattle.office_commands.specs.declared.commands.Command.TheVariants.{Present};
+ghost use Rattle.office_base.specs.Transitions.{is_in_time};
 ghost use Rattle.office_base.specs.Rows.{holds_of};
-ghost use Rattle.office_base.specs.RuleParts.{is_in_time};
 ghost use Rattle.office_base.specs.Shelves.{Looks, LooksUp};
+ghost use Rattle.office_base.specs.declared.records.EnvelopeState.TheVariants as states;
+ghost use Rattle.office_machine.specs.Replies.{received_reply};
 ghost use Rattle.office_plans.specs.Asking.{given_by};
 ghost use Rattle.office_plans.specs.OwnTenders.{own_rows};
-ghost use Rattle.office_plans.specs.Replies.{said};
-ghost use Rattle.office_plans.specs.Effects.{HasEffect};
-ghost use Rattle.office_machine.specs.Replies.{received_reply};
+ghost use Rattle.office_plans.specs.Published.{IsPlanned};
+ghost use Rattle.office_plans.specs.Replies.{reply_text};
+ghost use Rattle.office_values.specs.declared.settings.Settings.{Settings};
 ghost use Rattle.tender_core.specs.Rules.Present.{received};
 
-use crate::decided::planned;
 use crate::of_lot::own_envelopes;
 use crate::planned::Planned;
-use crate::reply::Reply;
-use office_acts::command::Caller;
-use office_acts::sealed::Sealed;
-use office_acts::tender::NamedSecurity;
+use crate::published::silent;
+use crate::replies::received_text;
 use office_base::records::EnvelopeState;
 use office_base::shelf::{Lookups, ShelfFault};
+use office_commands::command::Caller;
+use office_commands::sealed::Sealed;
+use office_commands::tender::NamedSecurity;
 use office_values::id::Id;
 use office_values::moment::Moment;
 use office_values::refusal::Refusal;
-use std::alloc::Global;
+use std::alloc::{AllocError, Global};
 use tender_core::asking::Asking;
-use tender_core::present::{PresentRows, decide_present};
+use tender_core::present::{PresentRows, puts, refusal};
 use tender_core::tenders::is_in_time;
 
 // The rows that it is decided on. Of the lot's tenders the rule asks for the caller's own alone, which may be few among many.
@@ -51,37 +53,46 @@ fn load<H: Lookups>(
     })
 }
 
-// The reply: the next receipt, with the digest of the sealed bytes and the number of the security that is named. A tender that comes late
-// goes back.
-fn reply_of(
+// The number of the security, which is that of the receipt; none where none is named.
+fn number_of(receipt: u64, security: &Option<NamedSecurity>) -> Option<u64>
+    ensures { result ≡ option_map (λ _. receipt) security.now }
+{
+    match security {
+        Some(_) => Some(receipt),
+        None => None,
+    }
+}
+
+// Where the tender is then: one that comes late goes back.
+fn state_of(in_time: bool) -> EnvelopeState
+    ensures { result ≡ cond in_time states.Sealed states.Returned }
+{
+    if in_time {
+        EnvelopeState::Sealed
+    } else {
+        EnvelopeState::Returned
+    }
+}
+
+// What is told of an accepted presentation: the next receipt, with the digest of the sealed bytes and the number of the security that is named.
+fn reply(
+    alloc: Global,
     t: Moment,
     rows: &PresentRows,
     security: &Option<NamedSecurity>,
     sealed: &Sealed<'_>,
-) -> Reply
-    ensures { (caller : Caller) (notice lot : List ℕ) →
-        said result ≡ received_reply (received sha256 rows.now.clock t caller notice lot security.now sealed.now (holds_of (is_in_time t) rows.now.notice)) }
+) -> Result<Vec<u8>, AllocError>
+    ensures { IfOk result (λ text. (caller : Caller) (notice lot : List ℕ) → text.items
+        ≡ reply_text (received_reply (received sha256 rows.now.clock t caller notice lot security.now sealed.now (holds_of (is_in_time t) rows.now.notice)))) }
 {
+    let digest = sealed.digest();
     let receipt = rows.clock.receipts.get() + 1;
-    let number = match security {
-        Some(_) => Some(receipt),
-        None => None,
-    };
-    let state = if is_in_time(t, &rows.notice) {
-        EnvelopeState::Sealed
-    } else {
-        EnvelopeState::Returned
-    };
-    Reply::Received {
-        digest: sealed.digest(),
-        receipt,
-        security: number,
-        state,
-        moment: t,
-    }
+    let number = number_of(receipt, security);
+    let state = state_of(is_in_time(t, &rows.notice));
+    received_text(alloc, digest, receipt, number, state, t)
 }
 
-/// Plans a tender that is presented: its receipt, whether it came in time or late.
+/// Plans a tender that is presented: its receipt, whether it came in time or late. A refusal takes no memory beside the rows.
 pub fn plan<H: Lookups>(
     alloc: Global,
     shelf: &mut H,
@@ -92,12 +103,15 @@ pub fn plan<H: Lookups>(
     sealed: Sealed<'_>,
 ) -> Result<Planned, Refusal>
     requires { may asking.now.caller.now kinds.Present ≡ true }
-    ensures { Looks H.meaning shelf.old shelf.new (λ s. HasEffect (given_by asking.now s (Present notice lot security sealed.entry)) result) }
+    ensures { (settings : Settings) → Looks H.meaning shelf.old shelf.new (λ s. IsPlanned settings (given_by asking.now s (Present notice lot security sealed.entry)) result) }
 {
     let rows = load(alloc, shelf, asking.caller, &notice, &lot)?;
     let t = asking.time(&rows.clock);
-    let reply = reply_of(t, &rows, &security, &sealed);
-    let decided = decide_present(
+    if let Some(why) = refusal(t, asking.caller, &rows, &security) {
+        return Err(why);
+    }
+    let text = reply(alloc, t, &rows, &security, &sealed)?;
+    let puts = puts(
         alloc,
         t,
         asking.caller,
@@ -106,6 +120,6 @@ pub fn plan<H: Lookups>(
         lot,
         security,
         &sealed,
-    );
-    planned(alloc, decided, &reply)
+    )?;
+    Ok(silent(puts, text))
 }

@@ -1,36 +1,35 @@
-//! The publication of a notice, planned.
-ghost use Rattle.std.specs.Prelude.{◌≡◌, IfOk, map, true};
-ghost use Rattle.office_acts.specs.Rights.{may};
-ghost use Rattle.office_acts.specs.declared.command.CommandKind.TheVariants as kinds;
-ghost use Rattle.office_acts.specs.declared.commands.Command.TheVariants.{Publish};
-ghost use Rattle.office_base.specs.Deciding.{Decides};
-ghost use Rattle.office_base.specs.Rules.{first_of};
+//! The publication of a notice, planned: its reply, its release, and what it puts.
+ghost use Rattle.std.specs.Prelude.{◌≡◌, IfErr, IfOk, map, true};
+ghost use Rattle.office_commands.specs.Rights.{may};
+ghost use Rattle.office_commands.specs.declared.command.CommandKind.TheVariants as kinds;
+ghost use Rattle.office_commands.specs.declared.commands.Command.TheVariants.{Publish};
 ghost use Rattle.office_base.specs.Shelves.{Looks};
 ghost use Rattle.office_base.specs.Tables.{Tables};
 ghost use Rattle.office_plans.specs.Asking.{given_by};
 ghost use Rattle.office_plans.specs.Named.{line_of_new, lines_named, publish_named};
-ghost use Rattle.office_plans.specs.Effects.{HasEffect};
-ghost use Rattle.tender_core.specs.Rules.Publish.{publish_rows, publish_tests, publish_puts};
+ghost use Rattle.office_plans.specs.Published.{IsPlanned};
+ghost use Rattle.office_plans.specs.Released.{IsReleased};
+ghost use Rattle.office_values.specs.declared.refusal.Refusal.TheVariants.{Unavailable};
 
-use crate::decided::planned;
 use crate::lines::load_line;
 use crate::planned::Planned;
-use crate::releases::next_release;
-use crate::reply::Reply;
+use crate::published::{Released, make_release, published};
+use crate::replies::notice_reply;
 use keyed_table::table::Table;
-use office_acts::lot::NewLot;
-use office_acts::notice::NewNotice;
-use office_base::laws::rows_are_kept;
-use office_base::puts::Put;
+use ocds_release::borrowed::{BorrowedLine, PublishedLots};
+use ocds_release::event::{Event, Published as PublishedNotice};
+use office_base::laws::{looks_follow, rows_are_kept};
 use office_base::records::LineRow;
 use office_base::shelf::{Lookups, ShelfFault};
+use office_commands::lot::NewLot;
+use office_commands::notice::NewNotice;
 use office_values::id::Id;
-use office_values::moment::Moment;
 use office_values::refusal::Refusal;
+use office_values::settings::Settings;
 use std::alloc::Global;
 use tender_core::asking::Asking;
 use tender_core::laws::publishes_agree;
-use tender_core::publish::{PublishRows, decide_publish};
+use tender_core::publish::{PublishRows, puts, refusal};
 
 // The lines of the lots.
 fn load_lines<H: Lookups>(
@@ -47,7 +46,7 @@ fn load_lines<H: Lookups>(
     Ok(lines)
 }
 
-// The rows that it is decided on.
+// The rows that it is decided on: of the lines those of its lots, on which the decision is the same as on all lines of the office.
 fn load<H: Lookups>(
     alloc: Global,
     shelf: &mut H,
@@ -64,40 +63,56 @@ fn load<H: Lookups>(
     })
 }
 
-// The decision, which is the same on the lines of the lots as on all lines of the office.
-fn decide(
+// The release of an accepted publication, which has at most 20 lots.
+fn release(
     alloc: Global,
-    t: Moment,
-    rows: PublishRows,
+    settings: &Settings,
+    asking: &Asking,
+    rows: &PublishRows,
     notice: Id,
-    content: NewNotice,
-) -> Result<Vec<Put>, Refusal>
-    ensures { (s : Tables) → rows ≡ publish_named s notice content.lots
-        → Decides result (first_of (publish_tests (publish_rows s notice) t content)) (publish_puts (publish_rows s notice) t notice content) }
+    content: &NewNotice,
+) -> Result<Released, Refusal>
+    ensures release { IfOk result (λ release. (s : Tables) → rows.now ≡ publish_named s notice content.now.lots
+        → IsReleased settings.now (given_by asking.now s (Publish notice content.now)) release) }
+    ensures none { IfErr result (λ why. why ≡ Unavailable) }
 {
-    rows_are_kept::<LineRow>();
-    publishes_agree();
-    decide_publish(alloc, t, rows, notice, content)
+    let Some(lots) = PublishedLots::read(content.lots.as_slice()) else {
+        return Err(Refusal::Unavailable);
+    };
+    let title = BorrowedLine::of(&content.title);
+    let event = Event::Publish(PublishedNotice {
+        notice,
+        title,
+        deadline: content.deadline,
+        criteria: content.criteria,
+        lots,
+    });
+    let t = asking.time(&rows.clock);
+    make_release(alloc, settings, notice, &rows.notice, t, &event)
 }
 
-/// Plans the publication of a notice.
+/// Plans the publication of a notice: a refusal takes no memory beside the rows.
 pub fn plan<H: Lookups>(
     alloc: Global,
     shelf: &mut H,
+    settings: &Settings,
     asking: &Asking,
     notice: Id,
     content: NewNotice,
 ) -> Result<Planned, Refusal>
     requires { may asking.now.caller.now kinds.Publish ≡ true }
-    ensures { Looks H.meaning shelf.old shelf.new (λ s. HasEffect (given_by asking.now s (Publish notice content)) result) }
+    ensures { Looks H.meaning shelf.old shelf.new (λ s. IsPlanned settings.now (given_by asking.now s (Publish notice content)) result) }
 {
+    looks_follow::<H>();
+    rows_are_kept::<LineRow>();
+    publishes_agree();
     let rows = load(alloc, shelf, &notice, content.lots.as_slice())?;
     let t = asking.time(&rows.clock);
-    let reply = Reply::OfNotice {
-        notice,
-        release: next_release(&rows.notice),
-        moment: t,
-    };
-    let decided = decide(alloc, t, rows, notice, content);
-    planned(alloc, decided, &reply)
+    if let Some(why) = refusal(t, &rows, &content) {
+        return Err(why);
+    }
+    let text = notice_reply(alloc, asking, notice, &rows.notice, &rows.clock)?;
+    let release = release(alloc, settings, asking, &rows, notice, &content)?;
+    let puts = puts(alloc, t, rows, notice, content)?;
+    published(alloc, shelf, puts, text, release)
 }

@@ -1,23 +1,27 @@
-//! The registration of a tenderer, planned.
-ghost use Rattle.std.specs.Prelude.{◌≡◌, true};
-ghost use Rattle.office_acts.specs.Rights.{may};
-ghost use Rattle.office_acts.specs.declared.command.CommandKind.TheVariants as kinds;
-ghost use Rattle.office_acts.specs.declared.commands.Command.TheVariants.{Register};
+//! The registration of a tenderer, planned: its reply, and what it puts.
+ghost use Rattle.std.specs.Prelude.{◌≡◌, IfOk, true};
+ghost use Rattle.office_commands.specs.Rights.{may};
+ghost use Rattle.office_commands.specs.declared.command.CommandKind.TheVariants as kinds;
+ghost use Rattle.office_commands.specs.declared.commands.Command.TheVariants.{Register};
 ghost use Rattle.office_base.specs.Shelves.{Looks, LooksUp};
+ghost use Rattle.office_machine.specs.Replies.{Enrolled};
 ghost use Rattle.office_plans.specs.Asking.{given_by};
-ghost use Rattle.office_plans.specs.Effects.{HasEffect};
+ghost use Rattle.office_plans.specs.Published.{IsPlanned};
+ghost use Rattle.office_plans.specs.Replies.{reply_text};
+ghost use Rattle.office_values.specs.declared.settings.Settings.{Settings};
 ghost use Rattle.tender_core.specs.Rules.Register.{register_rows};
 
-use crate::decided::planned;
+use crate::objects::{Plain, object_text};
 use crate::planned::Planned;
-use crate::reply::Reply;
+use crate::published::silent;
 use office_base::shelf::{Lookups, ShelfFault};
 use office_values::id::Id;
+use office_values::moment::Moment;
 use office_values::refusal::Refusal;
 use office_values::text::TextLine;
-use std::alloc::Global;
+use std::alloc::{AllocError, Global};
 use tender_core::asking::Asking;
-use tender_core::register::{RegisterRows, decide_register};
+use tender_core::register::{RegisterRows, puts, refusal};
 
 // The rows that it is decided on.
 fn load<H: Lookups>(shelf: &mut H, tenderer: &Id) -> Result<RegisterRows, ShelfFault>
@@ -29,7 +33,20 @@ fn load<H: Lookups>(shelf: &mut H, tenderer: &Id) -> Result<RegisterRows, ShelfF
     })
 }
 
-/// Plans the registration of a tenderer, with the SHA-256 of the tenderer's key.
+// What is told of an accepted registration.
+fn reply(alloc: Global, tenderer: Id, moment: Moment) -> Result<Vec<u8>, AllocError>
+    ensures { IfOk result (λ text. text.items ≡ reply_text (Enrolled tenderer moment)) }
+{
+    object_text(
+        alloc,
+        &[
+            ("moment", Plain::Moment(moment)),
+            ("tenderer", Plain::Id(tenderer)),
+        ],
+    )
+}
+
+/// Plans the registration of a tenderer, with the SHA-256 of the tenderer's key: a refusal takes no memory beside the rows.
 pub fn plan<H: Lookups>(
     alloc: Global,
     shelf: &mut H,
@@ -40,14 +57,14 @@ pub fn plan<H: Lookups>(
     key: [u8; 32],
 ) -> Result<Planned, Refusal>
     requires { may asking.now.caller.now kinds.Register ≡ true }
-    ensures { Looks H.meaning shelf.old shelf.new (λ s. HasEffect (given_by asking.now s (Register tenderer name address key)) result) }
+    ensures { (settings : Settings) → Looks H.meaning shelf.old shelf.new (λ s. IsPlanned settings (given_by asking.now s (Register tenderer name address key)) result) }
 {
     let rows = load(shelf, &tenderer)?;
     let t = asking.time(&rows.clock);
-    let reply = Reply::Enrolled {
-        tenderer,
-        moment: t,
-    };
-    let decided = decide_register(alloc, t, rows, tenderer, name, address, key);
-    planned(alloc, decided, &reply)
+    if let Some(why) = refusal(&rows, &tenderer) {
+        return Err(why);
+    }
+    let text = reply(alloc, tenderer, t)?;
+    let puts = puts(alloc, t, rows, tenderer, name, address, key)?;
+    Ok(silent(puts, text))
 }

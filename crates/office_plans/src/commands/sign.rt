@@ -1,25 +1,37 @@
-//! The signing of a contract, planned.
-ghost use Rattle.std.specs.Prelude.{◌≡◌, true};
-ghost use Rattle.office_acts.specs.Rights.{may};
-ghost use Rattle.office_acts.specs.declared.command.CommandKind.TheVariants as kinds;
-ghost use Rattle.office_acts.specs.declared.commands.Command.TheVariants.{Sign};
-ghost use Rattle.office_base.specs.Shelves.{Looks, LooksUp};
-ghost use Rattle.office_plans.specs.Asking.{given_by};
-ghost use Rattle.office_plans.specs.Effects.{HasEffect};
+//! The signing of a contract, planned: its reply, its release, and what it puts.
+ghost use Rattle.std.specs.Prelude.{◌≡◌, ℕ, Option, true, IfErr, IfOk, Some};
 ghost use Rattle.award_core.specs.Rules.Sign.{sign_rows};
+ghost use Rattle.office_commands.specs.Rights.{may};
+ghost use Rattle.office_commands.specs.declared.command.CommandKind.TheVariants as kinds;
+ghost use Rattle.office_commands.specs.declared.commands.Command.TheVariants.{Sign};
+ghost use Rattle.office_commands.specs.declared.tender.NamedSecurity.{NamedSecurity};
+ghost use Rattle.office_base.specs.Shelves.{Looks, LooksUp};
+ghost use Rattle.office_base.specs.Tables.{Tables};
+ghost use Rattle.office_machine.specs.Replies as replies;
+ghost use Rattle.office_plans.specs.Asking.{given_by};
+ghost use Rattle.office_plans.specs.Published.{IsPlanned, accepted_reply};
+ghost use Rattle.office_plans.specs.Released.{IsReleased};
+ghost use Rattle.office_plans.specs.Replies.{reply_text};
+ghost use Rattle.office_values.specs.declared.refusal.Refusal.TheVariants.{Unavailable};
 
-use crate::decided::planned;
+use crate::events::status_with;
+use crate::objects::{Plain, object_text};
 use crate::of_lot::securities_of_award;
 use crate::parents::{envelope_of_award, lot_of_award, notice_of_award};
 use crate::planned::Planned;
-use crate::releases::award_release;
-use crate::reply::Reply;
-use award_core::sign::{SignRows, decide_sign};
-use office_acts::tender::NamedSecurity;
+use crate::published::{Released, make_release, published};
+use crate::releases::release_of_award;
+use award_core::sign::{SignRows, puts, refusal};
+use ocds_release::event::{Event, Signed};
+use office_base::laws::looks_follow;
+use office_base::records::{AwardRow, LotState};
 use office_base::shelf::{Lookups, ShelfFault};
+use office_commands::tender::NamedSecurity;
 use office_values::given::AskedNumber;
+use office_values::moment::Moment;
 use office_values::refusal::Refusal;
-use std::alloc::Global;
+use office_values::settings::Settings;
+use std::alloc::{AllocError, Global};
 use tender_core::asking::Asking;
 
 // The rows that it is decided on.
@@ -46,24 +58,87 @@ fn load<H: Lookups>(
     })
 }
 
-/// Plans the signing of the contract of an award, with a performance security where one is named.
+// That a contract is signed, by these values.
+fn signed_text(
+    alloc: Global,
+    contract: AskedNumber,
+    release: u64,
+    moment: Moment,
+) -> Result<Vec<u8>, AllocError>
+    ensures { IfOk result (λ text. text.items ≡ reply_text (replies.Signed contract release moment)) }
+{
+    object_text(
+        alloc,
+        &[
+            ("contract", Plain::Number(contract.get())),
+            ("moment", Plain::Moment(moment)),
+            ("release", Plain::Number(release)),
+        ],
+    )
+}
+
+// What is told of an accepted signing.
+fn reply(
+    alloc: Global,
+    asking: &Asking,
+    rows: &SignRows,
+    award: AskedNumber,
+) -> Result<Vec<u8>, AllocError>
+    ensures { IfOk result (λ text. (s : Tables) (named : Option NamedSecurity) → rows.now ≡ sign_rows s award
+        → text.items ≡ reply_text (accepted_reply (given_by asking.now s (Sign award named)))) }
+{
+    let release = release_of_award(&rows.award, &rows.notice);
+    let t = asking.time(&rows.clock);
+    signed_text(alloc, award, release, t)
+}
+
+// The release of an accepted signing of this award, whatever performance security is named.
+fn release<H: Lookups>(
+    alloc: Global,
+    shelf: &mut H,
+    settings: &Settings,
+    asking: &Asking,
+    rows: &SignRows,
+    award: &AwardRow,
+) -> Result<Released, Refusal>
+    ensures looks { Looks H.meaning shelf.old shelf.new (λ s. IfOk result (λ release. (number : ℕ) (named : Option NamedSecurity) → rows.now ≡ sign_rows s number
+        → rows.now.award ≡ Some award.now → IsReleased settings.now (given_by asking.now s (Sign number named)) release)) }
+    ensures none { IfErr result (λ why. why ≡ Unavailable) }
+{
+    let lots = shelf.list_lots_of_notice(&award.notice)?;
+    let status = status_with(alloc, lots.as_slice(), award.lot, LotState::Contracted)?;
+    let event = Event::Sign(Signed {
+        notice: award.notice,
+        contract: award.award,
+        lot: award.lot,
+        price: award.price,
+        status,
+    });
+    let t = asking.time(&rows.clock);
+    make_release(alloc, settings, award.notice, &rows.notice, t, &event)
+}
+
+/// Plans the signing of the contract of an award, with a performance security where one is named: a refusal takes no memory beside the rows.
 pub fn plan<H: Lookups>(
     alloc: Global,
     shelf: &mut H,
+    settings: &Settings,
     asking: &Asking,
     award: AskedNumber,
     security: Option<NamedSecurity>,
 ) -> Result<Planned, Refusal>
     requires { may asking.now.caller.now kinds.Sign ≡ true }
-    ensures { Looks H.meaning shelf.old shelf.new (λ s. HasEffect (given_by asking.now s (Sign award security)) result) }
+    ensures { Looks H.meaning shelf.old shelf.new (λ s. IsPlanned settings.now (given_by asking.now s (Sign award security)) result) }
 {
+    looks_follow::<H>();
     let rows = load(alloc, shelf, award)?;
     let t = asking.time(&rows.clock);
-    let reply = Reply::Signed {
-        contract: award,
-        release: award_release(&rows.award, &rows.notice),
-        moment: t,
-    };
-    let decided = decide_sign(alloc, t, rows, security);
-    planned(alloc, decided, &reply)
+    if let Some(why) = refusal(t, &rows, &security) {
+        return Err(why);
+    }
+    let text = reply(alloc, asking, &rows, award)?;
+    let row = rows.award.as_ref().unwrap();
+    let release = release(alloc, shelf, settings, asking, &rows, row)?;
+    let puts = puts(alloc, t, rows, security)?;
+    published(alloc, shelf, puts, text, release)
 }

@@ -1,29 +1,31 @@
-//! The withdrawal of a tender, planned.
-ghost use Rattle.std.specs.Prelude.{◌≡◌, true};
-ghost use Rattle.office_acts.specs.Rights.{may};
-ghost use Rattle.office_acts.specs.declared.command.CommandKind.TheVariants as kinds;
-ghost use Rattle.office_acts.specs.declared.commands.Command.TheVariants.{Withdraw};
-ghost use Rattle.office_base.specs.RuleParts.{is_late};
+//! The withdrawal of a tender, planned: its reply, and what it puts.
+ghost use Rattle.std.specs.Prelude.{◌≡◌, IfOk, true};
+ghost use Rattle.office_commands.specs.Rights.{may};
+ghost use Rattle.office_commands.specs.declared.command.CommandKind.TheVariants as kinds;
+ghost use Rattle.office_commands.specs.declared.commands.Command.TheVariants.{Withdraw};
+ghost use Rattle.office_base.specs.Transitions.{is_late};
 ghost use Rattle.office_base.specs.Shelves.{Looks, LooksUp};
 ghost use Rattle.office_machine.specs.Replies.{Withdrew, state_after};
 ghost use Rattle.office_plans.specs.Asking.{given_by};
-ghost use Rattle.office_plans.specs.Effects.{HasEffect};
-ghost use Rattle.office_plans.specs.Replies.{said};
+ghost use Rattle.office_plans.specs.Published.{IsPlanned};
+ghost use Rattle.office_plans.specs.Replies.{reply_text};
+ghost use Rattle.office_values.specs.declared.settings.Settings.{Settings};
 ghost use Rattle.tender_core.specs.Rules.Withdraw.{withdraw_rows};
 
-use crate::decided::planned;
+use crate::objects::{Plain, object_text};
 use crate::parents::{late_of_envelope, lot_of_envelope, notice_of_envelope, security_of_envelope};
 use crate::planned::Planned;
-use crate::reply::Reply;
+use crate::published::silent;
+use crate::words::state_word;
 use office_base::records::{EnvelopeRow, EnvelopeState};
 use office_base::shelf::{Lookups, ShelfFault};
 use office_values::given::AskedNumber;
 use office_values::moment::Moment;
 use office_values::refusal::Refusal;
-use std::alloc::Global;
+use std::alloc::{AllocError, Global};
 use tender_core::asking::Asking;
 use tender_core::tenders::is_late;
-use tender_core::withdraw::{WithdrawRows, decide_withdraw};
+use tender_core::withdraw::{WithdrawRows, puts, refusal};
 
 // The rows that it is decided on.
 fn load<H: Lookups>(shelf: &mut H, receipt: AskedNumber) -> Result<WithdrawRows, ShelfFault>
@@ -59,20 +61,44 @@ fn state_after(late: bool, envelope: &Option<EnvelopeRow>) -> EnvelopeState
     }
 }
 
-// The reply: where the tender is then.
-fn reply_of(t: Moment, rows: &WithdrawRows, receipt: AskedNumber) -> Reply
-    ensures { said result ≡ Withdrew receipt (state_after (is_late rows.now.late t rows.now.notice) rows.now.envelope) t }
+// That a tender was taken back, and is then there.
+fn withdrew_text(
+    alloc: Global,
+    receipt: AskedNumber,
+    state: EnvelopeState,
+    moment: Moment,
+) -> Result<Vec<u8>, AllocError>
+    ensures { IfOk result (λ text. text.items ≡ reply_text (Withdrew receipt state moment)) }
+{
+    let receipt = receipt.get();
+    let word = state_word(state);
+    object_text(
+        alloc,
+        &[
+            ("moment", Plain::Moment(moment)),
+            ("receipt", Plain::Number(receipt)),
+            ("state", Plain::Text(word)),
+        ],
+    )
+}
+
+// What is told of an accepted withdrawal.
+fn reply(
+    alloc: Global,
+    t: Moment,
+    rows: &WithdrawRows,
+    receipt: AskedNumber,
+) -> Result<Vec<u8>, AllocError>
+    ensures { IfOk result (λ text. text.items
+        ≡ reply_text (Withdrew receipt (state_after (is_late rows.now.late t rows.now.notice) rows.now.envelope) t)) }
 {
     let late = is_late(&rows.late, t, &rows.notice);
-    Reply::Withdrew {
-        receipt,
-        state: state_after(late, &rows.envelope),
-        moment: t,
-    }
+    let state = state_after(late, &rows.envelope);
+    withdrew_text(alloc, receipt, state, t)
 }
 
 /// Plans the withdrawal of a tender: before the deadline its security goes back; from then on, where its notice lets it, it is out of the running
-/// and its security is forfeited.
+/// and its security is forfeited. A refusal takes no memory beside the rows.
 pub fn plan<H: Lookups>(
     alloc: Global,
     shelf: &mut H,
@@ -80,11 +106,14 @@ pub fn plan<H: Lookups>(
     receipt: AskedNumber,
 ) -> Result<Planned, Refusal>
     requires { may asking.now.caller.now kinds.Withdraw ≡ true }
-    ensures { Looks H.meaning shelf.old shelf.new (λ s. HasEffect (given_by asking.now s (Withdraw receipt)) result) }
+    ensures { (settings : Settings) → Looks H.meaning shelf.old shelf.new (λ s. IsPlanned settings (given_by asking.now s (Withdraw receipt)) result) }
 {
     let rows = load(shelf, receipt)?;
     let t = asking.time(&rows.clock);
-    let reply = reply_of(t, &rows, receipt);
-    let decided = decide_withdraw(alloc, t, asking.caller, rows);
-    planned(alloc, decided, &reply)
+    if let Some(why) = refusal(t, asking.caller, &rows) {
+        return Err(why);
+    }
+    let text = reply(alloc, t, &rows, receipt)?;
+    let puts = puts(alloc, t, rows)?;
+    Ok(silent(puts, text))
 }

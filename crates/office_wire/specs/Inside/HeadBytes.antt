@@ -10,7 +10,7 @@ use Rattle.office_wire.specs.declared.head.Parsed.TheVariants as parsed
 use Rattle.office_wire.specs.Head.{HeadView, first_line_ends}
 
 -- each span lies in the bytes
-pub record IsKept (bytes : List ℕ) (method target : Span) (fields : List HeaderSpan) : Type 0 where
+pub record HeadIsKept (bytes : List ℕ) (method target : Span) (fields : List HeaderSpan) : Type 0 where
   pub method_in : IsWithin (length bytes) method
   pub target_in : IsWithin (length bytes) target
   pub fields_in : All (IsHeaderWithin (length bytes)) fields

@@ -1,5 +1,5 @@
 -- The cancellation of a procurement (Model Law, article 19): of a notice, the lots that are still undecided or awarded.
-use Rattle.std.specs.Prelude.{ℕ, ◌+◌, Bool, not, cond, ◌&&◌, List, [], ◌∷◌, ◌++◌, map, filter, Option, Some, None, is_some}
+use Rattle.std.specs.Prelude.{ℕ, ◌+◌, Bool, not, cond, ◌&&◌, List, [], ◌∷◌, ◌++◌, map, filter, is_some}
 use Rattle.std.specs.List.{list_any}
 use Rattle.office_values.specs.Ids.{same_id}
 use Rattle.office_values.specs.declared.refusal.Thing.TheVariants as things
@@ -7,7 +7,7 @@ use Rattle.office_values.specs.declared.refusal.Refusal.{Refusal}
 use Rattle.office_values.specs.declared.refusal.Refusal.TheVariants.{NoSuch, NothingToCancel, LimitReached}
 use Rattle.office_base.specs.Sums.{sum_over}
 use Rattle.office_base.specs.Rows.{holds_of}
-use Rattle.office_base.specs.RuleParts.{clock_put, has_all_releases, is_held_security, security_returned}
+use Rattle.office_base.specs.Transitions.{clock_put, has_all_releases, is_held_security, security_returned, puts_if}
 use Rattle.office_base.specs.States.{is_open, is_receiving, is_active, is_sealed}
 use Rattle.office_base.specs.declared.records.NoticeState.TheVariants as notice_states
 use Rattle.office_base.specs.declared.records.LotState.TheVariants as lot_states
@@ -22,7 +22,6 @@ use Rattle.office_base.specs.declared.records.LotRow.{LotRow}
 use Rattle.office_base.specs.declared.records.EnvelopeRow.{EnvelopeRow}
 use Rattle.office_base.specs.declared.records.SecurityRow.{SecurityRow}
 use Rattle.office_base.specs.declared.records.AwardRow.{AwardRow}
-use Rattle.office_base.specs.declared.records.ClockRow.{ClockRow}
 use Rattle.office_base.specs.declared.puts.Put.TheVariants as puts
 use Rattle.office_base.specs.declared.puts.Put.{Put}
 use Rattle.tender_core.specs.declared.cancel.CancelRows.{CancelRows}
@@ -30,30 +29,22 @@ use Rattle.tender_core.specs.declared.cancel.CancelRows.{CancelRows}
 abbrev pub is_open_lot : LotRow → Bool
 is_open_lot l = is_open l.state
 
--- the notice, and its lots
-abbrev pub cancel_conditions : Option NoticeRow → List LotRow → List (Bool × Refusal)
-cancel_conditions notice lots =
-    (not (is_some notice), NoSuch things.Notice)
-    ∷ (not (list_any is_open_lot lots), NothingToCancel)
-    ∷ (has_all_releases notice, LimitReached)
-    ∷ []
-
 abbrev pub cancelled_lot : LotRow → LotRow
 cancelled_lot l = record l { state = lot_states.Cancelled; reserved = 0 }
 
-abbrev pub lot_put : LotRow → Put
-lot_put l = puts.Lot (cancelled_lot l)
+abbrev pub cancelled_lot_put : LotRow → Put
+cancelled_lot_put l = puts.Lot (cancelled_lot l)
 
 -- what these lots have reserved of a line
 abbrev pub freed : List ℕ → List LotRow → ℕ
 freed line lots = sum_over (λ (l : LotRow). cond (same_id l.line line) l.reserved 0) lots
 
 -- the line of a lot, with what all these lots had reserved free again
-abbrev pub line_row : List LineRow → List LotRow → LotRow → LineRow
-line_row lines lots l = record (line_found lines l.line) { line = l.line; free = free_in (find_line lines l.line) + freed l.line lots }
+abbrev pub freed_line : List LineRow → List LotRow → LotRow → LineRow
+freed_line lines lots l = record (line_found lines l.line) { line = l.line; free = free_in (find_line lines l.line) + freed l.line lots }
 
-abbrev pub line_put : List LineRow → List LotRow → LotRow → Put
-line_put lines lots l = puts.Line (line_row lines lots l)
+abbrev pub freed_line_put : List LineRow → List LotRow → LotRow → Put
+freed_line_put lines lots l = puts.Line (freed_line lines lots l)
 
 -- the lot of these identifiers is one of those that end
 abbrev pub ends : List LotRow → List ℕ → List ℕ → Bool
@@ -90,18 +81,6 @@ is_ended_security lots s = is_held_security s && ends lots s.notice s.lot
 abbrev pub cancelled_notice : NoticeRow → NoticeRow
 cancelled_notice n = record n { state = cond (is_receiving n.state) notice_states.Cancelled n.state; releases = n.releases + 1 }
 
--- the lines, the notice, and its lots, awards, envelopes and securities
-abbrev pub cancel_effect : ClockRow → ℕ → List LineRow → Option NoticeRow → List LotRow → List AwardRow → List EnvelopeRow → List SecurityRow → List Put
-cancel_effect clock t lines None lots awards envelopes securities = []
-cancel_effect clock t lines (Some n) lots awards envelopes securities =
-    map (line_put lines (filter is_open_lot lots)) (filter is_open_lot lots)
-    ++ (map lot_put (filter is_open_lot lots)
-    ++ (map award_put (filter (is_ended_award lots) awards)
-    ++ (map envelope_put (filter (is_ended_envelope lots) envelopes)
-    ++ (map drop_put (filter (is_ended_envelope lots) envelopes)
-    ++ (map security_returned (filter (is_ended_security lots) securities)
-    ++ (puts.Notice (cancelled_notice n) ∷ clock_put clock t ∷ []))))))
-
 -- the rows of an office that a cancellation looks at
 abbrev pub cancel_rows : Tables → List ℕ → CancelRows
 cancel_rows s notice = record {
@@ -114,9 +93,32 @@ cancel_rows s notice = record {
   clock = s.clock;
 }
 
--- when it is refused, by these rows, and what it puts
-abbrev pub cancel_tests : CancelRows → List (Bool × Refusal)
-cancel_tests rows = cancel_conditions rows.notice rows.lots
+-- the line of a lot isn't there
+abbrev pub lacks_line : List LineRow → LotRow → Bool
+lacks_line lines l = not (is_some (find_line lines l.line))
 
+-- what is lacking where the notice is there: the line of a lot that ends
+abbrev pub cancel_lacks : CancelRows → Bool
+cancel_lacks rows = is_some rows.notice && list_any (lacks_line rows.lines) (filter is_open_lot rows.lots)
+
+-- when it is refused, by these rows
+abbrev pub cancel_tests : CancelRows → List (Bool × Refusal)
+cancel_tests rows =
+    (not (is_some rows.notice), NoSuch things.Notice)
+    ∷ (not (list_any is_open_lot rows.lots), NothingToCancel)
+    ∷ (has_all_releases rows.notice, LimitReached)
+    ∷ []
+
+-- what it puts: of the lots that end the lines, the lots, their awards, their tenders with the bytes of these, and their securities; the
+-- notice, and the clock
 abbrev pub cancel_puts : CancelRows → ℕ → List Put
-cancel_puts rows t = cancel_effect rows.clock t rows.lines rows.notice rows.lots rows.awards rows.envelopes rows.securities
+cancel_puts rows t =
+    puts_if (λ (n : NoticeRow).
+    map (freed_line_put rows.lines (filter is_open_lot rows.lots)) (filter is_open_lot rows.lots)
+    ++ (map cancelled_lot_put (filter is_open_lot rows.lots)
+    ++ (map award_put (filter (is_ended_award rows.lots) rows.awards)
+    ++ (map envelope_put (filter (is_ended_envelope rows.lots) rows.envelopes)
+    ++ (map drop_put (filter (is_ended_envelope rows.lots) rows.envelopes)
+    ++ (map security_returned (filter (is_ended_security rows.lots) rows.securities)
+    ++ (puts.Notice (cancelled_notice n) ∷ clock_put rows.clock t ∷ []))))))
+    ) rows.notice

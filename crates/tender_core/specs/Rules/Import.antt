@@ -1,9 +1,9 @@
 -- The import of a budget file: its rows are taken in order.
 use Rattle.std.specs.Prelude.{ℕ, ◌+◌, ◌-◌, Bool, true, false, cond, not, ◌&&◌, ◌||◌, List, [], ◌∷◌, ◌++◌, Option, Some, None, is_some, nat_lt, map, length}
 use Rattle.office_values.specs.Money.{total_limit}
-use Rattle.office_acts.specs.declared.budget.BudgetKind.{BudgetKind}
-use Rattle.office_acts.specs.declared.budget.BudgetKind.TheVariants.{Add, Cut}
-use Rattle.office_acts.specs.declared.budget.BudgetRow.{BudgetRow}
+use Rattle.office_commands.specs.declared.budget.BudgetKind.{BudgetKind}
+use Rattle.office_commands.specs.declared.budget.BudgetKind.TheVariants.{Add, Cut}
+use Rattle.office_commands.specs.declared.budget.BudgetRow.{BudgetRow}
 use Rattle.office_values.specs.declared.refusal.Thing.TheVariants as things
 use Rattle.office_values.specs.declared.refusal.Refusal.{Refusal}
 use Rattle.office_values.specs.declared.refusal.Refusal.TheVariants.{NoSuch, Exists, InsufficientFunds, LimitReached}
@@ -49,9 +49,9 @@ after_rows m [] = m
 after_rows m (row ∷ rows) = after_rows (after_row m row) rows
 
 -- whether, taking rows in order, the test holds at one of them
-abbrev pub some_row : (Option Columns → BudgetRow → Bool) → List Standing → List BudgetRow → Bool
-some_row test m [] = false
-some_row test m (row ∷ rows) = test (columns_at m row.line) row || some_row test (after_row m row) rows
+abbrev pub any_while_walking : (Option Columns → BudgetRow → Bool) → List Standing → List BudgetRow → Bool
+any_while_walking test m [] = false
+any_while_walking test m (row ∷ rows) = test (columns_at m row.line) row || any_while_walking test (after_row m row) rows
 
 -- a cut of a line that is neither held nor made by an earlier row
 abbrev pub cuts_nothing : Option Columns → BudgetRow → Bool
@@ -65,43 +65,44 @@ cuts_too_much held row = is_cut row.kind && nat_lt (free_of held) row.amount
 abbrev pub passes_limit : Option Columns → BudgetRow → Bool
 passes_limit held row = not (is_cut row.kind) && nat_lt total_limit (appropriation_of held + row.amount)
 
--- when an import is refused, in the order of the refusals
-abbrev pub import_conditions : List Standing → Bool → List BudgetRow → List (Bool × Refusal)
-import_conditions m exists rows =
-    (some_row cuts_nothing m rows, NoSuch things.Line)
-    ∷ (exists, Exists)
-    ∷ (some_row cuts_too_much m rows, InsufficientFunds)
-    ∷ (nat_lt row_limit (length rows) || some_row passes_limit m rows, LimitReached)
-    ∷ []
-
 -- the line of a row, with its columns after all rows and the title of this one
-abbrev pub line_row : List Standing → BudgetRow → LineRow
-line_row after row = record {
+abbrev pub imported_line : List Standing → BudgetRow → LineRow
+imported_line after row = record {
   line = row.line;
   title = row.title;
   appropriation = appropriation_of (columns_at after row.line);
   free = free_of (columns_at after row.line);
 }
 
-abbrev pub line_put : List Standing → BudgetRow → Put
-line_put after row = puts.Line (line_row after row)
+abbrev pub imported_line_put : List Standing → BudgetRow → Put
+imported_line_put after row = puts.Line (imported_line after row)
 
 -- each row's line, the batch and the clock
 abbrev pub puts_after : ClockRow → ℕ → List ℕ → List Standing → List BudgetRow → List Put
 puts_after clock t batch after rows =
-    map (line_put after) rows ++ (puts.Batch (record { batch = batch; moment = t; rows = length rows }) ∷ puts.Clock (record clock { moment = t }) ∷ [])
-
--- what an import puts
-abbrev pub import_effect : ClockRow → ℕ → List ℕ → List Standing → List BudgetRow → List Put
-import_effect clock t batch m rows = puts_after clock t batch (after_rows m rows) rows
+    map (imported_line_put after) rows ++ (puts.Batch (record { batch = batch; moment = t; rows = length rows }) ∷ puts.Clock (record clock { moment = t }) ∷ [])
 
 -- the rows of an office that the import of a file looks at
 abbrev pub import_rows : Tables → List ℕ → List BudgetRow → ImportRows
 import_rows s batch budget = record { batch = batch_at batch s; file = record { lines = standings s; rows = budget }; clock = s.clock }
 
--- when it is refused, by these rows, and what it puts
-abbrev pub import_tests : ImportRows → List (Bool × Refusal)
-import_tests rows = import_conditions rows.file.lines (is_some rows.batch) rows.file.rows
+-- what is appropriated would go below 0, where as much may be free
+abbrev pub cuts_below_zero : Option Columns → BudgetRow → Bool
+cuts_below_zero held row = is_cut row.kind && nat_lt (appropriation_of held) row.amount
 
+-- what is lacking: what a cut takes from the appropriation of its line
+abbrev pub import_lacks : ImportRows → Bool
+import_lacks rows = any_while_walking cuts_below_zero rows.file.lines rows.file.rows
+
+-- when it is refused, by these rows
+abbrev pub import_tests : ImportRows → List (Bool × Refusal)
+import_tests rows =
+    (any_while_walking cuts_nothing rows.file.lines rows.file.rows, NoSuch things.Line)
+    ∷ (is_some rows.batch, Exists)
+    ∷ (any_while_walking cuts_too_much rows.file.lines rows.file.rows, InsufficientFunds)
+    ∷ (nat_lt row_limit (length rows.file.rows) || any_while_walking passes_limit rows.file.lines rows.file.rows, LimitReached)
+    ∷ []
+
+-- what it puts
 abbrev pub import_puts : ImportRows → ℕ → List ℕ → List Put
-import_puts rows t batch = import_effect rows.clock t batch rows.file.lines rows.file.rows
+import_puts rows t batch = puts_after rows.clock t batch (after_rows rows.file.lines rows.file.rows) rows.file.rows

@@ -1,15 +1,14 @@
 -- A sealed tender is replaced by another, with the same security (Model Law, article 41).
-use Rattle.std.specs.Prelude.{ℕ, ◌+◌, Bool, false, not, List, [], ◌∷◌, Option, Some, None, is_some, length}
-use Rattle.office_acts.specs.declared.command.Caller.{Caller}
-use Rattle.office_acts.specs.Callers.{is_by}
+use Rattle.std.specs.Prelude.{ℕ, ◌+◌, Bool, false, not, ◌&&◌, List, [], ◌∷◌, None, is_some, length}
+use Rattle.office_commands.specs.declared.command.Caller.{Caller}
+use Rattle.office_commands.specs.Callers.{is_by}
 use Rattle.office_values.specs.declared.refusal.Thing.TheVariants as things
 use Rattle.office_values.specs.declared.refusal.Refusal.{Refusal}
 use Rattle.office_values.specs.declared.refusal.Refusal.TheVariants.{NoSuch, NotYourTender, DeadlinePassed, NotSealed, LimitReached}
 use Rattle.office_base.specs.Rows.{holds_of}
-use Rattle.office_base.specs.RuleParts.{receipt_clock, has_all_receipts, is_past_deadline}
+use Rattle.office_base.specs.Transitions.{receipt_clock, has_all_receipts, is_past_deadline, puts_if}
 use Rattle.office_base.specs.States.{is_sealed}
 use Rattle.office_base.specs.declared.records.EnvelopeState.TheVariants as envelope_states
-use Rattle.office_base.specs.declared.records.NoticeRow.{NoticeRow}
 use Rattle.office_base.specs.declared.records.EnvelopeRow.{EnvelopeRow}
 use Rattle.office_base.specs.declared.records.ClockRow.{ClockRow}
 use Rattle.office_base.specs.declared.puts.Put.TheVariants as puts
@@ -23,16 +22,6 @@ is_anothers caller e = not (is_by caller e.tenderer)
 
 abbrev pub isnt_sealed : EnvelopeRow → Bool
 isnt_sealed e = not (is_sealed e.state)
-
--- the envelope, and its notice
-abbrev pub modify_conditions : ClockRow → ℕ → Caller → Option EnvelopeRow → Option NoticeRow → List (Bool × Refusal)
-modify_conditions clock t caller envelope notice =
-    (not (is_some envelope), NoSuch things.Tender)
-    ∷ (holds_of (is_anothers caller) envelope, NotYourTender)
-    ∷ (holds_of (is_past_deadline t) notice, DeadlinePassed)
-    ∷ (holds_of isnt_sealed envelope, NotSealed)
-    ∷ (has_all_receipts clock, LimitReached)
-    ∷ []
 
 abbrev pub withdrawn : EnvelopeRow → EnvelopeRow
 withdrawn e = record e { state = envelope_states.Withdrawn }
@@ -55,23 +44,32 @@ replacing digest clock t e bytes = record {
   failed = false;
 }
 
-abbrev pub modify_effect : (List ℕ → List ℕ) → ClockRow → ℕ → Option EnvelopeRow → List ℕ → List Put
-modify_effect digest clock t None bytes = []
-modify_effect digest clock t (Some e) bytes =
-    puts.Envelope (withdrawn e)
-    ∷ puts.DropSeal e.receipt
-    ∷ puts.Envelope (replacing digest clock t e bytes)
-    ∷ puts.Seal (record { receipt = clock.receipts + 1; bytes = bytes })
-    ∷ receipt_clock clock t
-    ∷ []
-
 -- the rows of an office that a modification looks at
 abbrev pub modify_rows : Tables → ℕ → ModifyRows
 modify_rows s receipt = record { envelope = envelope_at receipt s; notice = notice_of_envelope (envelope_at receipt s) s; clock = s.clock }
 
--- when it is refused, by these rows, and what it puts
-abbrev pub modify_tests : ModifyRows → ℕ → Caller → List (Bool × Refusal)
-modify_tests rows t caller = modify_conditions rows.clock t caller rows.envelope rows.notice
+-- what is lacking where the tender is there: its notice
+abbrev pub modify_lacks : ModifyRows → Bool
+modify_lacks rows = is_some rows.envelope && not (is_some rows.notice)
 
+-- when it is refused, by these rows
+abbrev pub modify_tests : ModifyRows → ℕ → Caller → List (Bool × Refusal)
+modify_tests rows t caller =
+    (not (is_some rows.envelope), NoSuch things.Tender)
+    ∷ (holds_of (is_anothers caller) rows.envelope, NotYourTender)
+    ∷ (holds_of (is_past_deadline t) rows.notice, DeadlinePassed)
+    ∷ (holds_of isnt_sealed rows.envelope, NotSealed)
+    ∷ (has_all_receipts rows.clock, LimitReached)
+    ∷ []
+
+-- what it puts: the old tender, whose bytes go, the new one with its bytes, and the clock
 abbrev pub modify_puts : (List ℕ → List ℕ) → ModifyRows → ℕ → List ℕ → List Put
-modify_puts digest rows t bytes = modify_effect digest rows.clock t rows.envelope bytes
+modify_puts digest rows t bytes =
+    puts_if (λ (e : EnvelopeRow).
+    puts.Envelope (withdrawn e)
+    ∷ puts.DropSeal e.receipt
+    ∷ puts.Envelope (replacing digest rows.clock t e bytes)
+    ∷ puts.Seal (record { receipt = rows.clock.receipts + 1; bytes = bytes })
+    ∷ receipt_clock rows.clock t
+    ∷ []
+    ) rows.envelope

@@ -1,14 +1,14 @@
 -- A tender is presented, in time or late (Model Law, articles 17 and 40).
 use Rattle.std.specs.Prelude.{ℕ, ◌+◌, Bool, false, not, cond, ◌&&◌, List, [], ◌∷◌, ◌++◌, Option, None, is_some, option_map, nat_lt, length}
 use Rattle.std.specs.List.{list_any}
-use Rattle.office_acts.specs.declared.command.Caller.{Caller}
-use Rattle.office_acts.specs.declared.tender.NamedSecurity.{NamedSecurity}
-use Rattle.office_acts.specs.Callers.{is_by, tenderer_of}
+use Rattle.office_commands.specs.declared.command.Caller.{Caller}
+use Rattle.office_commands.specs.declared.tender.NamedSecurity.{NamedSecurity}
+use Rattle.office_commands.specs.Callers.{is_by, tenderer_of}
 use Rattle.office_values.specs.declared.refusal.Thing.TheVariants as things
 use Rattle.office_values.specs.declared.refusal.Refusal.{Refusal}
 use Rattle.office_values.specs.declared.refusal.Refusal.TheVariants.{NoSuch, NotOpenForTenders, AlreadyPresented, SecurityMissing, SecurityTooSmall, SecurityNotAsked, LimitReached}
 use Rattle.office_base.specs.Rows.{holds_of}
-use Rattle.office_base.specs.RuleParts.{receipt_clock, has_all_receipts, is_in_time, put_if}
+use Rattle.office_base.specs.Transitions.{receipt_clock, has_all_receipts, is_in_time, put_if}
 use Rattle.office_base.specs.States.{is_cancelled, is_sealed}
 use Rattle.office_base.specs.declared.records.EnvelopeState.TheVariants as envelope_states
 use Rattle.office_base.specs.declared.records.SecurityState.TheVariants as security_states
@@ -31,19 +31,6 @@ asks_security l = nat_lt 0 l.security
 
 abbrev pub is_too_small : LotRow → NamedSecurity → Bool
 is_too_small l named = nat_lt named.amount l.security
-
--- the notice, the lot, the envelopes of the lot
-abbrev pub present_conditions : ClockRow → ℕ → Caller → Option NoticeRow → Option LotRow → List EnvelopeRow → Option NamedSecurity → List (Bool × Refusal)
-present_conditions clock t caller notice lot envelopes security =
-    (not (is_some notice), NoSuch things.Notice)
-    ∷ (not (is_some lot), NoSuch things.Lot)
-    ∷ (holds_of (λ (n : NoticeRow). is_cancelled n.state) notice, NotOpenForTenders)
-    ∷ (holds_of (is_in_time t) notice && list_any (is_sealed_by caller) envelopes, AlreadyPresented)
-    ∷ (holds_of (is_in_time t) notice && holds_of asks_security lot && not (is_some security), SecurityMissing)
-    ∷ (holds_of (is_in_time t) notice && holds_of (λ l. holds_of (is_too_small l) security) lot, SecurityTooSmall)
-    ∷ (holds_of (is_in_time t) notice && holds_of (λ l. not (asks_security l)) lot && is_some security, SecurityNotAsked)
-    ∷ (has_all_receipts clock, LimitReached)
-    ∷ []
 
 -- the envelope of the next receipt
 abbrev pub received : (List ℕ → List ℕ) → ClockRow → ℕ → Caller → List ℕ → List ℕ → Option NamedSecurity → List ℕ → Bool → EnvelopeRow
@@ -88,10 +75,6 @@ received_puts digest clock t caller notice lot security bytes in_time =
     ∷ seal_puts clock bytes in_time
     ++ put_if (security_put clock caller notice lot in_time) security
 
-abbrev pub present_effect : (List ℕ → List ℕ) → ClockRow → ℕ → Caller → List ℕ → List ℕ → Option NoticeRow → Option NamedSecurity → List ℕ → List Put
-present_effect digest clock t caller notice lot row security bytes =
-    received_puts digest clock t caller notice lot security bytes (holds_of (is_in_time t) row)
-
 -- the rows of an office that a presentation looks at
 abbrev pub present_rows : Tables → List ℕ → List ℕ → PresentRows
 present_rows s notice lot = record {
@@ -101,9 +84,24 @@ present_rows s notice lot = record {
   clock = s.clock;
 }
 
--- when it is refused, by these rows, and what it puts
-abbrev pub present_tests : PresentRows → ℕ → Caller → Option NamedSecurity → List (Bool × Refusal)
-present_tests rows t caller security = present_conditions rows.clock t caller rows.notice rows.lot rows.envelopes security
+-- nothing is lacking: the notice and the lot are named
+abbrev pub present_lacks : PresentRows → Bool
+present_lacks rows = false
 
+-- when it is refused, by these rows
+abbrev pub present_tests : PresentRows → ℕ → Caller → Option NamedSecurity → List (Bool × Refusal)
+present_tests rows t caller security =
+    (not (is_some rows.notice), NoSuch things.Notice)
+    ∷ (not (is_some rows.lot), NoSuch things.Lot)
+    ∷ (holds_of (λ (n : NoticeRow). is_cancelled n.state) rows.notice, NotOpenForTenders)
+    ∷ (holds_of (is_in_time t) rows.notice && list_any (is_sealed_by caller) rows.envelopes, AlreadyPresented)
+    ∷ (holds_of (is_in_time t) rows.notice && holds_of asks_security rows.lot && not (is_some security), SecurityMissing)
+    ∷ (holds_of (is_in_time t) rows.notice && holds_of (λ l. holds_of (is_too_small l) security) rows.lot, SecurityTooSmall)
+    ∷ (holds_of (is_in_time t) rows.notice && holds_of (λ l. not (asks_security l)) rows.lot && is_some security, SecurityNotAsked)
+    ∷ (has_all_receipts rows.clock, LimitReached)
+    ∷ []
+
+-- what it puts
 abbrev pub present_puts : (List ℕ → List ℕ) → PresentRows → ℕ → Caller → List ℕ → List ℕ → Option NamedSecurity → List ℕ → List Put
-present_puts digest rows t caller notice lot security bytes = present_effect digest rows.clock t caller notice lot rows.notice security bytes
+present_puts digest rows t caller notice lot security bytes =
+    received_puts digest rows.clock t caller notice lot security bytes (holds_of (is_in_time t) rows.notice)

@@ -1,13 +1,13 @@
 -- The publication of a tender notice: its lots reserve their estimates (UNCITRAL Model Law 2011, articles 33 and 39, as far as
 -- the books are concerned).
-use Rattle.std.specs.Prelude.{ℕ, ◌-◌, Bool, cond, not, ◌||◌, List, [], ◌∷◌, ◌++◌, None, is_some, unwrap_or, nat_lt, nat_le, map, length}
+use Rattle.std.specs.Prelude.{ℕ, ◌-◌, Bool, false, cond, not, ◌||◌, List, [], ◌∷◌, ◌++◌, None, is_some, unwrap_or, nat_lt, nat_le, map, length}
 use Rattle.std.specs.List.{list_any}
 use Rattle.office_values.specs.Ids.{same_id}
-use Rattle.office_acts.specs.Notices.{weight_of}
-use Rattle.office_acts.specs.declared.lot.NewLot.{NewLot}
-use Rattle.office_acts.specs.declared.notice.NewNotice.{NewNotice}
-use Rattle.office_acts.specs.declared.notice.LateWithdrawal.{LateWithdrawal}
-use Rattle.office_acts.specs.declared.notice.LateWithdrawal.TheVariants.{Refused, Forfeits}
+use Rattle.office_commands.specs.Notices.{weight_of}
+use Rattle.office_commands.specs.declared.lot.NewLot.{NewLot}
+use Rattle.office_commands.specs.declared.notice.NewNotice.{NewNotice}
+use Rattle.office_commands.specs.declared.notice.LateWithdrawal.{LateWithdrawal}
+use Rattle.office_commands.specs.declared.notice.LateWithdrawal.TheVariants.{Refused, Forfeits}
 use Rattle.office_values.specs.declared.refusal.Thing.TheVariants as things
 use Rattle.office_values.specs.declared.refusal.Refusal.{Refusal}
 use Rattle.office_values.specs.declared.refusal.Refusal.TheVariants.{NoSuch, Exists, DeadlinePassed, InsufficientFunds, LimitReached}
@@ -46,16 +46,6 @@ is_short lines lots lot = nat_lt (free_in (find_line lines lot.line)) (wanted lo
 abbrev pub has_too_many_items : NewLot → Bool
 has_too_many_items lot = nat_lt item_limit (length lot.items)
 
--- when a publication is refused, in the order of the refusals; a new notice has no releases, so their limit isn't reached
-abbrev pub publish_conditions : List LineRow → Bool → ℕ → NewNotice → List (Bool × Refusal)
-publish_conditions lines exists t notice =
-    (list_any (is_on_no_line lines) notice.lots, NoSuch things.Line)
-    ∷ (exists, Exists)
-    ∷ (nat_le notice.deadline t, DeadlinePassed)
-    ∷ (list_any (is_short lines notice.lots) notice.lots, InsufficientFunds)
-    ∷ (nat_lt lot_limit (length notice.lots) || list_any has_too_many_items notice.lots, LimitReached)
-    ∷ []
-
 abbrev pub no_line : List ℕ → LineRow
 no_line line = record { line = line; title = []; appropriation = 0; free = 0 }
 
@@ -63,11 +53,11 @@ abbrev pub line_found : List LineRow → List ℕ → LineRow
 line_found lines line = unwrap_or (find_line lines line) (no_line line)
 
 -- the line of a lot, with what all lots want of it no longer free
-abbrev pub line_row : List LineRow → List NewLot → NewLot → LineRow
-line_row lines lots lot = record (line_found lines lot.line) { line = lot.line; free = free_in (find_line lines lot.line) - wanted lot.line lots }
+abbrev pub reserving_line : List LineRow → List NewLot → NewLot → LineRow
+reserving_line lines lots lot = record (line_found lines lot.line) { line = lot.line; free = free_in (find_line lines lot.line) - wanted lot.line lots }
 
-abbrev pub line_put : List LineRow → List NewLot → NewLot → Put
-line_put lines lots lot = puts.Line (line_row lines lots lot)
+abbrev pub reserving_line_put : List LineRow → List NewLot → NewLot → Put
+reserving_line_put lines lots lot = puts.Line (reserving_line lines lots lot)
 
 -- the lot, undecided, with its estimate reserved
 abbrev pub lot_row : List ℕ → NewLot → LotRow
@@ -83,8 +73,8 @@ lot_row notice lot = record {
   reserved = lot.estimate;
 }
 
-abbrev pub lot_put : List ℕ → NewLot → Put
-lot_put notice lot = puts.Lot (lot_row notice lot)
+abbrev pub new_lot_put : List ℕ → NewLot → Put
+new_lot_put notice lot = puts.Lot (lot_row notice lot)
 
 -- the notice, open for tenders, with its first release
 abbrev pub notice_row : ℕ → List ℕ → NewNotice → NoticeRow
@@ -114,19 +104,26 @@ late_puts notice Forfeits = puts.Late (record { notice = notice }) ∷ []
 -- the lines of its lots, the lots, the notice and the clock
 abbrev pub publish_parts : ClockRow → ℕ → List ℕ → List LineRow → NewNotice → List Put
 publish_parts clock t notice lines new =
-    map (line_put lines new.lots) new.lots ++ map (lot_put notice) new.lots ++ (notice_put t notice new ∷ puts.Clock (record clock { moment = t }) ∷ [])
-
--- what a publication puts: these, and what it says of late withdrawals
-abbrev pub publish_effect : ClockRow → ℕ → List ℕ → List LineRow → NewNotice → List Put
-publish_effect clock t notice lines new = publish_parts clock t notice lines new ++ late_puts notice new.late_withdrawal
+    map (reserving_line_put lines new.lots) new.lots ++ map (new_lot_put notice) new.lots ++ (notice_put t notice new ∷ puts.Clock (record clock { moment = t }) ∷ [])
 
 -- the rows of an office that a publication looks at
 abbrev pub publish_rows : Tables → List ℕ → PublishRows
 publish_rows s notice = record { notice = notice_at notice s; lines = s.lines; clock = s.clock }
 
--- when it is refused, by these rows, and what it puts
-abbrev pub publish_tests : PublishRows → ℕ → NewNotice → List (Bool × Refusal)
-publish_tests rows t new = publish_conditions rows.lines (is_some rows.notice) t new
+-- nothing is lacking: the lines are named
+abbrev pub publish_lacks : PublishRows → Bool
+publish_lacks rows = false
 
+-- when it is refused, by these rows; a new notice has no releases, so their limit isn't reached
+abbrev pub publish_tests : PublishRows → ℕ → NewNotice → List (Bool × Refusal)
+publish_tests rows t new =
+    (list_any (is_on_no_line rows.lines) new.lots, NoSuch things.Line)
+    ∷ (is_some rows.notice, Exists)
+    ∷ (nat_le new.deadline t, DeadlinePassed)
+    ∷ (list_any (is_short rows.lines new.lots) new.lots, InsufficientFunds)
+    ∷ (nat_lt lot_limit (length new.lots) || list_any has_too_many_items new.lots, LimitReached)
+    ∷ []
+
+-- what it puts: these, and what the notice says of late withdrawals
 abbrev pub publish_puts : PublishRows → ℕ → List ℕ → NewNotice → List Put
-publish_puts rows t notice new = publish_effect rows.clock t notice rows.lines new
+publish_puts rows t notice new = publish_parts rows.clock t notice rows.lines new ++ late_puts notice new.late_withdrawal

@@ -1,20 +1,18 @@
 -- A tender is taken back by its tenderer (Model Law, articles 17 and 41): before the deadline it is withdrawn and its security goes back;
 -- from then on, where its notice lets it, it stays where it is, out of the running, and its security is forfeited.
-use Rattle.std.specs.Prelude.{ℕ, Bool, true, false, not, cond, ◌&&◌, ◌||◌, List, [], ◌∷◌, Option, Some, None, is_some}
-use Rattle.office_acts.specs.declared.command.Caller.{Caller}
+use Rattle.std.specs.Prelude.{ℕ, Bool, true, false, not, cond, ◌&&◌, ◌||◌, List, [], ◌∷◌, Option, is_some}
+use Rattle.office_commands.specs.declared.command.Caller.{Caller}
 use Rattle.office_values.specs.declared.refusal.Thing.TheVariants as things
 use Rattle.office_values.specs.declared.refusal.Refusal.{Refusal}
 use Rattle.office_values.specs.declared.refusal.Refusal.TheVariants.{NoSuch, NotYourTender, DeadlinePassed, NotSealed, AlreadyDecided, Expired}
 use Rattle.office_base.specs.Rows.{holds_of}
 use Rattle.office_base.specs.States.{is_sealed, is_read, is_undecided}
-use Rattle.office_base.specs.RuleParts.{clock_put, is_past_deadline, is_expired, is_late, passed_over, security_settled, put_if}
+use Rattle.office_base.specs.Transitions.{clock_put, is_past_deadline, is_expired, is_late, lacks_security, passed_over, security_settled, put_if, puts_if}
 use Rattle.tender_core.specs.Rules.Modify.{is_anothers, isnt_sealed, withdrawn}
 use Rattle.office_base.specs.declared.records.SecurityState.TheVariants.{Returned, Forfeited}
-use Rattle.office_base.specs.declared.records.NoticeRow.{NoticeRow}
 use Rattle.office_base.specs.declared.records.LotRow.{LotRow}
 use Rattle.office_base.specs.declared.records.EnvelopeRow.{EnvelopeRow}
 use Rattle.office_base.specs.declared.records.SecurityRow.{SecurityRow}
-use Rattle.office_base.specs.declared.records.LateRow.{LateRow}
 use Rattle.office_base.specs.declared.records.ClockRow.{ClockRow}
 use Rattle.office_base.specs.declared.puts.Put.TheVariants as puts
 use Rattle.office_base.specs.declared.puts.Put.{Put}
@@ -34,26 +32,11 @@ cant_be_taken_back late e = cond late (is_out e) (isnt_sealed e)
 abbrev pub is_decided : Option EnvelopeRow → Option LotRow → Bool
 is_decided envelope lot = holds_of (λ (e : EnvelopeRow). e.failed) envelope || holds_of (λ (l : LotRow). not (is_undecided l.state)) lot
 
--- the envelope, its notice, its lot, and what the notice says of late withdrawals
-abbrev pub withdraw_conditions : ℕ → Caller → Option EnvelopeRow → Option NoticeRow → Option LotRow → Option LateRow → List (Bool × Refusal)
-withdraw_conditions t caller envelope notice lot late =
-    (not (is_some envelope), NoSuch things.Tender)
-    ∷ (holds_of (is_anothers caller) envelope, NotYourTender)
-    ∷ (not (is_some late) && holds_of (is_past_deadline t) notice, DeadlinePassed)
-    ∷ (holds_of (cant_be_taken_back (is_late late t notice)) envelope, NotSealed)
-    ∷ (is_late late t notice && is_decided envelope lot, AlreadyDecided)
-    ∷ (is_late late t notice && holds_of (is_expired t) notice, Expired)
-    ∷ []
-
 -- before the deadline, and from then on, with the security that the envelope names
 abbrev pub taken_back_puts : ClockRow → ℕ → EnvelopeRow → Option SecurityRow → Bool → List Put
 taken_back_puts clock t e security false =
     puts.Envelope (withdrawn e) ∷ puts.DropSeal e.receipt ∷ clock_put clock t ∷ put_if (security_settled Returned) security
 taken_back_puts clock t e security true = puts.Envelope (passed_over e) ∷ clock_put clock t ∷ put_if (security_settled Forfeited) security
-
-abbrev pub withdraw_effect : ClockRow → ℕ → Option EnvelopeRow → Option NoticeRow → Option LateRow → Option SecurityRow → List Put
-withdraw_effect clock t None notice late security = []
-withdraw_effect clock t (Some e) notice late security = taken_back_puts clock t e security (is_late late t notice)
 
 -- the rows of an office that a withdrawal looks at
 abbrev pub withdraw_rows : Tables → ℕ → WithdrawRows
@@ -66,9 +49,23 @@ withdraw_rows s receipt = record {
   clock = s.clock;
 }
 
--- when it is refused, by these rows, and what it puts
-abbrev pub withdraw_tests : WithdrawRows → ℕ → Caller → List (Bool × Refusal)
-withdraw_tests rows t caller = withdraw_conditions t caller rows.envelope rows.notice rows.lot rows.late
+-- what is lacking where the tender is there: its notice, its lot, or the security that it names
+abbrev pub withdraw_lacks : WithdrawRows → Bool
+withdraw_lacks rows =
+    holds_of (λ (e : EnvelopeRow). not (is_some rows.notice) || not (is_some rows.lot) || lacks_security e rows.security) rows.envelope
 
+-- when it is refused, by these rows
+abbrev pub withdraw_tests : WithdrawRows → ℕ → Caller → List (Bool × Refusal)
+withdraw_tests rows t caller =
+    (not (is_some rows.envelope), NoSuch things.Tender)
+    ∷ (holds_of (is_anothers caller) rows.envelope, NotYourTender)
+    ∷ (not (is_some rows.late) && holds_of (is_past_deadline t) rows.notice, DeadlinePassed)
+    ∷ (holds_of (cant_be_taken_back (is_late rows.late t rows.notice)) rows.envelope, NotSealed)
+    ∷ (is_late rows.late t rows.notice && is_decided rows.envelope rows.lot, AlreadyDecided)
+    ∷ (is_late rows.late t rows.notice && holds_of (is_expired t) rows.notice, Expired)
+    ∷ []
+
+-- what it puts
 abbrev pub withdraw_puts : WithdrawRows → ℕ → List Put
-withdraw_puts rows t = withdraw_effect rows.clock t rows.envelope rows.notice rows.late rows.security
+withdraw_puts rows t =
+    puts_if (λ (e : EnvelopeRow). taken_back_puts rows.clock t e rows.security (is_late rows.late t rows.notice)) rows.envelope

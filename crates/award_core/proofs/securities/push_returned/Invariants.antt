@@ -1,5 +1,5 @@
 use Rattle.std.proofs.Common.{◌≡◌, ◌++◌, drop}
-use Rattle.office_base.specs.RuleParts.{securities_returned}
+use Rattle.office_base.specs.Transitions.{securities_returned}
 use Rattle.award_core.proofs.securities.push_returned.Given as goal
 
 -- what was put, and those of the securities that are left, are all of it

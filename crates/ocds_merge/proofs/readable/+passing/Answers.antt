@@ -1,6 +1,6 @@
 use Rattle.std.proofs.Common.{◌≤◌, ◌∙◌, ◌∷◌, ℕ, List, true, false, ap, arith}
 use Rattle.serde_json.specs.Data.{null, boolean, number, unsigned, no_items, item, no_members, member, items_depth, members_depth}
-use Rattle.ocds_merge.proofs.PassLaw.{string_passed, word_passed, array_passed, object_passed, item_before, member_before}
+use Rattle.ocds_merge.proofs.PassLaw.{string_passed, word_passed, array_passed, object_passed, item_before, member_before, in_turn, none_after}
 use Rattle.ocds_merge.proofs.readable.+passing.Goals as goal
 
 pub passed_items-returns-in-Some : goal.passed_items-returns-in-Some
@@ -10,18 +10,19 @@ pub passed_items-loop-turn-preserved : goal.passed_items-loop-turn-preserved
 passed_items-loop-turn-preserved t c ds rest w deep e =
     let v = c.in_ok-left.ensures in
     let low : items_depth (item v.value ds) ≤ c.args.depth = omega (arith, v.shallow, deep) in
-    c.loop-turn.invariant (item v.value ds) rest (v.written, w) low (item_before c.loop-turn.later v.value ds c.loop-turn.left.now c.in_ok-item.item.now c.in_ok-left.left.now rest c.in_ok-item.ensures v.is e)
+    c.loop-turn.invariant (item v.value ds) rest (v.kept, w) low (item_before c.loop-turn.later v.value ds c.loop-turn.left.now c.in_ok-item.item.now c.in_ok-left.left.now rest c.in_ok-item.ensures v.is e)
 
 pub passed_members-returns-in-Some : goal.passed_members-returns-in-Some
-passed_members-returns-in-Some t c = c.loop-turn.invariant no_members c.in-Some.rest.now tt (omega arith) c.in-Some.ensures
+passed_members-returns-in-Some t c = c.loop-turn.invariant no_members c.in-Some.rest.now (none_after c.loop-turn.later c.loop-turn.last.now) (tt, tt) (omega arith) c.in-Some.ensures
 
 pub passed_members-loop-turn-preserved : goal.passed_members-loop-turn-preserved
-passed_members-loop-turn-preserved t c ms rest w deep e =
+passed_members-loop-turn-preserved t c ms rest above w deep e =
     let v = c.in_ok-left.ensures in
-    let k = c.in_ok-value.ensures in
-    let low : members_depth (member k.0 v.value ms) ≤ c.args.depth = omega (arith, v.shallow, deep) in
-    c.loop-turn.invariant (member k.0 v.value ms) rest (v.written, w) low
-    (member_before c.loop-turn.later k.0 v.value ms c.loop-turn.left.now c.in_ok-after_comma_if.field-0.now c.in_ok-value.value.now c.in_ok-left.left.now rest c.in_ok-after_comma_if.ensures k.1 v.is e)
+    let k = c.in_ok-name.name.now in
+    let low : members_depth (member k v.value ms) ≤ c.args.depth = omega (arith, v.shallow, deep) in
+    c.loop-turn.invariant (member k v.value ms) rest (in_turn c.loop-turn.later c.loop-turn.last.now k v.value ms c.if-not-is_in_turn.ensures above)
+    ((above, w.0), (v.kept, w.1)) low
+    (member_before c.loop-turn.later k v.value ms c.loop-turn.left.now c.in_ok-after_comma_if.field-0.now c.in_ok-name.value.now c.in_ok-left.left.now rest c.in_ok-after_comma_if.ensures c.in_ok-name.ensures v.is e)
 
 pub passed_value-returns-in_ok-passed_string-in-34 : goal.passed_value-returns-in_ok-passed_string-in-34
 passed_value-returns-in_ok-passed_string-in-34 t c =
@@ -54,4 +55,4 @@ passed_value-returns-in_ok-after_word-in-110 t c =
 pub passed_value-returns-in_ok-passed_number-in_default : goal.passed_value-returns-in_ok-passed_number-in_default
 passed_value-returns-in_ok-passed_number-in_default t c =
     let p = c.in_ok-passed_number-in_default.ensures in
-    record { value = number (unsigned p.0); written = p.1; shallow = omega arith; is = p.2 }
+    record { value = number (unsigned p.0); kept = p.1; shallow = omega arith; is = p.2 }

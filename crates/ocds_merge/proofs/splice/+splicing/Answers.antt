@@ -8,7 +8,7 @@ use Rattle.serde_json.specs.declared.value.Value.{Value}
 use Rattle.serde_json.proofs.Views.{Entry, view-Array, view-Object}
 use Rattle.ocds_merge.specs.Identified.{id_of, is_id_list}
 use Rattle.ocds_merge.specs.Inside.Step.{Lacks}
-use Rattle.ocds_merge.specs.Inside.Splice.{IsKept, Merged}
+use Rattle.ocds_merge.specs.Inside.Splice.{TextIsKept, Merged}
 use Rattle.ocds_merge.specs.Inside.Pending.{HaveDistinctIds, pending}
 use Rattle.ocds_merge.proofs.SpliceLaw.{some_case, none_case, ends_before_members}
 use Rattle.ocds_merge.proofs.MemberTurn.{old_kept, past_old, old_passed, null_found, null_absent, some_found, some_absent, merged_none, merged_one, merged_all}
@@ -67,7 +67,7 @@ splice_members-loop-name-init t c =
     record {
       can = tt;
       ends = tt;
-      kept = λ k. subst (λ (xs : List Entry). IsKept (object (members_view xs))) (sym whole) k;
+      kept = λ k. subst (λ (xs : List Entry). TextIsKept (object (members_view xs))) (sym whole) k;
       merged = λ k ts rest old is.
           subst (λ (xs : List Entry). Merged ts (members_view es) rest (c.args.out.now.items ++ 123 ∷ []) c.args.text.now c.write_byte.new.out.items false (members_view xs)) (sym whole)
           (merged_none c.args.text.now ts (members_view es) rest (c.args.out.now.items ++ 123 ∷ []) c.write_byte.new.out.items c.in_ok-write_byte.ensures old is);
@@ -83,9 +83,9 @@ splice_members-loop-name-preserved t c =
     record {
       can = tt;
       ends = tt;
-      kept = λ k. let h = subst (λ (xs : Members). IsKept (object xs)) step (c.loop-name.invariant.kept k) in (h.0.1, h.1.1);
+      kept = λ k. let h = subst (λ (xs : Members). TextIsKept (object xs)) step (c.loop-name.invariant.kept k) in (h.0.1, h.1.1);
       merged = λ k ts rest old is.
-          let h = subst (λ (xs : Members). IsKept (object xs)) step (c.loop-name.invariant.kept k) in
+          let h = subst (λ (xs : Members). TextIsKept (object xs)) step (c.loop-name.invariant.kept k) in
           let m = subst (λ (xs : Members). Merged ts (members_view c.args.members.now.entries) rest (c.args.out.now.items ++ 123 ∷ []) c.loop-name.left.now c.loop-name.out.items c.loop-name.later xs) step
           (c.loop-name.invariant.merged k ts rest old is) in
           merged_one name v ts (members_view c.args.members.now.entries) ms rest _ c.loop-name.left.now c.loop-name.out.items c.loop-name.later _ _ _ _ _ _ m h.0.0
@@ -180,7 +180,7 @@ splice_value-returns-in-Some t c = record {
       let ms = members_view c.in-Object.members.entries in
       let v : view c.args.value.now ≡ object ms = ap view c.in-Object.is ∙ view-Object c.in-Object.members in
       let o = opened d rest c.args.text.now c.in-Some.inside.now old_kept is c.in-Some.ensures in
-      let r = splices (subst IsKept v kept) o.members rest o.kept ends o.text in
+      let r = splices (subst TextIsKept v kept) o.members rest o.kept ends o.text in
       (r.0, object_merged (view c.args.value.now) d ms o.members _ _ v o.is r.1))
       c.splice_members.ensures.splices;
 }
@@ -193,7 +193,7 @@ splice_value-returns-in-Some-after_byte t c = record {
       let v : view c.args.value.now ≡ array (items_view xs) = ap view c.in-Array.is ∙ view-Array c.in-Array.items in
       let o = opened_list d rest c.args.text.now c.in-Some-after_byte.inside.now old_kept is c.in-Some-after_byte.ensures in
       let list : is_id_list (items_view xs) ≡ true = ap (λ (ys : List Value). is_id_list (items_view ys)) (sym c.deref.ensures.value) ∙ sym c.is_id_list.ensures ∙ c.if-not-is_id_list.false in
-      let r = splices (subst IsKept v kept) o.items rest o.kept ends o.text in
+      let r = splices (subst TextIsKept v kept) o.items rest o.kept ends o.text in
       (r.0, array_merged (view c.args.value.now) d (items_view xs) o.items _ _ v o.is list r.1))
       c.splice_items.ensures.splices;
 }

@@ -3,15 +3,15 @@ use Rattle.serde_json.specs.Data.{Members, Items, object}
 use Rattle.serde_json.specs.View.{view, items_view, members_view}
 use Rattle.serde_json.specs.Written.{members_text, items_text}
 use Rattle.ocds_merge.specs.Inside.Pending.{pending}
-use Rattle.ocds_merge.specs.Inside.Splice.{IsKept, AreItemsKept, Merged, ItemsMerged}
+use Rattle.ocds_merge.specs.Inside.Splice.{TextIsKept, AreItemsKept, Merged, ItemsMerged}
 use Rattle.ocds_merge.proofs.splice.+splicing.Given as goal
 
 abbrev pub invariant-splice_members-loop-name : goal.invariant-splice_members-loop-name
 invariant-splice_members-loop-name l = record {
   can : (goal.iterator-splice_members-loop-name).can_next l.name-iterator;
   ends : (goal.iterator-splice_members-loop-name).is_finite l.name-iterator;
-  kept : IsKept (object (members_view l.members.entries)) → IsKept (object (members_view l.name-iterator));
-  merged : IsKept (object (members_view l.members.entries)) → (ts : Members) (rest : List ℕ) → IsKept (object ts) → l.text ≡ members_text false ts ++ rest
+  kept : TextIsKept (object (members_view l.members.entries)) → TextIsKept (object (members_view l.name-iterator));
+  merged : TextIsKept (object (members_view l.members.entries)) → (ts : Members) (rest : List ℕ) → TextIsKept (object ts) → l.text ≡ members_text false ts ++ rest
       → Merged ts (members_view l.members.entries) rest (l.fn.out.items ++ 123 ∷ []) l.left l.out.items l.later (members_view l.name-iterator);
 }
 

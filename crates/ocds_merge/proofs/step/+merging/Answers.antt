@@ -5,7 +5,7 @@ use Rattle.serde_json.specs.declared.value.Value.{Value}
 use Rattle.serde_json.specs.View.{view, items_view, members_view}
 use Rattle.ocds_merge.specs.Identified.{id_of, text_id, all_have_id}
 use Rattle.ocds_merge.specs.Inside.Step.{Lacks, step_items}
-use Rattle.ocds_merge.specs.Inside.Places.{Serves}
+use Rattle.ocds_merge.specs.Inside.Places.{IndexServes}
 use Rattle.ocds_merge.specs.Laws.{IsProper, AreItemsProper, AreMembersProper}
 use Rattle.ocds_merge.proofs.CodeLemmas.{sorted_names_of, dropped, turned, found_turn, lacked_turn}
 use Rattle.ocds_merge.proofs.IdLaw.{first_id, other_ids, new_id}
@@ -27,7 +27,7 @@ merge_items-loop-item-preserved t c =
     let rest : items_view (drop i xs) ≡ item (view x) (items_view (drop (i + 1) xs)) = dropped xs i x (omega (arith, ap length all)) here in
     let ids : (is_some (text_id (view x)) && all_have_id (items_view (drop (i + 1) xs))) ≡ true = ap all_have_id (sym rest) ∙ c.loop-item.invariant.ids in
     let has_id : is_some (text_id (view x)) ≡ true = first_id _ _ ids in
-    let done : IsProper (view x) × (map view after ≡ turned (view x) (map view ts)) × Serves c.match-find.places.by_id (map view after) =
+    let done : IsProper (view x) × (map view after ≡ turned (view x) (map view ts)) × IndexServes c.match-find.places.by_id (map view after) =
     elim c.match-find.branch [
       | merge_items-in-Some+in_ok-new-in-Some w ↦
           let p = w.in-Some.place in
@@ -45,8 +45,8 @@ merge_items-loop-item-preserved t c =
           let same = new_id _ new b (view x) merge.proper has_id merge.step w.unwrap_or.ensures ∙ sym c.id_of-id.ensures in (
             merge.proper,
             ap (map view) is ∙ found_turn ts p gone b w.replace-old.result new id (view x) c.id_of-id.ensures low lacks has old merge.step w.unwrap_or.ensures,
-            subst (λ kept. Serves kept.by_id (map view after)) (sym w.places-is)
-                (subst (λ (ys : List Value). Serves c.loop-item.places.by_id (map view ys)) (sym is)
+            subst (λ kept. IndexServes kept.by_id (map view after)) (sym w.places-is)
+                (subst (λ (ys : List Value). IndexServes c.loop-item.places.by_id (map view ys)) (sym is)
                 (found_serves c.loop-item.places.by_id ts p gone b id c.loop-item.invariant.places low has same)),
           )
       | merge_items-in-None+in_ok-new-in-None+in_ok-add-in-None+in_ok-push-in-None w ↦
@@ -59,8 +59,8 @@ merge_items-loop-item-preserved t c =
           let place : length (map view ts) ≡ w.len-in-None.result = omega (arith, length-map ts view, w.len-in-None.ensures) in (
             merge.proper,
             ap (map view) is ∙ lacked_turn ts b new id (view x) c.id_of-id.ensures lacks merge.step w.unwrap_or-in-None.ensures,
-            subst (λ kept. Serves kept.by_id (map view after)) (sym w.places-is)
-                (subst (λ (ys : List Value). Serves w.add.new.self.by_id (map view ys)) (sym is)
+            subst (λ kept. IndexServes kept.by_id (map view after)) (sym w.places-is)
+                (subst (λ (ys : List Value). IndexServes w.add.new.self.by_id (map view ys)) (sym is)
                 (pushed_serves w.add.new.self.by_id ts b (w.in_ok-add-in-None.ensures (map view ts) (view b) c.loop-item.invariant.places place lacks same))),
           )
     ] in

@@ -2,7 +2,7 @@ use Rattle.std.proofs.Common.{◌≡◌, drop, map, true}
 use Rattle.serde_json.specs.View.{view, items_view, members_view}
 use Rattle.ocds_merge.specs.Identified.{all_have_id}
 use Rattle.ocds_merge.specs.Inside.Step.{step_items, step_members}
-use Rattle.ocds_merge.specs.Inside.Places.{Serves}
+use Rattle.ocds_merge.specs.Inside.Places.{IndexServes}
 use Rattle.ocds_merge.specs.Laws.{AreItemsProper, AreMembersProper}
 use Rattle.ocds_merge.proofs.step.+merging.Given as goal
 
@@ -11,7 +11,7 @@ invariant-merge_items-loop-item l = record {
   step : step_items (map view l.target.items) (items_view (drop l.item-index l.items.items)) ≡ step_items (map view l.fn.target.items) (items_view l.items.items);
   proper : AreItemsProper (items_view (drop l.item-index l.items.items)) → AreItemsProper (items_view l.items.items);
   ids : all_have_id (items_view (drop l.item-index l.items.items)) ≡ true;
-  places : Serves l.places.by_id (map view l.target.items);
+  places : IndexServes l.places.by_id (map view l.target.items);
 }
 
 abbrev pub invariant-merge_members-loop-key : goal.invariant-merge_members-loop-key

@@ -2,8 +2,8 @@ use Rattle.std.proofs.Common.{◌≡◌, ◌<◌, ◌≤◌, ◌+◌, ◌-◌, �
 use Rattle.std.proofs.lemmas.List.{drop_more, length-map}
 use Rattle.std.specs.Ordering.{is_lt}
 use Rattle.office_values.specs.Ids.{id_cmp}
-use Rattle.office_acts.specs.Lots.{lot_id}
-use Rattle.office_acts.specs.declared.lot.NewLot.{NewLot}
+use Rattle.office_commands.specs.Lots.{lot_id}
+use Rattle.office_commands.specs.declared.lot.NewLot.{NewLot}
 use Rattle.ocds_release.specs.LotsInOrder.{lots_in_order, insert_by_id}
 use Rattle.ocds_release.specs.Inside.Earlier.{AreEarlier}
 use Rattle.ocds_release.proofs.LotOrder.{insert_is, map_insert, ids_twice}

@@ -2,7 +2,7 @@ use Rattle.std.proofs.Common.{◌≡◌, ◌<◌, ◌∙◌, ap, sym, subst, map
 use Rattle.std.proofs.lemmas.List.{take_more, get_or-map, length-map}
 use Rattle.std.specs.Ordering.{is_lt}
 use Rattle.office_values.specs.Ids.{id_cmp}
-use Rattle.office_acts.specs.declared.lot.NewLot.{NewLot}
+use Rattle.office_commands.specs.declared.lot.NewLot.{NewLot}
 use Rattle.ocds_release.specs.Inside.Earlier.{AreEarlier}
 use Rattle.ocds_release.proofs.LotOrder.{earlier_push}
 use Rattle.ocds_release.proofs.lots_in_order.place_for.Goals as goal

@@ -11,6 +11,7 @@ returns-in-Ok-clause-answered g c =
       stands = read.whole;
       answered = c.answer_request.ensures.answered;
       changes = c.answer_request.ensures.changes;
+      shown = c.answer_request.ensures.shown;
     })
 
 pub returns-in-Ok-clause-kept : goal.returns-in-Ok-clause-kept

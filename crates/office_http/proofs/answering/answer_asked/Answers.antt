@@ -3,8 +3,10 @@ use Rattle.office_values.specs.declared.refusal.Refusal.{Refusal}
 use Rattle.office_requests.specs.declared.asked.Asked.{Asked}
 use Rattle.office_requests.specs.declared.asked.Asked.TheVariants.{Does}
 use Rattle.office_http.specs.Inside.Meant.{AnswersMeant}
+use Rattle.office_http.specs.Answering.{ShowsMeant}
 use Rattle.office_http.specs.Meaning.{Refuses, meant_asked}
 use Rattle.office_http.proofs.AnswerSteps.{is_refused}
+use Rattle.office_http.proofs.RequestSteps.{tells_some}
 use Rattle.office_http.proofs.answering.answer_asked.Goals as goal
 
 pub returns-in-Ok-Does-clause-answered : goal.returns-in-Ok-Does-clause-answered
@@ -21,3 +23,13 @@ returns-in-Err-clause-answered g c =
     (λ honest s held stands can.
     is_refused g.H.Lookups.meaning c.args.desk.now.settings c.args.desk.now.shelf c.args.desk.now.shelf s c.args.moment c.refuse.result (Refuses c.in-Err.refusal None)
     c.in-Err.refusal None refl refl refl c.refuse.ensures (held, stands) (λ u left. left))
+
+pub returns-in-Ok-Does-clause-shown : goal.returns-in-Ok-Does-clause-shown
+returns-in-Ok-Does-clause-shown g c honest s held =
+    let is : Ok (Does c.in-Ok-Does.command) ≡ c.args.asked = search rules in
+    subst (λ (a : Result Asked Refusal). ShowsMeant (meant_asked c.args.caller.now a) s c.answer_command.result) is tt
+
+pub returns-in-Err-clause-shown : goal.returns-in-Err-clause-shown
+returns-in-Err-clause-shown g c honest s held =
+    let is : Err c.in-Err.refusal ≡ c.args.asked = search rules in
+    subst (λ (a : Result Asked Refusal). ShowsMeant (meant_asked c.args.caller.now a) s c.refuse.result) is (tells_some c.in-Err.refusal None c.refuse.result c.refuse.ensures)

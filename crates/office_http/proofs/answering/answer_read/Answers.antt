@@ -1,10 +1,10 @@
-use Rattle.std.proofs.Common.{sym, subst}
+use Rattle.std.proofs.Common.{None, sym, subst}
 use Rattle.office_values.specs.declared.settings.Settings.{Settings}
-use Rattle.office_publications.specs.Standing.{Stands}
+use Rattle.office_publications.specs.Standing.{IsReached}
 use Rattle.office_http.specs.Inside.Meant.{Answered, CanBeMeant}
 use Rattle.office_http.specs.Meaning.{meant, meant_asked}
 use Rattle.office_http.proofs.LeftSteps.{stops_then}
-use Rattle.office_http.proofs.RequestSteps.{asked_answered, caller_refused, route_refused}
+use Rattle.office_http.proofs.RequestSteps.{asked_answered, asked_shown, caller_refused, refused_shows, route_refused, tells_some}
 use Rattle.office_http.proofs.answering.answer_read.Goals as goal
 
 pub returns-in-Err-clause-answered : goal.returns-in-Err-clause-answered
@@ -24,7 +24,7 @@ pub returns-clause-answered : goal.returns-clause-answered
 returns-clause-answered g c honest s held stands =
     let before = c.answer_asked.ensures.before honest in
     let m = meant_asked c.in-Ok-caller_of.caller c.command_of-asked.result in
-    let family : Settings → Type 0 = λ u. Stands u s → CanBeMeant s m
+    let family : Settings → Type 0 = λ u. IsReached u s → CanBeMeant s m
     → Answered g.H.Lookups.meaning u c.caller_of.new.desk.shelf c.answer_asked.new.desk.shelf s c.args.moment m c.answer_asked.result in
     let answered = subst family c.caller_of.ensures.settings (c.answer_asked.ensures.answered honest s (c.caller_of.ensures.looks.0.same before s held)) stands in
     let a = asked_answered g.H.Lookups.meaning c.args.desk.now.settings c.caller_of.new.desk.shelf c.answer_asked.new.desk.shelf s c.args.moment c.answer_asked.result c.args.request.now
@@ -37,3 +37,19 @@ returns-clause-answered g c honest s held stands =
       stops_then g.H.Lookups.meaning c.args.desk.now.settings c.args.desk.now.shelf c.caller_of.new.desk.shelf c.answer_asked.new.desk.shelf a.0 s c.args.moment
           (meant c.args.desk.now.settings c.args.request.now s) (c.caller_of.ensures.looks.0.stop before) a.3,
     )
+
+pub returns-in-Err-clause-shown : goal.returns-in-Err-clause-shown
+returns-in-Err-clause-shown g c honest s held =
+    refused_shows (meant c.args.desk.now.settings c.args.request.now s) s c.refuse.result (tells_some c.in-Err.refusal c.in-Err.method c.refuse.result c.refuse.ensures)
+
+pub returns-in-Err-caller_of-clause-shown : goal.returns-in-Err-caller_of-clause-shown
+returns-in-Err-caller_of-clause-shown g c honest s held =
+    refused_shows (meant c.args.desk.now.settings c.args.request.now s) s c.refuse-in-Err-caller_of.result
+    (tells_some c.in-Err-caller_of.refusal None c.refuse-in-Err-caller_of.result c.refuse-in-Err-caller_of.ensures)
+
+pub returns-clause-shown : goal.returns-clause-shown
+returns-clause-shown g c honest s held =
+    let before = c.answer_asked.ensures.before honest in
+    asked_shown c.args.desk.now.settings s c.answer_asked.result c.args.request.now c.in-Ok.route c.in-Ok-caller_of.caller c.command_of-asked.result (sym c.in-Ok.ensures)
+    (c.in-Ok-caller_of.ensures.looks.1 before s held) c.command_of-asked.ensures.asked
+    (c.answer_asked.ensures.shown honest s (c.caller_of.ensures.looks.0.same before s held))

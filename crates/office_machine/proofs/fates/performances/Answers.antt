@@ -1,4 +1,4 @@
-use Rattle.office_machine.proofs.PerformancesKept.{performances_kept}
+use Rattle.office_machine.proofs.FateLaws.PerformancesKept.{performances_kept}
 use Rattle.office_machine.proofs.fates.performances.Goals as goal
 
 pub returns : goal.returns

@@ -1,4 +1,4 @@
-use Rattle.office_machine.proofs.FatesKept.{securities_kept}
+use Rattle.office_machine.proofs.FateLaws.FatesKept.{securities_kept}
 use Rattle.office_machine.proofs.fates.securities.Goals as goal
 
 pub returns : goal.returns

@@ -1,6 +1,6 @@
-use Rattle.office_machine.proofs.AccountsKept.{lines_balanced}
-use Rattle.office_machine.proofs.AllFit.{sums_fit}
-use Rattle.office_machine.proofs.SortedTables.{sorted}
+use Rattle.office_machine.proofs.Accounts.AccountsKept.{lines_balanced}
+use Rattle.office_machine.proofs.Accounts.AllFit.{sums_fit}
+use Rattle.office_machine.proofs.Rows.SortedTables.{sorted}
 use Rattle.office_machine.proofs.laws.accounts.Goals as goal
 
 pub returns : goal.returns

@@ -1,4 +1,4 @@
-use Rattle.office_machine.proofs.ClockSet.{clock_set, never_back}
+use Rattle.office_machine.proofs.Releases.ClockSet.{clock_set, never_back}
 use Rattle.office_machine.proofs.laws.clock.Goals as goal
 
 pub returns-clause-set : goal.returns-clause-set

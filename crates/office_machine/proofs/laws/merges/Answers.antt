@@ -1,4 +1,4 @@
-use Rattle.office_machine.proofs.MergesApart.{fates_apart, looks_apart, next_apart, puts_apart, refusals_apart, replies_apart}
+use Rattle.office_machine.proofs.Releases.MergesApart.{fates_apart, looks_apart, next_apart, puts_apart, refusals_apart, replies_apart}
 use Rattle.office_machine.proofs.laws.merges.Goals as goal
 
 pub returns-clause-refusals : goal.returns-clause-refusals

@@ -1,4 +1,4 @@
-use Rattle.office_machine.proofs.Outstanding.{left_is_known, left_is_booked}
+use Rattle.office_machine.proofs.Accounts.Outstanding.{left_is_known, left_is_booked}
 use Rattle.office_machine.proofs.laws.outstanding.Goals as goal
 
 pub returns-clause-known : goal.returns-clause-known

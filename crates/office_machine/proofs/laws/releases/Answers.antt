@@ -1,7 +1,7 @@
-use Rattle.office_machine.proofs.ReleasesCounted.{releases_counted}
-use Rattle.office_machine.proofs.ReleasesInTime.{releases_in_time}
-use Rattle.office_machine.proofs.ReleasesMade.{releases_published}
-use Rattle.office_machine.proofs.ReleasesNumbered.{releases_numbered}
+use Rattle.office_machine.proofs.Releases.ReleasesCounted.{releases_counted}
+use Rattle.office_machine.proofs.Releases.ReleasesInTime.{releases_in_time}
+use Rattle.office_machine.proofs.Releases.ReleasesMade.{releases_published}
+use Rattle.office_machine.proofs.Releases.ReleasesNumbered.{releases_numbered}
 use Rattle.office_machine.proofs.laws.releases.Goals as goal
 
 pub returns-clause-counted : goal.returns-clause-counted

@@ -1,4 +1,4 @@
-use Rattle.office_machine.proofs.WorldsSealed.{steps_stay}
+use Rattle.office_machine.proofs.Worlds.WorldsSealed.{steps_stay}
 use Rattle.office_machine.proofs.laws.worlds.Goals as goal
 
 pub returns : goal.returns

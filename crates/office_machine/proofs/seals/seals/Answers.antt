@@ -1,4 +1,4 @@
-use Rattle.office_machine.proofs.SealsKept.{seals_kept}
+use Rattle.office_machine.proofs.Worlds.SealsKept.{seals_kept}
 use Rattle.office_machine.proofs.seals.seals.Goals as goal
 
 pub returns : goal.returns

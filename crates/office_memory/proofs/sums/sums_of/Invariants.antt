@@ -2,11 +2,12 @@ use Rattle.std.proofs.Common.{◌≡◌, filter, length}
 use Rattle.std.specs.Map.{values_of}
 use Rattle.office_base.specs.Tables.{same_number}
 use Rattle.office_base.specs.declared.records.EntryRow.{EntryRow}
-use Rattle.office_memory.specs.Inside.Adding.{bare_sums, with_entries, HasRoom}
+use Rattle.office_base.specs.EntrySums.{bare_sums, sums_with_entries}
+use Rattle.office_memory.specs.Inside.Adding.{HasRoom}
 use Rattle.office_memory.proofs.sums.sums_of.Given as goal
 
 -- the entries that are left lead where all lead, and there is room for them
-abbrev pub invariant-loop-entry : goal.invariant-loop-entry
-invariant-loop-entry l =
-    (with_entries l.sums (values_of l.entry-iterator) ≡ with_entries (bare_sums l.contract) (filter (λ (e : EntryRow). same_number e.contract l.contract.contract) l.entries))
-    × HasRoom (length l.entry-iterator) l.sums
+abbrev pub invariant-loop-kept : goal.invariant-loop-kept
+invariant-loop-kept l =
+    (sums_with_entries l.sums (values_of l.kept-iterator) ≡ sums_with_entries (bare_sums l.contract) (filter (λ (e : EntryRow). same_number e.contract l.contract.contract) l.entries))
+    × HasRoom (length l.kept-iterator) l.sums

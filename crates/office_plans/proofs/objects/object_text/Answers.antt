@@ -3,7 +3,7 @@ use Rattle.std.proofs.lemmas.List.{take_more, take_all}
 use Rattle.json.specs.Print.{print}
 use Rattle.json.specs.Token.{begin_object, end_object, key}
 use Rattle.office_plans.specs.Json.{token_of, tokens_of}
-use Rattle.office_plans.proofs.Printed.{next_tokens, object_printed, rest_of}
+use Rattle.office_plans.proofs.Printed.{next_tokens, object_printed}
 use Rattle.office_plans.proofs.objects.object_text.Goals as goal
 
 pub loop-name-preserved : goal.loop-name-preserved

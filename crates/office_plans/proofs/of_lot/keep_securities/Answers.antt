@@ -2,7 +2,7 @@ use Rattle.std.proofs.Common.{◌∙◌, ap, filter, rules}
 use Rattle.std.proofs.lemmas.Fn.{filter_same}
 use Rattle.office_values.specs.Ids.{same_id}
 use Rattle.office_base.specs.declared.records.SecurityRow.{SecurityRow}
-use Rattle.office_machine.proofs.RowsChanged.{filter_filter}
+use Rattle.office_base.proofs.RowLaws.Filters.{filter_filter}
 use Rattle.office_plans.proofs.of_lot.keep_securities.Goals as goal
 
 pub returns : goal.returns

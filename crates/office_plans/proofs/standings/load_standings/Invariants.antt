@@ -1,7 +1,7 @@
 use Rattle.std.proofs.Common.{◌≡◌, ◌<◌, ℕ, get_or, map, drop}
 use Rattle.std.specs.Prelude.{IsSome}
 use Rattle.office_values.specs.Money.{total_limit}
-use Rattle.office_acts.specs.declared.budget.BudgetRow.{BudgetRow}
+use Rattle.office_commands.specs.declared.budget.BudgetRow.{BudgetRow}
 use Rattle.office_base.specs.Shelves.{Looks}
 use Rattle.office_base.specs.Standings.{find_standing}
 use Rattle.tender_core.specs.Walks.{AreAtMost}

@@ -18,10 +18,10 @@ pub returns-clause-beside : goal.returns-clause-beside
 returns-clause-beside c = merges_stand_beside
 
 pub returns-clause-reaches : goal.returns-clause-reaches
-returns-clause-reaches c = reaches c.changes_keep_order.ensures c.order.ensures
+returns-clause-reaches c = reaches c.changes_keep_order.ensures c.order.ensures c.parents.ensures.there c.runs.ensures.steps
 
 pub returns-clause-stays : goal.returns-clause-stays
-returns-clause-stays c = stays (reaches c.changes_keep_order.ensures c.order.ensures) c.releases.ensures.published
+returns-clause-stays c = stays (reaches c.changes_keep_order.ensures c.order.ensures c.parents.ensures.there c.runs.ensures.steps) c.releases.ensures.published
 
 pub returns-clause-starts : goal.returns-clause-starts
 returns-clause-starts c = starts

@@ -1,9 +1,9 @@
 use Rattle.std.proofs.Common.{◌≡◌, ◌+◌, ◌*◌, ◌≤◌, ◌^◌, drop}
 use Rattle.office_base.specs.Joined.{entry_sum}
-use Rattle.office_publications.specs.Worth.{is_cut}
+use Rattle.office_publications.specs.Worth.{is_contract_cut}
 use Rattle.office_publications.proofs.worth.cut.Given as goal
 
 -- what is added up so far and the rest are the whole; each entry adds at most the greatest amount
 abbrev pub invariant-loop-entry : goal.invariant-loop-entry
 invariant-loop-entry l =
-    (l.sum + entry_sum is_cut (drop l.entry-index l.entries) l.contract ≡ entry_sum is_cut l.entries l.contract) × (l.sum ≤ l.entry-index * 10 ^ 12)
+    (l.sum + entry_sum is_contract_cut (drop l.entry-index l.entries) l.contract ≡ entry_sum is_contract_cut l.entries l.contract) × (l.sum ≤ l.entry-index * 10 ^ 12)

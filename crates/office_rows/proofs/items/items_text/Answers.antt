@@ -1,7 +1,7 @@
 use Rattle.std.proofs.Common.{rules, arith, List, ℕ, ◌≡◌, ◌++◌, ◌+◌, [], ◌∷◌, take, ap, subst, ◌∙◌, sym}
 use Rattle.std.proofs.lemmas.List.{take_more, take_all}
 use Rattle.std.specs.List.{AllByRecursion}
-use Rattle.office_rows.specs.ItemTexts.{item_then, items_text, items_in, IsItem}
+use Rattle.office_rows.specs.ItemTexts.{item_then, items_text, items_in_text, IsItem}
 use Rattle.office_rows.proofs.ItemLemmas.{items_text-push, all-push, items_back}
 use Rattle.office_rows.proofs.ItemReading.{all_fit}
 use Rattle.office_rows.proofs.items.items_text.Goals as goal
@@ -19,7 +19,7 @@ items-preserved c =
 pub returns-clause-back : goal.returns-clause-back
 returns-clause-back c =
     let all : take c.items.item-index c.as_slice-item-items.result.now ≡ c.args.items.now = take_all c.items.item-index c.as_slice-item-items.result.now (omega arith) ∙ c.as_slice-item-items.ensures.value in
-    ap items_in (c.items.invariant.0 ∙ ap items_text all) ∙ items_back c.args.items.now (all_fit c.args.items.now (subst (AllByRecursion IsItem) all c.items.invariant.1))
+    ap items_in_text (c.items.invariant.0 ∙ ap items_text all) ∙ items_back c.args.items.now (all_fit c.args.items.now (subst (AllByRecursion IsItem) all c.items.invariant.1))
 
 pub returns-clause-right : goal.returns-clause-right
 returns-clause-right c =

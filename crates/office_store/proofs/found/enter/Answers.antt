@@ -5,7 +5,7 @@ use Rattle.sqlite.specs.State.{HasCleanDisk, IsLive}
 use Rattle.sqlite.proofs.StateLemmas.{survives_then}
 use Rattle.office_sql.specs.Steps.{IsRefusal}
 use Rattle.office_sql.specs.Version.{get_version}
-use Rattle.office_store.specs.Founding.{Enters, is_version_one, is_other_version, origin_of, takes_a_name, Readied, LeavesReadied, LeavesOffice}
+use Rattle.office_store.specs.Founding.{Enters, is_version_one, is_other_version, origin_of, takes_a_name, IsMadeCurrent, LeavesReadied, LeavesOffice}
 use Rattle.office_store.proofs.Founding.{sound_after, founded_after, leaves_before, refused_on, shown_is_left}
 use Rattle.office_store.proofs.Migrating.{leaves_readied_before, readied_after, readied_enters, readied_shows, never_other, shown_version}
 use Rattle.office_store.proofs.found.enter.Goals as goal
@@ -21,7 +21,7 @@ returns-in-Ok-ready-clause-enters g c clean =
     let first : c.is_version_one-is_first.result ≡ is_version_one c.in-Ok.rows.items = search rules in
     let readied = readied_after c.is_version_one-is_first.result old mid end (c.ask_version.ensures.kept early) (c.in-Ok-ready.ensures.readied clean) in
     subst (λ o. Enters g.S.Store o held c.ready.new.conn) (sym (c.origin_of.ensures ∙ ap origin_of first))
-    (readied_enters g.S.Store held c.ready.new.conn c.in-Ok.rows.items (c.in-Ok.ensures.asked early) one (is_version_one c.in-Ok.rows.items) refl (subst (λ b. Readied b old end) first readied))
+    (readied_enters g.S.Store held c.ready.new.conn c.in-Ok.rows.items (c.in-Ok.ensures.asked early) one (is_version_one c.in-Ok.rows.items) refl (subst (λ b. IsMadeCurrent b old end) first readied))
 
 pub returns-in-Ok-ready-clause-found : goal.returns-in-Ok-ready-clause-found
 returns-in-Ok-ready-clause-found g c clean t shows =
@@ -32,7 +32,7 @@ returns-in-Ok-ready-clause-found g c clean t shows =
     let early : HasCleanDisk mid = omega (arith, clean, c.ready.ensures.survives.clean) in
     let first : c.is_version_one-is_first.result ≡ is_version_one c.in-Ok.rows.items = search rules in
     let readied = readied_after c.is_version_one-is_first.result old mid end (c.ask_version.ensures.kept early) (c.in-Ok-ready.ensures.readied clean) in
-    readied_shows g.S.Store held c.in-Ok.rows.items (λ n clock is. c.in-Ok.ensures.one early n clock is) end t shows (c.in-Ok.ensures.asked early).was_open (subst (λ b. Readied b old end) first readied)
+    readied_shows g.S.Store held c.in-Ok.rows.items (λ n clock is. c.in-Ok.ensures.one early n clock is) end t shows (c.in-Ok.ensures.asked early).was_open (subst (λ b. IsMadeCurrent b old end) first readied)
 
 pub returns-in-Ok-ready-clause-sound : goal.returns-in-Ok-ready-clause-sound
 returns-in-Ok-ready-clause-sound g c clean =

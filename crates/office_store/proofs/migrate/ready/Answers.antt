@@ -2,7 +2,7 @@ use Rattle.std.proofs.Common.{rules, ◌≡◌, true, false, sym, subst}
 use Rattle.sqlite.specs.Held.{state}
 use Rattle.sqlite.proofs.StateLemmas.{survives_weaker}
 use Rattle.office_store.specs.Forms.{HasForms}
-use Rattle.office_store.specs.Founding.{LeavesReadied, Readied}
+use Rattle.office_store.specs.Founding.{LeavesReadied, IsMadeCurrent}
 use Rattle.office_store.proofs.migrate.ready.Goals as goal
 
 pub returns-in-Ok-clause-readied : goal.returns-in-Ok-clause-readied
@@ -11,7 +11,7 @@ returns-in-Ok-clause-readied g c clean =
     let new = state g.S.Store c.migrated.new.conn in
     let first : c.args.is_first ≡ true = search rules in
     let made = c.in-Ok.ensures.migrated clean in
-    subst (λ b. Readied b old new) (sym first) (subst (λ b. HasForms b old.committed.schema) first (c.in_ok-check_forms.ensures.forms made.was_open), made)
+    subst (λ b. IsMadeCurrent b old new) (sym first) (subst (λ b. HasForms b old.committed.schema) first (c.in_ok-check_forms.ensures.forms made.was_open), made)
 
 pub returns-in-Ok-clause-is_open : goal.returns-in-Ok-clause-is_open
 returns-in-Ok-clause-is_open g c clean = (c.in-Ok.ensures.migrated clean).is_open
@@ -32,5 +32,5 @@ returns-in-Ok-still_open-clause-readied g c clean =
     let new = state g.S.Store c.still_open.new.conn in
     let second : c.args.is_first ≡ false = search rules in
     let kept = c.still_open.ensures.kept clean in
-    subst (λ b. Readied b old new) (sym second)
+    subst (λ b. IsMadeCurrent b old new) (sym second)
     (λ open_now. subst (λ b. HasForms b old.committed.schema) second (c.in_ok-check_forms.ensures.forms (kept.was_open open_now)), kept)

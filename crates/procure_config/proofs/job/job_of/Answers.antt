@@ -1,5 +1,5 @@
 use Rattle.std.proofs.Common.{◌∙◌, ap, sym}
-use Rattle.procure_config.specs.Jobs.{asked_in}
+use Rattle.procure_config.specs.Jobs.{job_of_subcommand}
 use Rattle.procure_config.proofs.CommandLine.{stated, is_right, is_taken, has_kind, memory_fault, no_job, nothing_there, parse_fault}
 use Rattle.procure_config.proofs.job.job_of.Goals as goal
 
@@ -13,18 +13,18 @@ returns-in_err-matches-clause-taken g c taken there =
     memory_fault _ _ (c.in_err-matches.ensures.passes (is_taken _ _ c.in_ok-command.ensures taken)) c.from_residual-in_err-matches.ensures.1
 
 pub returns-in-Some-clause-asked : goal.returns-in-Some-clause-asked
-returns-in-Some-clause-asked g c = sym (c.in-Some.ensures ∙ ap asked_in (stated _ _ _ c.in_ok-command.ensures c.in_ok-matches.ensures.ok.2))
+returns-in-Some-clause-asked g c = sym (c.in-Some.ensures ∙ ap job_of_subcommand (stated _ _ _ c.in_ok-command.ensures c.in_ok-matches.ensures.ok.2))
 
 pub returns-in-Some-clause-right : goal.returns-in-Some-clause-right
 returns-in-Some-clause-right g c = is_right _ _ c.in_ok-command.ensures c.in_ok-matches.ensures.kinds
 
 pub returns-clause-taken : goal.returns-clause-taken
 returns-clause-taken g c taken there =
-    let nothing = c.in-None.ensures ∙ ap asked_in (stated _ _ _ c.in_ok-command.ensures c.in_ok-matches.ensures.ok.2) in
+    let nothing = c.in-None.ensures ∙ ap job_of_subcommand (stated _ _ _ c.in_ok-command.ensures c.in_ok-matches.ensures.ok.2) in
     nothing_there _ nothing there
 
 pub returns-clause-fault : goal.returns-clause-fault
 returns-clause-fault g c =
     let right = is_right _ _ c.in_ok-command.ensures c.in_ok-matches.ensures.kinds in
-    let nothing = c.in-None.ensures ∙ ap asked_in (stated _ _ _ c.in_ok-command.ensures c.in_ok-matches.ensures.ok.2) in
+    let nothing = c.in-None.ensures ∙ ap job_of_subcommand (stated _ _ _ c.in_ok-command.ensures c.in_ok-matches.ensures.ok.2) in
     no_job _ _ right nothing c.no_job.ensures

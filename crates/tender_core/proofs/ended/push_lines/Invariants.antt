@@ -1,8 +1,8 @@
 use Rattle.std.proofs.Common.{◌≡◌, ◌++◌, map, filter, drop}
-use Rattle.tender_core.specs.Rules.Cancel.{is_open_lot, line_put}
+use Rattle.tender_core.specs.Rules.Cancel.{is_open_lot, freed_line_put}
 use Rattle.tender_core.proofs.ended.push_lines.Given as goal
 
 abbrev pub invariant-loop-row : goal.invariant-loop-row
 invariant-loop-row l =
-    l.made.items ++ map (line_put l.lines (filter is_open_lot l.lots)) (filter is_open_lot (drop l.row-index l.lots))
-    ≡ l.fn.made.items ++ map (line_put l.lines (filter is_open_lot l.lots)) (filter is_open_lot l.lots)
+    l.made.items ++ map (freed_line_put l.lines (filter is_open_lot l.lots)) (filter is_open_lot (drop l.row-index l.lots))
+    ≡ l.fn.made.items ++ map (freed_line_put l.lines (filter is_open_lot l.lots)) (filter is_open_lot l.lots)

@@ -1,5 +1,5 @@
 use Rattle.std.proofs.Common.{◌≡◌, ◌++◌, map, filter, drop}
-use Rattle.office_base.specs.RuleParts.{security_returned}
+use Rattle.office_base.specs.Transitions.{security_returned}
 use Rattle.tender_core.specs.Rules.Cancel.{is_ended_security}
 use Rattle.tender_core.proofs.ended.push_securities.Given as goal
 

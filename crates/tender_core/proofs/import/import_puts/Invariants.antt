@@ -1,6 +1,6 @@
 use Rattle.std.proofs.Common.{◌≡◌, take, map}
-use Rattle.tender_core.specs.Rules.Import.{line_put}
+use Rattle.tender_core.specs.Rules.Import.{imported_line_put}
 use Rattle.tender_core.proofs.import.import_puts.Given as goal
 
 abbrev pub invariant-loop-row : goal.invariant-loop-row
-invariant-loop-row l = l.made.items ≡ map (line_put l.after) (take l.row-index l.rows)
+invariant-loop-row l = l.made.items ≡ map (imported_line_put l.after) (take l.row-index l.rows)

@@ -1,6 +1,6 @@
 use Rattle.std.proofs.Common.{◌≡◌, suc, add-one, ◌+◌, ◌*◌, ◌^◌, ◌∷◌, drop, subst, sym, ap, ◌∙◌, List, arith}
 use Rattle.std.proofs.Math.Seq.{drop-cons}
-use Rattle.tender_core.specs.Rules.Import.{cuts_nothing, cuts_too_much, passes_limit}
+use Rattle.tender_core.specs.Rules.Import.{cuts_nothing, cuts_too_much, passes_limit, cuts_below_zero}
 use Rattle.office_base.specs.declared.standing.Standing.{Standing}
 use Rattle.tender_core.specs.Walks.{AreNamed, AreAtMost}
 use Rattle.tender_core.proofs.Walked.{named_after, after_row-bound, small_columns, next_row, next_found, all_weaker}
@@ -31,4 +31,6 @@ loop-row-preserved c =
           split c.take_row.ensures c.columns_at.ensures c.findings_at-here.ensures.short c.joined-all.ensures.short c.loop-row.invariant.4,
       next_found passes_limit _ _ c.row-item.result c.loop-row.lines c.take_row.new.lines c.columns_at.result c.loop-row.all.past c.findings_at-here.result.past _ _
           split c.take_row.ensures c.columns_at.ensures c.findings_at-here.ensures.past c.joined-all.ensures.past c.loop-row.invariant.5,
+      next_found cuts_below_zero _ _ c.row-item.result c.loop-row.lines c.take_row.new.lines c.columns_at.result c.loop-row.all.lacking c.findings_at-here.result.lacking _ _
+          split c.take_row.ensures c.columns_at.ensures c.findings_at-here.ensures.lacking c.joined-all.ensures.lacking c.loop-row.invariant.6,
     )

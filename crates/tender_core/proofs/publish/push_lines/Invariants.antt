@@ -1,6 +1,6 @@
 use Rattle.std.proofs.Common.{◌≡◌, ◌++◌, map, take}
-use Rattle.tender_core.specs.Rules.Publish.{line_put}
+use Rattle.tender_core.specs.Rules.Publish.{reserving_line_put}
 use Rattle.tender_core.proofs.publish.push_lines.Given as goal
 
 abbrev pub invariant-loop-lot : goal.invariant-loop-lot
-invariant-loop-lot l = l.made.items ≡ l.fn.made.items ++ map (line_put l.lines l.lots) (take l.lot-index l.lots)
+invariant-loop-lot l = l.made.items ≡ l.fn.made.items ++ map (reserving_line_put l.lines l.lots) (take l.lot-index l.lots)

@@ -1,6 +1,6 @@
 use Rattle.std.proofs.Common.{◌≡◌, ◌++◌, map}
-use Rattle.tender_core.specs.Rules.Publish.{lot_put}
+use Rattle.tender_core.specs.Rules.Publish.{new_lot_put}
 use Rattle.tender_core.proofs.publish.push_lots.Given as goal
 
 abbrev pub invariant-loop-lot : goal.invariant-loop-lot
-invariant-loop-lot l = l.made.items ++ map (lot_put l.notice) l.lot-iterator.rest.items ≡ l.fn.made.items ++ map (lot_put l.notice) l.fn.lots.items
+invariant-loop-lot l = l.made.items ++ map (new_lot_put l.notice) l.lot-iterator.rest.items ≡ l.fn.made.items ++ map (new_lot_put l.notice) l.fn.lots.items

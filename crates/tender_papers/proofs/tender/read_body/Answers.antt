@@ -1,8 +1,8 @@
 use Rattle.std.proofs.Common.{◌≡◌, ap, sym, ◌∙◌}
 use Rattle.csv.specs.Records.{fields_of}
 use Rattle.tender_papers.specs.Inside.Reading.{records_left}
-use Rattle.tender_papers.specs.Tender.{body_of}
-use Rattle.tender_papers.specs.Inside.TenderParts.{end_of}
+use Rattle.tender_papers.specs.Tender.{paper_below_head}
+use Rattle.tender_papers.specs.Inside.TenderParts.{tender_ended_by}
 use Rattle.tender_papers.proofs.TenderSteps.{body_before, body_more, body_none, body_stops}
 use Rattle.tender_papers.proofs.tender.read_body.Goals as goal
 
@@ -14,7 +14,7 @@ records-preserved c =
     record {
       reading = c.in_ok-next_record.ensures.reading c.if-branch.true;
       read = rw c.in_ok-push-in-Some.ensures.items (
-          sym (ap (λ rs. body_before front (body_of rs)) next
+          sym (ap (λ rs. body_before front (paper_below_head rs)) next
           ∙ body_more front (fields_of c.next_record.new.row) (records_left c.next_record.new.reader) c.in-Some.item row)
           ∙ c.records.invariant.read);
     }
@@ -26,12 +26,12 @@ returns-in-None c =
     let front = c.records.rows.items in
     let fields = fields_of c.next_record.new.row in
     let rest = records_left c.next_record.new.reader in
-    let same : end_of front fields rest ≡ body_of (records_left c.args.reader.now) =
-    sym (body_stops front fields rest none) ∙ (sym (ap (λ rs. body_before front (body_of rs)) next) ∙ c.records.invariant.read) in
+    let same : tender_ended_by front fields rest ≡ paper_below_head (records_left c.args.reader.now) =
+    sym (body_stops front fields rest none) ∙ (sym (ap (λ rs. body_before front (paper_below_head rs)) next) ∙ c.records.invariant.read) in
     rw same at c.read_end.ensures
 
 pub returns : goal.returns
 returns c =
     let end = rw c.if-branch.false at c.in_ok-next_record.ensures.read in
     let front = c.records.rows.items in
-    sym (sym c.records.invariant.read ∙ (ap (λ rs. body_before front (body_of rs)) end ∙ body_none front))
+    sym (sym c.records.invariant.read ∙ (ap (λ rs. body_before front (paper_below_head rs)) end ∙ body_none front))

@@ -1,13 +1,13 @@
 use Rattle.std.proofs.Common.{◌≡◌, length}
 use Rattle.tender_papers.specs.Inside.Reading.{IsReading, records_left}
-use Rattle.tender_papers.specs.Tender.{body_of}
+use Rattle.tender_papers.specs.Tender.{paper_below_head}
 use Rattle.tender_papers.proofs.TenderSteps.{body_before}
 use Rattle.tender_papers.proofs.tender.read_body.Given as goal
 
 abbrev pub invariant-records : goal.invariant-records
 invariant-records l = record {
   reading : IsReading l.reader;
-  read : body_before l.rows.items (body_of (records_left l.reader)) ≡ body_of (records_left l.fn.reader);
+  read : body_before l.rows.items (paper_below_head (records_left l.reader)) ≡ paper_below_head (records_left l.fn.reader);
 }
 
 abbrev pub decreases-records : goal.decreases-records

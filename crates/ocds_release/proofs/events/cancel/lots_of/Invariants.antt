@@ -1,7 +1,7 @@
 use Rattle.std.proofs.Common.{◌≡◌, map, take}
 use Rattle.serde_json.specs.View.{view}
-use Rattle.ocds_release.specs.Events.Cancel.{cancelled_lot}
+use Rattle.ocds_release.specs.Events.Cancel.{cancelled_lot_data}
 use Rattle.ocds_release.proofs.events.cancel.lots_of.Given as goal
 
 abbrev pub invariant-loop-lot : goal.invariant-loop-lot
-invariant-loop-lot l = map view l.list.items ≡ map cancelled_lot (take l.lot-index l.lots)
+invariant-loop-lot l = map view l.list.items ≡ map cancelled_lot_data (take l.lot-index l.lots)

@@ -1,8 +1,8 @@
 use Rattle.std.proofs.Common.{◌≡◌, map, take}
 use Rattle.serde_json.specs.View.{view}
-use Rattle.ocds_release.specs.Tenderers.{tenderer_of}
+use Rattle.ocds_release.specs.Tenderers.{tenderer_shown}
 use Rattle.ocds_release.specs.Events.Open.{tenderer_reference_of}
 use Rattle.ocds_release.proofs.events.open.references_of.Given as goal
 
 abbrev pub invariant-loop-row : goal.invariant-loop-row
-invariant-loop-row l = map view l.list.items ≡ map tenderer_reference_of (map tenderer_of (take l.row-index l.rows))
+invariant-loop-row l = map view l.list.items ≡ map tenderer_reference_of (map tenderer_shown (take l.row-index l.rows))

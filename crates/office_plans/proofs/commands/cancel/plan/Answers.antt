@@ -1,28 +1,36 @@
-use Rattle.std.proofs.Common.{◌≡◌, ◌+◌, ℕ, ◌∙◌, ap, subst, max}
-use Rattle.office_acts.specs.declared.commands.Command.TheVariants.{Cancel}
-use Rattle.office_base.specs.Deciding.{Decides}
-use Rattle.office_base.specs.Rules.{first_of}
-use Rattle.office_base.specs.Tables.{notice_at}
-use Rattle.tender_core.specs.Rules.Cancel.{cancel_rows, cancel_tests, cancel_puts}
-use Rattle.tender_core.specs.declared.cancel.CancelRows.{CancelRows}
-use Rattle.office_machine.specs.Machine.{Given, time_of}
-use Rattle.office_machine.specs.Counted.{releases_in}
-use Rattle.office_machine.specs.Replies.{OfNotice}
-use Rattle.office_plans.specs.Asking.{given_by}
-use Rattle.office_plans.specs.Named.{cancel_named}
+use Rattle.std.specs.Prelude.{List, filter, map, ℕ}
+use Rattle.std.proofs.Common.{◌∙◌, ap, refl, sym}
+use Rattle.office_commands.specs.declared.commands.Command.TheVariants.{Cancel}
+use Rattle.office_base.specs.Tables.{Tables, lots_of_notice}
+use Rattle.office_machine.specs.Machine.{time_of}
+use Rattle.office_plans.proofs.NamedLines.{lines_agree}
+use Rattle.office_plans.proofs.Publishing.{IsTested, not_planned, puts_on, refused_on, two_looks}
 use Rattle.office_plans.proofs.commands.cancel.plan.Goals as goal
+use Rattle.office_plans.specs.Asking.{given_by}
+use Rattle.office_plans.specs.Named.{cancel_named, line_of_lot, lines_named}
+use Rattle.tender_core.specs.Rules.Cancel.{cancel_puts, cancel_rows, cancel_tests, is_open_lot}
+use Rattle.tender_core.specs.declared.asking.Asking.{Asking}
+use Rattle.tender_core.specs.declared.cancel.CancelRows.{CancelRows}
+
+-- its tests are those of the rows that it loads
+rule : (asking : Asking) (notice : List ℕ) (rationale : List ℕ) → IsTested asking (Cancel notice rationale) (λ (s : Tables). cancel_named s notice) (λ (rows : CancelRows). rows.clock)
+    (λ (rows : CancelRows) (t : ℕ). cancel_tests rows)
+rule asking notice rationale = record { clock = λ s. refl; tested = λ s. refl }
+
+pub returns-in-Some : goal.returns-in-Some
+returns-in-Some g c =
+    let a = c.args in
+    not_planned (rule a.asking.now a.notice a.rationale) _ _ c.time-t.ensures _ a.settings.now _ _ _ _ c.in_ok-rows.ensures c.requires c.refusal.ensures c.in-Some.is
 
 pub returns : goal.returns
-returns g c = (
-  c.load.ensures.0,
-  λ honest s held.
-      let a = c.args in
-      let n = a.notice in
-      let x : Given = given_by a.asking.now s (Cancel n a.rationale) in
-      let are : c.in_ok-rows.rows ≡ cancel_named s n = c.in_ok-rows.ensures.1 honest s held in
-      let time : c.time-t.result ≡ time_of x = c.time-t.ensures ∙ ap (λ (rows : CancelRows). max a.asking.now.moment rows.clock.moment) are in
-      let release : c.next_release.result ≡ releases_in (notice_at n s) + 1 = c.next_release.ensures ∙ ap (λ (rows : CancelRows). releases_in rows.notice + 1) are in
-      let at_moment : ℕ → Type 0 = λ t. Decides c.decide-decided.result (first_of (cancel_tests (cancel_rows s n))) (cancel_puts (cancel_rows s n) t) in
-      c.planned.ensures x tt c.requires (subst at_moment time (c.decide-decided.ensures s n are))
-      (λ allowed. ap (λ number. OfNotice n number c.time-t.result) release ∙ ap (λ t. OfNotice n (releases_in (notice_at n s) + 1) t) time),
-)
+returns g c =
+    let a = c.args in
+    let ruled = rule a.asking.now a.notice a.rationale in
+    let moment = c.time-t.ensures in
+    two_looks _ c.looks_follow.ensures _ _ _ _ _ _ c.in_ok-rows.ensures c.published.ensures
+    (λ s are joined.
+    let allowed = refused_on ruled _ _ moment _ c.requires c.refusal.ensures s are ∙ c.in_default.is in
+    let puts = puts_on ruled _ _ moment (λ (rows : CancelRows) (t : ℕ). cancel_puts rows t) _ c.in_ok-puts.ensures.puts s are
+    (sym (c.cancels_agree.ensures.puts (lines_named s (map line_of_lot (filter is_open_lot (lots_of_notice a.notice s)))) s.lines (cancel_rows s a.notice)
+    (time_of (given_by a.asking.now s (Cancel a.notice a.rationale))) (lines_agree c.rows_are_kept.ensures s line_of_lot (filter is_open_lot (lots_of_notice a.notice s))))) in
+    joined a.settings.now (given_by a.asking.now s (Cancel a.notice a.rationale)) refl tt allowed puts (c.in_ok-text.ensures s (ap (λ (rows : CancelRows). rows.notice) are) (ap (λ (rows : CancelRows). rows.clock) are)) (c.in_ok-release.ensures.release s are))

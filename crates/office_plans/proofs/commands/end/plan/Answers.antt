@@ -1,20 +1,34 @@
-use Rattle.std.specs.Prelude.{◌≡◌, ℕ, max}
-use Rattle.std.proofs.Common.{◌∙◌, ap}
-use Rattle.office_acts.specs.declared.commands.Command.TheVariants.{End}
-use Rattle.award_core.specs.Rules.End.{end_rows, end_tests, end_puts}
+use Rattle.std.specs.Prelude.{ℕ}
+use Rattle.std.proofs.Common.{◌∙◌, ap, refl, sym}
+use Rattle.award_core.specs.Rules.End.{end_puts, end_rows, end_tests}
 use Rattle.award_core.specs.declared.end.EndRows.{EndRows}
-use Rattle.office_machine.specs.Machine.{time_of}
-use Rattle.office_plans.specs.Asking.{given_by}
-use Rattle.office_plans.proofs.OnContracts.{decides_at}
+use Rattle.office_commands.specs.declared.commands.Command.TheVariants.{End}
+use Rattle.office_commands.specs.declared.contract.How.{How}
+use Rattle.office_base.specs.Tables.{Tables}
+use Rattle.office_plans.proofs.Publishing.{IsTested, not_planned, puts_on, refused_on, two_looks}
 use Rattle.office_plans.proofs.commands.end.plan.Goals as goal
+use Rattle.office_plans.specs.Asking.{given_by}
+use Rattle.std.specs.Option.{option_copied}
+use Rattle.tender_core.specs.declared.asking.Asking.{Asking}
+
+-- its tests are those of the rows that it loads
+rule : (asking : Asking) (contract : ℕ) (how : How) → IsTested asking (End contract how) (λ (s : Tables). end_rows s contract) (λ (rows : EndRows). rows.clock)
+    (λ (rows : EndRows) (t : ℕ). end_tests rows)
+rule asking contract how = record { clock = λ s. refl; tested = λ s. refl }
+
+pub returns-in-Some : goal.returns-in-Some
+returns-in-Some g c =
+    let a = c.args in
+    not_planned (rule a.asking.now a.contract a.how) _ _ c.time-t.ensures _ a.settings.now _ _ _ _ c.in_ok-rows.ensures.0 c.requires c.refusal.ensures c.in-Some.is
 
 pub returns : goal.returns
-returns g c = (
-  c.in_ok-rows.ensures.0.0,
-  λ honest s held.
-      let x = given_by c.args.asking.now s (End c.args.contract c.args.how) in
-      let are : c.in_ok-rows.rows ≡ end_rows s c.args.contract = c.in_ok-rows.ensures.0.1 honest s held in
-      let time : c.time-t.result ≡ time_of x = c.time-t.ensures ∙ ap (λ (rows : EndRows). max c.args.asking.now.moment rows.clock.moment) are in
-      let puts = λ (rows : EndRows) (t : ℕ). end_puts rows t c.args.how in
-      c.planned.ensures x tt c.requires (decides_at end_tests puts _ _ _ _ _ are time c.decide_end-decided.ensures) (c.in_ok-reply.ensures.said s c.args.how are),
-)
+returns g c =
+    let a = c.args in
+    let ruled = rule a.asking.now a.contract a.how in
+    let moment = c.time-t.ensures in
+    two_looks _ c.looks_follow.ensures _ _ _ _ _ _ c.in_ok-rows.ensures.0 c.published.ensures
+    (λ s are joined.
+    let allowed = refused_on ruled _ _ moment _ c.requires c.refusal.ensures s are ∙ c.in_default.is in
+    let puts = puts_on ruled _ _ moment (λ (rows : EndRows) (t : ℕ). end_puts rows t a.how) _ c.in_ok-puts.ensures.puts s are refl in
+    let row = sym c.as_ref.ensures.value ∙ ap option_copied c.unwrap-row.ensures in
+    joined a.settings.now (given_by a.asking.now s (End a.contract a.how)) refl tt allowed puts (c.in_ok-text.ensures.told s a.how are allowed) (c.in_ok-release.ensures.release s a.contract a.how are row))

@@ -1,11 +1,11 @@
 use Rattle.std.proofs.Common.{refl, [], ◌∷◌, ◌∙◌}
-use Rattle.office_rows.specs.Awards.{contract_row}
+use Rattle.office_rows.specs.Awards.{contract_values}
 use Rattle.office_rows.specs.Ranges.{ContractFits}
 use Rattle.office_rows.proofs.Exactly.{columns_are, other_width}
 use Rattle.office_rows.proofs.stored.ContractRowStored.from_row.Goals as goal
 
 pub returns-in_err-has_columns-clause-cause : goal.returns-in_err-has_columns-clause-cause
-returns-in_err-has_columns-clause-cause c = other_width contract_row ContractFits c.args.row.now 9 (λ x. refl) _ c.from_residual.result c.from_residual.ensures.1 c.in_err-has_columns.ensures.cause
+returns-in_err-has_columns-clause-cause c = other_width contract_values ContractFits c.args.row.now 9 (λ x. refl) _ c.from_residual.result c.from_residual.ensures.1 c.in_err-has_columns.ensures.cause
 
 pub returns-clause-exact : goal.returns-clause-exact
 returns-clause-exact c =

@@ -1,11 +1,11 @@
 use Rattle.std.proofs.Common.{refl, [], ◌∷◌, ◌∙◌}
-use Rattle.office_rows.specs.Notices.{tenderer_row}
+use Rattle.office_rows.specs.Notices.{tenderer_values}
 use Rattle.office_rows.specs.Ranges.{TendererFits}
 use Rattle.office_rows.proofs.Exactly.{columns_are, other_width}
 use Rattle.office_rows.proofs.stored.TendererRowStored.from_row.Goals as goal
 
 pub returns-in_err-has_columns-clause-cause : goal.returns-in_err-has_columns-clause-cause
-returns-in_err-has_columns-clause-cause c = other_width tenderer_row TendererFits c.args.row.now 4 (λ x. refl) _ c.from_residual.result c.from_residual.ensures.1 c.in_err-has_columns.ensures.cause
+returns-in_err-has_columns-clause-cause c = other_width tenderer_values TendererFits c.args.row.now 4 (λ x. refl) _ c.from_residual.result c.from_residual.ensures.1 c.in_err-has_columns.ensures.cause
 
 pub returns-clause-exact : goal.returns-clause-exact
 returns-clause-exact c =

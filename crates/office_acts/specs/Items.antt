@@ -1,6 +1,0 @@
--- The items of a lot.
-use Rattle.std.specs.Prelude.{ℕ, List}
-use Rattle.office_acts.specs.declared.item.Item.{Item}
-
-abbrev pub item_id : Item → List ℕ
-item_id item = item.id

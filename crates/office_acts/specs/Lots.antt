@@ -1,6 +1,0 @@
--- The lots of a notice.
-use Rattle.std.specs.Prelude.{ℕ, List}
-use Rattle.office_acts.specs.declared.lot.NewLot.{NewLot}
-
-abbrev pub lot_id : NewLot → List ℕ
-lot_id lot = lot.id

@@ -1,0 +1,31 @@
+-- Keys of tables: an order that is total, and ties only equal keys.
+use Rattle.std.specs.Prelude.{◌≡◌, true, List, [], ◌∷◌, Option, Some, None}
+use Rattle.std.proofs.Common.{refl, sym, ap, ◌∙◌}
+use Rattle.std.specs.Cmp.{IsTotalOrder}
+use Rattle.std.specs.FinMap.{IsAntisymmetric}
+use Rattle.std.specs.Ordering.{is_eq, eq_by_cmp}
+use Rattle.std.specs.declared.cmp.Ordering.{Ordering}
+use Rattle.std.specs.declared.cmp.Ordering.TheVariants.{Less, Equal, Greater}
+use Rattle.office_base.specs.Rows.{by_order, row_at}
+use Rattle.office_base.proofs.Orders.{same_key}
+
+-- a table's key and its order
+pub record IsKeyed {K X : Type 0} (R : K → K → Ordering) (key : X → K) : Type 0 where
+  pub total : IsTotalOrder R
+  pub exact : IsAntisymmetric R
+
+-- a key is the same as itself
+pub own_key : {K : Type 0} {R : K → K → Ordering} (o : IsTotalOrder R) (a : K) → eq_by_cmp R a a ≡ true
+own_key o a = ap is_eq (same_key o a)
+
+module _ {K X : Type 0} {R : K → K → Ordering} {key : X → K} (t : IsKeyed R key) where
+  -- a row that is found has the key that was asked for
+  pub found_key : (xs : List X) (k : K) (y : X) → row_at R key xs k ≡ Some y → key y ≡ k
+  unfolding row_at
+  found_key [] k y e = cc
+  found_key (x ∷ xs) k y e =
+      elim (R k (key x)) as (λ b. R k (key x) ≡ b → by_order b None (Some x) (row_at R key xs k) ≡ Some y → key y ≡ k) [
+        | Less ↦ λ o h. cc
+        | Equal ↦ λ o h. let same : x ≡ y = cc in ap key (sym same) ∙ sym (t.exact k (key x) o)
+        | Greater ↦ λ o h. found_key xs k y h
+      ] refl e

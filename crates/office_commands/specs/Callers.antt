@@ -1,0 +1,17 @@
+-- Who calls.
+use Rattle.std.specs.Prelude.{ℕ, Bool, false, List, []}
+use Rattle.office_values.specs.Ids.{same_id}
+use Rattle.office_commands.specs.declared.command.Caller.{Caller}
+use Rattle.office_commands.specs.declared.command.Caller.TheVariants.{Public, Clerk, Tenderer}
+
+-- this tenderer calls
+abbrev pub is_by : Caller → List ℕ → Bool
+is_by Public tenderer = false
+is_by Clerk tenderer = false
+is_by (Tenderer id) tenderer = same_id id tenderer
+
+-- the tenderer who calls; nobody's name else
+abbrev pub tenderer_of : Caller → List ℕ
+tenderer_of Public = []
+tenderer_of Clerk = []
+tenderer_of (Tenderer id) = id

@@ -1,0 +1,23 @@
+-- The kind of each command.
+use Rattle.office_commands.specs.declared.commands.Command.{Command}
+use Rattle.office_commands.specs.declared.commands.Command.TheVariants as commands
+use Rattle.office_commands.specs.declared.command.CommandKind.{CommandKind}
+use Rattle.office_commands.specs.declared.command.CommandKind.TheVariants as kinds
+
+abbrev pub kind_of : Command → CommandKind
+kind_of (commands.Import batch rows) = kinds.Import
+kind_of (commands.Register tenderer name address key) = kinds.Register
+kind_of (commands.Publish notice content) = kinds.Publish
+kind_of (commands.AmendNotice notice deadline rationale) = kinds.AmendNotice
+kind_of (commands.Cancel notice rationale) = kinds.Cancel
+kind_of (commands.Open notice) = kinds.Open
+kind_of (commands.Present notice lot security sealed) = kinds.Present
+kind_of (commands.Modify receipt sealed) = kinds.Modify
+kind_of (commands.Withdraw receipt) = kinds.Withdraw
+kind_of (commands.Examine receipt responsive quality) = kinds.Examine
+kind_of (commands.Award notice lot) = kinds.Award
+kind_of (commands.Fail award) = kinds.Fail
+kind_of (commands.Sign award security) = kinds.Sign
+kind_of (commands.AmendContract contract entry kind amount rationale) = kinds.AmendContract
+kind_of (commands.Pay contract entry amount) = kinds.Pay
+kind_of (commands.End contract how) = kinds.End

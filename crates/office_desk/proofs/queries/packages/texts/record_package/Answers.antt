@@ -1,0 +1,38 @@
+use Rattle.std.proofs.Common.{◌≡◌, ◌<◌, ◌∙◌, List, length, Option, sym, ap, subst}
+use Rattle.std.specs.Prelude.{ℕ, IfSome}
+use Rattle.serde_json.specs.Data.{Data}
+use Rattle.serde_json.specs.View.{view}
+use Rattle.serde_json.specs.Written.{compact_text}
+use Rattle.ocds_merge.specs.Compile.{with_head}
+use Rattle.ocds_merge.specs.Merge.{merge_or_null}
+use Rattle.ocds_release.specs.KeptReleases.{HasText}
+use Rattle.ocds_release.specs.Opened.{completed, moment_of_last}
+use Rattle.ocds_release.specs.Packages.{record_package}
+use Rattle.ocds_release.specs.Texts.{ocid_text}
+use Rattle.office_base.specs.Tables.{releases_of_notice}
+use Rattle.office_values.specs.Moments.{moment_text}
+use Rattle.office_publications.specs.Merges.{bodies}
+use Rattle.office_publications.specs.Packages.{compiled_told, releases_told}
+use Rattle.office_publications.specs.Told.{IsCompiled}
+use Rattle.office_desk.proofs.Packaged.{filled}
+use Rattle.office_desk.proofs.queries.packages.texts.record_package.Goals as goal
+
+pub returns-in-Ok-clause-looks : goal.returns-in-Ok-clause-looks
+returns-in-Ok-clause-looks g c = (
+  c.load_compiled.ensures.looks.0,
+  λ honest s held stands extent.
+      let notice = c.args.notice.now in
+      let settings = c.args.settings.now in
+      let rows = releases_of_notice notice s in
+      let family : Option ℕ → Type 0 = λ o. IfSome o (λ moment. (0 < length rows) × (moment_of_last rows ≡ moment)) in
+      let last = subst family c.in-Some.is extent.last in
+      let told : IsCompiled settings notice s = c.told.ensures.records settings s stands notice last.0 extent.range in
+      let release : view c.in_ok-release.release ≡ compiled_told settings notice s =
+      c.in_ok-release.ensures.looks.1 honest s held stands
+      ∙ (λ i. with_head (ocid_text settings.prefix notice) (moment_text (sym last.1 i)) (merge_or_null (bodies notice s)))
+      ∙ sym told.is in
+      filled (λ (ds : List Data). completed c.in-Ok.opened rows ≡ compact_text (record_package settings notice ds (view c.in_ok-release.release))) rows
+      (releases_told notice s) (c.told.ensures.releases settings s stands notice) last.0
+      (λ d ds kept. c.in-Ok.ensures rows d ds kept last.1 (subst HasText (sym release) told.has_text))
+      ∙ ap (λ (d : Data). compact_text (record_package settings notice (releases_told notice s) d)) release,
+)

@@ -1,0 +1,11 @@
+-- The accounts: moves, pots and what holds of them.
+pub mod AccountsKept
+pub mod AllFit
+pub mod Aside
+pub mod Balance
+pub mod Entered
+pub mod Idle
+pub mod Joins
+pub mod Kept
+pub mod LotChanged
+pub mod Outstanding

@@ -1,0 +1,81 @@
+-- What holds of an office that accepted commands reach.
+use Rattle.std.specs.Prelude.{◌≡◌, ℕ, ◌+◌, ◌≤◌, Bool, true, false, cond, List, Some, None, IsSome, is_some}
+use Rattle.office_values.specs.Ids.{same_id}
+use Rattle.office_base.specs.Sums.{sum_over}
+use Rattle.office_base.specs.States.{is_open, is_active}
+use Rattle.office_base.specs.EntryKinds.{is_raise, is_less, is_payment}
+use Rattle.office_base.specs.declared.records.LotRow.{LotRow}
+use Rattle.office_base.specs.declared.records.LotState.{LotState}
+use Rattle.office_base.specs.declared.records.LotState.TheVariants as lot_states
+use Rattle.office_base.specs.declared.records.AwardRow.{AwardRow}
+use Rattle.office_base.specs.declared.records.ContractRow.{ContractRow}
+use Rattle.office_base.specs.Tables.{Tables, find_line, find_lot, find_notice, find_award, find_contract}
+use Rattle.office_base.specs.Joined.{entry_sum, plus, minus, paid_under, is_on_line}
+use Rattle.office_machine.specs.Machine.{Given}
+use Rattle.office_machine.specs.Moves.{Move, Outside, Free, Reserved, Contracted, Paid, inflow, outflow, moves, reserved_for, brought, taken}
+use Rattle.office_machine.specs.Accounts.{appropriation, free}
+
+abbrev pub is_awarded : LotState → Bool
+is_awarded lot_states.Undecided = false
+is_awarded lot_states.Awarded = true
+is_awarded lot_states.Contracted = false
+is_awarded lot_states.Unsuccessful = false
+is_awarded lot_states.Cancelled = false
+
+-- what the lot has reserved of the line
+abbrev pub reserved_by : List ℕ → LotRow → ℕ
+reserved_by q lot = cond (same_id lot.line q) lot.reserved 0
+
+-- and all lots
+abbrev pub reserved_over : List ℕ → List LotRow → ℕ
+reserved_over q lots = sum_over (reserved_by q) lots
+
+-- a sum over the contracts that are joined with lots of the line
+abbrev pub over_contracts : (ContractRow → ℕ) → List LotRow → List ContractRow → List ℕ → ℕ
+over_contracts f lots contracts q = sum_over (λ (c : ContractRow). cond (is_on_line lots q c) (f c) 0) contracts
+
+-- each pot of the line is what came into it less what went out
+pub record PotsAre (ms : List Move) (s : Tables) (q : List ℕ) : Type 0 where
+  pub appropriation_is : appropriation q s + inflow ms q Outside ≡ outflow ms q Outside
+  pub free_is : free q s + outflow ms q Free ≡ inflow ms q Free
+  pub reserved_is : reserved_over q s.lots + outflow ms q Reserved ≡ inflow ms q Reserved
+  pub gains_are : over_contracts (plus s.entries) s.lots s.contracts q ≡ inflow ms q Contracted
+  pub losses_are : over_contracts (minus s.entries) s.lots s.contracts q ≡ outflow ms q Contracted
+  pub paid_is : over_contracts (paid_under s.entries) s.lots s.contracts q ≡ inflow ms q Paid
+  pub none_spent : outflow ms q Paid ≡ 0
+
+-- a lot's notice and line are there; while it is open it has reserved what is to be held for it
+pub record LotIs (xs : List Given) (s : Tables) (key : List ℕ × List ℕ) (lot : LotRow) : Type 0 where
+  pub of_notice : IsSome (find_notice s.notices key.0)
+  pub on_line : IsSome (find_line s.lines lot.line)
+  pub held : is_open lot.state ≡ true → reserved_for xs key ≡ lot.reserved
+
+-- an award's lot is there; while it is active the lot is awarded, and has its price reserved
+pub record AwardIs (s : Tables) (number : ℕ) (award : AwardRow) : Type 0 where
+  pub drawn : number ≤ s.clock.awards
+  pub of_lot : (l : LotRow) × (find_lot s.lots (award.notice, award.lot) ≡ Some l) × (is_active award.state ≡ true → (is_awarded l.state ≡ true) × (l.reserved ≡ award.price))
+
+-- a contract's lot and award are there; while it runs nothing is released; what is outstanding is what is owed
+pub record ContractIs (xs : List Given) (s : Tables) (number : ℕ) (c : ContractRow) : Type 0 where
+  pub of_lot : IsSome (find_lot s.lots (c.notice, c.lot))
+  pub of_award : (w : AwardRow) × (find_award s.awards number ≡ Some w) × (is_active w.state ≡ false)
+  pub running : is_some c.ended ≡ false → c.released ≡ 0
+  pub within : minus s.entries c ≤ plus s.entries c
+  pub came_in : plus s.entries c ≡ brought xs number
+  pub went_out : minus s.entries c ≡ taken xs number
+
+-- of a contract that isn't there, nothing is
+pub record NoContractIs (xs : List Given) (s : Tables) (number : ℕ) : Type 0 where
+  pub came_in : brought xs number ≡ 0
+  pub went_out : taken xs number ≡ 0
+  pub raised : entry_sum is_raise s.entries number ≡ 0
+  pub lessened : entry_sum is_less s.entries number ≡ 0
+  pub paid_out : entry_sum is_payment s.entries number ≡ 0
+
+pub record AccountsStand (xs : List Given) (s : Tables) : Type 0 where
+  pub pots : (q : List ℕ) → PotsAre (moves xs) s q
+  pub lots : (key : List ℕ × List ℕ) (lot : LotRow) → find_lot s.lots key ≡ Some lot → LotIs xs s key lot
+  pub awards : (number : ℕ) (award : AwardRow) → find_award s.awards number ≡ Some award → AwardIs s number award
+  pub one_active : (a b : ℕ) (w v : AwardRow) → find_award s.awards a ≡ Some w → find_award s.awards b ≡ Some v → is_active w.state ≡ true → is_active v.state ≡ true → w.notice ≡ v.notice → w.lot ≡ v.lot → a ≡ b
+  pub contracts : (number : ℕ) (c : ContractRow) → find_contract s.contracts number ≡ Some c → ContractIs xs s number c
+  pub no_contract : (number : ℕ) → find_contract s.contracts number ≡ None → NoContractIs xs s number

@@ -1,0 +1,63 @@
+-- What the laws of the office need of one command.
+use Rattle.std.specs.Prelude.{◌≡◌, ℕ, Bool, true, false, max, List, ◌∷◌, None}
+use Rattle.office_commands.specs.declared.command.Caller.{Caller}
+use Rattle.office_commands.specs.declared.commands.Command.{Command}
+use Rattle.office_commands.specs.declared.commands.Command.TheVariants.{Publish, Sign, End}
+use Rattle.office_base.specs.Rules.{first_of}
+use Rattle.office_base.specs.Tables.{Tables, IsSorted, after_puts}
+use Rattle.office_machine.specs.Readings.{Readings}
+use Rattle.office_machine.specs.Machine.{Given, IsCommand, IsRegistered, may_give, tests_for, puts_for}
+use Rattle.office_machine.specs.Parents.{HaveParents}
+use Rattle.office_machine.specs.Publications.{published_for}
+use Rattle.office_machine.specs.Rules.{rule_of}
+use Rattle.office_machine.proofs.Accounts.Aside.{IsIdle}
+use Rattle.office_machine.proofs.Commands.Footprint.{TableName, Contracts, LateRules, is_in}
+use Rattle.office_machine.proofs.Accounts.Idle.{touches_books}
+use Rattle.office_machine.proofs.Accounts.Kept.{AccountsStand}
+use Rattle.office_machine.proofs.FateLaws.FatesHold.{Keeps}
+use Rattle.office_machine.proofs.Parents.ParentsPut.{Grows, AllParents}
+use Rattle.office_machine.proofs.Parents.Whole.{IsWhole}
+use Rattle.office_machine.proofs.Commands.Tail.{HasTail, bond_for}
+use Rattle.office_machine.proofs.Worlds.WorldsStep.{PutsAlike}
+
+abbrev pub given : Tables → ℕ → Caller → Command → Given
+given s moment caller command = record { before = s; moment = moment; caller = caller; command = command }
+
+-- a command touches no book and moves nothing, or keeps the books as is shown
+pub data KeepsBooks (command : Command) (touches : List TableName) : Type 0 where
+  Idle : touches_books touches ≡ false → ((s : Tables) (moment : ℕ) (caller : Caller) (xs : List Given) → IsIdle (given s moment caller command) xs) → KeepsBooks command touches
+  Moving : ((readings : Readings) (xs : List Given) (s : Tables) (moment : ℕ) (caller : Caller) → AccountsStand xs s → IsSorted s → IsCommand command
+      → first_of (tests_for s (max moment s.clock.moment) caller command) ≡ None
+      → AccountsStand (given s moment caller command ∷ xs) (after_puts (puts_for readings s (max moment s.clock.moment) caller command) s)) → KeepsBooks command touches
+
+abbrev pub puts_contracts : Command → Bool
+puts_contracts (Sign award named) = true
+puts_contracts (End contract how) = true
+puts_contracts _ = false
+
+abbrev pub puts_late_rules : Command → Bool
+puts_late_rules (Publish notice content) = true
+puts_late_rules _ = false
+
+pub record Lawful (command : Command) : Type 0 where
+  -- the tables of its own rows
+  pub touches : List TableName
+  -- a signing and an end alone put contracts, a publication alone says something of late withdrawals
+  pub alone : (is_in touches Contracts ≡ puts_contracts command) × (is_in touches LateRules ≡ puts_late_rules command)
+  -- the books stay balanced
+  pub accounts : KeepsBooks command touches
+  -- tenders and securities go on as told
+  pub fates : (readings : Readings) → Keeps readings command
+  -- it puts rows of those tables, its notice with one release more where it publishes, and the clock at its moment
+  pub tail : (readings : Readings) (s : Tables) (moment : ℕ) (caller : Caller) → HaveParents s s
+      → first_of (tests_for s (max moment s.clock.moment) caller command) ≡ None
+      → HasTail s (max moment s.clock.moment) touches (published_for s command) (bond_for s command) (puts_for readings s (max moment s.clock.moment) caller command)
+  -- the rows that its rows speak of are there in tables that grew from those before it and after it
+  pub parents : (readings : Readings) (s : Tables) (moment : ℕ) (caller : Caller) → IsSorted s → HaveParents s s → IsRegistered caller s.tenderers → may_give caller command ≡ true
+      → first_of (tests_for s (max moment s.clock.moment) caller command) ≡ None → (u : Tables) → Grows s u
+      → Grows (after_puts (puts_for readings s (max moment s.clock.moment) caller command) s) u → AllParents u (puts_for readings s (max moment s.clock.moment) caller command)
+  -- in an office that commands reach nothing is lacking to it
+  pub lacks : (xs : List Given) (s : Tables) (moment : ℕ) (caller : Caller) → IsWhole xs s → first_of (tests_for s (max moment s.clock.moment) caller command) ≡ None
+      → (rule_of command).lacks s ≡ false
+  -- two offices that differ in what a tenderer seals stay alike
+  pub alike : PutsAlike command

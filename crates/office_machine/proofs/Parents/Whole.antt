@@ -1,0 +1,53 @@
+-- An office that commands reach: what its rows speak of is there, and no more went than came.
+use Rattle.std.specs.Prelude.{◌≡◌, ℕ, ◌≤◌, ◌<◌, Bool, true, false, not, ◌&&◌, List, filter, Option, Some, None, IsSome, is_some, nat_lt, option_and_then}
+use Rattle.std.proofs.Common.{refl, ap, subst, arith}
+use Rattle.std.proofs.lemmas.Bool.Decides.{nat_tests}
+use Rattle.office_base.specs.EntryKinds.{is_raise, is_less}
+use Rattle.office_base.specs.Joined.{is_overdrawn, minus, plus}
+use Rattle.office_base.specs.Parents.{line_of_lot, security_of_envelope}
+use Rattle.office_base.specs.Transitions.{lacks_security}
+use Rattle.office_base.specs.Tables.{IsSorted, Tables, contract_at, entries_of_contract, lot_at, same_number, security_at}
+use Rattle.office_base.specs.declared.records.ContractRow.{ContractRow}
+use Rattle.office_base.specs.declared.records.EntryRow.{EntryRow}
+use Rattle.office_base.specs.declared.records.EnvelopeRow.{EnvelopeRow}
+use Rattle.office_base.specs.declared.records.LotRow.{LotRow}
+use Rattle.office_base.proofs.RowLaws.Keyed.{found_key}
+use Rattle.office_machine.specs.Machine.{Given}
+use Rattle.office_machine.specs.Parents.{EnvelopeHas, HaveParents, HavePerformances}
+use Rattle.office_machine.proofs.Accounts.Joins.{entry_sum-own}
+use Rattle.office_machine.proofs.Accounts.Kept.{AccountsStand}
+use Rattle.office_machine.proofs.Rows.Keyed as keyed
+
+pub record IsWhole (xs : List Given) (s : Tables) : Type 0 where
+  pub parents : HaveParents s s
+  pub performances : HavePerformances s
+  pub accounts : AccountsStand xs s
+  pub order : IsSorted s
+
+pub not_less : (a b : ℕ) → b ≤ a → nat_lt a b ≡ false
+not_less a b h = grind (arith, nat_tests, h)
+
+pub less : (a b : ℕ) → nat_lt a b ≡ true → a < b
+less a b h = grind (arith, nat_tests, h)
+
+-- the security that a tender names
+module _ (s : Tables) (have : HaveParents s s) where
+  pub security_there : (e : EnvelopeRow) → EnvelopeHas s e → lacks_security e (security_of_envelope (Some e) s) ≡ false
+  security_there e h = by e.security h.security
+    where
+      by : (o : Option ℕ) → ((n : ℕ) → o ≡ Some n → IsSome (security_at n s)) → (is_some o && not (is_some (option_and_then (λ n. security_at n s) o))) ≡ false
+      by None there = refl
+      by (Some n) there = ap not (there n refl)
+
+  pub line_there : (key : List ℕ × List ℕ) (o : Option LotRow) → lot_at key s ≡ o → IsSome o → IsSome (line_of_lot o s)
+  line_there key None is there = absurd (let no : false ≡ true = there in cc)
+  line_there key (Some l) is there = (have.lots key l is).line
+
+-- no more went from a contract than came, as its own entries tell
+own_within : (es : List EntryRow) (n : ℕ) (c : ContractRow) → c.contract ≡ n → minus es c ≤ plus es c → is_overdrawn (filter (λ (e : EntryRow). same_number e.contract n) es) c ≡ false
+own_within es n c is within =
+    subst (λ n. is_overdrawn (filter (λ (e : EntryRow). same_number e.contract n) es) c ≡ false) is
+    (not_less _ _ (omega (arith, within, entry_sum-own is_raise es c.contract, entry_sum-own is_less es c.contract)))
+
+pub not_overdrawn : (xs : List Given) (s : Tables) → AccountsStand xs s → (contract : ℕ) (c : ContractRow) → contract_at contract s ≡ Some c → is_overdrawn (entries_of_contract contract s) c ≡ false
+not_overdrawn xs s kept contract c is = own_within s.entries contract c (found_key keyed.contracts s.contracts contract c is) (kept.contracts contract c is).within

@@ -1,0 +1,9 @@
+-- Two worlds, alike but for what one tenderer seals.
+pub mod RepliesAlike
+pub mod SealsKept
+pub mod WholeRuns
+pub mod WorldsKept
+pub mod WorldsPut
+pub mod WorldsRows
+pub mod WorldsSealed
+pub mod WorldsStep

@@ -1,0 +1,37 @@
+-- What follows from a decision that was made on rows.
+use Rattle.std.specs.Prelude.{◌≡◌, ◌⊎◌, Bool, List, Option, Some, None, Result, Vec, Ok, Err, IsErrAnd}
+use Rattle.std.proofs.Common.{◌∙◌, refl, sym, subst, inl, inr}
+use Rattle.std.specs.declared.alloc.Global.{Global}
+use Rattle.office_values.specs.declared.refusal.Refusal.{Refusal}
+use Rattle.office_values.specs.declared.refusal.Refusal.TheVariants.{Unavailable}
+use Rattle.office_values.specs.declared.settings.Settings.{Settings}
+use Rattle.office_base.specs.Deciding.{Decides}
+use Rattle.office_base.specs.declared.puts.Put.{Put}
+use Rattle.office_machine.specs.Machine.{Given, refusal_of}
+use Rattle.office_plans.specs.Plans.{Plan}
+use Rattle.office_plans.specs.Published.{IsPlanned}
+
+-- a refusal is the first whose condition holds, or Unavailable
+pub refuses : (why : Refusal) (first : Option Refusal) (lacks : Bool) (made : List Put) → Decides (Err why) first lacks made → (first ≡ Some why) ⊎ (why ≡ Unavailable)
+unfolding Decides
+refuses why (Some w) lacks made is = inl (let same : w ≡ why = cc in λ i. Some (same i))
+refuses why None lacks made is = inr is.1
+
+-- where it is Ok no condition holds
+pub allows : (puts : Vec Put Global) (first : Option Refusal) (lacks : Bool) (made : List Put) → Decides (Ok puts) first lacks made → first ≡ None
+unfolding Decides
+allows puts (Some w) lacks made is = absurd cc
+allows puts None lacks made is = refl
+
+-- and these are the puts
+pub makes : (puts : Vec Put Global) (first : Option Refusal) (lacks : Bool) (made : List Put) → Decides (Ok puts) first lacks made → puts.items ≡ made
+unfolding Decides
+makes puts (Some w) lacks made is = absurd cc
+makes puts None lacks made is = is.0.1
+
+-- so what is handed on is the command's refusal, where its refusal is that one, or Unavailable
+pub told_refused : (settings : Settings) (x : Given) (result : Result Plan Refusal) (why : Refusal) (first : Option Refusal) → IsErrAnd result (λ y. y ≡ why)
+    → refusal_of x ≡ first → (first ≡ Some why) ⊎ (why ≡ Unavailable) → IsPlanned settings x result
+told_refused settings x (Ok planned) why first same refused is = absurd same
+told_refused settings x (Err y) why first same refused (inl is) = inl (subst (λ (w : Refusal). refusal_of x ≡ Some w) (sym same) (refused ∙ is))
+told_refused settings x (Err y) why first same refused (inr is) = inr (same ∙ is)

@@ -1,0 +1,6 @@
+-- What is so of a value, where there is one, gives what follows from it.
+use Rattle.std.specs.Prelude.{Result, Ok, Err, IfOk}
+
+pub if_ok : {T E : Type 0} {P Q : T → Type 0} (result : Result T E) → IfOk result P → ((v : T) → P v → Q v) → IfOk result Q
+if_ok (Ok v) is follows = follows v is
+if_ok (Err why) is follows = tt

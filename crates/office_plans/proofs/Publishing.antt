@@ -1,0 +1,77 @@
+-- A command that is decided on rows that were looked up: the decision is the machine's, and what is looked up leaves the shelf as it was.
+use Rattle.std.specs.Prelude.{◌≡◌, ℕ, Bool, true, not, cond, List, Option, Some, Err, max}
+use Rattle.std.proofs.Common.{◌∙◌, ap, inl, sym}
+use Rattle.office_values.specs.declared.refusal.Refusal.{Refusal}
+use Rattle.office_values.specs.declared.refusal.Refusal.TheVariants.{Forbidden}
+use Rattle.office_values.specs.declared.settings.Settings.{Settings}
+use Rattle.office_commands.specs.declared.commands.Command.{Command}
+use Rattle.office_base.specs.Rules.{first_of}
+use Rattle.office_base.specs.Shelves.{Looks, LooksFollow, Meaning}
+use Rattle.office_base.specs.Tables.{Tables}
+use Rattle.office_base.specs.declared.puts.Put.{Put}
+use Rattle.office_base.specs.declared.records.ClockRow.{ClockRow}
+use Rattle.office_machine.specs.Machine.{Given, command_tests, effect, may_give, refusal_of, time_of}
+use Rattle.office_machine.specs.OfficeMeans.{office_readings}
+use Rattle.office_plans.specs.Asking.{given_by}
+use Rattle.office_plans.specs.Published.{IsPlanned}
+use Rattle.tender_core.specs.declared.asking.Asking.{Asking}
+
+-- a command that its caller may give is refused as its own tests say
+refused_by : (x : Given) → may_give x.caller x.command ≡ true → refusal_of x ≡ first_of (command_tests x)
+refused_by x may = ap (λ (b : Bool). cond (not b) (Some Forbidden) (first_of (command_tests x))) may
+
+-- the tests of a command's rule are these of these rows, which have the office's clock
+pub record IsTested {R : Type 0} (asking : Asking) (command : Command) (rows_of : Tables → R) (clock_in : R → ClockRow) (tests : R → ℕ → List (Bool × Refusal)) : Type 0 where
+  pub clock : (s : Tables) → clock_in (rows_of s) ≡ s.clock
+  pub tested : (s : Tables) → command_tests (given_by asking s command) ≡ tests (rows_of s) (time_of (given_by asking s command))
+
+-- rows that were loaded, and the moment by their clock
+module _ {R : Type 0} {asking : Asking} {command : Command} {rows_of : Tables → R} {clock_in : R → ClockRow} {tests : R → ℕ → List (Bool × Refusal)}
+    (ruled : IsTested asking command rows_of clock_in tests) (rows : R) (t : ℕ) (moment : t ≡ max asking.moment (clock_in rows).moment) where
+  abbrev x : Tables → Given
+  x s = given_by asking s command
+
+  pub time_is : (s : Tables) → rows ≡ rows_of s → t ≡ time_of (x s)
+  time_is s are = moment ∙ ap (λ (r : R). max asking.moment (clock_in r).moment) are ∙ ap (λ (c : ClockRow). max asking.moment c.moment) (ruled.clock s)
+
+  pub on_rows : {Y : Type 0} (f : R → ℕ → Y) (s : Tables) → rows ≡ rows_of s → f rows t ≡ f (rows_of s) (time_of (x s))
+  on_rows f s are = ap (λ (m : R). f m t) are ∙ ap (λ (n : ℕ). f (rows_of s) n) (time_is s are)
+
+  -- so a refusal on them is the command's, and puts on them are its effect
+  pub refused_on : (answer : Option Refusal) → may_give asking.caller.now command ≡ true → answer ≡ first_of (tests rows t) → (s : Tables) → rows ≡ rows_of s
+      → refusal_of (x s) ≡ answer
+  refused_on answer may is s are =
+      refused_by (x s) may ∙ ap first_of (ruled.tested s) ∙ sym (on_rows (λ (m : R) (n : ℕ). first_of (tests m n)) s are) ∙ sym is
+
+  pub puts_on : (puts : R → ℕ → List Put) (made : List Put) → made ≡ puts rows t → (s : Tables) → rows ≡ rows_of s
+      → effect office_readings (x s) ≡ puts (rows_of s) (time_of (x s)) → made ≡ effect office_readings (x s)
+  puts_on puts made is s are own = is ∙ on_rows puts s are ∙ sym own
+
+  -- where the decision refuses, so does the plan
+  pub not_planned : {S : Type 0} (M : Meaning S) (settings : Settings) (a b : S) (answer : Option Refusal) (why : Refusal) → Looks M a b (λ s. rows ≡ rows_of s)
+      → may_give asking.caller.now command ≡ true → answer ≡ first_of (tests rows t) → answer ≡ Some why → Looks M a b (λ s. IsPlanned settings (x s) (Err why))
+  not_planned M settings a b answer why looked may is refused = (looked.0, λ honest s held. inl (refused_on answer may is s (looked.1 honest s held) ∙ refused))
+
+-- of two calls that only look, one after the other, both are so at once
+pub two_looks : {S : Type 0} (M : Meaning S) → LooksFollow M → (a b c : S) (P Q All : Tables → Type 0) → Looks M a b P → Looks M b c Q
+    → ((s : Tables) → P s → Q s → All s) → Looks M a c All
+two_looks M follow a b c P Q All first second all = (
+  follow a b c first.0 second.0,
+  λ honest s held.
+      let sooner = second.0.before honest in
+      all s (first.1 sooner s held) (second.1 honest s (first.0.same sooner s held)),
+)
+
+-- so it is of three
+pub three_looks : {S : Type 0} (M : Meaning S) → LooksFollow M → (a b c d : S) (P Q R All : Tables → Type 0) → Looks M a b P → Looks M b c Q → Looks M c d R
+    → ((s : Tables) → P s → Q s → R s → All s) → Looks M a d All
+three_looks M follow a b c d P Q R All first second third all =
+    two_looks M follow a c d (λ s. P s × Q s) R All (two_looks M follow a b c P Q (λ s. P s × Q s) first second (λ s p q. (p, q))) third (λ s both r. all s both.0 both.1 r)
+
+-- and of four
+pub four_looks : {S : Type 0} (M : Meaning S) → LooksFollow M → (a b c d e : S) (P Q R T All : Tables → Type 0) → Looks M a b P → Looks M b c Q → Looks M c d R
+    → Looks M d e T → ((s : Tables) → P s → Q s → R s → T s → All s) → Looks M a e All
+four_looks M follow a b c d e P Q R T All first second third fourth all =
+    two_looks M follow a d e (λ s. P s × Q s × R s) T All
+    (three_looks M follow a b c d P Q R (λ s. P s × Q s × R s) first second third (λ s p q r. (p, q, r))) fourth
+    (λ s three t. all s three.0 three.1 three.2 t)

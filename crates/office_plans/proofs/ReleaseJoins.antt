@@ -1,0 +1,72 @@
+-- A release that a command publishes, and the merge that it joins, beside what the command puts.
+use Rattle.std.specs.Prelude.{◌≡◌, ℕ, ◌+◌, ◌-◌, true, List, ◌∷◌, [], ◌++◌, Option, Some, None, Result, Ok, Err, IfOk, IfErr}
+use Rattle.std.proofs.Common.{sym, ◌∙◌, ap, subst, inr, arith}
+use Rattle.std.proofs.lemmas.List.{append_assoc}
+use Rattle.office_values.specs.declared.refusal.Refusal.{Refusal}
+use Rattle.office_values.specs.declared.refusal.Refusal.TheVariants.{Unavailable}
+use Rattle.office_values.specs.declared.settings.Settings.{Settings}
+use Rattle.office_base.specs.Tables.{notice_at}
+use Rattle.office_base.specs.declared.puts.Put.{Put}
+use Rattle.office_base.specs.declared.puts.Put.TheVariants.{Release, Compiled}
+use Rattle.office_base.specs.declared.records.ReleaseRow.{ReleaseRow}
+use Rattle.office_machine.specs.Counted.{releases_in}
+use Rattle.office_machine.specs.Machine.{Given, IsCommand, effect, publication, publication_puts, refusal_of}
+use Rattle.office_machine.specs.OfficeMeans.{office_readings}
+use Rattle.office_publications.specs.Keeping.{CanBeFollowed, FollowsReleases, KeepsItsReleases, ReadsBack, has_last_release, kept_puts, merge_puts, merged_row}
+use Rattle.office_publications.specs.Merges.{HasMerge}
+use Rattle.office_publications.specs.Publishing.{publishing}
+use Rattle.office_publications.specs.declared.publication.Publication.{Publication}
+use Rattle.office_plans.specs.Plans.{Plan}
+use Rattle.office_plans.specs.Published.{IsPlanned, accepted_reply}
+use Rattle.office_plans.specs.Released.{IsKept, IsReleased, as_row}
+use Rattle.office_plans.specs.Replies.{reply_text}
+use Rattle.office_plans.specs.declared.published.Released.{Released}
+
+before_next : (seq n : ℕ) → seq ≡ n + 1 → seq - 1 ≡ n
+before_next seq n next = omega (arith, next)
+
+-- a release is published behind the one in front of it, and joins the merge
+pub follows : (settings : Settings) (x : Given) (r : Released) → IsReleased settings x r → has_last_release r.notice (r.seq - 1) x.before ≡ true
+    → HasMerge r.notice x.before → FollowsReleases x
+follows settings x r released there merge notice is =
+    let found : Some r.notice ≡ Some notice = sym released.for_notice ∙ is in
+    let same : r.notice ≡ notice = cc in
+    let last = ap (λ k. has_last_release r.notice k x.before) (sym (before_next r.seq (releases_in (notice_at r.notice x.before)) released.next)) ∙ there in
+    subst (λ (n : List ℕ). CanBeFollowed n x.before) same (record { last = last; merge = merge })
+
+module _ (settings : Settings) (x : Given) (r : Released) (p : Publication) (released : IsReleased settings x r) where
+  abbrev puts_with : Option ReleaseRow → List Put
+  puts_with o = (effect office_readings x ++ publication_puts o) ++ merge_puts x.before o
+
+  -- the release and its merge
+  abbrev both : List Put
+  both = Release p.release ∷ Compiled p.merge ∷ []
+
+  all_put : (puts all : List Put) → puts ≡ effect office_readings x → all ≡ puts ++ both → IsKept x.before r p → all ≡ kept_puts settings x
+  all_put puts all is are kept =
+      let two : ReleaseRow → List Put = λ row. Release row ∷ Compiled (merged_row x.before row) ∷ [] in
+      are ∙ ap (λ ps. ps ++ both) is
+      ∙ ap (λ c. effect office_readings x ++ (Release p.release ∷ Compiled c ∷ [])) kept.merge
+      ∙ ap (λ row. effect office_readings x ++ two row) kept.release
+      ∙ sym (append_assoc (effect office_readings x) (Release (as_row r) ∷ []) (Compiled (merged_row x.before (as_row r)) ∷ []))
+      ∙ ap puts_with (sym released.is)
+
+  reads_back : IsKept x.before r p → (row : ReleaseRow) → publication (publishing settings) x ≡ Some row → ReadsBack x.before row
+  reads_back kept row is =
+      let found : Some (as_row r) ≡ Some row = sym released.is ∙ is in
+      let same : as_row r ≡ row = cc in
+      subst (ReadsBack x.before) (kept.release ∙ same) kept.reads
+
+  -- the plan with both, or want of memory
+  pub is_planned : IsCommand x.command → refusal_of x ≡ None → FollowsReleases x → (puts : List Put) (text : List ℕ) → puts ≡ effect office_readings x
+      → text ≡ reply_text (accepted_reply x) → (KeepsItsReleases x → IsKept x.before r p) → (result : Result Plan Refusal)
+      → IfOk result (λ (q : Plan). q.puts ≡ puts ++ both) → IfOk result (λ (q : Plan). q.reply ≡ text) → IfErr result (λ why. why ≡ Unavailable)
+      → IsPlanned settings x result
+  is_planned given allowed follows puts text is told kept (Ok q) are reply none = record {
+    given = given;
+    allowed = allowed;
+    follows = follows;
+    put = λ keeps. record { puts = all_put puts q.puts is are (kept keeps); reads = reads_back (kept keeps) };
+    reply = reply ∙ told;
+  }
+  is_planned given allowed follows puts text is told kept (Err why) are reply none = inr none

@@ -1,0 +1,36 @@
+use Rattle.std.specs.Prelude.{Bool, Option, ℕ}
+use Rattle.std.proofs.Common.{◌∙◌, ap, refl}
+use Rattle.award_core.specs.Rules.Examine.{examine_puts, examine_rows, examine_tests}
+use Rattle.award_core.specs.declared.examine.ExamineRows.{ExamineRows}
+use Rattle.office_commands.specs.declared.commands.Command.TheVariants.{Examine}
+use Rattle.office_base.specs.Tables.{Tables}
+use Rattle.office_machine.specs.Replies.{Examined}
+use Rattle.office_plans.proofs.Publishing.{IsTested, not_planned, puts_on, refused_on, time_is}
+use Rattle.office_plans.proofs.commands.examine.plan.Goals as goal
+use Rattle.office_plans.specs.Asking.{given_by}
+use Rattle.office_plans.specs.Replies.{reply_text}
+use Rattle.tender_core.specs.declared.asking.Asking.{Asking}
+
+-- its tests are those of the rows that it loads
+rule : (asking : Asking) (receipt : ℕ) (responsive : Bool) (quality : Option ℕ) → IsTested asking (Examine receipt responsive quality) (λ (s : Tables). examine_rows s receipt) (λ (rows : ExamineRows). rows.clock)
+    (λ (rows : ExamineRows) (t : ℕ). examine_tests rows responsive quality)
+rule asking receipt responsive quality = record { clock = λ s. refl; tested = λ s. refl }
+
+pub returns-in-Some : goal.returns-in-Some
+returns-in-Some g c settings =
+    let a = c.args in
+    not_planned (rule a.asking.now a.receipt a.responsive a.quality) _ _ c.time-t.ensures _ settings _ _ _ _ c.in_ok-rows.ensures.0 c.requires c.refusal.ensures c.in-Some.is
+
+pub returns : goal.returns
+returns g c settings =
+    let a = c.args in
+    let ruled = rule a.asking.now a.receipt a.responsive a.quality in
+    let moment = c.time-t.ensures in (
+      c.in_ok-rows.ensures.0.0,
+      λ honest s held.
+          let are = c.in_ok-rows.ensures.0.1 honest s held in
+          let allowed = refused_on ruled _ _ moment _ c.requires c.refusal.ensures s are ∙ c.in_default.is in
+          let puts = puts_on ruled _ _ moment (λ (rows : ExamineRows) (t : ℕ). examine_puts rows t a.responsive a.quality) _ c.in_ok-puts.ensures.puts s are refl in
+          let told = c.in_ok-text.ensures ∙ ap (λ t. reply_text (Examined a.receipt a.responsive t)) (time_is ruled _ _ moment s are) in
+          c.silent.ensures settings (given_by a.asking.now s (Examine a.receipt a.responsive a.quality)) tt allowed refl refl puts told,
+    )

@@ -1,0 +1,33 @@
+use Rattle.std.specs.Prelude.{ℕ}
+use Rattle.std.proofs.Common.{◌∙◌, ap, refl, sym}
+use Rattle.award_core.specs.Rules.Fail.{fail_puts, fail_rows, fail_tests}
+use Rattle.award_core.specs.declared.fail.FailRows.{FailRows}
+use Rattle.office_commands.specs.declared.commands.Command.TheVariants.{Fail}
+use Rattle.office_base.specs.Tables.{Tables}
+use Rattle.office_plans.proofs.Publishing.{IsTested, not_planned, puts_on, refused_on, two_looks}
+use Rattle.office_plans.proofs.commands.fail.plan.Goals as goal
+use Rattle.office_plans.specs.Asking.{given_by}
+use Rattle.std.specs.Option.{option_copied}
+use Rattle.tender_core.specs.declared.asking.Asking.{Asking}
+
+-- its tests are those of the rows that it loads
+rule : (asking : Asking) (award : ℕ) → IsTested asking (Fail award) (λ (s : Tables). fail_rows s award) (λ (rows : FailRows). rows.clock)
+    (λ (rows : FailRows) (t : ℕ). fail_tests rows t)
+rule asking award = record { clock = λ s. refl; tested = λ s. refl }
+
+pub returns-in-Some : goal.returns-in-Some
+returns-in-Some g c =
+    let a = c.args in
+    not_planned (rule a.asking.now a.award) _ _ c.time-t.ensures _ a.settings.now _ _ _ _ c.in_ok-rows.ensures.0 c.requires c.refusal.ensures c.in-Some.is
+
+pub returns : goal.returns
+returns g c =
+    let a = c.args in
+    let ruled = rule a.asking.now a.award in
+    let moment = c.time-t.ensures in
+    two_looks _ c.looks_follow.ensures _ _ _ _ _ _ c.in_ok-rows.ensures.0 c.published.ensures
+    (λ s are joined.
+    let allowed = refused_on ruled _ _ moment _ c.requires c.refusal.ensures s are ∙ c.in_default.is in
+    let puts = puts_on ruled _ _ moment (λ (rows : FailRows) (t : ℕ). fail_puts rows t) _ c.in_ok-puts.ensures.puts s are refl in
+    let row = sym c.as_ref.ensures.value ∙ ap option_copied c.unwrap-row.ensures in
+    joined a.settings.now (given_by a.asking.now s (Fail a.award)) refl tt allowed puts (c.in_ok-text.ensures s are) (c.in_ok-release.ensures.release s a.award are row))

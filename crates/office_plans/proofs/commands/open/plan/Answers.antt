@@ -1,0 +1,40 @@
+use Rattle.std.specs.Prelude.{List, ℕ}
+use Rattle.std.proofs.Common.{◌∙◌, ap, refl, sym}
+use Rattle.office_commands.specs.declared.commands.Command.TheVariants.{Open}
+use Rattle.office_base.specs.Tables.{Tables, notice_at}
+use Rattle.office_machine.specs.Machine.{time_of}
+use Rattle.office_machine.specs.OfficeMeans.{office_readings}
+use Rattle.office_machine.specs.Rule.{sealed_tenders}
+use Rattle.office_plans.proofs.Publishing.{IsTested, four_looks, not_planned, puts_on, refused_on}
+use Rattle.office_plans.proofs.ReadTenders.{tenders_are}
+use Rattle.office_plans.proofs.commands.open.plan.Goals as goal
+use Rattle.office_plans.specs.Asking.{given_by}
+use Rattle.tender_core.specs.Rules.Open.{open_rows, open_tests, opened_with}
+use Rattle.tender_core.specs.declared.asking.Asking.{Asking}
+use Rattle.tender_core.specs.declared.opening.OpenRows.{OpenRows}
+use Rattle.tender_core.specs.declared.opening.OpenedTender.{OpenedTender}
+
+-- its tests are those of the rows that it loads
+rule : (asking : Asking) (notice : List ℕ) → IsTested asking (Open notice) (λ (s : Tables). open_rows s notice) (λ (rows : OpenRows). rows.clock)
+    (λ (rows : OpenRows) (t : ℕ). open_tests rows t)
+rule asking notice = record { clock = λ s. refl; tested = λ s. refl }
+
+pub returns-in-Some : goal.returns-in-Some
+returns-in-Some g c =
+    let a = c.args in
+    not_planned (rule a.asking.now a.notice) _ _ c.time-t.ensures _ a.settings.now _ _ _ _ c.in_ok-rows.ensures.0 c.requires c.refusal.ensures c.in-Some.is
+
+pub returns : goal.returns
+returns g c =
+    let a = c.args in
+    let ruled = rule a.asking.now a.notice in
+    let moment = c.time-t.ensures in
+    four_looks _ c.looks_follow.ensures _ _ _ _ _ _ _ _ _ _ c.in_ok-rows.ensures.0 c.in_ok-tenders.ensures.looks c.in_ok-release.ensures.looks c.published.ensures
+    (λ s are read released joined.
+    let allowed = refused_on ruled _ _ moment _ c.requires c.refusal.ensures s are ∙ c.in_default.is in
+    let time = time_of (given_by a.asking.now s (Open a.notice)) in
+    let puts =
+    puts_on ruled _ _ moment (λ (rows : OpenRows) (t : ℕ). opened_with rows.clock t rows.notice c.in_ok-tenders.tenders) _ c.in_ok-puts.ensures.puts s are
+    (c.readings_are_put.ensures office_readings.read (open_rows s a.notice) time (sealed_tenders a.notice s)
+    ∙ ap (λ (ts : List OpenedTender). opened_with s.clock time (notice_at a.notice s) ts) (sym (read ∙ tenders_are a.notice s))) in
+    joined a.settings.now (given_by a.asking.now s (Open a.notice)) refl tt allowed puts (c.in_ok-text.ensures s are (c.as_slice.ensures ∙ read)) (released are (c.as_slice-2.ensures ∙ read)))

@@ -1,0 +1,54 @@
+use Rattle.std.specs.Prelude.{◌≡◌, List, map, ℕ}
+use Rattle.std.proofs.Common.{◌∙◌, ap, refl, subst, sym}
+use Rattle.office_commands.specs.declared.commands.Command.TheVariants.{Publish}
+use Rattle.office_commands.specs.declared.lot.NewLot.{NewLot}
+use Rattle.office_commands.specs.declared.notice.NewNotice.{NewNotice}
+use Rattle.office_base.specs.RowLaws.{RowsAreKept}
+use Rattle.office_base.specs.Shelves.{Looks, Meaning}
+use Rattle.office_base.specs.Tables.{Tables, line_key}
+use Rattle.office_machine.specs.Machine.{time_of}
+use Rattle.office_plans.proofs.NamedLines.{lines_agree}
+use Rattle.office_plans.proofs.Publishing.{IsTested, not_planned, puts_on, refused_on, two_looks}
+use Rattle.office_plans.proofs.commands.publish.plan.Goals as goal
+use Rattle.office_plans.specs.Asking.{given_by}
+use Rattle.office_plans.specs.Named.{line_of_new, lines_named, publish_named}
+use Rattle.office_values.specs.Ids.{id_cmp}
+use Rattle.tender_core.specs.Agreeing.{PublishesAgree}
+use Rattle.tender_core.specs.Rules.Publish.{publish_puts, publish_rows, publish_tests}
+use Rattle.tender_core.specs.declared.asking.Asking.{Asking}
+use Rattle.tender_core.specs.declared.publish.PublishRows.{PublishRows}
+
+-- its tests are those of the rows that it loads
+rule : RowsAreKept id_cmp line_key → PublishesAgree → (asking : Asking) (notice : List ℕ) (content : NewNotice) → IsTested asking (Publish notice content) (λ (s : Tables). publish_named s notice content.lots) (λ (rows : PublishRows). rows.clock)
+    (λ (rows : PublishRows) (t : ℕ). publish_tests rows t content)
+rule kept laws asking notice content = record {
+  clock = λ s. refl;
+  tested = λ s. sym
+      (laws.tests (lines_named s (map line_of_new content.lots)) s.lines (publish_rows s notice) (time_of (given_by asking s (Publish notice content))) content
+      (lines_agree kept s line_of_new content.lots));
+}
+
+-- rows that were loaded by the lots of a content are those of its lots
+loaded : {S : Type 0} (M : Meaning S) (a b : S) (rows : PublishRows) (notice : List ℕ) (borrowed lots : List NewLot) → borrowed ≡ lots
+    → Looks M a b (λ (s : Tables). rows ≡ publish_named s notice borrowed) → Looks M a b (λ (s : Tables). rows ≡ publish_named s notice lots)
+loaded M a b rows notice borrowed lots same looked = subst (λ (ls : List NewLot). Looks M a b (λ (s : Tables). rows ≡ publish_named s notice ls)) same looked
+
+pub returns-in-Some : goal.returns-in-Some
+returns-in-Some g c =
+    let a = c.args in
+    let looked = loaded _ _ _ _ a.notice _ a.content.lots c.as_slice.ensures.value c.in_ok-rows.ensures in
+    not_planned (rule c.rows_are_kept.ensures c.publishes_agree.ensures a.asking.now a.notice a.content) _ _ c.time-t.ensures _ a.settings.now _ _ _ _ looked c.requires c.refusal.ensures c.in-Some.is
+
+pub returns : goal.returns
+returns g c =
+    let a = c.args in
+    let ruled = rule c.rows_are_kept.ensures c.publishes_agree.ensures a.asking.now a.notice a.content in
+    let moment = c.time-t.ensures in
+    let looked = loaded _ _ _ _ a.notice _ a.content.lots c.as_slice.ensures.value c.in_ok-rows.ensures in
+    two_looks _ c.looks_follow.ensures _ _ _ _ _ _ looked c.published.ensures
+    (λ s are joined.
+    let allowed = refused_on ruled _ _ moment _ c.requires c.refusal.ensures s are ∙ c.in_default.is in
+    let puts = puts_on ruled _ _ moment (λ (rows : PublishRows) (t : ℕ). publish_puts rows t a.notice a.content) _ c.in_ok-puts.ensures.puts s are
+    (sym (c.publishes_agree.ensures.puts (lines_named s (map line_of_new a.content.lots)) s.lines (publish_rows s a.notice)
+    (time_of (given_by a.asking.now s (Publish a.notice a.content))) a.notice a.content (lines_agree c.rows_are_kept.ensures s line_of_new a.content.lots))) in
+    joined a.settings.now (given_by a.asking.now s (Publish a.notice a.content)) refl c.as_slice.ensures.differ allowed puts (c.in_ok-text.ensures s (ap (λ (rows : PublishRows). rows.notice) are) (ap (λ (rows : PublishRows). rows.clock) are)) (c.in_ok-release.ensures.release s are))

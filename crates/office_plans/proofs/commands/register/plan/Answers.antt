@@ -1,0 +1,36 @@
+use Rattle.std.specs.Prelude.{List, ℕ}
+use Rattle.std.proofs.Common.{◌∙◌, ap, refl}
+use Rattle.office_commands.specs.declared.commands.Command.TheVariants.{Register}
+use Rattle.office_base.specs.Tables.{Tables}
+use Rattle.office_machine.specs.Replies.{Enrolled}
+use Rattle.office_plans.proofs.Publishing.{IsTested, not_planned, puts_on, refused_on, time_is}
+use Rattle.office_plans.proofs.commands.register.plan.Goals as goal
+use Rattle.office_plans.specs.Asking.{given_by}
+use Rattle.office_plans.specs.Replies.{reply_text}
+use Rattle.tender_core.specs.Rules.Register.{register_puts, register_rows, register_tests}
+use Rattle.tender_core.specs.declared.asking.Asking.{Asking}
+use Rattle.tender_core.specs.declared.register.RegisterRows.{RegisterRows}
+
+-- its tests are those of the rows that it loads
+rule : (asking : Asking) (tenderer : List ℕ) (name : List ℕ) (address : List ℕ) (key : List ℕ) → IsTested asking (Register tenderer name address key) (λ (s : Tables). register_rows s tenderer) (λ (rows : RegisterRows). rows.clock)
+    (λ (rows : RegisterRows) (t : ℕ). register_tests rows tenderer)
+rule asking tenderer name address key = record { clock = λ s. refl; tested = λ s. refl }
+
+pub returns-in-Some : goal.returns-in-Some
+returns-in-Some g c settings =
+    let a = c.args in
+    not_planned (rule a.asking.now a.tenderer a.name a.address a.key) _ _ c.time-t.ensures _ settings _ _ _ _ c.in_ok-rows.ensures.0 c.requires c.refusal.ensures c.in-Some.is
+
+pub returns : goal.returns
+returns g c settings =
+    let a = c.args in
+    let ruled = rule a.asking.now a.tenderer a.name a.address a.key in
+    let moment = c.time-t.ensures in (
+      c.in_ok-rows.ensures.0.0,
+      λ honest s held.
+          let are = c.in_ok-rows.ensures.0.1 honest s held in
+          let allowed = refused_on ruled _ _ moment _ c.requires c.refusal.ensures s are ∙ c.in_default.is in
+          let puts = puts_on ruled _ _ moment (λ (rows : RegisterRows) (t : ℕ). register_puts rows t a.tenderer a.name a.address a.key) _ c.in_ok-puts.ensures.puts s are refl in
+          let told = c.in_ok-text.ensures ∙ ap (λ t. reply_text (Enrolled a.tenderer t)) (time_is ruled _ _ moment s are) in
+          c.silent.ensures settings (given_by a.asking.now s (Register a.tenderer a.name a.address a.key)) tt allowed refl refl puts told,
+    )

@@ -1,0 +1,34 @@
+use Rattle.std.specs.Prelude.{Option, ℕ}
+use Rattle.std.proofs.Common.{◌∙◌, ap, refl, sym}
+use Rattle.award_core.specs.Rules.Sign.{sign_puts, sign_rows, sign_tests}
+use Rattle.award_core.specs.declared.sign.SignRows.{SignRows}
+use Rattle.office_commands.specs.declared.commands.Command.TheVariants.{Sign}
+use Rattle.office_commands.specs.declared.tender.NamedSecurity.{NamedSecurity}
+use Rattle.office_base.specs.Tables.{Tables}
+use Rattle.office_plans.proofs.Publishing.{IsTested, not_planned, puts_on, refused_on, three_looks}
+use Rattle.office_plans.proofs.commands.sign.plan.Goals as goal
+use Rattle.office_plans.specs.Asking.{given_by}
+use Rattle.std.specs.Option.{option_copied}
+use Rattle.tender_core.specs.declared.asking.Asking.{Asking}
+
+-- its tests are those of the rows that it loads
+rule : (asking : Asking) (award : ℕ) (security : Option NamedSecurity) → IsTested asking (Sign award security) (λ (s : Tables). sign_rows s award) (λ (rows : SignRows). rows.clock)
+    (λ (rows : SignRows) (t : ℕ). sign_tests rows t security)
+rule asking award security = record { clock = λ s. refl; tested = λ s. refl }
+
+pub returns-in-Some : goal.returns-in-Some
+returns-in-Some g c =
+    let a = c.args in
+    not_planned (rule a.asking.now a.award a.security) _ _ c.time-t.ensures _ a.settings.now _ _ _ _ c.in_ok-rows.ensures.0 c.requires c.refusal.ensures c.in-Some.is
+
+pub returns : goal.returns
+returns g c =
+    let a = c.args in
+    let ruled = rule a.asking.now a.award a.security in
+    let moment = c.time-t.ensures in
+    three_looks _ c.looks_follow.ensures _ _ _ _ _ _ _ _ c.in_ok-rows.ensures.0 c.in_ok-release.ensures.looks c.published.ensures
+    (λ s are released joined.
+    let allowed = refused_on ruled _ _ moment _ c.requires c.refusal.ensures s are ∙ c.in_default.is in
+    let puts = puts_on ruled _ _ moment (λ (rows : SignRows) (t : ℕ). sign_puts rows t a.security) _ c.in_ok-puts.ensures.puts s are refl in
+    let row = sym c.as_ref.ensures.value ∙ ap option_copied c.unwrap-row.ensures in
+    joined a.settings.now (given_by a.asking.now s (Sign a.award a.security)) refl tt allowed puts (c.in_ok-text.ensures s a.security are) (released a.award a.security are row))

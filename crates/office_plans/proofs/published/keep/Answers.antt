@@ -1,0 +1,44 @@
+use Rattle.std.specs.Prelude.{◌≡◌, Result, Ok, Err, IfOk}
+use Rattle.serde_json.specs.View.{view}
+use Rattle.ocds_merge.specs.Stored.{IsStorable}
+use Rattle.office_values.specs.declared.refusal.Refusal.{Refusal}
+use Rattle.office_base.specs.Tables.{Tables}
+use Rattle.office_publications.specs.Keeping.{KeepsReleasesOf, ReadsBack, merged_row}
+use Rattle.office_publications.specs.Merges.{IsKeptOf}
+use Rattle.office_publications.specs.declared.merges.Kept.{Kept}
+use Rattle.office_publications.specs.declared.publication.Publication.{Publication}
+use Rattle.office_plans.specs.Released.{IsKept, as_row}
+use Rattle.office_plans.specs.declared.published.Released.{Released}
+use Rattle.office_plans.proofs.KeptObjects.{has_merge_on}
+use Rattle.office_plans.proofs.published.keep.Goals as goal
+
+-- what is kept of a release that can be stored, with the merge that it joins
+is_kept : (r : Released) (s : Tables) (k : Kept) (kept : Result Publication Refusal) → IsStorable (view r.release) → IsKeptOf r.notice s k → KeepsReleasesOf r.notice s
+    → IfOk kept (λ p. IsStorable (view r.release) → p.release ≡ as_row r)
+    → IfOk kept (λ p. IsStorable (view r.release) → (s : Tables) → IsKeptOf r.notice s k → KeepsReleasesOf r.notice s → p.merge ≡ merged_row s p.release)
+    → IfOk kept (λ p. IsStorable (view r.release) → (s : Tables) → IsKeptOf r.notice s k → KeepsReleasesOf r.notice s → ReadsBack s p.release)
+    → IfOk kept (IsKept s r)
+is_kept r s k (Ok p) storable loaded keeps release merge reads =
+    record { release = release storable; merge = merge storable s loaded keeps; reads = reads storable s loaded keeps }
+is_kept r s k (Err why) storable loaded keeps release merge reads = tt
+
+pub returns-clause-kept : goal.returns-clause-kept
+returns-clause-kept g c =
+    let before = c.in_ok-follows.ensures.0 in
+    let loaded = c.in_ok-kept.ensures.0 in (
+      c.looks_follow.ensures _ _ _ before.0 loaded.0,
+      λ honest s held storable keeps.
+          let here = before.0.same (loaded.0.before honest) s held in
+          is_kept c.args.released s _ c.keep_release.result storable (loaded.1 honest s here) keeps c.keep_release.ensures.release c.keep_release.ensures.merge
+          c.keep_release.ensures.read,
+    )
+
+pub returns-clause-goes_on : goal.returns-clause-goes_on
+returns-clause-goes_on g c =
+    let before = c.in_ok-follows.ensures.0 in
+    let loaded = c.in_ok-kept.ensures.0 in (
+      c.looks_follow.ensures _ _ _ before.0 loaded.0,
+      λ honest s held.
+          let here = before.0.same (loaded.0.before honest) s held in
+          has_merge_on c.args.released.notice s _ c.keep_release.result (loaded.1 honest s here) c.keep_release.ensures.goes_on,
+    )

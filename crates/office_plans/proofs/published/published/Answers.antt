@@ -1,0 +1,24 @@
+use Rattle.std.specs.Prelude.{◌-◌}
+use Rattle.std.proofs.Common.{sym, subst, ap, ◌∙◌}
+use Rattle.office_base.specs.Tables.{Tables}
+use Rattle.office_publications.specs.Keeping.{KeepsReleasesOf, has_last_release}
+use Rattle.office_publications.specs.Merges.{HasMerge}
+use Rattle.office_plans.specs.Released.{IsKept}
+use Rattle.office_plans.proofs.ReleaseJoins.{follows, is_planned}
+use Rattle.office_plans.proofs.published.published.Goals as goal
+
+pub returns : goal.returns
+returns g c =
+    let r = c.args.released in
+    let p = c.in_ok-publication.publication in
+    let kept = c.in_ok-publication.ensures.kept in (
+      kept.0,
+      λ honest s held settings x at given allowed is told released.
+          let behind = c.in_ok-publication.ensures.follows.1 honest s held in
+          let onto = c.in_ok-publication.ensures.goes_on.1 honest s held in
+          is_planned settings x r p released given allowed
+          (follows settings x r released (ap (λ (u : Tables). has_last_release r.notice (r.seq - 1) u) at ∙ behind) (subst (λ (u : Tables). HasMerge r.notice u) (sym at) onto)) c.args.puts.items c.args.text.items is told
+          (λ keeps. subst (λ (u : Tables). IsKept u r p) (sym at)
+          (kept.1 honest s held released.storable (subst (KeepsReleasesOf r.notice) at (keeps r.notice released.for_notice))))
+          c.with_publication.result c.with_publication.ensures.puts c.with_publication.ensures.reply c.with_publication.ensures.none,
+    )

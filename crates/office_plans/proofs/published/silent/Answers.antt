@@ -1,0 +1,15 @@
+use Rattle.std.proofs.Common.{◌∙◌, sym}
+use Rattle.office_plans.proofs.Silent.{nothing_published}
+use Rattle.office_plans.proofs.published.silent.Goals as goal
+
+pub returns : goal.returns
+returns c settings x given allowed event notice is told = record {
+  given = given;
+  allowed = allowed;
+  follows = λ n for. nothing_published notice for;
+  put = λ keeps. record {
+    puts = c.new.ensures.puts ∙ is ∙ sym (c.keeping.ensures.unpublished settings x event);
+    reads = λ r for. nothing_published (c.keeping.ensures.silent settings x event) for;
+  };
+  reply = c.new.ensures.reply ∙ told;
+}

@@ -1,0 +1,32 @@
+-- What a command publishes, as it is made: its release, and the merge that this joins.
+use Rattle.std.specs.Prelude.{◌≡◌, ◌+◌, Some}
+use Rattle.serde_json.specs.View.{view}
+use Rattle.serde_json.specs.Written.{compact_text}
+use Rattle.ocds_merge.specs.Stored.{IsStorable}
+use Rattle.office_values.specs.declared.settings.Settings.{Settings}
+use Rattle.office_base.specs.Tables.{Tables, notice_at}
+use Rattle.office_base.specs.declared.records.ReleaseRow.{ReleaseRow}
+use Rattle.office_machine.specs.Counted.{releases_in}
+use Rattle.office_machine.specs.Machine.{Given, publication}
+use Rattle.office_machine.specs.Publications.{published_for}
+use Rattle.office_publications.specs.Keeping.{ReadsBack, merged_row}
+use Rattle.office_publications.specs.Publishing.{publishing}
+use Rattle.office_publications.specs.declared.publication.Publication.{Publication}
+use Rattle.office_plans.specs.declared.published.Released.{Released}
+
+-- the row that keeps a release
+abbrev pub as_row : Released → ReleaseRow
+as_row r = record { notice = r.notice; seq = r.seq; moment = r.moment; text = compact_text (view r.release) }
+
+-- it is what the command publishes, as the next one of its notice, and can be kept
+pub record IsReleased (settings : Settings) (x : Given) (r : Released) : Type 0 where
+  pub is : publication (publishing settings) x ≡ Some (as_row r)
+  pub for_notice : published_for x.before x.command ≡ Some r.notice
+  pub next : r.seq ≡ releases_in (notice_at r.notice x.before) + 1
+  pub storable : IsStorable (view r.release)
+
+-- it is kept, with the merge that it joins, and both can be read again
+pub record IsKept (s : Tables) (r : Released) (p : Publication) : Type 0 where
+  pub release : p.release ≡ as_row r
+  pub merge : p.merge ≡ merged_row s p.release
+  pub reads : ReadsBack s p.release

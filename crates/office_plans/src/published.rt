@@ -1,0 +1,174 @@
+//! What a command publishes, planned: its release joins what it puts, and the merge of its notice's releases.
+ghost use Rattle.std.specs.Prelude.{◌≡◌, ◌+◌, ◌++◌, ◌-◌, ◌∷◌, [], None, Some, true, IfOk, IfErr, IfSome, IfNone, OnOk};
+ghost use Rattle.serde_json.specs.View.{view};
+ghost use Rattle.ocds_merge.specs.Stored.{IsStorable};
+ghost use Rattle.office_base.specs.Transitions.{has_all_releases};
+ghost use Rattle.office_base.specs.Shelves.{Looks, LooksUp};
+ghost use Rattle.office_base.specs.Tables.{notice_at};
+ghost use Rattle.office_base.specs.declared.puts.Put.TheVariants.{Compiled, Release};
+ghost use Rattle.office_machine.specs.Counted.{releases_in};
+ghost use Rattle.office_machine.specs.Machine.{Given, IsCommand, effect, refusal_of, time_of};
+ghost use Rattle.office_machine.specs.OfficeMeans.{office_readings};
+ghost use Rattle.office_machine.specs.Publications.{published_for};
+ghost use Rattle.office_plans.specs.Published.{IsPlan, IsPlanned, accepted_reply};
+ghost use Rattle.office_plans.specs.Released.{IsKept, IsReleased};
+ghost use Rattle.office_plans.specs.Replies.{reply_text};
+ghost use Rattle.office_publications.specs.Events.{event_of};
+ghost use Rattle.office_publications.specs.Keeping.{KeepsReleasesOf, has_last_release};
+ghost use Rattle.office_publications.specs.Merges.{HasMerge};
+ghost use Rattle.office_values.specs.declared.refusal.Refusal.TheVariants.{Unavailable};
+ghost use Rattle.office_values.specs.declared.settings.Settings.{Settings as SettingsOf};
+
+use crate::planned::Planned;
+use ocds_release::event::Event;
+use ocds_release::laws::releases_can_be_kept;
+use ocds_release::release_of::release_of;
+use office_base::counts::Sequence;
+use office_base::laws::looks_follow;
+use office_base::puts::Put;
+use office_base::records::NoticeRow;
+use office_base::shelf::{Lookups, ShelfFault};
+use office_publications::laws::keeping;
+use office_publications::merges::load_kept;
+use office_publications::publication::{Publication, keep_release};
+use office_values::id::Id;
+use office_values::moment::Moment;
+use office_values::refusal::Refusal;
+use office_values::settings::Settings;
+use serde_json::Value;
+use std::alloc::Global;
+
+/// A release of a notice, under its number, at its moment; it isn't kept yet.
+#[derive(Drop)]
+pub(crate) struct Released {
+    pub(crate) notice: Id,
+    pub(crate) seq: Sequence,
+    pub(crate) moment: Moment,
+    pub(crate) release: Value,
+}
+
+// The number of the next release of a notice: 1 where it isn't there. None exactly where it has all its releases.
+fn next_number(row: &Option<NoticeRow>) -> Option<Sequence>
+    ensures next { IfSome result (λ seq. seq ≡ releases_in row.now + 1) }
+    ensures none { IfNone result (has_all_releases row.now ≡ true) }
+{
+    match row {
+        Some(notice) => Sequence::read(notice.releases.get() + 1),
+        None => Sequence::read(1),
+    }
+}
+
+/// The release of a command's event at the command's moment, as the next one of this notice, by the notice's row. `Unavailable` also where
+/// the notice has all its releases, as of no command that isn't refused.
+pub(crate) fn make_release<'a>(
+    alloc: Global,
+    settings: &'a Settings,
+    notice: Id,
+    row: &Option<NoticeRow>,
+    t: Moment,
+    event: &'a Event<'a>,
+) -> Result<Released, Refusal>
+    ensures release { IfOk result (λ r. (x : Given) → event_of x.before x.command ≡ Some event.now → published_for x.before x.command ≡ Some notice
+        → row.now ≡ notice_at notice x.before → t ≡ time_of x → IsReleased settings.now x r) }
+    ensures none { IfErr result (λ why. why ≡ Unavailable) }
+{
+    keeping();
+    releases_can_be_kept();
+    let Some(seq) = next_number(row) else {
+        return Err(Refusal::Unavailable);
+    };
+    match release_of(alloc, settings, seq, t, event) {
+        Ok(release) => Ok(Released {
+            notice,
+            seq,
+            moment: t,
+            release,
+        }),
+        Err(_) => Err(Refusal::Unavailable),
+    }
+}
+
+// Whether the release in front of the one of this number is there; none is in front of the first.
+fn follows_another<H: Lookups>(
+    shelf: &mut H,
+    notice: &Id,
+    seq: Sequence,
+) -> Result<bool, ShelfFault>
+    ensures { LooksUp H.meaning shelf.old shelf.new result (λ s follows. follows ≡ has_last_release notice.now (seq - 1) s) }
+{
+    match Sequence::read(seq.get() - 1) {
+        Some(last) => Ok(shelf.get_release(notice, last)?.is_some()),
+        None => Ok(true),
+    }
+}
+
+// The release as it is kept, and the merge that it joins. Reads the merge of the notice's releases, or all of them where none is kept.
+// `Unavailable` where the release in front of it is gone, or the merge that is kept is no object: nothing is published behind a gap, nor over
+// what can't be gone on from.
+fn keep<H: Lookups>(
+    alloc: Global,
+    shelf: &mut H,
+    released: Released,
+) -> Result<Publication, Refusal>
+    ensures kept { Looks H.meaning shelf.old shelf.new (λ s. IsStorable (view released.release) → KeepsReleasesOf released.notice s → IfOk result (IsKept s released)) }
+    ensures follows { Looks H.meaning shelf.old shelf.new (λ s. OnOk result (has_last_release released.notice (released.seq - 1) s ≡ true)) }
+    ensures goes_on { Looks H.meaning shelf.old shelf.new (λ s. OnOk result (HasMerge released.notice s)) }
+    ensures none { IfErr result (λ why. why ≡ Unavailable) }
+{
+    looks_follow::<H>();
+    let follows = follows_another(shelf, &released.notice, released.seq)?;
+    if !follows {
+        return Err(Refusal::Unavailable);
+    }
+    let kept = load_kept(shelf, &released.notice)?;
+    keep_release(
+        alloc,
+        released.notice,
+        released.seq,
+        released.moment,
+        released.release,
+        &kept,
+    )
+}
+
+// These puts, a release and the merge that it joins, with the reply's text.
+fn with_publication(
+    puts: Vec<Put>,
+    text: Vec<u8>,
+    publication: Publication,
+) -> Result<Planned, Refusal>
+    ensures puts { IfOk result (λ p. p.puts ≡ puts.items ++ (Release publication.release ∷ Compiled publication.merge ∷ [])) }
+    ensures reply { IfOk result (λ p. p.reply ≡ text.items) }
+    ensures none { IfErr result (λ why. why ≡ Unavailable) }
+{
+    let mut puts = puts;
+    puts.push(Put::Release(publication.release))?;
+    puts.push(Put::Compiled(publication.merge))?;
+    Ok(Planned::new(puts, text))
+}
+
+/// The plan of an accepted command that publishes: what it puts, the release, and the merge that this joins; and the reply's text.
+/// `Unavailable` also where the notice's last release is gone, or its kept merge can't be carried on, never so in a reached office.
+pub(crate) fn published<H: Lookups>(
+    alloc: Global,
+    shelf: &mut H,
+    puts: Vec<Put>,
+    text: Vec<u8>,
+    released: Released,
+) -> Result<Planned, Refusal>
+    ensures { Looks H.meaning shelf.old shelf.new (λ s. (settings : SettingsOf) (x : Given) → x.before ≡ s → IsCommand x.command → refusal_of x ≡ None
+        → puts.items ≡ effect office_readings x → text.items ≡ reply_text (accepted_reply x) → IsReleased settings x released
+        → IsPlanned settings x result) }
+{
+    let publication = keep(alloc, shelf, released)?;
+    with_publication(puts, text, publication)
+}
+
+/// The plan of an accepted command that publishes nothing: what it puts, and the reply's text. Takes no memory.
+pub(crate) fn silent(puts: Vec<Put>, text: Vec<u8>) -> Planned
+    ensures { (settings : SettingsOf) (x : Given) → IsCommand x.command → refusal_of x ≡ None → event_of x.before x.command ≡ None → published_for x.before x.command ≡ None
+        → puts.items ≡ effect office_readings x → text.items ≡ reply_text (accepted_reply x) → IsPlan settings x result }
+{
+    keeping();
+    Planned::new(puts, text)
+}

@@ -1,3 +1,0 @@
-pub mod NextRelease
-pub mod Packaged
-pub mod Placed

@@ -1,4 +1,0 @@
-pub mod Extent
-pub mod Numbered
-pub mod Next
-pub mod Released

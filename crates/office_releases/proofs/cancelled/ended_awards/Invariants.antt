@@ -1,8 +1,0 @@
-use Rattle.std.proofs.Common.{◌≡◌, ◌++◌, map, filter, drop}
-use Rattle.office_base.specs.Tables.{award_key}
-use Rattle.tender_core.specs.Rules.Cancel.{is_ended_award}
-use Rattle.office_releases.proofs.cancelled.ended_awards.Given as goal
-
-abbrev pub invariant-loop-award : goal.invariant-loop-award
-invariant-loop-award l =
-    l.numbers.items ++ map award_key (filter (is_ended_award l.lots) (drop l.award-index l.awards)) ≡ map award_key (filter (is_ended_award l.lots) l.awards)

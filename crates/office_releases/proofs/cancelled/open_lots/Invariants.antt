@@ -1,7 +1,0 @@
-use Rattle.std.proofs.Common.{◌≡◌, ◌++◌, map, filter, drop}
-use Rattle.office_publications.specs.NoticeEvents.{lot_of}
-use Rattle.tender_core.specs.Rules.Cancel.{is_open_lot}
-use Rattle.office_releases.proofs.cancelled.open_lots.Given as goal
-
-abbrev pub invariant-loop-lot : goal.invariant-loop-lot
-invariant-loop-lot l = l.ids.items ++ map lot_of (filter is_open_lot (drop l.lot-index l.lots)) ≡ map lot_of (filter is_open_lot l.lots)

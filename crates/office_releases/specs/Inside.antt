@@ -1,2 +1,0 @@
--- Words of private clauses: no public clause speaks of them.
-pub mod Tenderers

@@ -1,0 +1,18 @@
+//! What is read of an office where a transcript can't say it: merges that aren't kept or that other hands wrote, releases that are missing or can't be read, the
+//! ledger's rows one at a time, and what the programs show the public.
+#![tactic(auto)]
+
+#[cfg(test)]
+mod copies;
+#[cfg(test)]
+mod kept_merges;
+#[cfg(test)]
+mod ledger_rows;
+#[cfg(test)]
+mod missing_releases;
+#[cfg(test)]
+mod showing;
+#[cfg(test)]
+mod unreadable_texts;
+#[cfg(test)]
+mod wrong_merges;

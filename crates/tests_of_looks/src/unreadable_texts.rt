@@ -1,0 +1,60 @@
+//! A stored release whose text isn't a JSON object can't be merged: it is a fault of the store wherever it would be shown.
+use office_base::counts::Sequence;
+use office_base::json_text::JsonText;
+use office_base::puts::Put;
+use office_base::records::ReleaseRow;
+use office_base::shelf::Shelf;
+use office_memory::memory::MemoryShelf;
+use office_values::id::Id;
+use office_values::refusal::Refusal;
+use std::alloc::Global;
+use tests_transcripts::session::{Wrong, played};
+use tests_transcripts::setup::{MONEY, NOTICE, TENDERERS};
+
+/// Neither package of the notice is shown.
+pub(crate) static NOT_SHOWN: &str = r#"
+at 2026-02-01T09:00:00Z public GET /notices/N1/releases
+= 503 {"name":"Unavailable","refusal":32}
+
+at 2026-02-01T09:00:00Z public GET /notices/N1/record
+= 503 {"name":"Unavailable","refusal":32}
+"#;
+
+// Gives the notice's first release this text; nothing where it has none.
+fn change_text<H: Shelf>(alloc: Global, shelf: &mut H, text: &str) -> Result<(), Refusal> {
+    let (Some(notice), Some(first)) = (Id::read(b"N1"), Sequence::read(1)) else {
+        return Ok(());
+    };
+    let Some(row) = shelf.get_release(&notice, first)? else {
+        return Ok(());
+    };
+    let text = JsonText::from_string(String::from_str(alloc, text)?);
+    let mut puts = Vec::new(alloc);
+    puts.push(Put::Release(ReleaseRow { text, ..row }))?;
+    shelf.apply(puts)?;
+    Ok(())
+}
+
+// Whether neither package of a notice is shown whose release has this text.
+fn isnt_shown<H: Shelf + Drop>(alloc: Global, shelf: H, text: &str) -> Result<bool, Wrong> {
+    let mut shelf = played(alloc, shelf, 0, &[MONEY, TENDERERS, NOTICE])?;
+    if change_text(alloc, &mut shelf, text).is_err() {
+        return Err(Wrong::NoMemory);
+    }
+    drop(played(alloc, shelf, 0, &[NOT_SHOWN])?);
+    Ok(true)
+}
+
+// At a second try where the first isn't right: one allocation of a test may be refused.
+fn is_right(alloc: Global, text: &str) -> bool {
+    matches!(isnt_shown(alloc, MemoryShelf::new(alloc), text), Ok(true))
+        || matches!(isnt_shown(alloc, MemoryShelf::new(alloc), text), Ok(true))
+}
+
+#[test]
+fn texts_that_are_no_objects_are_not_shown(rt: HostRuntime) {
+    let alloc = rt.alloc();
+    for text in ["", "1", "[]", "{\"a\":1", "{} {}", "{\"a\":1e999}"] {
+        assert!(rt; is_right(alloc, text));
+    }
+}

@@ -1,0 +1,139 @@
+//! Merges that no office keeps, put beside a notice's releases by other hands: one that is no object is a fault of the store wherever it is met, and one
+//! whose names aren't in order is carried on to the merge that it reads as.
+use office_base::json_text::JsonText;
+use office_base::puts::Put;
+use office_base::records::CompiledRow;
+use office_base::shelf::Shelf;
+use office_memory::memory::MemoryShelf;
+use office_values::id::Id;
+use office_values::refusal::Refusal;
+use std::alloc::Global;
+use tests_sql_office::office::in_sql;
+use tests_transcripts::published::AMENDED;
+use tests_transcripts::session::{Wrong, played};
+use tests_transcripts::setup::{MONEY, NOTICE, TENDERERS};
+
+// Nothing is published over it, and no record is shown.
+static NOT_GONE_ON: &str = r#"
+at 2026-02-01T09:00:00Z public GET /notices/N1/record
+= 503 {"name":"Unavailable","refusal":32}
+
+at 2026-02-10T09:00:00Z clerk POST /notices/N1/amend
+> {"deadline":"2026-03-02T12:00:00Z","rationale":"More time"}
+= 503 {"name":"Unavailable","refusal":32}
+
+at 2026-02-10T09:00:00Z public GET /notices/N1/record
+= 503 {"name":"Unavailable","refusal":32}
+"#;
+
+static MOVED: &str = r#"
+at 2026-02-10T09:00:00Z clerk POST /notices/N1/amend
+> {"deadline":"2026-03-02T12:00:00Z","rationale":"More time"}
+= 200 {"moment":"2026-02-10T09:00:00Z","notice":"N1","release":2}
+"#;
+
+// A merge with its names in no order, and the one that it is carried on to.
+const OUT_OF_ORDER: &str = r#"{"tender":{"title":"Old","id":"N1"},"a":1}"#;
+
+const CARRIED_ON: &str =
+    r#"{"a":1,"buyer":{"id":"B-city","name":"City Office"},"initiationType":"tender","language":"en","ocid":"ocds-a1b2c3-N1","tender":{"amendments":[{"date":"2026-02-10T09:00:00Z","description":"Deadline moved from 2026-03-01T12:00:00Z to 2026-03-02T12:00:00Z","id":"0002","rationale":"More time"}],"id":"N1","tenderPeriod":{"endDate":"2026-03-02T12:00:00Z"},"title":"Old"}}"#;
+
+fn put_merge<H: Shelf>(alloc: Global, shelf: &mut H, row: CompiledRow) -> Result<(), Refusal> {
+    let mut puts = Vec::new(alloc);
+    puts.push(Put::Compiled(row))?;
+    shelf.apply(puts)?;
+    Ok(())
+}
+
+// Gives the notice's merge this text: the row that was there.
+fn change_merge<H: Shelf>(
+    alloc: Global,
+    shelf: &mut H,
+    notice: Id,
+    text: &str,
+) -> Result<Option<CompiledRow>, Refusal> {
+    let before = shelf.get_compiled(&notice)?;
+    let text = JsonText::from_string(String::from_str(alloc, text)?);
+    put_merge(alloc, shelf, CompiledRow { notice, text })?;
+    Ok(before)
+}
+
+// An office with a notice whose merge has this text, and the row that was there.
+fn changed<H: Shelf + Drop>(
+    alloc: Global,
+    shelf: H,
+    text: &str,
+) -> Result<(H, CompiledRow), Wrong> {
+    let notice = Id::read(b"N1").ok_or(Wrong::NoMemory)?;
+    let mut shelf = played(alloc, shelf, 0, &[MONEY, TENDERERS, NOTICE])?;
+    match change_merge(alloc, &mut shelf, notice, text) {
+        Ok(Some(before)) => Ok((shelf, before)),
+        _ => Err(Wrong::NoMemory),
+    }
+}
+
+// Whether such an office publishes nothing and shows no record, and goes on as ever once its merge is there again.
+fn isnt_begun_anew<H: Shelf + Drop>(alloc: Global, shelf: H, text: &str) -> Result<bool, Wrong> {
+    let (shelf, before) = changed(alloc, shelf, text)?;
+    let mut shelf = played(alloc, shelf, 0, &[NOT_GONE_ON])?;
+    if put_merge(alloc, &mut shelf, before).is_err() {
+        return Err(Wrong::NoMemory);
+    }
+    drop(played(alloc, shelf, 0, &[AMENDED])?);
+    Ok(true)
+}
+
+fn isnt_begun_anew_in_sql(alloc: Global, text: &str) -> Result<bool, Wrong> {
+    isnt_begun_anew(alloc, in_sql(alloc).ok_or(Wrong::Unopened)?, text)
+}
+
+// Whether a merge with its names in no order is carried on to this one.
+fn carries_on<H: Shelf + Drop>(alloc: Global, shelf: H) -> Result<bool, Wrong> {
+    let (shelf, before) = changed(alloc, shelf, OUT_OF_ORDER)?;
+    let mut shelf = played(alloc, shelf, 0, &[MOVED])?;
+    match shelf.get_compiled(&before.notice) {
+        Ok(Some(merge)) => Ok(merge.text.as_str() == CARRIED_ON),
+        _ => Err(Wrong::NoMemory),
+    }
+}
+
+fn carries_on_in_sql(alloc: Global) -> Result<bool, Wrong> {
+    carries_on(alloc, in_sql(alloc).ok_or(Wrong::Unopened)?)
+}
+
+// At a second try where the first isn't right: one allocation of a test may be refused.
+fn is_right_in_memory(alloc: Global, text: &str) -> bool {
+    matches!(
+        isnt_begun_anew(alloc, MemoryShelf::new(alloc), text),
+        Ok(true)
+    ) || matches!(
+        isnt_begun_anew(alloc, MemoryShelf::new(alloc), text),
+        Ok(true)
+    )
+}
+
+fn is_right_in_sql(alloc: Global, text: &str) -> bool {
+    matches!(isnt_begun_anew_in_sql(alloc, text), Ok(true))
+        || matches!(isnt_begun_anew_in_sql(alloc, text), Ok(true))
+}
+
+#[test]
+fn merges_that_are_no_objects_are_not_begun_anew(rt: HostRuntime) {
+    let alloc = rt.alloc();
+    for text in ["5", "[]", "null", " [{}]", r#""{}""#, "{"] {
+        assert!(rt; is_right_in_memory(alloc, text));
+    }
+    assert!(rt; is_right_in_sql(alloc, "5"));
+}
+
+#[test]
+fn merges_out_of_order_are_carried_on(rt: HostRuntime) {
+    let alloc = rt.alloc();
+    let in_memory = carries_on(alloc, MemoryShelf::new(alloc));
+    assert!(rt;
+        matches!(in_memory, Ok(true))
+            || matches!(carries_on(alloc, MemoryShelf::new(alloc)), Ok(true))
+    );
+    let in_sql = carries_on_in_sql(alloc);
+    assert!(rt; matches!(in_sql, Ok(true)) || matches!(carries_on_in_sql(alloc), Ok(true)));
+}

@@ -1,0 +1,284 @@
+//! Files of version 1, with the table of late withdrawals or before it: opened, they are the same office in version 2, wherever a stop comes.
+use crate::earlier_file::{EARLIER_LEDGER, EARLIER_LOTS, EARLIER_ROWS, EARLIER_TABLES};
+use crate::first_files::{
+    FIRST_TABLES, RUNNING_LEDGER, RUNNING_LOTS, RUNNING_ROWS, TEN_LEDGER, TEN_LOTS, TEN_ROWS,
+};
+use crate::stores::{LATER, SECOND, answers_in, ledger_in, reopened};
+use std::alloc::Global;
+use tests_disks::database::Database;
+use tests_disks::disks::Disks;
+use tests_disks::office::{OfficeOnDisks, Unopened};
+use tests_transcripts::session::Wrong;
+
+// Its clock and its notices, as version 2 has them: no performance securities are asked.
+static FIRST: [&str; 2] = [
+    "SELECT 2, moment, receipts, awards FROM office ORDER BY version",
+    "SELECT notice, title, published, deadline, validity, standstill, weight, state, opened, amendments, releases, 0 FROM notices ORDER BY notice",
+];
+
+// What an earlier program left: what makes its tables, its rows, the ledger that it showed, and whether it knew late withdrawals.
+#[derive(Clone, Copy)]
+struct Former {
+    tables: &'static str,
+    rows: &'static str,
+    lots: &'static str,
+    ledger: &'static str,
+    is_late: bool,
+}
+
+fn before_late_rules() -> Former {
+    Former {
+        tables: EARLIER_TABLES,
+        rows: EARLIER_ROWS,
+        lots: EARLIER_LOTS,
+        ledger: EARLIER_LEDGER,
+        is_late: false,
+    }
+}
+
+fn running() -> Former {
+    Former {
+        tables: FIRST_TABLES,
+        rows: RUNNING_ROWS,
+        lots: RUNNING_LOTS,
+        ledger: RUNNING_LEDGER,
+        is_late: true,
+    }
+}
+
+fn ten_notices() -> Former {
+    Former {
+        tables: FIRST_TABLES,
+        rows: TEN_ROWS,
+        lots: TEN_LOTS,
+        ledger: TEN_LEDGER,
+        is_late: true,
+    }
+}
+
+// The tables that came later of which an earlier program's file has one: none, or that of late withdrawals.
+fn later(is_late: bool) -> &'static [&'static str] {
+    if is_late { &LATER[..1] } else { &LATER[..0] }
+}
+
+// The files that it left, with what these statements add.
+fn left(alloc: Global, file: Former, statements: &str) -> Result<Disks, Wrong> {
+    let mut database = Database::open(alloc, Disks::blank(alloc)).ok_or(Wrong::Unopened)?;
+    if database.changes(file.tables)
+        && database.changes(file.rows)
+        && database.changes(file.lots)
+        && database.changes(statements)
+    {
+        database.close().ok_or(Wrong::Unopened)
+    } else {
+        Err(Wrong::Unopened)
+    }
+}
+
+// All rows of the office that they are once they were opened: those that they have, and none in the other tables that came later.
+fn rows_wanted(alloc: Global, disks: &Disks, is_late: bool) -> Result<Vec<u8>, Wrong> {
+    let later = later(is_late);
+    let files = disks.left_by_the_process(alloc)?;
+    let mut rows = answers_in(alloc, files, FIRST.as_slice(), later)?;
+    for _ in later.len()..LATER.len() {
+        rows.extend_from_slice(b";")?;
+    }
+    Ok(rows)
+}
+
+// Whether an office of version 2 stands there, with these rows.
+fn is_complete(alloc: Global, disks: &Disks, rows: &[u8]) -> Result<bool, Wrong> {
+    let files = disks.left_by_the_process(alloc)?;
+    let answers = answers_in(alloc, files, SECOND.as_slice(), LATER.as_slice())?;
+    Ok(answers.as_slice() == rows)
+}
+
+// Whether the office is the same once it was opened, and again.
+fn is_migrated(alloc: Global, file: Former) -> Result<bool, Wrong> {
+    let disks = left(alloc, file, "")?;
+    let rows = rows_wanted(alloc, &disks, file.is_late)?;
+    let once = reopened(alloc, disks)?;
+    let is_once = is_complete(alloc, &once, &rows)?;
+    let twice = reopened(alloc, once)?;
+    Ok(is_once && is_complete(alloc, &twice, &rows)?)
+}
+
+// At a second try where the first isn't right: one allocation of a test may be refused.
+#[test]
+fn a_file_of_version_one_becomes_one_of_version_two(rt: HostRuntime) {
+    let alloc = rt.alloc();
+    for file in [before_late_rules(), running(), ten_notices()] {
+        assert!(rt;
+            matches!(is_migrated(alloc, file), Ok(true))
+                || matches!(is_migrated(alloc, file), Ok(true))
+        );
+    }
+}
+
+// Whether what it shows is what the earlier program showed of it.
+fn has_its_ledger(alloc: Global, file: Former) -> Result<bool, Wrong> {
+    let text = ledger_in(alloc, left(alloc, file, "")?)?;
+    Ok(text.as_slice() == file.ledger.as_bytes())
+}
+
+#[test]
+fn its_ledger_stays(rt: HostRuntime) {
+    let alloc = rt.alloc();
+    for file in [before_late_rules(), running(), ten_notices()] {
+        assert!(rt;
+            matches!(has_its_ledger(alloc, file), Ok(true))
+                || matches!(has_its_ledger(alloc, file), Ok(true))
+        );
+    }
+}
+
+// Whether files of that program to which this was added can't be used, and stay as they were.
+fn is_unusable(alloc: Global, statements: &str) -> Result<bool, Wrong> {
+    let disks = left(alloc, before_late_rules(), statements)?;
+    let rows = rows_wanted(alloc, &disks, false)?;
+    match OfficeOnDisks::open(alloc, disks) {
+        Err(Unopened::Unusable(disks)) => Ok(rows_wanted(alloc, &disks, false)? == rows),
+        _ => Ok(false),
+    }
+}
+
+#[test]
+fn a_name_is_taken(rt: HostRuntime) {
+    let alloc = rt.alloc();
+    for statements in [
+        "CREATE VIEW late_rules AS SELECT 1",
+        "CREATE INDEX late_rules ON lots (title)",
+        "CREATE INDEX notices_2 ON lots (title)",
+        "CREATE TABLE performance (x INTEGER)",
+    ] {
+        assert!(rt;
+            matches!(is_unusable(alloc, statements), Ok(true))
+                || matches!(is_unusable(alloc, statements), Ok(true))
+        );
+    }
+}
+
+// A foreign key of others to the notices or the version, whatever it asks for at a deletion, and a view of them.
+#[test]
+fn others_lead_there(rt: HostRuntime) {
+    let alloc = rt.alloc();
+    for statements in [
+        "CREATE TABLE remarks (notice TEXT REFERENCES notices)",
+        "CREATE TABLE remarks (notice TEXT REFERENCES Notices ON DELETE CASCADE); INSERT INTO remarks SELECT notice FROM notices",
+        "CREATE TABLE remarks (notice TEXT REFERENCES notices ON DELETE SET NULL); INSERT INTO remarks SELECT notice FROM notices",
+        "CREATE TABLE remarks (version INTEGER REFERENCES office ON DELETE CASCADE); INSERT INTO remarks VALUES (1)",
+        "CREATE VIEW titles AS SELECT title FROM notices",
+    ] {
+        assert!(rt;
+            matches!(is_unusable(alloc, statements), Ok(true))
+                || matches!(is_unusable(alloc, statements), Ok(true))
+        );
+    }
+}
+
+// What was found of stops: how many left an office of version 1, with the table of late withdrawals or without, and how many one of version 2.
+#[derive(Clone, Copy)]
+struct Found {
+    is_late: bool,
+    first: u64,
+    second: u64,
+}
+
+// The version of the office in these files.
+fn version(alloc: Global, disks: &Disks) -> Result<Option<i64>, Wrong> {
+    let files = disks.left_by_the_process(alloc)?;
+    let mut database = Database::open(alloc, files).ok_or(Wrong::Unopened)?;
+    Ok(database.number("SELECT version FROM office"))
+}
+
+impl Found {
+    // Whether such files are the whole office with these rows, in either version, and in version 2 once they are opened again.
+    fn count(&mut self, alloc: Global, disks: Disks, rows: &[u8]) -> Result<bool, Wrong> {
+        let is_whole = match version(alloc, &disks)? {
+            Some(1) => {
+                self.first = self.first.saturating_add(1);
+                rows_wanted(alloc, &disks, self.is_late)?.as_slice() == rows
+            }
+            _ => {
+                self.second = self.second.saturating_add(1);
+                is_complete(alloc, &disks, rows)?
+            }
+        };
+        let again = reopened(alloc, disks)?;
+        Ok(is_whole && is_complete(alloc, &again, rows)?)
+    }
+}
+
+// Opens such files on disks that may stop: whether nothing was stopped, and what was left.
+fn put_down(alloc: Global, disks: Disks) -> Result<(bool, Disks), Wrong> {
+    match OfficeOnDisks::open(alloc, disks) {
+        Ok(office) => Ok(office.put_down()),
+        Err(Unopened::Unusable(disks)) => Ok((false, disks)),
+        Err(Unopened::NotAnOffice(_)) => Err(Wrong::NotAnOffice),
+    }
+}
+
+// The same, and a look at what a process and a machine leave then. Whether nothing was stopped.
+fn is_whole(
+    alloc: Global,
+    found: &mut Found,
+    disks: Disks,
+    rows: &[u8],
+    calls: u64,
+) -> Result<bool, Wrong> {
+    let (is_whole, disks) = put_down(alloc, disks)?;
+    let of_process = found.count(alloc, disks.left_by_the_process(alloc)?, rows)?;
+    let of_machine = found.count(alloc, disks.left_by_the_machine(alloc)?, rows)?;
+    if of_process && of_machine {
+        Ok(is_whole)
+    } else {
+        Err(Wrong::Stop(calls))
+    }
+}
+
+// Opens the files on disks of which one takes ever more calls, until none is stopped.
+fn stops(alloc: Global, disks: &Disks, is_late: bool, of_log: bool) -> Result<Found, Wrong> {
+    let rows = rows_wanted(alloc, disks, is_late)?;
+    let mut found = Found {
+        is_late,
+        first: 0,
+        second: 0,
+    };
+    for calls in 0..2000 {
+        let fused = if of_log {
+            disks.fused(alloc, calls, u64::MAX)?
+        } else {
+            disks.fused(alloc, u64::MAX, calls)?
+        };
+        if is_whole(alloc, &mut found, fused, &rows, calls)? {
+            return Ok(found);
+        }
+    }
+    Err(Wrong::Stop(2000))
+}
+
+// Stops of the log's disk are to leave the office in version 1 and in version 2, those of the database file in version 2.
+fn is_stopped(alloc: Global, file: Former) -> Result<bool, Wrong> {
+    let disks = left(alloc, file, "")?;
+    let log = stops(alloc, &disks, file.is_late, true)?;
+    let db = stops(alloc, &disks, file.is_late, false)?;
+    Ok(log.first > 0 && log.second > 0 && db.second > 0)
+}
+
+#[test]
+fn its_opening_is_stopped(rt: HostRuntime) {
+    let alloc = rt.alloc();
+    let file = before_late_rules();
+    assert!(rt;
+        matches!(is_stopped(alloc, file), Ok(true)) || matches!(is_stopped(alloc, file), Ok(true))
+    );
+}
+
+#[test]
+fn its_opening_with_late_rules_is_stopped(rt: HostRuntime) {
+    let alloc = rt.alloc();
+    let file = running();
+    assert!(rt;
+        matches!(is_stopped(alloc, file), Ok(true)) || matches!(is_stopped(alloc, file), Ok(true))
+    );
+}

@@ -1,0 +1,29 @@
+//! What an office in files does where a transcript can't say it: its disk stops at each of its writes, and files that are no office.
+#![tactic(auto)]
+
+#[cfg(test)]
+mod changes;
+#[cfg(test)]
+mod days;
+#[cfg(test)]
+mod earlier;
+#[cfg(test)]
+mod earlier_file;
+#[cfg(test)]
+mod first_files;
+#[cfg(test)]
+mod forms;
+#[cfg(test)]
+mod life;
+#[cfg(test)]
+mod lost_rows;
+#[cfg(test)]
+mod no_offices;
+#[cfg(test)]
+mod shut;
+#[cfg(test)]
+mod stops;
+#[cfg(test)]
+mod stores;
+#[cfg(test)]
+mod wrong_words;

@@ -1,0 +1,75 @@
+//! A store that is shut for good: the log's disk stops within a command, and the office tells that it answers nothing more.
+use crate::changes::{changes_of, copied};
+use crate::stores::{all_changed, opened};
+use office_base::puts::Put;
+use std::alloc::Global;
+use tests_disks::disks::Disks;
+use tests_disks::office::OfficeOnDisks;
+use tests_transcripts::session::Wrong;
+use tests_transcripts::setup::{MONEY, TENDERERS};
+
+// How a command ended whose disk stops, and what the office told of its store behind it.
+#[derive(Clone, Copy)]
+enum Ending {
+    Unopened,
+    Done,
+    Refused,
+    Shut,
+}
+
+// Whether an office that was shut stays so, and refuses what it did not do.
+fn stays_shut(alloc: Global, office: &mut OfficeOnDisks, puts: &[Put]) -> Result<bool, Wrong> {
+    let is_done = office.apply(copied(alloc, puts)?);
+    Ok(!is_done && office.is_shut() == Some(true))
+}
+
+// Makes the changes, and asks whether the store was shut.
+fn end_of(alloc: Global, disks: Disks, puts: &[Put]) -> Result<Ending, Wrong> {
+    let Ok(mut office) = opened(alloc, disks) else {
+        return Ok(Ending::Unopened);
+    };
+    let is_done = office.apply(copied(alloc, puts)?);
+    match (is_done, office.is_shut()) {
+        (true, Some(false)) => Ok(Ending::Done),
+        (false, Some(false)) => Ok(Ending::Refused),
+        (false, Some(true)) => {
+            if stays_shut(alloc, &mut office, puts)? {
+                Ok(Ending::Shut)
+            } else {
+                Err(Wrong::Unopened)
+            }
+        }
+        _ => Err(Wrong::Unopened),
+    }
+}
+
+// Makes the changes with a log's disk that takes ever more calls, until none is stopped. How often the store was shut before.
+fn times_shut(alloc: Global, disks: &Disks, puts: &[Put]) -> Result<u64, Wrong> {
+    let mut times = 0u64;
+    for calls in 0..2000 {
+        match end_of(alloc, disks.fused(alloc, calls, u64::MAX)?, puts)? {
+            Ending::Done => return Ok(times),
+            Ending::Shut => times = times.saturating_add(1),
+            Ending::Unopened | Ending::Refused => {}
+        }
+    }
+    Err(Wrong::Stop(2000))
+}
+
+// The same in an import behind the registration of the tenderers.
+fn times_in_an_import(alloc: Global) -> Result<u64, Wrong> {
+    let changes = changes_of(alloc, &[TENDERERS, MONEY])?;
+    let Some((last, others)) = changes.split_last() else {
+        return Err(Wrong::NotAnOffice);
+    };
+    let disks = all_changed(alloc, Disks::blank(alloc), others)?;
+    times_shut(alloc, &disks, last)
+}
+
+#[test]
+fn a_disk_that_stops_shuts_the_store(rt: HostRuntime) {
+    // One allocation of a test may be refused, and then the second try has all.
+    let first = times_in_an_import(rt.alloc());
+    let second = times_in_an_import(rt.alloc());
+    assert!(rt; matches!((first, second), (Ok(1..), _) | (_, Ok(1..))));
+}

@@ -1,0 +1,264 @@
+//! Stops: a disk takes so many calls, and fails at every one behind them. Whatever that number is, the office that is then opened again has the rows that it
+//! had before the command, or all that the command changes; and nothing less where the changes were made.
+use crate::changes::{changes_of, copied};
+use crate::life::{LIFE, NO_LINE, TWO_LINES};
+use crate::stores::{all_changed, ledger_in, made, opened, rows_in};
+use office_base::puts::Put;
+use std::alloc::Global;
+use tests_disks::disks::Disks;
+use tests_disks::office::{OfficeOnDisks, Unopened};
+use tests_transcripts::session::Wrong;
+
+// A command's changes, and all rows of the office before it and behind it.
+#[derive(Drop)]
+struct Change<'a> {
+    puts: &'a [Put],
+    before: Vec<u8>,
+    behind: Vec<u8>,
+}
+
+// How a command ended whose disks take so many calls.
+#[derive(Drop)]
+struct Ending {
+    is_done: bool,
+    is_closed: bool,
+    disks: Disks,
+}
+
+// Opens an office, and makes a command's changes. Where it can't even be opened, its files are as that left them.
+fn ended(alloc: Global, disks: Disks, puts: &[Put]) -> Result<Ending, Wrong> {
+    let mut office = match OfficeOnDisks::open(alloc, disks) {
+        Ok(office) => office,
+        Err(Unopened::NotAnOffice(_)) => return Err(Wrong::NotAnOffice),
+        Err(Unopened::Unusable(disks)) => {
+            return Ok(Ending {
+                is_done: false,
+                is_closed: false,
+                disks,
+            });
+        }
+    };
+    let is_done = office.apply(copied(alloc, puts)?);
+    let (is_closed, disks) = office.put_down();
+    Ok(Ending {
+        is_done,
+        is_closed,
+        disks,
+    })
+}
+
+// All rows of the office that a process leaves on these disks.
+fn rows_left(alloc: Global, disks: &Disks) -> Result<Vec<u8>, Wrong> {
+    rows_in(alloc, disks.left_by_the_process(alloc)?)
+}
+
+// All rows of the office in these files behind these changes.
+fn rows_behind(alloc: Global, disks: &Disks, puts: &[Put]) -> Result<Vec<u8>, Wrong> {
+    let whole = ended(alloc, disks.left_by_the_process(alloc)?, puts)?;
+    if !whole.is_closed {
+        return Err(Wrong::Unopened);
+    }
+    rows_left(alloc, &whole.disks)
+}
+
+// What these changes make of the office in these files.
+fn change_of<'a>(alloc: Global, disks: &Disks, puts: &'a [Put]) -> Result<Change<'a>, Wrong> {
+    let behind = rows_behind(alloc, disks, puts)?;
+    let before = rows_left(alloc, disks)?;
+    Ok(Change {
+        puts,
+        before,
+        behind,
+    })
+}
+
+// What was found of stops: how many left the office as it was before, and how many as it is behind the command.
+#[derive(Clone, Copy)]
+struct Found {
+    before: u64,
+    behind: u64,
+}
+
+impl Found {
+    fn count(&mut self, change: &Change<'_>, is_done: bool, rows: &[u8]) -> bool {
+        if rows == change.behind.as_slice() {
+            self.behind = self.behind.saturating_add(1);
+            return true;
+        }
+        self.before = self.before.saturating_add(1);
+        !is_done && rows == change.before.as_slice()
+    }
+}
+
+// Looks at what such an ending leaves, of a process and of a machine. Whether it is right.
+fn look_at(
+    alloc: Global,
+    found: &mut Found,
+    change: &Change<'_>,
+    ending: Ending,
+) -> Result<bool, Wrong> {
+    let of_process = rows_left(alloc, &ending.disks)?;
+    let of_machine = rows_in(alloc, ending.disks.left_by_the_machine(alloc)?)?;
+    let is_right = found.count(change, ending.is_done, &of_process);
+    Ok(found.count(change, ending.is_done, &of_machine) && is_right)
+}
+
+// Which disk stops.
+#[derive(Clone, Copy)]
+enum Stopping {
+    Log,
+    Database,
+}
+
+// The command with a disk that takes so many calls. Whether nothing was stopped.
+fn is_whole(
+    alloc: Global,
+    found: &mut Found,
+    change: &Change<'_>,
+    disks: Disks,
+    calls: u64,
+) -> Result<bool, Wrong> {
+    let ending = ended(alloc, disks, change.puts)?;
+    let is_whole = ending.is_closed;
+    if look_at(alloc, found, change, ending)? {
+        Ok(is_whole)
+    } else {
+        Err(Wrong::Stop(calls))
+    }
+}
+
+// Makes the changes with a disk that takes ever more calls, until none is stopped.
+fn stops(
+    alloc: Global,
+    disks: &Disks,
+    change: &Change<'_>,
+    stopping: Stopping,
+) -> Result<Found, Wrong> {
+    let mut found = Found {
+        before: 0,
+        behind: 0,
+    };
+    for calls in 0..2000 {
+        let fused = match stopping {
+            Stopping::Log => disks.fused(alloc, calls, u64::MAX)?,
+            Stopping::Database => disks.fused(alloc, u64::MAX, calls)?,
+        };
+        if is_whole(alloc, &mut found, change, fused, calls)? {
+            return Ok(found);
+        }
+    }
+    Err(Wrong::Stop(2000))
+}
+
+// Stops of the log's disk, and of that of the database file, in a command. Those of the log are to leave what is before it and what is
+// behind it, those of the database file what is behind it.
+fn stopped(alloc: Global, disks: &Disks, puts: &[Put]) -> Result<(), Wrong> {
+    let change = change_of(alloc, disks, puts)?;
+    let log = stops(alloc, disks, &change, Stopping::Log)?;
+    let db = stops(alloc, disks, &change, Stopping::Database)?;
+    if log.before == 0 || log.behind == 0 || db.behind == 0 {
+        return Err(Wrong::Stop(0));
+    }
+    Ok(())
+}
+
+// The same in the last of the first so many commands of a life.
+fn stopped_in_life(alloc: Global, count: usize) -> Result<(), Wrong> {
+    let mut changes = changes_of(alloc, &[LIFE])?;
+    if changes.len() != 10 {
+        return Err(Wrong::Stop(0));
+    }
+    changes.truncate(count);
+    let Some(last) = changes.pop() else {
+        return Err(Wrong::Stop(0));
+    };
+    let disks = all_changed(alloc, made(alloc)?, &changes)?;
+    stopped(alloc, &disks, &last)
+}
+
+// Whether stops in this command of a life leave what is before it or what is behind it.
+fn leaves_all_or_none(alloc: Global, command: usize) -> bool {
+    stopped_in_life(alloc, command).is_ok()
+}
+
+#[test]
+fn a_registration_is_stopped(rt: HostRuntime) {
+    let alloc = rt.alloc();
+    assert!(rt; leaves_all_or_none(alloc, 1) || leaves_all_or_none(alloc, 1));
+}
+
+#[test]
+fn an_import_is_stopped(rt: HostRuntime) {
+    let alloc = rt.alloc();
+    assert!(rt; leaves_all_or_none(alloc, 2) || leaves_all_or_none(alloc, 2));
+}
+
+#[test]
+fn a_publication_is_stopped(rt: HostRuntime) {
+    let alloc = rt.alloc();
+    assert!(rt; leaves_all_or_none(alloc, 3) || leaves_all_or_none(alloc, 3));
+}
+
+#[test]
+fn a_presentation_is_stopped(rt: HostRuntime) {
+    let alloc = rt.alloc();
+    assert!(rt; leaves_all_or_none(alloc, 4) || leaves_all_or_none(alloc, 4));
+}
+
+#[test]
+fn an_opening_is_stopped(rt: HostRuntime) {
+    let alloc = rt.alloc();
+    assert!(rt; leaves_all_or_none(alloc, 5) || leaves_all_or_none(alloc, 5));
+}
+
+#[test]
+fn an_examination_is_stopped(rt: HostRuntime) {
+    let alloc = rt.alloc();
+    assert!(rt; leaves_all_or_none(alloc, 6) || leaves_all_or_none(alloc, 6));
+}
+
+#[test]
+fn an_award_is_stopped(rt: HostRuntime) {
+    let alloc = rt.alloc();
+    assert!(rt; leaves_all_or_none(alloc, 7) || leaves_all_or_none(alloc, 7));
+}
+
+#[test]
+fn a_signature_is_stopped(rt: HostRuntime) {
+    let alloc = rt.alloc();
+    assert!(rt; leaves_all_or_none(alloc, 8) || leaves_all_or_none(alloc, 8));
+}
+
+#[test]
+fn a_payment_is_stopped(rt: HostRuntime) {
+    let alloc = rt.alloc();
+    assert!(rt; leaves_all_or_none(alloc, 9) || leaves_all_or_none(alloc, 9));
+}
+
+#[test]
+fn an_end_is_stopped(rt: HostRuntime) {
+    let alloc = rt.alloc();
+    assert!(rt; leaves_all_or_none(alloc, 10) || leaves_all_or_none(alloc, 10));
+}
+
+// The text of the ledger behind the first so many commands of a life.
+fn ledger_of_life(alloc: Global, count: usize) -> Result<Vec<u8>, Wrong> {
+    let mut changes = changes_of(alloc, &[LIFE])?;
+    changes.truncate(count);
+    ledger_in(alloc, all_changed(alloc, made(alloc)?, &changes)?)
+}
+
+fn has_ledger(alloc: Global, count: usize, ledger: &str) -> bool {
+    match ledger_of_life(alloc, count) {
+        Ok(text) => text.as_slice() == ledger.as_bytes(),
+        Err(_) => false,
+    }
+}
+
+// So each stop in the import of two lines leaves a ledger without lines, or with both.
+#[test]
+fn the_import_has_two_lines(rt: HostRuntime) {
+    let alloc = rt.alloc();
+    assert!(rt; has_ledger(alloc, 1, NO_LINE) || has_ledger(alloc, 1, NO_LINE));
+    assert!(rt; has_ledger(alloc, 2, TWO_LINES) || has_ledger(alloc, 2, TWO_LINES));
+}
