@@ -13,7 +13,7 @@ use Rattle.office_machine.specs.Counted.{releases_in}
 use Rattle.office_machine.specs.Machine.{Given, IsCommand, effect, publication, publication_puts, refusal_of}
 use Rattle.office_machine.specs.OfficeMeans.{office_readings}
 use Rattle.office_publications.specs.Keeping.{CanBeFollowed, FollowsReleases, KeepsItsReleases, ReadsBack, has_last_release, kept_puts, merge_puts, merged_row}
-use Rattle.office_publications.specs.Merges.{HasMerge}
+use Rattle.office_publications.specs.Merges.{AreSoMany, HasMerge}
 use Rattle.office_publications.specs.Publishing.{publishing}
 use Rattle.office_publications.specs.declared.publication.Publication.{Publication}
 use Rattle.office_plans.specs.Plans.{Plan}
@@ -27,12 +27,14 @@ before_next seq n next = omega (arith, next)
 
 -- a release is published behind the one in front of it, and joins the merge
 pub follows : (settings : Settings) (x : Given) (r : Released) → IsReleased settings x r → has_last_release r.notice (r.seq - 1) x.before ≡ true
-    → HasMerge r.notice x.before → FollowsReleases x
-follows settings x r released there merge notice is =
+    → HasMerge r.notice x.before → AreSoMany r.notice (r.seq - 1) x.before → FollowsReleases x
+follows settings x r released there merge many notice is =
     let found : Some r.notice ≡ Some notice = sym released.for_notice ∙ is in
     let same : r.notice ≡ notice = cc in
-    let last = ap (λ k. has_last_release r.notice k x.before) (sym (before_next r.seq (releases_in (notice_at r.notice x.before)) released.next)) ∙ there in
-    subst (λ (n : List ℕ). CanBeFollowed n x.before) same (record { last = last; merge = merge })
+    let number = before_next r.seq (releases_in (notice_at r.notice x.before)) released.next in
+    let last = ap (λ k. has_last_release r.notice k x.before) (sym number) ∙ there in
+    let counted = subst (λ (k : ℕ). AreSoMany r.notice k x.before) number many in
+    subst (λ (n : List ℕ). CanBeFollowed n x.before) same (record { last = last; merge = merge; counted = counted })
 
 module _ (settings : Settings) (x : Given) (r : Released) (p : Publication) (released : IsReleased settings x r) where
   abbrev puts_with : Option ReleaseRow → List Put

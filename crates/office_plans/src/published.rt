@@ -1,10 +1,10 @@
 //! What a command publishes, planned: its release joins what it puts, and the merge of its notice's releases.
-ghost use Rattle.std.specs.Prelude.{◌≡◌, ◌+◌, ◌++◌, ◌-◌, ◌∷◌, [], None, Some, true, IfOk, IfErr, IfSome, IfNone, OnOk};
+ghost use Rattle.std.specs.Prelude.{◌≡◌, ℕ, List, ◌+◌, ◌++◌, ◌-◌, ◌∷◌, [], None, Some, true, IfOk, IfErr, IfSome, IfNone, OnOk};
 ghost use Rattle.serde_json.specs.View.{view};
 ghost use Rattle.ocds_merge.specs.Stored.{IsStorable};
 ghost use Rattle.office_base.specs.Transitions.{has_all_releases};
 ghost use Rattle.office_base.specs.Shelves.{Looks, LooksUp};
-ghost use Rattle.office_base.specs.Tables.{notice_at};
+ghost use Rattle.office_base.specs.Tables.{Tables, notice_at};
 ghost use Rattle.office_base.specs.declared.puts.Put.TheVariants.{Compiled, Release};
 ghost use Rattle.office_machine.specs.Counted.{releases_in};
 ghost use Rattle.office_machine.specs.Machine.{Given, IsCommand, effect, refusal_of, time_of};
@@ -15,7 +15,7 @@ ghost use Rattle.office_plans.specs.Released.{IsKept, IsReleased};
 ghost use Rattle.office_plans.specs.Replies.{reply_text};
 ghost use Rattle.office_publications.specs.Events.{event_of};
 ghost use Rattle.office_publications.specs.Keeping.{KeepsReleasesOf, has_last_release};
-ghost use Rattle.office_publications.specs.Merges.{HasMerge};
+ghost use Rattle.office_publications.specs.Merges.{AreSoMany, HasMerge, IsKeptOf};
 ghost use Rattle.office_values.specs.declared.refusal.Refusal.TheVariants.{Unavailable};
 ghost use Rattle.office_values.specs.declared.settings.Settings.{Settings as SettingsOf};
 
@@ -29,7 +29,7 @@ use office_base::puts::Put;
 use office_base::records::NoticeRow;
 use office_base::shelf::{Lookups, ShelfFault};
 use office_publications::laws::keeping;
-use office_publications::merges::load_kept;
+use office_publications::merges::{Kept, load_kept};
 use office_publications::publication::{Publication, keep_release};
 use office_values::id::Id;
 use office_values::moment::Moment;
@@ -102,9 +102,19 @@ fn follows_another<H: Lookups>(
     }
 }
 
+// Whether a merge is kept, or, where none is, as many releases are there as stand in front of the one of this number.
+fn is_whole(kept: &Kept, seq: Sequence) -> bool
+    ensures { result ≡ true → (notice : List ℕ) (s : Tables) → IsKeptOf notice s kept.now → AreSoMany notice (seq - 1) s }
+{
+    match kept {
+        Kept::Merge(_) => true,
+        Kept::Releases(rows) => rows.as_slice().len() as u64 == seq.get() - 1,
+    }
+}
+
 // The release as it is kept, and the merge that it joins. Reads the merge of the notice's releases, or all of them where none is kept.
-// `Unavailable` where the release in front of it is gone, or the merge that is kept is no object: nothing is published behind a gap, nor over
-// what can't be gone on from.
+// `Unavailable` where the release in front of it is gone, the merge that is kept is no object, or none is kept and a release is gone: nothing
+// is published behind a gap, nor over what can't be gone on from.
 fn keep<H: Lookups>(
     alloc: Global,
     shelf: &mut H,
@@ -113,6 +123,7 @@ fn keep<H: Lookups>(
     ensures kept { Looks H.meaning shelf.old shelf.new (λ s. IsStorable (view released.release) → KeepsReleasesOf released.notice s → IfOk result (IsKept s released)) }
     ensures follows { Looks H.meaning shelf.old shelf.new (λ s. OnOk result (has_last_release released.notice (released.seq - 1) s ≡ true)) }
     ensures goes_on { Looks H.meaning shelf.old shelf.new (λ s. OnOk result (HasMerge released.notice s)) }
+    ensures counted { Looks H.meaning shelf.old shelf.new (λ s. OnOk result (AreSoMany released.notice (released.seq - 1) s)) }
     ensures none { IfErr result (λ why. why ≡ Unavailable) }
 {
     looks_follow::<H>();
@@ -121,6 +132,9 @@ fn keep<H: Lookups>(
         return Err(Refusal::Unavailable);
     }
     let kept = load_kept(shelf, &released.notice)?;
+    if !is_whole(&kept, released.seq) {
+        return Err(Refusal::Unavailable);
+    }
     keep_release(
         alloc,
         released.notice,
@@ -148,7 +162,8 @@ fn with_publication(
 }
 
 /// The plan of an accepted command that publishes: what it puts, the release, and the merge that this joins; and the reply's text.
-/// `Unavailable` also where the notice's last release is gone, or its kept merge can't be carried on, never so in a reached office.
+/// `Unavailable` also where the notice's last release is gone, its kept merge can't be carried on, or none is kept and a release is gone: never so
+/// in a reached office.
 pub(crate) fn published<H: Lookups>(
     alloc: Global,
     shelf: &mut H,

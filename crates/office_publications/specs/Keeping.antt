@@ -15,7 +15,7 @@ use Rattle.office_machine.specs.Counted.{releases_in}
 use Rattle.office_machine.specs.OfficeMeans.{office_readings}
 use Rattle.office_machine.specs.Publications.{published_for}
 use Rattle.office_publications.specs.Events.{event_of}
-use Rattle.office_publications.specs.Merges.{CanBeMerged, AreMerged, AreReleases, AreReleasesOf, HasMerge, IsMergedOf, bodies, body_in}
+use Rattle.office_publications.specs.Merges.{CanBeMerged, AreMerged, AreReleases, AreReleasesOf, AreSoMany, HasMerge, IsMergedOf, bodies, body_in}
 use Rattle.office_publications.specs.Publishing.{publishing, text_by}
 
 -- the row that keeps the merge of a notice's releases and one more
@@ -52,10 +52,12 @@ KeepsItsReleases x = (notice : List ℕ) → published_for x.before x.command �
 abbrev pub has_last_release : List ℕ → ℕ → Tables → Bool
 has_last_release notice releases t = nat_eq releases 0 || is_some (release_at (notice, releases) t)
 
--- what is kept of a notice can be gone on from: its last release is there, and the merge, where one is kept, is an object
+-- what is kept of a notice can be gone on from: its last release is there, and the merge, where one is kept, is an object; where none is, all
+-- releases that its row counts are there
 pub record CanBeFollowed (notice : List ℕ) (t : Tables) : Type 0 where
   pub last : has_last_release notice (releases_in (notice_at notice t)) t ≡ true
   pub merge : HasMerge notice t
+  pub counted : AreSoMany notice (releases_in (notice_at notice t)) t
 
 -- so is what is kept of the notice of which a command publishes a release; of a command that publishes nothing, nothing is asked
 abbrev pub FollowsReleases : Given → Type 0

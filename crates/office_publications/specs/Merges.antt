@@ -1,5 +1,5 @@
 -- The merge of a notice's releases, as it is kept beside them.
-use Rattle.std.specs.Prelude.{◌≡◌, ℕ, List, ◌∷◌, [], ◌++◌, map, filter, Some, None, unwrap_or, All, false}
+use Rattle.std.specs.Prelude.{◌≡◌, ℕ, List, ◌∷◌, [], ◌++◌, map, filter, Some, None, unwrap_or, All, false, length}
 use Rattle.serde_json.specs.Data.{Data, null}
 use Rattle.serde_json.specs.Read.{read}
 use Rattle.serde_json.specs.Written.{compact_text, has_float}
@@ -66,6 +66,10 @@ CanGoOn (Releases rows) = Unit {0}
 -- so is what an office keeps of this notice
 abbrev pub HasMerge : List ℕ → Tables → Type 0
 HasMerge notice t = (c : CompiledRow) → compiled_at notice t ≡ Some c → IsObjectText c.text
+
+-- where no merge is kept, so many releases of this notice are there
+abbrev pub AreSoMany : List ℕ → ℕ → Tables → Type 0
+AreSoMany notice count t = compiled_at notice t ≡ None → length (releases_of_notice notice t) ≡ count
 
 -- a release and the merge with it are put: the notice has one release more, other notices have theirs
 pub record IsPublished (s t : Tables) (r : ReleaseRow) (c : CompiledRow) : Type 0 where

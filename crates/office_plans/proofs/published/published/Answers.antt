@@ -2,7 +2,7 @@ use Rattle.std.specs.Prelude.{◌-◌}
 use Rattle.std.proofs.Common.{sym, subst, ap, ◌∙◌}
 use Rattle.office_base.specs.Tables.{Tables}
 use Rattle.office_publications.specs.Keeping.{KeepsReleasesOf, has_last_release}
-use Rattle.office_publications.specs.Merges.{HasMerge}
+use Rattle.office_publications.specs.Merges.{AreSoMany, HasMerge}
 use Rattle.office_plans.specs.Released.{IsKept}
 use Rattle.office_plans.proofs.ReleaseJoins.{follows, is_planned}
 use Rattle.office_plans.proofs.published.published.Goals as goal
@@ -16,8 +16,10 @@ returns g c =
       λ honest s held settings x at given allowed is told released.
           let behind = c.in_ok-publication.ensures.follows.1 honest s held in
           let onto = c.in_ok-publication.ensures.goes_on.1 honest s held in
+          let many = c.in_ok-publication.ensures.counted.1 honest s held in
           is_planned settings x r p released given allowed
-          (follows settings x r released (ap (λ (u : Tables). has_last_release r.notice (r.seq - 1) u) at ∙ behind) (subst (λ (u : Tables). HasMerge r.notice u) (sym at) onto)) c.args.puts.items c.args.text.items is told
+          (follows settings x r released (ap (λ (u : Tables). has_last_release r.notice (r.seq - 1) u) at ∙ behind) (subst (λ (u : Tables). HasMerge r.notice u) (sym at) onto)
+          (subst (λ (u : Tables). AreSoMany r.notice (r.seq - 1) u) (sym at) many)) c.args.puts.items c.args.text.items is told
           (λ keeps. subst (λ (u : Tables). IsKept u r p) (sym at)
           (kept.1 honest s held released.storable (subst (KeepsReleasesOf r.notice) at (keeps r.notice released.for_notice))))
           c.with_publication.result c.with_publication.ensures.puts c.with_publication.ensures.reply c.with_publication.ensures.none,
