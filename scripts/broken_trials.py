@@ -9,8 +9,8 @@ from typing import Any
 from audit_life import Life, offer, part
 from client import budget, text_of
 
-# A trial in which the command may be accepted: it doesn't go on from what is gone, and `tools/audit` finds that; or nothing is lost, since a merge that isn't
-# kept is made anew of all releases.
+# A trial in which the command may be accepted: it doesn't go on from what is gone, a list that it reads is shorter by a row, of which no row of it tells, or a
+# sum is above what is there, and `tools/audit` finds that; or nothing is lost, since a merge that isn't kept is made anew of all releases.
 MAY, ANEW = "may be accepted", "is made anew"
 DAY = 86_400
 
@@ -177,10 +177,10 @@ TRIALS: dict[str, list[tuple[str, ...]]] = {
     "amend_notice": [("its notice", notice_gone("R"), "NoSuch notice"), *of_releases("R", False)],
     "cancel": [
         ("its notice", notice_gone("R"), "NoSuch notice"), ("its lots", lot_gone("R") + lot_gone("R", "L2"), "NothingToCancel"),
-        ("one of its lots", lot_gone("R")), ("a lot's line", line_gone("2000")), ("a tender's security", security_gone("R1")),
-        ("more reserved than there", over_reserved("R", "L1")), *of_releases("R", False),
+        ("one of its lots", lot_gone("R"), MAY), ("a lot's line", line_gone("2000")), ("a tender's security", security_gone("R1"), MAY),
+        ("more reserved than there", over_reserved("R", "L1"), MAY), *of_releases("R", False),
     ],
-    "cancel, awarded": [("its award", AWARD_GONE), ("its lot", lot_gone("W"), "NothingToCancel"), ("the winner's security", security_gone("W1"))],
+    "cancel, awarded": [("its award", AWARD_GONE, MAY), ("its lot", lot_gone("W"), "NothingToCancel"), ("the winner's security", security_gone("W1"), MAY)],
     "open": [
         ("its notice", notice_gone("F"), "NoSuch notice"), ("its lot", lot_gone("F")), ("a tender's bytes", seal_gone("F1")), *of_releases("F", False),
     ],
@@ -206,10 +206,10 @@ TRIALS: dict[str, list[tuple[str, ...]]] = {
     "examine": [("its tender", tender_gone("E1"), "NoSuch tender"), ("its notice", notice_gone("E")), ("its lot", lot_gone("E"))],
     "award": [
         ("its notice", notice_gone("A"), "NoSuch notice"), ("its lot", lot_gone("A"), "NoSuch lot"), ("its lot's line", line_gone("1000")),
-        ("the winner", tenderer_gone("T1")), ("more reserved than there", over_reserved("A", "L1")), *of_releases("A", False),
+        ("the winner", tenderer_gone("T1")), ("more reserved than there", over_reserved("A", "L1"), MAY), *of_releases("A", False),
     ],
     "award, to nobody": [
-        ("its lot's line", line_gone("2000")), ("a tender's security", security_gone("A3")), ("more reserved than there", over_reserved("A", "L2")),
+        ("its lot's line", line_gone("2000")), ("a tender's security", security_gone("A3"), MAY), ("more reserved than there", over_reserved("A", "L2"), MAY),
     ],
     "fail": [
         ("its award", AWARD_GONE, "NoSuch award"), ("its notice", notice_gone("W")), ("its lot", lot_gone("W")), ("its tender", tender_gone("W1")),
@@ -217,14 +217,14 @@ TRIALS: dict[str, list[tuple[str, ...]]] = {
     ],
     "sign": [
         ("its award", AWARD_GONE, "NoSuch award"), ("its notice", notice_gone("W")), ("its lot", lot_gone("W")), ("its tender", tender_gone("W1")),
-        ("its tender's security", security_gone("W1")), *of_releases("W", False),
+        ("its tender's security", security_gone("W1"), MAY), *of_releases("W", False),
     ],
     "raise": [
         ("its contract", CONTRACT_GONE, "NoSuch contract"), ("its notice", notice_gone("C")), ("its lot", lot_gone("C"), "InsufficientFunds"),
         ("its lot's line", line_gone("1000"), "InsufficientFunds"), ("more paid than signed", OVERPAID), *of_releases("C", False),
     ],
     "cut": [
-        ("its lot's line", line_gone("1000")), ("more paid than signed", OVERPAID, "MoreThanOutstanding"), ("all of its line free", ALL_IS_FREE),
+        ("its lot's line", line_gone("1000")), ("more paid than signed", OVERPAID, "MoreThanOutstanding"), ("all of its line free", ALL_IS_FREE, MAY),
     ],
     "pay": [
         ("its contract", CONTRACT_GONE, "NoSuch contract"), ("its notice", notice_gone("C")), ("the tenderer", tenderer_gone("T1")),
@@ -232,7 +232,7 @@ TRIALS: dict[str, list[tuple[str, ...]]] = {
     ],
     "end": [
         ("its contract", CONTRACT_GONE, "NoSuch contract"), ("its notice", notice_gone("C")), ("its lot", lot_gone("C")), ("its lot's line", line_gone("1000")),
-        ("its performance security", PERFORMANCE_GONE), ("more paid than signed", OVERPAID), ("all of its line free", ALL_IS_FREE), *of_releases("C", False),
+        ("its performance security", PERFORMANCE_GONE), ("more paid than signed", OVERPAID), ("all of its line free", ALL_IS_FREE, MAY), *of_releases("C", False),
     ],
 }
 
