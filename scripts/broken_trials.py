@@ -232,7 +232,8 @@ TRIALS: dict[str, list[tuple[str, ...]]] = {
     ],
     "end": [
         ("its contract", CONTRACT_GONE, "NoSuch contract"), ("its notice", notice_gone("C")), ("its lot", lot_gone("C")), ("its lot's line", line_gone("1000")),
-        ("its performance security", PERFORMANCE_GONE), ("more paid than signed", OVERPAID), ("all of its line free", ALL_IS_FREE, MAY), *of_releases("C", False),
+        ("its performance security", PERFORMANCE_GONE), ("more paid than signed", OVERPAID), ("all of its line free", ALL_IS_FREE, MAY),
+        *of_releases("C", False),
     ],
 }
 

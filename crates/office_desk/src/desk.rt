@@ -150,7 +150,7 @@ impl<H: Shelf + Drop> Desk<H> {
     }
 
     /// Does what was planned, all or nothing, and hands out the reply. Once it is done nothing is allocated. `Unavailable` is want of memory
-    /// or a fault of the store: `carry_out` tells which.
+    /// or a fault of the store: `try_commit` tells which.
     pub fn commit(&mut self, planned: Planned) -> Result<Vec<u8>, Refusal>
         ensures alters { Alters H.meaning self.old.shelf self.new.shelf result (after_puts planned.puts) }
         ensures settings { self.new.settings ≡ self.old.settings }

@@ -90,7 +90,7 @@ pub fn number_at<const LOW: u64, const HIGH: u64>(
 }
 
 /// The value, or the refusal that names the field.
-#[tactic(auto, unfolding(crate::specs::Fields::needed))]
+#[tactic(auto, unfolding(crate::specs::Fields::field_or_refusal))]
 pub fn field_or_refusal<T: Drop>(field: Field, value: Option<T>) -> Result<T, Refusal>
     ensures { result ≡ spec.field_or_refusal field value }
 {

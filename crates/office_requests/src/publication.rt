@@ -77,7 +77,7 @@ fn array_at<'a>(body: &'a Value, name: &str) -> Option<&'a Vec<Value>>
 }
 
 // The elements of the array of a member.
-#[tactic(auto, unfolding(crate::specs::Publications::elements_at, crate::specs::Fields::needed))]
+#[tactic(auto, unfolding(crate::specs::Publications::elements_at, crate::specs::Fields::field_or_refusal))]
 fn elements_at<T: Element>(alloc: Global, body: &Value, name: &str) -> Result<Vec<T>, Refusal>
     ensures { ReadsList result (elements_at T.element_of name.now (view body.now)) }
 {
@@ -92,7 +92,7 @@ impl Element for Item {
 
     ghost element_of = { new_item_of };
 
-    #[tactic(auto, unfolding(crate::specs::Publications::item_of))]
+    #[tactic(auto, unfolding(crate::specs::Publications::new_item_of))]
     fn read(alloc: Global, value: &Value) -> Result<Item, Refusal> {
         Ok(Item {
             id: in_lots(text_at::<Id>(value, "id"))?,
@@ -122,7 +122,7 @@ impl Element for NewLot {
 
     ghost element_of = { new_lot_of };
 
-    #[tactic(auto, unfolding(crate::specs::Publications::lot_of))]
+    #[tactic(auto, unfolding(crate::specs::Publications::new_lot_of))]
     fn read(alloc: Global, value: &Value) -> Result<NewLot, Refusal> {
         Ok(NewLot {
             id: in_lots(text_at::<Id>(value, "id"))?,
@@ -189,7 +189,7 @@ fn performance(body: &Value) -> Result<Amount, Refusal>
 }
 
 // What the body of a publication says.
-#[tactic(auto, unfolding(crate::specs::Publications::notice_in))]
+#[tactic(auto, unfolding(crate::specs::Publications::new_notice_in))]
 fn new_notice(alloc: Global, body: &Value) -> Result<NewNotice, Refusal>
     ensures { ReadsAs result (new_notice_in (view body.now)) }
 {

@@ -187,7 +187,7 @@ fn read_extensions(alloc: Global, table: &Table) -> Result<Option<Extensions>, A
 }
 
 // The value, or that the member of this name is faulty.
-#[tactic(auto, unfolding(crate::specs::Configuration::needed))]
+#[tactic(auto, unfolding(crate::specs::Configuration::setting_or_fault))]
 fn setting_or_fault<T: Drop>(name: SettingName, value: Option<T>) -> Result<T, SettingsFault>
     ensures { result ≡ spec.setting_or_fault name value }
 {
@@ -217,7 +217,7 @@ fn buyer_of(alloc: Global, table: &Table) -> Result<Buyer, SettingsFault>
     Ok(Buyer { id, name })
 }
 
-#[tactic(auto, unfolding(crate::specs::Configuration::buyer_of, crate::specs::Configuration::needed))]
+#[tactic(auto, unfolding(crate::specs::Configuration::buyer_of, crate::specs::Configuration::setting_or_fault))]
 fn read_buyer(alloc: Global, table: &Table) -> Result<Buyer, SettingsFault>
     ensures { ReadsAs result (spec.buyer_of (table_at (codes "buyer") (table_view table.now))) }
 {

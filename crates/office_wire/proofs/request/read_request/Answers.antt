@@ -29,7 +29,7 @@ returns-in_err-length-clause-refused g c =
       head = read.head;
       after = read.rest;
       stands = read.stands;
-      framed = ap framing_of (sym read.view_is) ∙ (sym c.framing.ensures.framed ∙ c.in_err-length.was);
+      framed = ap framing_of (sym read.view_is) ∙ (sym c.body_length_of.ensures.framed ∙ c.in_err-length.was);
     }))
 
 pub returns-in_err-body-clause-cut : goal.returns-in_err-body-clause-cut
@@ -39,7 +39,7 @@ returns-in_err-body-clause-cut g c is input e =
     let whole = rw (p.1, p.2) at is in
     let failed : c.in_err-body.field-0.0 ≡ fault.Read = cc whole in
     let cut = c.in_err-body.ensures.cut (ap (λ t. Err t) failed) read.rest read.now_is in
-    let framed = ap framing_of (sym read.view_is) ∙ (sym c.framing.ensures.framed ∙ c.in_ok-length.was) in
+    let framed = ap framing_of (sym read.view_is) ∙ (sym c.body_length_of.ensures.framed ∙ c.in_ok-length.was) in
     record {
       part = print_request read.head ++ cut.part;
       rest = cut.rest;
@@ -60,7 +60,7 @@ returns-in-Some-clause-request g c input e =
         after = read.rest;
         stands = read.stands;
         view = read.view_is;
-        framed = sym c.framing.ensures.framed ∙ (c.in_ok-length.was ∙ ap (λ n. Ok n) (sym len));
+        framed = sym c.body_length_of.ensures.framed ∙ (c.in_ok-length.was ∙ ap (λ n. Ok n) (sym len));
         body = parts;
       };
     }
@@ -74,7 +74,7 @@ returns-in-None-clause-refused g c input e =
       after = read.rest;
       stands = read.stands;
       len = c.in_ok-length.length;
-      framed = ap framing_of (sym read.view_is) ∙ (sym c.framing.ensures.framed ∙ c.in_ok-length.was);
+      framed = ap framing_of (sym read.view_is) ∙ (sym c.body_length_of.ensures.framed ∙ c.in_ok-length.was);
       short = short;
     }))
 
@@ -88,7 +88,7 @@ returns-in_err-length-clause-stands g c =
         head = read.head;
         after = read.rest;
         stands = read.stands;
-        framed = ap framing_of (sym read.view_is) ∙ (sym c.framing.ensures.framed ∙ c.in_err-length.was);
+        framed = ap framing_of (sym read.view_is) ∙ (sym c.body_length_of.ensures.framed ∙ c.in_err-length.was);
       };
       now_is = read.now_is;
     }))
@@ -123,7 +123,7 @@ returns-in-None-clause-stands g c input e =
         after = read.rest;
         stands = read.stands;
         len = c.in_ok-length.length;
-        framed = ap framing_of (sym read.view_is) ∙ (sym c.framing.ensures.framed ∙ c.in_ok-length.was);
+        framed = ap framing_of (sym read.view_is) ∙ (sym c.body_length_of.ensures.framed ∙ c.in_ok-length.was);
         short = short;
       });
     }))
