@@ -21,6 +21,13 @@ fn is_left_out(row: &ReleaseRow, left_out: LeftOut) -> bool {
     }
 }
 
+fn is_merge(left_out: LeftOut) -> bool {
+    match left_out {
+        LeftOut::Merge => true,
+        LeftOut::Release(_) => false,
+    }
+}
+
 // The releases of the notice, and their merge.
 fn push_releases<H: Shelf>(
     puts: &mut Vec<Put>,
@@ -33,10 +40,11 @@ fn push_releases<H: Shelf>(
             puts.push(Put::Release(row))?;
         }
     }
-    if let LeftOut::Release(_) = left_out {
-        if let Some(row) = shelf.get_compiled(notice)? {
-            puts.push(Put::Compiled(row))?;
-        }
+    if is_merge(left_out) {
+        return Ok(());
+    }
+    if let Some(row) = shelf.get_compiled(notice)? {
+        puts.push(Put::Compiled(row))?;
     }
     Ok(())
 }
