@@ -1,6 +1,6 @@
 -- A command's refusal is told, unless a look-up failed.
 use Rattle.std.specs.Prelude.{◌≡◌, ◌<◌, ◌⊎◌, ◌+◌, ◌-◌, ◌^◌, ℕ, Bool, true, List, Option, Some, None, Result, Ok, Err, max, min}
-use Rattle.std.proofs.Common.{◌∙◌, ap, inl, inr, sym}
+use Rattle.std.proofs.Common.{◌∙◌, ap, arith, inl, inr, sym}
 use Rattle.office_values.specs.declared.refusal.Refusal.{Refusal}
 use Rattle.office_commands.specs.Commands.{kind_of}
 use Rattle.office_commands.specs.declared.commands.Command.{Command}
@@ -10,7 +10,7 @@ use Rattle.office_base.specs.Shelves.{CountsFaults, Looks, Meaning}
 use Rattle.office_base.specs.Tables.{Tables}
 use Rattle.office_base.specs.declared.records.ClockRow.{ClockRow}
 use Rattle.office_base.specs.declared.shelf.ShelfFault.{ShelfFault}
-use Rattle.office_machine.specs.Machine.{Given, may_give, refusal_of}
+use Rattle.office_machine.specs.Machine.{may_give, refusal_of}
 use Rattle.office_plans.proofs.Publishing.{IsTested, refused_on}
 use Rattle.office_plans.specs.Asking.{given_by}
 use Rattle.office_plans.specs.Published.{TellsRefusal}
@@ -21,9 +21,9 @@ has_risen : (old new : ℕ) → new ≡ one_fault_more old → HasRisen old new
 has_risen old new counted = grind (arith, counted)
 
 -- a look-up that failed is counted
-pub fault_told : {S T V : Type 0} (M : Meaning S) (a b : S) (x : Tables → Given) (fault : ShelfFault) (result : Result T Refusal) → CountsFaults {T = V} M a b (Err fault)
-    → TellsRefusal M a b x result
-fault_told M a b x fault result counts honest s held why refused = inr (has_risen _ _ counts.counted)
+pub fault_told : {S T V : Type 0} (M : Meaning S) (a b : S) (asking : Asking) (command : Command) (fault : ShelfFault) (result : Result T Refusal)
+    → CountsFaults {T = V} M a b (Err fault) → TellsRefusal M a b (λ s. given_by asking s command) result
+fault_told M a b asking command fault result counts honest s held why refused = inr (has_risen _ _ counts.counted)
 
 -- rows that were looked up, the moment by their clock, and what the decision on them answered
 module _ {R : Type 0} {asking : Asking} {command : Command} {rows_of : Tables → R} {clock_in : R → ClockRow} {tests : R → ℕ → List (Bool × Refusal)}

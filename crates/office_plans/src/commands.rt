@@ -31,8 +31,7 @@ use office_values::settings::Settings;
 use std::alloc::Global;
 use tender_core::asking::Asking;
 
-/// Plans a command that the caller may give. Before a command that gathers budget lines is refused, memory is taken for these: so one that is
-/// to be refused may be `Unavailable` with no fault of the store.
+/// Plans a command that the caller may give. One that gathers lines may be `Unavailable` in place of its refusal though no look-up failed.
 pub fn plan_command<H: Lookups>(
     alloc: Global,
     shelf: &mut H,

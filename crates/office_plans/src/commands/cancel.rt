@@ -121,7 +121,7 @@ fn release(
     make_release(alloc, settings, notice, &rows.notice, t, &event)
 }
 
-/// Plans a cancellation: a refusal takes no memory beside the rows. Its rationale is kept for the release alone.
+/// Plans a cancellation: a refusal takes no memory beside the rows, and asks for no line. Its rationale is kept for the release alone.
 pub fn plan<H: Lookups>(
     alloc: Global,
     shelf: &mut H,

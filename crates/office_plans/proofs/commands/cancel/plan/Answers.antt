@@ -47,7 +47,9 @@ returns-clause-looks g c =
     (c.in_ok-text.ensures s (ap (λ (rows : CancelRows). rows.notice) named) (ap (λ (rows : CancelRows). rows.clock) named)) (c.in_ok-release.ensures.release s named))
 
 pub returns-in_err-found-clause-tells : goal.returns-in_err-found-clause-tells
-returns-in_err-found-clause-tells g c = fault_told _ _ _ _ _ _ c.in_err-found.ensures.1
+returns-in_err-found-clause-tells g c =
+    let a = c.args in
+    fault_told _ _ _ a.asking.now (Cancel a.notice a.rationale) _ _ c.in_err-found.ensures.1
 
 pub returns-in-Some-clause-tells : goal.returns-in-Some-clause-tells
 returns-in-Some-clause-tells g c =

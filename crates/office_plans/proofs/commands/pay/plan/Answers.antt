@@ -34,7 +34,9 @@ returns-clause-looks g c =
     joined a.settings.now (given_by a.asking.now s (Pay a.contract a.entry a.amount)) refl tt allowed puts (c.in_ok-text.ensures.told s a.entry are allowed) (released a.contract are row))
 
 pub returns-in_err-rows-clause-tells : goal.returns-in_err-rows-clause-tells
-returns-in_err-rows-clause-tells g c = fault_told _ _ _ _ _ _ c.in_err-rows.ensures.1
+returns-in_err-rows-clause-tells g c =
+    let a = c.args in
+    fault_told _ _ _ a.asking.now (Pay a.contract a.entry a.amount) _ _ c.in_err-rows.ensures.1
 
 pub returns-in-Some-clause-tells : goal.returns-in-Some-clause-tells
 returns-in-Some-clause-tells g c =
@@ -44,19 +46,23 @@ returns-in-Some-clause-tells g c =
 pub returns-in_err-text-clause-tells : goal.returns-in_err-text-clause-tells
 returns-in_err-text-clause-tells g c =
     let a = c.args in
-    none_to_tell (rule a.asking.now a.contract a.entry a.amount) _ _ c.time-t.ensures _ _ _ c.in_ok-rows.ensures.0 c.requires _ c.refusal.ensures _ _ (λ honest. honest) c.in_default.is
+    none_to_tell (rule a.asking.now a.contract a.entry a.amount) _ _ c.time-t.ensures _ _ _ c.in_ok-rows.ensures.0 c.requires _ c.refusal.ensures _ _
+    (λ honest. honest) c.in_default.is
 
 pub returns-in_err-release-clause-tells : goal.returns-in_err-release-clause-tells
 returns-in_err-release-clause-tells g c =
     let a = c.args in
-    none_to_tell (rule a.asking.now a.contract a.entry a.amount) _ _ c.time-t.ensures _ _ _ c.in_ok-rows.ensures.0 c.requires _ c.refusal.ensures _ _ c.in_err-release.ensures.looks.0.before c.in_default.is
+    none_to_tell (rule a.asking.now a.contract a.entry a.amount) _ _ c.time-t.ensures _ _ _ c.in_ok-rows.ensures.0 c.requires _ c.refusal.ensures _ _
+    c.in_err-release.ensures.looks.0.before c.in_default.is
 
 pub returns-in_err-puts-clause-tells : goal.returns-in_err-puts-clause-tells
 returns-in_err-puts-clause-tells g c =
     let a = c.args in
-    none_to_tell (rule a.asking.now a.contract a.entry a.amount) _ _ c.time-t.ensures _ _ _ c.in_ok-rows.ensures.0 c.requires _ c.refusal.ensures _ _ c.in_ok-release.ensures.looks.0.before c.in_default.is
+    none_to_tell (rule a.asking.now a.contract a.entry a.amount) _ _ c.time-t.ensures _ _ _ c.in_ok-rows.ensures.0 c.requires _ c.refusal.ensures _ _
+    c.in_ok-release.ensures.looks.0.before c.in_default.is
 
 pub returns-clause-tells : goal.returns-clause-tells
 returns-clause-tells g c =
     let a = c.args in
-    none_to_tell (rule a.asking.now a.contract a.entry a.amount) _ _ c.time-t.ensures _ _ _ c.in_ok-rows.ensures.0 c.requires _ c.refusal.ensures _ _ (λ honest. c.in_ok-release.ensures.looks.0.before (c.published.ensures.0.before honest)) c.in_default.is
+    none_to_tell (rule a.asking.now a.contract a.entry a.amount) _ _ c.time-t.ensures _ _ _ c.in_ok-rows.ensures.0 c.requires _ c.refusal.ensures _ _
+    (λ honest. c.in_ok-release.ensures.looks.0.before (c.published.ensures.0.before honest)) c.in_default.is
