@@ -127,7 +127,8 @@ pub fn plan<H: Lookups>(
     rationale: TextLine,
 ) -> Result<Planned, Refusal>
     requires { may asking.now.caller.now kinds.AmendContract ≡ true }
-    ensures looks { Looks H.meaning shelf.old shelf.new (λ s. IsPlanned settings.now (given_by asking.now s (AmendContract contract entry kind amount rationale)) result) }
+    ensures looks { Looks H.meaning shelf.old shelf.new (λ s.
+        IsPlanned settings.now (given_by asking.now s (AmendContract contract entry kind amount rationale)) result) }
     ensures tells { TellsRefusal H.meaning shelf.old shelf.new (λ s. given_by asking.now s (AmendContract contract entry kind amount rationale)) result }
 {
     looks_follow::<H>();

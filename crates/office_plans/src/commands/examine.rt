@@ -69,7 +69,8 @@ pub fn plan<H: Lookups>(
     quality: Option<Quality>,
 ) -> Result<Planned, Refusal>
     requires { may asking.now.caller.now kinds.Examine ≡ true }
-    ensures looks { (settings : Settings) → Looks H.meaning shelf.old shelf.new (λ s. IsPlanned settings (given_by asking.now s (Examine receipt responsive quality)) result) }
+    ensures looks { (settings : Settings) → Looks H.meaning shelf.old shelf.new (λ s.
+        IsPlanned settings (given_by asking.now s (Examine receipt responsive quality)) result) }
     ensures tells { TellsRefusal H.meaning shelf.old shelf.new (λ s. given_by asking.now s (Examine receipt responsive quality)) result }
 {
     let rows = load(shelf, receipt)?;

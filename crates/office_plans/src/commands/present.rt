@@ -103,7 +103,8 @@ pub fn plan<H: Lookups>(
     sealed: Sealed<'_>,
 ) -> Result<Planned, Refusal>
     requires { may asking.now.caller.now kinds.Present ≡ true }
-    ensures looks { (settings : Settings) → Looks H.meaning shelf.old shelf.new (λ s. IsPlanned settings (given_by asking.now s (Present notice lot security sealed.entry)) result) }
+    ensures looks { (settings : Settings) → Looks H.meaning shelf.old shelf.new (λ s.
+        IsPlanned settings (given_by asking.now s (Present notice lot security sealed.entry)) result) }
     ensures tells { TellsRefusal H.meaning shelf.old shelf.new (λ s. given_by asking.now s (Present notice lot security sealed.entry)) result }
 {
     let rows = load(alloc, shelf, asking.caller, &notice, &lot)?;

@@ -57,7 +57,8 @@ pub fn plan<H: Lookups>(
     key: [u8; 32],
 ) -> Result<Planned, Refusal>
     requires { may asking.now.caller.now kinds.Register ≡ true }
-    ensures looks { (settings : Settings) → Looks H.meaning shelf.old shelf.new (λ s. IsPlanned settings (given_by asking.now s (Register tenderer name address key)) result) }
+    ensures looks { (settings : Settings) → Looks H.meaning shelf.old shelf.new (λ s.
+        IsPlanned settings (given_by asking.now s (Register tenderer name address key)) result) }
     ensures tells { TellsRefusal H.meaning shelf.old shelf.new (λ s. given_by asking.now s (Register tenderer name address key)) result }
 {
     let rows = load(shelf, &tenderer)?;
