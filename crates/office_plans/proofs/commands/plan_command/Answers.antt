@@ -18,20 +18,20 @@ planned : {S : Type 0} (M : Meaning S) (settings : Settings) (asking : Asking) (
 planned M settings asking a b given command result is of_any =
     subst (λ (k : Command). Looks M a b (λ (s : Tables). IsPlanned settings (given_by asking s k) result)) (sym is) (of_any settings)
 
-pub returns-in-Import : goal.returns-in-Import
-returns-in-Import g c = planned _ c.args.settings.now c.args.asking.now _ _ c.args.command (Import c.in-Import.batch c.in-Import.rows) _ c.in-Import.is c.plan.ensures
+pub returns-in-Import-clause-looks : goal.returns-in-Import-clause-looks
+returns-in-Import-clause-looks g c = planned _ c.args.settings.now c.args.asking.now _ _ c.args.command (Import c.in-Import.batch c.in-Import.rows) _ c.in-Import.is c.plan.ensures
 
-pub returns-in-Register : goal.returns-in-Register
-returns-in-Register g c = planned _ c.args.settings.now c.args.asking.now _ _ c.args.command (Register c.in-Register.tenderer c.in-Register.name c.in-Register.address c.in-Register.key) _ c.in-Register.is c.plan-in-Register.ensures
+pub returns-in-Register-clause-looks : goal.returns-in-Register-clause-looks
+returns-in-Register-clause-looks g c = planned _ c.args.settings.now c.args.asking.now _ _ c.args.command (Register c.in-Register.tenderer c.in-Register.name c.in-Register.address c.in-Register.key) _ c.in-Register.is c.plan-in-Register.ensures.looks
 
-pub returns-in-Present : goal.returns-in-Present
-returns-in-Present g c = planned _ c.args.settings.now c.args.asking.now _ _ c.args.command (Present c.in-Present.notice c.in-Present.lot c.in-Present.security c.in-Present.sealed) _ c.in-Present.is c.plan-in-Present.ensures
+pub returns-in-Present-clause-looks : goal.returns-in-Present-clause-looks
+returns-in-Present-clause-looks g c = planned _ c.args.settings.now c.args.asking.now _ _ c.args.command (Present c.in-Present.notice c.in-Present.lot c.in-Present.security c.in-Present.sealed) _ c.in-Present.is c.plan-in-Present.ensures.looks
 
-pub returns-in-Modify : goal.returns-in-Modify
-returns-in-Modify g c = planned _ c.args.settings.now c.args.asking.now _ _ c.args.command (Modify c.in-Modify.receipt c.in-Modify.sealed) _ c.in-Modify.is c.plan-in-Modify.ensures
+pub returns-in-Modify-clause-looks : goal.returns-in-Modify-clause-looks
+returns-in-Modify-clause-looks g c = planned _ c.args.settings.now c.args.asking.now _ _ c.args.command (Modify c.in-Modify.receipt c.in-Modify.sealed) _ c.in-Modify.is c.plan-in-Modify.ensures.looks
 
-pub returns-in-Withdraw : goal.returns-in-Withdraw
-returns-in-Withdraw g c = planned _ c.args.settings.now c.args.asking.now _ _ c.args.command (Withdraw c.in-Withdraw.receipt) _ c.in-Withdraw.is c.plan-in-Withdraw.ensures
+pub returns-in-Withdraw-clause-looks : goal.returns-in-Withdraw-clause-looks
+returns-in-Withdraw-clause-looks g c = planned _ c.args.settings.now c.args.asking.now _ _ c.args.command (Withdraw c.in-Withdraw.receipt) _ c.in-Withdraw.is c.plan-in-Withdraw.ensures.looks
 
-pub returns-in-Examine : goal.returns-in-Examine
-returns-in-Examine g c = planned _ c.args.settings.now c.args.asking.now _ _ c.args.command (Examine c.in-Examine.receipt c.in-Examine.responsive c.in-Examine.quality) _ c.in-Examine.is c.plan-in-Examine.ensures
+pub returns-in-Examine-clause-looks : goal.returns-in-Examine-clause-looks
+returns-in-Examine-clause-looks g c = planned _ c.args.settings.now c.args.asking.now _ _ c.args.command (Examine c.in-Examine.receipt c.in-Examine.responsive c.in-Examine.quality) _ c.in-Examine.is c.plan-in-Examine.ensures.looks
