@@ -1,13 +1,13 @@
 use Rattle.std.specs.Prelude.{◌≡◌, Result}
 use Rattle.std.proofs.Common.{subst, sym}
 use Rattle.office_commands.specs.declared.commands.Command.{Command}
-use Rattle.office_commands.specs.declared.commands.Command.TheVariants.{Import, Register, Present, Modify, Withdraw, Examine}
+use Rattle.office_commands.specs.declared.commands.Command.TheVariants.{Import, Register, AmendNotice, Present, Modify, Withdraw, Examine, Award, Sign, AmendContract, Pay}
 use Rattle.office_base.specs.Shelves.{Looks, Meaning}
 use Rattle.office_base.specs.Tables.{Tables}
 use Rattle.office_plans.proofs.commands.plan_command.Goals as goal
 use Rattle.office_plans.specs.Asking.{given_by}
 use Rattle.office_plans.specs.Plans.{Plan}
-use Rattle.office_plans.specs.Published.{IsPlanned}
+use Rattle.office_plans.specs.Published.{IsPlanned, TellsRefusal}
 use Rattle.office_values.specs.declared.refusal.Refusal.{Refusal}
 use Rattle.office_values.specs.declared.settings.Settings.{Settings}
 use Rattle.tender_core.specs.declared.asking.Asking.{Asking}
@@ -17,6 +17,11 @@ planned : {S : Type 0} (M : Meaning S) (settings : Settings) (asking : Asking) (
     → ((any : Settings) → Looks M a b (λ (s : Tables). IsPlanned any (given_by asking s command) result)) → Looks M a b (λ (s : Tables). IsPlanned settings (given_by asking s given) result)
 planned M settings asking a b given command result is of_any =
     subst (λ (k : Command). Looks M a b (λ (s : Tables). IsPlanned settings (given_by asking s k) result)) (sym is) (of_any settings)
+
+-- a refusal that is told of a command is told of the command that was given
+told : {S : Type 0} (M : Meaning S) (asking : Asking) (a b : S) (given command : Command) (result : Result Plan Refusal) → given ≡ command
+    → TellsRefusal M a b (λ (s : Tables). given_by asking s command) result → TellsRefusal M a b (λ (s : Tables). given_by asking s given) result
+told M asking a b given command result is tells = subst (λ (k : Command). TellsRefusal M a b (λ (s : Tables). given_by asking s k) result) (sym is) tells
 
 pub returns-in-Import-clause-looks : goal.returns-in-Import-clause-looks
 returns-in-Import-clause-looks g c = planned _ c.args.settings.now c.args.asking.now _ _ c.args.command (Import c.in-Import.batch c.in-Import.rows) _ c.in-Import.is c.plan.ensures
@@ -35,3 +40,43 @@ returns-in-Withdraw-clause-looks g c = planned _ c.args.settings.now c.args.aski
 
 pub returns-in-Examine-clause-looks : goal.returns-in-Examine-clause-looks
 returns-in-Examine-clause-looks g c = planned _ c.args.settings.now c.args.asking.now _ _ c.args.command (Examine c.in-Examine.receipt c.in-Examine.responsive c.in-Examine.quality) _ c.in-Examine.is c.plan-in-Examine.ensures.looks
+
+pub returns-in-Register-clause-tells : goal.returns-in-Register-clause-tells
+returns-in-Register-clause-tells g c = λ _.
+    told _ c.args.asking.now _ _ c.args.command (Register c.in-Register.tenderer c.in-Register.name c.in-Register.address c.in-Register.key) _ c.in-Register.is c.plan-in-Register.ensures.tells
+
+pub returns-in-AmendNotice-clause-tells : goal.returns-in-AmendNotice-clause-tells
+returns-in-AmendNotice-clause-tells g c = λ _.
+    told _ c.args.asking.now _ _ c.args.command (AmendNotice c.in-AmendNotice.notice c.in-AmendNotice.deadline c.in-AmendNotice.rationale) _ c.in-AmendNotice.is c.plan-in-AmendNotice.ensures.tells
+
+pub returns-in-Present-clause-tells : goal.returns-in-Present-clause-tells
+returns-in-Present-clause-tells g c = λ _.
+    told _ c.args.asking.now _ _ c.args.command (Present c.in-Present.notice c.in-Present.lot c.in-Present.security c.in-Present.sealed) _ c.in-Present.is c.plan-in-Present.ensures.tells
+
+pub returns-in-Modify-clause-tells : goal.returns-in-Modify-clause-tells
+returns-in-Modify-clause-tells g c = λ _.
+    told _ c.args.asking.now _ _ c.args.command (Modify c.in-Modify.receipt c.in-Modify.sealed) _ c.in-Modify.is c.plan-in-Modify.ensures.tells
+
+pub returns-in-Withdraw-clause-tells : goal.returns-in-Withdraw-clause-tells
+returns-in-Withdraw-clause-tells g c = λ _.
+    told _ c.args.asking.now _ _ c.args.command (Withdraw c.in-Withdraw.receipt) _ c.in-Withdraw.is c.plan-in-Withdraw.ensures.tells
+
+pub returns-in-Examine-clause-tells : goal.returns-in-Examine-clause-tells
+returns-in-Examine-clause-tells g c = λ _.
+    told _ c.args.asking.now _ _ c.args.command (Examine c.in-Examine.receipt c.in-Examine.responsive c.in-Examine.quality) _ c.in-Examine.is c.plan-in-Examine.ensures.tells
+
+pub returns-in-Award-clause-tells : goal.returns-in-Award-clause-tells
+returns-in-Award-clause-tells g c = λ _.
+    told _ c.args.asking.now _ _ c.args.command (Award c.in-Award.notice c.in-Award.lot) _ c.in-Award.is c.plan-in-Award.ensures.tells
+
+pub returns-in-Sign-clause-tells : goal.returns-in-Sign-clause-tells
+returns-in-Sign-clause-tells g c = λ _.
+    told _ c.args.asking.now _ _ c.args.command (Sign c.in-Sign.award c.in-Sign.security) _ c.in-Sign.is c.plan-in-Sign.ensures.tells
+
+pub returns-in-AmendContract-clause-tells : goal.returns-in-AmendContract-clause-tells
+returns-in-AmendContract-clause-tells g c = λ _.
+    told _ c.args.asking.now _ _ c.args.command (AmendContract c.in-AmendContract.contract c.in-AmendContract.entry c.in-AmendContract.kind c.in-AmendContract.amount c.in-AmendContract.rationale) _ c.in-AmendContract.is c.plan-in-AmendContract.ensures.tells
+
+pub returns-in-Pay-clause-tells : goal.returns-in-Pay-clause-tells
+returns-in-Pay-clause-tells g c = λ _.
+    told _ c.args.asking.now _ _ c.args.command (Pay c.in-Pay.contract c.in-Pay.entry c.in-Pay.amount) _ c.in-Pay.is c.plan-in-Pay.ensures.tells
