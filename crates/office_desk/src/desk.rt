@@ -13,7 +13,7 @@ ghost use Rattle.office_values.specs.declared.settings.Settings.{Settings as Set
 ghost use Rattle.office_plans.specs.Asking.{given};
 ghost use Rattle.office_base.specs.Shutting.{TellsShut};
 ghost use Rattle.office_desk.specs.Callers.{caller_of, names_no_tenderer};
-ghost use Rattle.office_plans.specs.Published.{IsPlan, IsPlanned, TellsRefusal, gathers_lines};
+ghost use Rattle.office_plans.specs.Published.{IsPlan, IsPlanned};
 ghost use Rattle.office_desk.specs.Steps.{Does, HasShown, IsReplyOrRefusal, IsSeen, Joins, read_text};
 
 use crate::callers::{clerk_with_key, is_clerk_name, tenderer_named};
@@ -114,8 +114,7 @@ impl<H: Shelf + Drop> Desk<H> {
         }
     }
 
-    /// What a command would do, and its reply. Nothing changes. One that is to be refused is told `Unavailable` instead only where a look-up
-    /// failed, which the shelf counts, or where memory was wanting for the lines that it gathers.
+    /// What a command would do, and its reply. Nothing changes.
     pub fn plan(
         &mut self,
         moment: Moment,
@@ -125,8 +124,6 @@ impl<H: Shelf + Drop> Desk<H> {
         ensures looks { Looks H.meaning self.old.shelf self.new.shelf (λ s. IsPlanned self.old.settings (given s moment caller.now command.entry) result) }
         ensures settings { self.new.settings ≡ self.old.settings }
         ensures forbidden { may caller.now (commands.kind_of command.entry) ≡ false → result ≡ Err Refusal.Forbidden }
-        ensures tells { gathers_lines command.entry ≡ false
-            → TellsRefusal H.meaning self.old.shelf self.new.shelf (λ s. given s moment caller.now command.entry) result }
     {
         if !may(caller, command.kind()) {
             return Err(Refusal::Forbidden);
@@ -186,8 +183,6 @@ impl<H: Shelf + Drop> Desk<H> {
         ensures settings { self.new.settings ≡ self.old.settings }
         ensures answered { H.meaning.honest self.new.shelf → (s : Tables) → H.meaning.holds self.old.shelf s
             → IsReplyOrRefusal self.old.settings (given s moment caller.now command.entry) (read_text result) }
-        ensures tells { gathers_lines command.entry ≡ false
-            → TellsRefusal H.meaning self.old.shelf self.new.shelf (λ s. given s moment caller.now command.entry) result }
         ensures joins { H.meaning.honest self.new.shelf → (s : Tables) → IsRegistered caller.now s.tenderers → H.meaning.holds self.old.shelf s → KeepsReleases s
             → (xs : List Given) → Reaches (publishing self.old.settings) xs s
             → Joins H.meaning self.old.settings self.new.shelf (given s moment caller.now command.entry) (read_text result) xs }
