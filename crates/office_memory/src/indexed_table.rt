@@ -147,7 +147,8 @@ where
     }
 }
 
-impl<T: RowTable<R> + Drop, R: Grouped<G> + Drop, G: Ord + Copy> RowTable<R> for IndexedTable<T, R, G>
+impl<T: RowTable<R> + Drop, R: Grouped<G> + Drop, G: Ord + Copy> RowTable<R>
+    for IndexedTable<T, R, G>
 where
     R::Key: Known,
 {

@@ -96,15 +96,6 @@ where
     IndexedTable::new(alloc, Table::new(alloc))
 }
 
-// No rows, to be listed by their notice, and by their lot.
-fn by_lot<R: Grouped<Id> + Grouped<(Id, Id)> + Drop>(alloc: Global) -> LotTable<R>
-where
-    R::Key: Known,
-    ensures { result ≡ [] }
-{
-    IndexedTable::new(alloc, listed(alloc))
-}
-
 /// Tables without rows. Takes no memory.
 pub fn empty(alloc: Global) -> MemoryTables
     ensures { tables_of result ≡ no_tables }
@@ -115,9 +106,9 @@ pub fn empty(alloc: Global) -> MemoryTables
         tenderers: Table::new(alloc),
         notices: Table::new(alloc),
         lots: listed(alloc),
-        envelopes: IndexedTable::new(alloc, by_lot(alloc)),
+        envelopes: IndexedTable::new(alloc, IndexedTable::new(alloc, listed(alloc))),
         seals: Table::new(alloc),
-        securities: by_lot(alloc),
+        securities: IndexedTable::new(alloc, listed(alloc)),
         awards: listed(alloc),
         contracts: listed(alloc),
         entries: Table::new(alloc),

@@ -99,9 +99,9 @@ fn put_of_numbers(change: Change) -> Option<Put> {
         Change::Security(security, notice, amount) => {
             Some(Put::Security(rows::security(security, notice, amount)?))
         }
-        Change::SecurityOfLot(security, lot, amount) => Some(Put::Security(
-            rows::security_of_lot(security, lot, amount)?,
-        )),
+        Change::SecurityOfLot(security, lot, amount) => Some(Put::Security(rows::security_of_lot(
+            security, lot, amount,
+        )?)),
         Change::Award(award, notice, receipt, price) => {
             Some(Put::Award(rows::award(award, notice, receipt, price)?))
         }
