@@ -1,5 +1,5 @@
 -- Rows between two keys, and the order of the rows of a tree.
-use Rattle.std.specs.Prelude.{◌≡◌, Bool, true, false, cond, not, ◌&&◌, List, [], ◌∷◌, filter}
+use Rattle.std.specs.Prelude.{◌≡◌, Bool, true, false, cond, not, ◌&&◌, List, [], ◌∷◌, filter, Option, Some, None, ℕ, ◌≤◌, ◌++◌, length, take}
 use Rattle.std.proofs.Common.{refl, sym, ap, ◌∙◌}
 use Rattle.std.specs.Cmp.{IsTotalOrder}
 use Rattle.std.specs.List.{list_all, AllByRecursion}
@@ -9,11 +9,28 @@ use Rattle.std.specs.Ordering.{is_eq, is_le, is_lt}
 use Rattle.std.specs.declared.cmp.Ordering.{Ordering}
 use Rattle.std.specs.declared.cmp.Ordering.TheVariants.{Less, Equal}
 use Rattle.std.proofs.lemmas.Bool.{and_parts}
+use Rattle.std.proofs.lemmas.List.{append-nil, take_all}
+use Rattle.std.proofs.Math.Seq.{take-append_seam}
 use Rattle.std.proofs.lemmas.Map.Keys.{sorted_head, sorted_tail}
 use Rattle.office_base.specs.Rows.{StartsAbove, IsInOrder}
+use Rattle.office_base.specs.Pages.{is_after, rows_after}
 use Rattle.keyed_table.specs.Inside.Keyed.{stands_at_its_key}
-use Rattle.keyed_table.specs.RowRanges.{is_between, rows_between}
+use Rattle.keyed_table.specs.RowRanges.{is_between, rows_between, start_of}
+use Rattle.std.specs.BTreeMap.Range.{range_contains}
+use Rattle.core.specs.declared.ops.bounds.Bound.TheVariants.{Unbounded}
 use Rattle.office_base.proofs.Orders.{alike_right, equal_from_test}
+
+and_true : (b : Bool) → b && true ≡ b
+and_true true = refl
+and_true false = refl
+
+-- the front of a list, by what is left of it
+pub front_is : {X : Type 0} (xs ys zs : List X) (n : ℕ) → xs ++ ys ≡ zs → length xs ≡ n → xs ≡ take n zs
+front_is xs ys zs n all many = sym (take-append_seam xs ys) ∙ ap (λ k. take k (xs ++ ys)) many ∙ ap (take n) all
+
+-- a whole list, which isn't longer
+pub whole_is : {X : Type 0} (xs ys zs : List X) (n : ℕ) → xs ++ ys ≡ zs → ys ≡ [] → length xs ≤ n → xs ≡ take n zs
+whole_is xs ys zs n all none few = sym (take_all n xs few) ∙ ap (take n) (sym (append-nil xs) ∙ ap (λ l. xs ++ l) (sym none) ∙ all)
 
 values_cond : {K X : Type 0} (c : Bool) (e : K × X) (es : List (K × X)) → values_of (cond c (e ∷ es) es) ≡ cond c (e.1 ∷ values_of es) (values_of es)
 values_cond true e es = refl
@@ -36,6 +53,22 @@ module _ {K X : Type 0} {R : K → K → Ordering} (o : IsTotalOrder R) (key : X
       values_cond (is_between R a b e.0) e among
       ∙ ap (λ c. cond c (e.1 ∷ values_of among) (values_of among)) (is_between-alike a b e.0 (key e.1) (equal_from_test _ parts.0))
       ∙ ap (λ rows. cond (is_between R a b (key e.1)) (e.1 ∷ rows) rows) (values-between a b es parts.1)
+
+  -- keys that compare as equal are behind the same keys
+  is_after-alike : (after : Option K) (k q : K) → R k q ≡ Equal → range_contains R (start_of after) Unbounded k ≡ is_after R after q
+  is_after-alike None k q e = refl
+  is_after-alike (Some a) k q e = and_true (is_lt (R a k)) ∙ ap is_lt (alike_right o a k q e)
+
+  -- what a tree has behind a key
+  pub values-after : (after : Option K) (es : List (K × X)) → list_all (stands_at_its_key R key) es ≡ true
+      → values_of (filter (λ e. range_contains R (start_of after) Unbounded e.0) es) ≡ rows_after R key after (values_of es)
+  values-after after [] own = refl
+  values-after after (e ∷ es) own =
+      let parts : (is_eq (R e.0 (key e.1)) ≡ true) × (list_all (stands_at_its_key R key) es ≡ true) = and_parts _ _ own in
+      let among = filter (λ (f : K × X). range_contains R (start_of after) Unbounded f.0) es in
+      values_cond (range_contains R (start_of after) Unbounded e.0) e among
+      ∙ ap (λ c. cond c (e.1 ∷ values_of among) (values_of among)) (is_after-alike after e.0 (key e.1) (equal_from_test _ parts.0))
+      ∙ ap (λ rows. cond (is_after R after (key e.1)) (e.1 ∷ rows) rows) (values-after after es parts.1)
 
   starts_above : (e : K × X) (es : List (K × X)) → AllByRecursion (λ k. R e.0 k ≡ Less) (keys_of es) → list_all (stands_at_its_key R key) (e ∷ es) ≡ true
       → StartsAbove R key (key e.1) (values_of es)

@@ -1,11 +1,12 @@
 //! A table of rows by their keys.
-ghost use Rattle.std.specs.Prelude.{◌≡◌, ◌<◌, ◌^◌, IfOk, OnOk, OnErr, option_map, [], None, IsSome, length};
+ghost use Rattle.std.specs.Prelude.{◌≡◌, ◌<◌, ◌^◌, IfOk, OnOk, OnErr, option_map, [], None, IsSome, length, take};
 ghost use Rattle.std.specs.BTreeMap.Range.{IsLeBy};
 ghost use Rattle.std.specs.List.{AllByRecursion};
 ghost use Rattle.std.specs.Map.{values_of};
 ghost use Rattle.std.specs.Map.Iter.{ShowsInOrder, deref, deref_pair};
 ghost use Rattle.office_base.specs.Rows.{row_at, row_put, row_drop, IsInOrder};
-ghost use Rattle.keyed_table.specs.RowRanges.{rows_between};
+ghost use Rattle.office_base.specs.Pages.{rows_after};
+ghost use Rattle.keyed_table.specs.RowRanges.{rows_between, start_of};
 ghost use Rattle.keyed_table.specs.Replacing.{taken_back, CanTakeBack};
 
 use crate::boxed::Boxed;
@@ -16,6 +17,7 @@ use std::alloc::{AllocError, Global};
 use std::collections::BTreeMap;
 use std::collections::btree_map::{Range, Values};
 use std::marker::Model;
+use std::ops::Bound;
 
 /// What a row that was put replaced: the row that had its key, or none.
 #[derive(Drop)]
@@ -47,6 +49,16 @@ where
     ghost view = { λ t. values t.rows };
 
     ghost invariant = { λ t. IsKeyed R.Key.cmp R.key_of R.Key.is_known t.rows.entries };
+}
+
+// Where the rows behind a key begin.
+fn start_of<K>(key: Option<K>) -> Bound<K>
+    ensures { result ≡ start_of key }
+{
+    match key {
+        Some(key) => Bound::Excluded(key),
+        None => Bound::Unbounded,
+    }
 }
 
 impl<R: Row + Drop> Table<R>
@@ -171,6 +183,35 @@ where
         ensures fits { length result < 2 ^ 63 }
     {
         self.rows.range(first..=last)
+    }
+
+    /// The rows behind a key, or all, in the order of their keys. Costs the logarithm of the rows.
+    pub fn after(&self, key: Option<R::Key>) -> Range<'_, R::Key, Boxed<R>>
+        ensures rows { values_of result ≡ rows_after R.Key.cmp R.key_of key self.now }
+        ensures runs { ShowsInOrder (deref_pair {K = R.Key} {X = R}) }
+        ensures fits { length result < 2 ^ 63 }
+    {
+        self.rows.range((start_of(key), Bound::Unbounded))
+    }
+
+    /// The first so many rows behind a key, or of all, copied, in the order of their keys. Costs what it copies, and the logarithm of the rows.
+    #[tactic(auto, using(crate::proofs::RowRanges::front_is, crate::proofs::RowRanges::whole_is))]
+    pub fn copy_after(
+        &self,
+        alloc: Global,
+        key: Option<R::Key>,
+        most: u32,
+    ) -> Result<Vec<R>, AllocError>
+        ensures { IfOk result (λ rows. rows.items ≡ take most (rows_after R.Key.cmp R.key_of key self.now)) }
+    {
+        let mut copied = Vec::new(alloc);
+        for (_, row) in self.after(key) {
+            if copied.len() == most as usize {
+                return Ok(copied);
+            }
+            copied.push(copy_of(row.get())?)?;
+        }
+        Ok(copied)
     }
 
     /// Its keys strictly rise.

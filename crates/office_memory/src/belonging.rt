@@ -5,7 +5,6 @@ ghost use Rattle.office_base.specs.Tables.{same_number, of_notice};
 use crate::child::Child;
 use crate::id_bounds::{greatest_id, least_id};
 use crate::indexed_table::Grouped;
-use crate::owned_table::Owned;
 use office_base::records::{
     AwardRow, ContractRow, EntryRow, EnvelopeRow, LotRow, ReleaseRow, SecurityRow,
 };
@@ -45,9 +44,7 @@ impl Child for ReleaseRow {
 }
 
 // Lots are listed by their budget line.
-impl Grouped for LotRow {
-    type Group = Id;
-
+impl Grouped<Id> for LotRow {
     ghost group_of = { λ r. r.line };
 
     fn group(&self) -> Id {
@@ -55,10 +52,8 @@ impl Grouped for LotRow {
     }
 }
 
-// The rest are listed by their notice.
-impl Grouped for EnvelopeRow {
-    type Group = Id;
-
+// Tenders are listed by their notice, by their lot, and by their lot and tenderer.
+impl Grouped<Id> for EnvelopeRow {
     ghost group_of = { λ r. r.notice };
 
     fn group(&self) -> Id {
@@ -66,20 +61,24 @@ impl Grouped for EnvelopeRow {
     }
 }
 
-// Tenders are listed by their lot and their tenderer too.
-impl Owned for EnvelopeRow {
-    type Owner = (Id, Id, Id);
+impl Grouped<(Id, Id)> for EnvelopeRow {
+    ghost group_of = { λ r. (r.notice, r.lot) };
 
-    ghost owner_of = { λ r. (r.notice, r.lot, r.tenderer) };
+    fn group(&self) -> (Id, Id) {
+        (self.notice, self.lot)
+    }
+}
 
-    fn owner(&self) -> (Id, Id, Id) {
+impl Grouped<(Id, Id, Id)> for EnvelopeRow {
+    ghost group_of = { λ r. (r.notice, r.lot, r.tenderer) };
+
+    fn group(&self) -> (Id, Id, Id) {
         (self.notice, self.lot, self.tenderer)
     }
 }
 
-impl Grouped for SecurityRow {
-    type Group = Id;
-
+// Securities are listed by their notice, and by their lot.
+impl Grouped<Id> for SecurityRow {
     ghost group_of = { λ r. r.notice };
 
     fn group(&self) -> Id {
@@ -87,9 +86,16 @@ impl Grouped for SecurityRow {
     }
 }
 
-impl Grouped for AwardRow {
-    type Group = Id;
+impl Grouped<(Id, Id)> for SecurityRow {
+    ghost group_of = { λ r. (r.notice, r.lot) };
 
+    fn group(&self) -> (Id, Id) {
+        (self.notice, self.lot)
+    }
+}
+
+// Awards and contracts are listed by their notice.
+impl Grouped<Id> for AwardRow {
     ghost group_of = { λ r. r.notice };
 
     fn group(&self) -> Id {
@@ -97,9 +103,7 @@ impl Grouped for AwardRow {
     }
 }
 
-impl Grouped for ContractRow {
-    type Group = Id;
-
+impl Grouped<Id> for ContractRow {
     ghost group_of = { λ r. r.notice };
 
     fn group(&self) -> Id {

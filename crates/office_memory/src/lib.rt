@@ -7,6 +7,6 @@ mod group_index;
 mod id_bounds;
 pub mod indexed_table;
 pub mod memory;
-pub mod owned_table;
+pub mod row_table;
 mod sums;
 pub mod tables;

@@ -6,6 +6,7 @@ ghost use Rattle.office_memory.specs.MemoryMeaning.{memory_meaning};
 ghost use Rattle.office_base.specs.declared.shelf.ShelfFault.TheVariants.{NoMemory};
 
 use crate::child::copy_rows_of;
+use crate::row_table::RowTable;
 use crate::tables::MemoryTables;
 use crate::{sums, tables};
 use office_base::counts::Sequence;
@@ -133,8 +134,7 @@ impl Lookups for MemoryShelf {
     }
 
     fn get_envelope(&mut self, receipt: AskedNumber) -> Result<Option<EnvelopeRow>, ShelfFault> {
-        let rows = self.tables.envelopes.by_group().rows();
-        match rows.copy_at(&receipt.get()) {
+        match self.tables.envelopes.rows().copy_at(&receipt.get()) {
             Ok(found) => Ok(found),
             Err(_) => Err(self.refused()),
         }
@@ -229,6 +229,28 @@ impl Lookups for MemoryShelf {
         }
     }
 
+    fn list_notices_after(
+        &mut self,
+        after: Option<Id>,
+        most: u32,
+    ) -> Result<Vec<NoticeRow>, ShelfFault> {
+        match self.tables.notices.copy_after(self.alloc, after, most) {
+            Ok(rows) => Ok(rows),
+            Err(_) => Err(self.refused()),
+        }
+    }
+
+    fn list_tenderers_after(
+        &mut self,
+        after: Option<Id>,
+        most: u32,
+    ) -> Result<Vec<TendererRow>, ShelfFault> {
+        match self.tables.tenderers.copy_after(self.alloc, after, most) {
+            Ok(rows) => Ok(rows),
+            Err(_) => Err(self.refused()),
+        }
+    }
+
     fn list_lots_of_notice(&mut self, notice: &Id) -> Result<Vec<LotRow>, ShelfFault> {
         match copy_rows_of(self.alloc, self.tables.lots.rows(), notice) {
             Ok(rows) => Ok(rows),
@@ -244,8 +266,20 @@ impl Lookups for MemoryShelf {
     }
 
     fn list_envelopes_of_notice(&mut self, notice: &Id) -> Result<Vec<EnvelopeRow>, ShelfFault> {
-        let envelopes = self.tables.envelopes.by_group();
-        match envelopes.copy_of_group(self.alloc, notice) {
+        let by_notice = self.tables.envelopes.below().below();
+        match by_notice.copy_of_group(self.alloc, notice) {
+            Ok(rows) => Ok(rows),
+            Err(_) => Err(self.refused()),
+        }
+    }
+
+    fn list_envelopes_of_lot(
+        &mut self,
+        notice: &Id,
+        lot: &Id,
+    ) -> Result<Vec<EnvelopeRow>, ShelfFault> {
+        let by_lot = self.tables.envelopes.below();
+        match by_lot.copy_of_group(self.alloc, &(*notice, *lot)) {
             Ok(rows) => Ok(rows),
             Err(_) => Err(self.refused()),
         }
@@ -257,15 +291,28 @@ impl Lookups for MemoryShelf {
         lot: &Id,
         tenderer: &Id,
     ) -> Result<Vec<EnvelopeRow>, ShelfFault> {
-        let owner = (*notice, *lot, *tenderer);
-        match self.tables.envelopes.copy_of_owner(self.alloc, &owner) {
+        let group = (*notice, *lot, *tenderer);
+        match self.tables.envelopes.copy_of_group(self.alloc, &group) {
             Ok(rows) => Ok(rows),
             Err(_) => Err(self.refused()),
         }
     }
 
     fn list_securities_of_notice(&mut self, notice: &Id) -> Result<Vec<SecurityRow>, ShelfFault> {
-        match self.tables.securities.copy_of_group(self.alloc, notice) {
+        let by_notice = self.tables.securities.below();
+        match by_notice.copy_of_group(self.alloc, notice) {
+            Ok(rows) => Ok(rows),
+            Err(_) => Err(self.refused()),
+        }
+    }
+
+    fn list_securities_of_lot(
+        &mut self,
+        notice: &Id,
+        lot: &Id,
+    ) -> Result<Vec<SecurityRow>, ShelfFault> {
+        let by_lot = &self.tables.securities;
+        match by_lot.copy_of_group(self.alloc, &(*notice, *lot)) {
             Ok(rows) => Ok(rows),
             Err(_) => Err(self.refused()),
         }

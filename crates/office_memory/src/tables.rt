@@ -1,12 +1,13 @@
 //! The tables of an office in memory.
-ghost use Rattle.std.specs.Prelude.{◌≡◌, ◌<◌, ◌≤◌, IfOk, OnOk, OnErr, not, filter, vec_len, vec_capacity, nat_eq};
+ghost use Rattle.std.specs.Prelude.{◌≡◌, ◌<◌, ◌≤◌, IfOk, OnOk, OnErr, [], not, filter, vec_len, vec_capacity, nat_eq};
 ghost use Rattle.office_base.specs.Tables.{Tables, after_put, after_puts, no_tables};
 ghost use Rattle.office_base.specs.declared.puts.Put.TheVariants.{Seal};
 ghost use Rattle.office_memory.specs.Inside.Drops.{without_seals};
 ghost use Rattle.office_memory.specs.MemoryTables.{tables_of, after_undo, after_undos, CanUndo, CanUndoAll};
 
-use crate::indexed_table::IndexedTable;
-use crate::owned_table::OwnedTable;
+use crate::indexed_table::{Grouped, IndexedTable};
+use crate::row_table::RowTable;
+use keyed_table::known::Known;
 use keyed_table::table::{Replaced, Table};
 use office_base::laws::rows_are_kept;
 use office_base::puts::Put;
@@ -16,9 +17,19 @@ use office_base::records::{
 };
 use office_base::row::Row;
 use office_values::given::LastNumber;
+use office_values::id::Id;
 use office_values::moment::Moment;
 use std::alloc::{AllocError, Global};
 use std::mem;
+
+/// Rows that are listed by a group of one identifier: by their notice, or by their budget line.
+pub type ListedTable<R> = IndexedTable<Table<R>, R, Id>;
+
+/// Rows that are listed by their notice, and by their lot.
+pub type LotTable<R> = IndexedTable<ListedTable<R>, R, (Id, Id)>;
+
+/// Tenders, listed by their notice, by their lot, and by their lot and tenderer.
+pub type EnvelopeTable = IndexedTable<LotTable<EnvelopeRow>, EnvelopeRow, (Id, Id, Id)>;
 
 /// The tables of an office in memory.
 #[derive(Drop)]
@@ -27,12 +38,12 @@ pub struct MemoryTables {
     pub batches: Table<BatchRow>,
     pub tenderers: Table<TendererRow>,
     pub notices: Table<NoticeRow>,
-    pub lots: IndexedTable<LotRow>,
-    pub envelopes: OwnedTable<EnvelopeRow>,
+    pub lots: ListedTable<LotRow>,
+    pub envelopes: EnvelopeTable,
     pub seals: Table<SealRow>,
-    pub securities: IndexedTable<SecurityRow>,
-    pub awards: IndexedTable<AwardRow>,
-    pub contracts: IndexedTable<ContractRow>,
+    pub securities: LotTable<SecurityRow>,
+    pub awards: ListedTable<AwardRow>,
+    pub contracts: ListedTable<ContractRow>,
     pub entries: Table<EntryRow>,
     pub releases: Table<ReleaseRow>,
     pub compiled: Table<CompiledRow>,
@@ -76,6 +87,15 @@ fn first_clock() -> ClockRow
     }
 }
 
+// No rows, to be listed by a group of one identifier.
+fn listed<R: Grouped<Id> + Drop>(alloc: Global) -> ListedTable<R>
+where
+    R::Key: Known,
+    ensures { result ≡ [] }
+{
+    IndexedTable::new(alloc, Table::new(alloc))
+}
+
 /// Tables without rows. Takes no memory.
 pub fn empty(alloc: Global) -> MemoryTables
     ensures { tables_of result ≡ no_tables }
@@ -85,12 +105,12 @@ pub fn empty(alloc: Global) -> MemoryTables
         batches: Table::new(alloc),
         tenderers: Table::new(alloc),
         notices: Table::new(alloc),
-        lots: IndexedTable::new(alloc),
-        envelopes: OwnedTable::new(alloc),
+        lots: listed(alloc),
+        envelopes: IndexedTable::new(alloc, IndexedTable::new(alloc, listed(alloc))),
         seals: Table::new(alloc),
-        securities: IndexedTable::new(alloc),
-        awards: IndexedTable::new(alloc),
-        contracts: IndexedTable::new(alloc),
+        securities: IndexedTable::new(alloc, listed(alloc)),
+        awards: listed(alloc),
+        contracts: listed(alloc),
         entries: Table::new(alloc),
         releases: Table::new(alloc),
         compiled: Table::new(alloc),

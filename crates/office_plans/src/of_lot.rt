@@ -1,8 +1,8 @@
 //! The tenders and the securities of a lot.
-ghost use Rattle.std.specs.Prelude.{◌≡◌, ℕ, List};
+ghost use Rattle.std.specs.Prelude.{◌≡◌};
 ghost use Rattle.office_base.specs.Parents.{securities_of_award};
 ghost use Rattle.office_base.specs.Shelves.{LooksUp};
-ghost use Rattle.office_base.specs.Tables.{Tables, envelopes_of_lot, envelopes_of_notice, securities_of_lot, securities_of_notice};
+ghost use Rattle.office_base.specs.Tables.{envelopes_of_lot, securities_of_lot};
 ghost use Rattle.office_plans.specs.OwnTenders.{own_envelopes};
 
 use office_base::records::{AwardRow, EnvelopeRow, SecurityRow};
@@ -12,20 +12,6 @@ use office_commands::command::Caller;
 use office_values::id::Id;
 use std::alloc::Global;
 
-// Of a notice's tenders, those for the lot. Takes no memory.
-fn keep_envelopes(lot: &Id, rows: &mut Vec<EnvelopeRow>)
-    ensures { (notice : List ℕ) (s : Tables) → rows.old.items ≡ envelopes_of_notice notice s → rows.new.items ≡ envelopes_of_lot notice lot.now s }
-{
-    rows.retain(|row| row.lot == *lot);
-}
-
-// Of a notice's securities, those for the lot. Takes no memory.
-fn keep_securities(lot: &Id, rows: &mut Vec<SecurityRow>)
-    ensures { (notice : List ℕ) (s : Tables) → rows.old.items ≡ securities_of_notice notice s → rows.new.items ≡ securities_of_lot notice lot.now s }
-{
-    rows.retain(|row| row.lot == *lot);
-}
-
 /// The tenders of a lot, in the order of their receipts.
 pub fn envelopes_of_lot<H: Lookups>(
     shelf: &mut H,
@@ -34,9 +20,7 @@ pub fn envelopes_of_lot<H: Lookups>(
 ) -> Result<Rows<EnvelopeRow>, ShelfFault>
     ensures { LooksUp H.meaning shelf.old shelf.new result (λ s rows. rows ≡ envelopes_of_lot notice.now lot.now s) }
 {
-    let mut rows = shelf.list_envelopes_of_notice(notice)?;
-    keep_envelopes(lot, &mut rows);
-    Ok(Rows::from_vec(rows))
+    Ok(Rows::from_vec(shelf.list_envelopes_of_lot(notice, lot)?))
 }
 
 /// The caller's own tenders of a lot, in the order of their receipts; none of a caller who is no tenderer. No other's tender is looked up.
@@ -66,9 +50,7 @@ pub fn securities_of_lot<H: Lookups>(
 ) -> Result<Rows<SecurityRow>, ShelfFault>
     ensures { LooksUp H.meaning shelf.old shelf.new result (λ s rows. rows ≡ securities_of_lot notice.now lot.now s) }
 {
-    let mut rows = shelf.list_securities_of_notice(notice)?;
-    keep_securities(lot, &mut rows);
-    Ok(Rows::from_vec(rows))
+    Ok(Rows::from_vec(shelf.list_securities_of_lot(notice, lot)?))
 }
 
 /// The securities of an award's lot; none where the award isn't there.

@@ -181,6 +181,22 @@ impl Lookups for BrokenShelf {
         passed!(self, self.shelf.list_lines())
     }
 
+    fn list_notices_after(
+        &mut self,
+        after: Option<Id>,
+        most: u32,
+    ) -> Result<Vec<NoticeRow>, ShelfFault> {
+        passed!(self, self.shelf.list_notices_after(after, most))
+    }
+
+    fn list_tenderers_after(
+        &mut self,
+        after: Option<Id>,
+        most: u32,
+    ) -> Result<Vec<TendererRow>, ShelfFault> {
+        passed!(self, self.shelf.list_tenderers_after(after, most))
+    }
+
     fn list_lots_of_notice(&mut self, notice: &Id) -> Result<Vec<LotRow>, ShelfFault> {
         passed!(self, self.shelf.list_lots_of_notice(notice))
     }
@@ -191,6 +207,14 @@ impl Lookups for BrokenShelf {
 
     fn list_envelopes_of_notice(&mut self, notice: &Id) -> Result<Vec<EnvelopeRow>, ShelfFault> {
         passed!(self, self.shelf.list_envelopes_of_notice(notice))
+    }
+
+    fn list_envelopes_of_lot(
+        &mut self,
+        notice: &Id,
+        lot: &Id,
+    ) -> Result<Vec<EnvelopeRow>, ShelfFault> {
+        passed!(self, self.shelf.list_envelopes_of_lot(notice, lot))
     }
 
     fn list_envelopes_of_tenderer(
@@ -207,6 +231,14 @@ impl Lookups for BrokenShelf {
 
     fn list_securities_of_notice(&mut self, notice: &Id) -> Result<Vec<SecurityRow>, ShelfFault> {
         passed!(self, self.shelf.list_securities_of_notice(notice))
+    }
+
+    fn list_securities_of_lot(
+        &mut self,
+        notice: &Id,
+        lot: &Id,
+    ) -> Result<Vec<SecurityRow>, ShelfFault> {
+        passed!(self, self.shelf.list_securities_of_lot(notice, lot))
     }
 
     fn list_awards_of_notice(&mut self, notice: &Id) -> Result<Vec<AwardRow>, ShelfFault> {

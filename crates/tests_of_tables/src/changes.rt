@@ -29,6 +29,8 @@ pub enum Change {
     Seal(u64, u8),
     DropSeal(u64),
     Security(u64, &'static str, u64),
+    /// One for a lot.
+    SecurityOfLot(u64, (&'static str, &'static str), u64),
     Award(u64, &'static str, u64, u64),
     Contract(u64, &'static str, &'static str, u64),
     Entry(u64, &'static str, EntryKind, u64),
@@ -97,6 +99,9 @@ fn put_of_numbers(change: Change) -> Option<Put> {
         Change::Security(security, notice, amount) => {
             Some(Put::Security(rows::security(security, notice, amount)?))
         }
+        Change::SecurityOfLot(security, lot, amount) => Some(Put::Security(rows::security_of_lot(
+            security, lot, amount,
+        )?)),
         Change::Award(award, notice, receipt, price) => {
             Some(Put::Award(rows::award(award, notice, receipt, price)?))
         }

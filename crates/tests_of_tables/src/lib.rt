@@ -12,6 +12,8 @@ mod lists;
 #[cfg(test)]
 mod looks;
 #[cfg(test)]
+mod pages;
+#[cfg(test)]
 mod rows;
 #[cfg(test)]
 mod shown;

@@ -7,6 +7,7 @@ use office_base::pots::pots;
 use office_base::shelf::{Lookups, ShelfFault};
 use office_memory::memory::MemoryShelf;
 use office_values::given::AskedNumber;
+use office_values::id::Id;
 
 /// What can be asked.
 #[derive(Clone, Copy)]
@@ -39,15 +40,20 @@ pub enum Key {
     Clock,
 }
 
-/// All records of one kind: of the office, of a notice, of a line, of a contract, or of a lot and a tenderer.
+/// All records of one kind: of the office, of a notice, of a line, of a contract, of a lot, or of a lot and a tenderer; or a page of them.
 #[derive(Clone, Copy)]
 pub enum List {
     Lines,
+    /// The first so many behind this one, or of all.
+    NoticesAfter(Option<&'static str>, u32),
+    TenderersAfter(Option<&'static str>, u32),
     Lots(&'static str),
     LotsOfLine(&'static str),
     Envelopes(&'static str),
+    EnvelopesOfLot(&'static str, &'static str),
     Own((&'static str, &'static str), &'static str),
     Securities(&'static str),
+    SecuritiesOfLot(&'static str, &'static str),
     Awards(&'static str),
     Contracts(&'static str),
     Entries(u64),
@@ -131,6 +137,10 @@ fn is_record(shelf: &mut MemoryShelf, key: Key, wanted: &[Shown]) -> Option<bool
 fn is_list(shelf: &mut MemoryShelf, list: List, wanted: &[Shown]) -> Option<bool> {
     match list {
         List::Lines => are_listed(shelf.list_lines(), wanted),
+        List::NoticesAfter(_, _)
+        | List::TenderersAfter(_, _)
+        | List::EnvelopesOfLot(_, _)
+        | List::SecuritiesOfLot(_, _) => is_page_or_lot(shelf, list, wanted),
         List::Lots(notice) => are_listed(shelf.list_lots_of_notice(&id(notice)?), wanted),
         List::LotsOfLine(line) => are_listed(shelf.list_lots_of_line(&id(line)?), wanted),
         List::Envelopes(notice) => are_listed(shelf.list_envelopes_of_notice(&id(notice)?), wanted),
@@ -148,6 +158,35 @@ fn is_list(shelf: &mut MemoryShelf, list: List, wanted: &[Shown]) -> Option<bool
             wanted,
         ),
         List::Releases(notice) => are_listed(shelf.list_releases_of_notice(&id(notice)?), wanted),
+    }
+}
+
+// The identifier behind which a page begins, or that there is none; None where it can't be read.
+fn id_after(after: Option<&str>) -> Option<Option<Id>> {
+    match after {
+        Some(after) => Some(Some(id(after)?)),
+        None => Some(None),
+    }
+}
+
+// The same of a page, and of the records of a lot.
+fn is_page_or_lot(shelf: &mut MemoryShelf, list: List, wanted: &[Shown]) -> Option<bool> {
+    match list {
+        List::NoticesAfter(after, most) => {
+            are_listed(shelf.list_notices_after(id_after(after)?, most), wanted)
+        }
+        List::TenderersAfter(after, most) => {
+            are_listed(shelf.list_tenderers_after(id_after(after)?, most), wanted)
+        }
+        List::EnvelopesOfLot(notice, lot) => are_listed(
+            shelf.list_envelopes_of_lot(&id(notice)?, &id(lot)?),
+            wanted,
+        ),
+        List::SecuritiesOfLot(notice, lot) => are_listed(
+            shelf.list_securities_of_lot(&id(notice)?, &id(lot)?),
+            wanted,
+        ),
+        _ => Some(false),
     }
 }
 

@@ -182,6 +182,14 @@ pub fn security(security: u64, notice: &str, amount: u64) -> Option<SecurityRow>
     })
 }
 
+/// A security of this number and amount, for the lot of this notice and name.
+pub fn security_of_lot(number: u64, lot: (&str, &str), amount: u64) -> Option<SecurityRow> {
+    Some(SecurityRow {
+        lot: id(lot.1)?,
+        ..security(number, lot.0, amount)?
+    })
+}
+
 /// An award of this number and price, to the tender of this receipt.
 pub fn award(award: u64, notice: &str, receipt: u64, price: u64) -> Option<AwardRow> {
     Some(AwardRow {

@@ -1,0 +1,5 @@
+use Rattle.office_base.proofs.Pages.{tables_are_paged}
+use Rattle.office_base.proofs.laws.pages.Goals as goal
+
+pub returns : goal.returns
+returns c = tables_are_paged
