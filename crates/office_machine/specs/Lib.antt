@@ -20,6 +20,7 @@ pub mod Worlds
 pub mod Fates
 pub mod Outstanding
 pub mod Evaluation
+pub mod AwardsShown
 pub mod Sights
 pub mod Requests
 pub mod MergesApart
