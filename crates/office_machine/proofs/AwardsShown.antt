@@ -1,5 +1,5 @@
 -- Each award goes to a tender that is best by what the evaluation shows just before it.
-use Rattle.std.proofs.Common.{◌≡◌, ℕ, zero, suc, ◌<◌, Bool, true, false, cond, not, ◌&&◌, ◌||◌, List, [], ◌∷◌, length, slice_index_or, map, filter, Option, Some, None, nat_eq, refl, sym, ◌∙◌, ap, subst, arith}
+use Rattle.std.proofs.Common.{◌≡◌, ℕ, zero, suc, ◌<◌, Bool, true, false, cond, not, ◌&&◌, ◌||◌, List, [], ◌∷◌, length, slice_index_or, map, filter, Option, Some, None, unwrap_or, nat_lt, nat_eq, refl, sym, ◌∙◌, ap, subst, arith}
 use Rattle.std.specs.List.{AllByRecursion, Contains}
 use Rattle.std.specs.declared.cmp.Ordering.{Ordering}
 use Rattle.std.specs.declared.cmp.Ordering.TheVariants.{Less, Equal, Greater}
@@ -15,7 +15,7 @@ use Rattle.office_base.specs.Parents.{line_of_lot}
 use Rattle.office_base.specs.Rows.{by_order, row_at}
 use Rattle.office_base.specs.States.{is_read, is_opened}
 use Rattle.office_base.specs.Tables.{Tables, of_notice, lot_cmp, lot_key, notice_at, lot_at, lots_of_notice, awards_of_notice, envelopes_of_lot, securities_of_lot}
-use Rattle.office_base.specs.Transitions.{security_returned, securities_returned, is_held_security}
+use Rattle.office_base.specs.Transitions.{security_returned, is_held_security}
 use Rattle.office_base.specs.declared.records.AwardRow.{AwardRow}
 use Rattle.office_base.specs.declared.records.ClockRow.{ClockRow}
 use Rattle.office_base.specs.declared.records.EnvelopeRow.{EnvelopeRow}
@@ -24,14 +24,14 @@ use Rattle.office_base.specs.declared.records.LotRow.{LotRow}
 use Rattle.office_base.specs.declared.records.NoticeRow.{NoticeRow}
 use Rattle.office_base.specs.declared.records.SecurityRow.{SecurityRow}
 use Rattle.award_core.specs.Best.{lowest_in, IsBest, IsAnswer}
-use Rattle.award_core.specs.Rules.Award.{is_admissible, is_better, best_of, winner, award_puts, award_tests, award_rows, decision_puts}
+use Rattle.award_core.specs.Rules.Award.{is_admissible, is_better, is_cheaper, points, winner, award_puts, award_tests, award_rows, decision_puts}
 use Rattle.award_core.proofs.BestFound.{best_is_found}
-use Rattle.office_machine.specs.AwardsShown.{is_shown_better, IsShownBest, IsBestOfLot, ShowsBest, AwardIsShown, evaluation_in, GoesToBest, AwardsAreShown}
-use Rattle.office_machine.specs.Evaluation.{evaluated_tender, evaluated_tenders, evaluated_lot}
+use Rattle.office_machine.specs.AwardsShown.{is_shown_better, IsShownBest, ShowsBest, AwardIsShown, evaluation_in, GoesToBest, AwardsAreShown}
+use Rattle.office_machine.specs.Evaluation.{evaluated_tender, evaluated_tenders, evaluated_lot, evaluation_told}
 use Rattle.office_machine.specs.Machine.{Given, command_tests, time_of}
 use Rattle.office_machine.specs.Readings.{Readings}
 use Rattle.office_machine.specs.Replies.{EvaluationSeen, Refused, EvaluatedTender}
-use Rattle.office_machine.proofs.Passed.{none_holds, allowed_by, not_false, witness, test_of}
+use Rattle.office_machine.proofs.Passed.{none_holds, allowed_by, not_false, test_of}
 use Rattle.office_machine.proofs.Rows.Keyed as keyed
 use Rattle.office_base.proofs.ExactKeys.{same_itself}
 use Rattle.office_base.proofs.RowLaws.Keyed.{found_key}
@@ -59,17 +59,28 @@ has_filtered p (y ∷ ys) x zero few is yes =
     subst (λ b. Contains (cond b (y ∷ filter p ys) (filter p ys)) x) (sym (ap p is ∙ yes)) (subst (λ z. Contains (y ∷ filter p ys) z) is (has_head y (filter p ys)))
 has_filtered p (y ∷ ys) x (suc k) few is yes = has_kept p y x ys (p y) (has_filtered p ys x k (omega (arith, few)) is yes)
 
+has_first : {X : Type 0} (y x : X) (ys : List X) (o : Option X) (c : Ordering) → (o ≡ Some x → Contains ys x) → by_order c None (Some y) o ≡ Some x → Contains (y ∷ ys) x
+has_first y x ys o Less rest e = absurd (cc)
+has_first y x ys o Equal rest e = let same : y ≡ x = cc in subst (λ z. Contains (y ∷ ys) z) same (has_head y ys)
+has_first y x ys o Greater rest e = has_tail y x ys (rest e)
+
 has_found : {K X : Type 0} (R : K → K → Ordering) (key : X → K) (xs : List X) (k : K) (x : X) → row_at R key xs k ≡ Some x → Contains xs x
 unfolding row_at
 has_found R key [] k x is = absurd (cc)
-has_found R key (y ∷ ys) k x is = by (R k (key y)) is
-  where
-    by : (o : Ordering) → by_order o None (Some y) (row_at R key ys k) ≡ Some x → Contains (y ∷ ys) x
-    by Less e = absurd (cc)
-    by Equal e = let same : y ≡ x = cc in subst (λ z. Contains (y ∷ ys) z) same (has_head y ys)
-    by Greater e = has_tail y x ys (has_found R key ys k x e)
+has_found R key (y ∷ ys) k x is = has_first y x ys (row_at R key ys k) (R k (key y)) (has_found R key ys k x) is
 
 -- The best of a lot's tenders is the best of those shown.
+
+-- points that are shown of what may win alone, and of nothing where the price decides
+abbrev seen : Bool → Bool → ℕ → ℕ
+seen none may n = unwrap_or (cond (not none && may) (Some n) None) 0
+
+seen_as : (none a b : Bool) (p q : ℕ) (cheaper : Bool) → a ≡ true → b ≡ true
+    → (nat_lt (seen none b q) (seen none a p) || (nat_eq (seen none a p) (seen none b q) && cheaper)) ≡ cond none cheaper (nat_lt q p || (nat_eq p q && cheaper))
+seen_as true true true p q cheaper x y = refl
+seen_as false true true p q cheaper x y = refl
+seen_as none false b p q cheaper x y = cc
+seen_as none true false p q cheaper x y = cc
 
 module _ (weight : ℕ) (rows : List EnvelopeRow) (e : EnvelopeRow) (best : IsBest weight rows e) where
   abbrev told : EnvelopeRow → EvaluatedTender
@@ -82,18 +93,21 @@ module _ (weight : ℕ) (rows : List EnvelopeRow) (e : EnvelopeRow) (best : IsBe
   was_read = (and_parts _ _ (and_parts _ _ (and_parts _ _ best.admissible).0).0).0
 
   -- the columns that are shown decide as the rows do
-  compared : (f : EnvelopeRow) → is_admissible f ≡ true → (b : Bool) → nat_eq weight 0 ≡ b → is_shown_better (told f) (told e) ≡ is_better weight (lowest_in rows) f e
-  compared f may true none = rw none at (rw may at (rw best.admissible at refl))
-  compared f may false none = rw none at (rw may at (rw best.admissible at refl))
+  compared : (f : EnvelopeRow) → is_admissible f ≡ true → is_shown_better (told f) (told e) ≡ is_better weight (lowest_in rows) f e
+  compared f may =
+      seen_as (nat_eq weight 0) (is_admissible f) (is_admissible e) (points weight (lowest_in rows) f) (points weight (lowest_in rows) e) (is_cheaper f e) may best.admissible
+
+  abbrev AllShown : List EnvelopeRow → Type 0
+  AllShown fs = AllByRecursion (λ (t : EvaluatedTender). t.admissible ≡ true → is_shown_better t (told e) ≡ false) (map told fs)
+
+  shown_more : (f : EnvelopeRow) (fs : List EnvelopeRow) (b : Bool) → (is_admissible f ≡ true → is_better weight (lowest_in rows) f e ≡ false) → AllShown fs → AllShown (cond b (f ∷ fs) fs)
+  shown_more f fs true one all = ((λ may. compared f may ∙ one may), all)
+  shown_more f fs false one all = all
 
   shown_all : (fs : List EnvelopeRow) → AllByRecursion (λ (f : EnvelopeRow). is_admissible f ≡ true → is_better weight (lowest_in rows) f e ≡ false) fs
-      → AllByRecursion (λ (t : EvaluatedTender). t.admissible ≡ true → is_shown_better t (told e) ≡ false) (map told (filter read_one fs))
+      → AllShown (filter read_one fs)
   shown_all [] all = tt
-  shown_all (f ∷ fs) all = by (read_one f)
-    where
-      by : (b : Bool) → AllByRecursion (λ (t : EvaluatedTender). t.admissible ≡ true → is_shown_better t (told e) ≡ false) (map told (cond b (f ∷ filter read_one fs) (filter read_one fs)))
-      by true = ((λ may. compared f may (nat_eq weight 0) refl ∙ all.0 may), shown_all fs all.1)
-      by false = shown_all fs all.1
+  shown_all (f ∷ fs) all = shown_more f (filter read_one fs) (read_one f) all.0 (shown_all fs all.1)
 
   shown_best : IsShownBest (evaluated_tenders weight rows) e.receipt
   shown_best =
@@ -104,22 +118,22 @@ module _ (s : Tables) (notice lot : List ℕ) (n : NoticeRow) (l : LotRow) (ther
   abbrev awards : List AwardRow
   awards = awards_of_notice notice s
 
-  names : (l.notice ≡ notice) × (l.lot ≡ lot)
-  names = let key = found_key keyed.lots s.lots (notice, lot) l is in (ap (λ k. k.0) key, ap (λ k. k.1) key)
+  named : (l.notice, l.lot) ≡ (notice, lot)
+  named = found_key keyed.lots s.lots (notice, lot) l is
 
   listed : Contains (lots_of_notice notice s) l
   listed =
       let has = has_found lot_cmp lot_key s.lots (notice, lot) l is in
-      has_filtered (of_notice notice) s.lots l has.0 has.1 has.2 (ap (λ k. same_id k notice) names.0 ∙ same_itself notice)
+      has_filtered (of_notice notice) s.lots l has.0 has.1 has.2 (ap (λ (k : List ℕ × List ℕ). same_id k.0 notice) named ∙ same_itself notice)
 
   -- the clerk is shown the lot
   best_shown : (e : EnvelopeRow) → winner (Some n) (envelopes_of_lot notice lot s) ≡ Some e → ShowsBest (evaluation_in s notice) l.lot e.receipt
   best_shown e won =
       let best : IsBest n.weight (envelopes_of_lot notice lot s) e = subst (IsAnswer n.weight (envelopes_of_lot notice lot s)) won (best_is_found.found n.weight (envelopes_of_lot notice lot s)) in
       let shown : IsShownBest (evaluated_lot Clerk n.weight awards s l).tenders e.receipt =
-      subst (λ (k : List ℕ × List ℕ). IsShownBest (evaluated_tenders n.weight (envelopes_of_lot k.0 k.1 s)) e.receipt) (sym (λ i. (names.0 i, names.1 i))) (shown_best n.weight (envelopes_of_lot notice lot s) e best) in
+      subst (λ (k : List ℕ × List ℕ). IsShownBest (evaluated_tenders n.weight (envelopes_of_lot k.0 k.1 s)) e.receipt) (sym named) (shown_best n.weight (envelopes_of_lot notice lot s) e best) in
       subst (λ reply. ShowsBest reply l.lot e.receipt)
-      (sym ((λ i. Rattle.office_machine.specs.Evaluation.evaluation_told Clerk s (there i) (lots_of_notice notice s) awards)
+      (sym (ap (λ o. evaluation_told Clerk s o (lots_of_notice notice s) awards) there
       ∙ ap (λ b. cond b (EvaluationSeen n.notice (map (evaluated_lot Clerk n.weight awards s) (lots_of_notice notice s))) (Refused NotOpened)) opened))
       (record { shown = evaluated_lot Clerk n.weight awards s l; same = refl; among = has_mapped (evaluated_lot Clerk n.weight awards s) (lots_of_notice notice s) l listed.0 listed.1 listed.2; best = shown })
 

@@ -99,8 +99,8 @@ module _ (th : ChosenTender) (W : ℕ → Bool) where
     other = record s { envelopes = es'; seals = ss' }
 
     own_alike : (caller : Caller) (o : Option NoticeRow) (lots : List LotRow) → is_tenderer caller ≡ true → ToldAlike th caller (own_tenders_told caller s o lots) (own_tenders_told caller other o lots)
-    own_alike Public o lots may = cc
-    own_alike Clerk o lots may = cc
+    own_alike Public o lots may = absurd (cc)
+    own_alike Clerk o lots may = absurd (cc)
     own_alike (Tenderer id) o lots may = record {
       others = λ out. others_own th W s es' ss' all id out o lots;
       but_digest = own_but_digest th W s es' ss' all (Tenderer id) o lots;
