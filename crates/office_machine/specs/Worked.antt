@@ -10,11 +10,13 @@ pub mod Replacing
 pub mod Looking
 pub mod Securities
 pub mod Withdrawing
+pub mod Evaluating
 pub mod Opening
 pub mod Examining
 pub mod Awarding
 pub mod Signing
 pub mod Contracts
+pub mod Listing
 pub mod Cancelling
 pub mod Releases
 pub mod Rights

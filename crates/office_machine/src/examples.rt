@@ -5,8 +5,10 @@ ghost use Rattle.office_machine.specs.Worked.Budgets.{BudgetsWorked};
 ghost use Rattle.office_machine.specs.Worked.Cancelling.{CancellingWorked};
 ghost use Rattle.office_machine.specs.Worked.Contracts.{ContractsWorked};
 ghost use Rattle.office_machine.specs.Worked.Dates.{DatesWorked};
+ghost use Rattle.office_machine.specs.Worked.Evaluating.{EvaluatingWorked};
 ghost use Rattle.office_machine.specs.Worked.Examining.{ExaminingWorked};
 ghost use Rattle.office_machine.specs.Worked.Fates.{FatesWorked};
+ghost use Rattle.office_machine.specs.Worked.Listing.{ListingWorked};
 ghost use Rattle.office_machine.specs.Worked.Looking.{LookingWorked};
 ghost use Rattle.office_machine.specs.Worked.Opening.{OpeningWorked};
 ghost use Rattle.office_machine.specs.Worked.Publishing.{PublishingWorked};
@@ -93,6 +95,11 @@ pub fn awarding()
     ensures { AwardingWorked }
 {}
 
+/// What is told of how an award came about, to the clerk and to others.
+pub fn evaluating()
+    ensures { EvaluatingWorked }
+{}
+
 /// A contract is signed after the standstill; a winner who doesn't sign is passed over.
 pub fn signing()
     ensures { SigningWorked }
@@ -101,6 +108,11 @@ pub fn signing()
 /// Contracts are raised, cut and paid within what is free and outstanding, and their end frees the rest.
 pub fn contracts()
     ensures { ContractsWorked }
+{}
+
+/// What is told of notices, terms, own tenders, securities, tenderers and contracts, and to whom.
+pub fn listing()
+    ensures { ListingWorked }
 {}
 
 /// A cancellation gives back what isn't contracted: money, tenders and securities.

@@ -1,4 +1,5 @@
 ghost use Rattle.office_machine.specs.Accounts.{AccountsAreKept, TablesAreInOrder};
+ghost use Rattle.office_machine.specs.AwardsShown.{AwardsAreShown};
 ghost use Rattle.office_machine.specs.Clock.{ClockIsSet, ClockNeverRunsBack};
 ghost use Rattle.office_machine.specs.Fits.{SumsInRange};
 ghost use Rattle.office_machine.specs.Lacking.{NothingIsLacking};
@@ -65,6 +66,12 @@ pub fn parents()
 /// named one is, and no more went from a contract, or from what was appropriated, than had come.
 pub fn lacking()
     ensures { NothingIsLacking }
+{}
+
+/// Each award goes to a tender that the evaluation shows as admissible just before it, and by the points, prices and receipts that it shows no
+/// other admissible one is better.
+pub fn awards()
+    ensures { AwardsAreShown }
 {}
 
 /// Wherever accepted commands lead, tenders of a notice may be withdrawn late exactly where its accepted publication said that this forfeits

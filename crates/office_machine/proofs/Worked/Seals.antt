@@ -1,6 +1,7 @@
 -- Seals, computed.
 use Rattle.std.specs.Prelude.{codes}
 use Rattle.std.proofs.Common.{refl}
+use Rattle.std.specs.List.{flat_map}
 use Rattle.office_base.specs.Rows.{row_at, row_put, row_drop}
 use Rattle.office_machine.specs.Requests.{AreRequests}
 use Rattle.office_machine.specs.Seals.{SameButSeals}
@@ -27,12 +28,27 @@ same_but_seals = (
               (
                 record { moment = refl; caller = refl; unavailable = refl; demand = refl },
                 (
-                  record { moment = refl; caller = refl; unavailable = refl; demand = Same refl },
+                  record { moment = refl; caller = refl; unavailable = refl; demand = refl },
                   (
-                    record { moment = refl; caller = refl; unavailable = refl; demand = Same refl },
+                    record { moment = refl; caller = refl; unavailable = refl; demand = refl },
                     (
                       record { moment = refl; caller = refl; unavailable = refl; demand = refl },
-                      (record { moment = refl; caller = refl; unavailable = refl; demand = Same refl }, tt),
+                      (
+                        record { moment = refl; caller = refl; unavailable = refl; demand = refl },
+                        (
+                          record { moment = refl; caller = refl; unavailable = refl; demand = Same refl },
+                          (
+                            record { moment = refl; caller = refl; unavailable = refl; demand = Same refl },
+                            (
+                              record { moment = refl; caller = refl; unavailable = refl; demand = refl },
+                              (
+                                record { moment = refl; caller = refl; unavailable = refl; demand = refl },
+                                (record { moment = refl; caller = refl; unavailable = refl; demand = Same refl }, tt),
+                              ),
+                            ),
+                          ),
+                        ),
+                      ),
                     ),
                   ),
                 ),
@@ -50,7 +66,7 @@ unfolding row_at row_put row_drop
 can_be_given = search tt
 
 pub seals_worked : SealsWorked
-unfolding row_at row_put row_drop
+unfolding row_at row_put row_drop flat_map
 seals_worked = record {
   same_but_seals = same_but_seals;
   can_be_given = can_be_given;

@@ -12,10 +12,11 @@ use Rattle.office_base.specs.declared.records.LotState.TheVariants as lot_in
 use Rattle.office_base.specs.declared.records.NoticeState.TheVariants as notice_in
 use Rattle.office_base.specs.declared.records.SecurityState.TheVariants as security_in
 use Rattle.office_machine.specs.Fates.{fate_of_tender}
-use Rattle.office_machine.specs.Replies.{Awarded, Minutes, OpenedAll, Received, Refused, Registry, Reply, Security, Tender, Withdrew}
+use Rattle.office_machine.specs.Replies.{Awarded, EvaluationSeen, Minutes, OpenedAll, OwnTendersSeen, Received, Refused, Registry, Reply, SecuritiesSeen, Security, Tender, Withdrew}
 use Rattle.office_machine.specs.Requests.{AreRequests, Request}
 use Rattle.office_machine.specs.Seals.{ReleasesHideSeals, SameButSeals, PackagesHideSeals, without_digest}
 use Rattle.office_machine.specs.Worlds.{ChosenTender}
+use Rattle.office_machine.specs.Worked.Listing.{held_security, own}
 use Rattle.office_machine.specs.Worked.Office.{accepted, awards, by, deadline, decided, february, l1, looks, means, n1, office, opens, packages, paving, presents, published, roads, setup, t1, t2, told}
 
 -- T1 and its tenders for the lot
@@ -32,10 +33,15 @@ requests these those =
     ∷ looks Clerk february (queries.Tender 2)
     ∷ looks Clerk february (queries.Register n1)
     ∷ looks Clerk february (queries.Security 1)
+    ∷ looks (Tenderer t1) february (queries.OwnTenders n1)
+    ∷ looks (Tenderer t2) february (queries.OwnTenders n1)
+    ∷ looks Clerk february (queries.Securities n1)
+    ∷ looks Clerk february (queries.Evaluation n1)
     ∷ looks Public february (queries.Minutes n1)
     ∷ by t1 february (Withdraw 2)
     ∷ opens deadline
     ∷ looks Public deadline (queries.Minutes n1)
+    ∷ looks Clerk deadline (queries.Evaluation n1)
     ∷ awards decided
     ∷ []
 
@@ -59,6 +65,10 @@ telling these those =
     ∷ record { receipt = 2; lot = l1; moment = february; length = 4; state = envelope.Sealed }
     ∷ [])
     ∷ Security 50 (codes "G1") 1 security_in.Held t1
+    ∷ OwnTendersSeen (own these 3 1 envelope.Withdrawn ∷ own those 4 2 envelope.Sealed ∷ [])
+    ∷ OwnTendersSeen []
+    ∷ SecuritiesSeen (held_security None ∷ [])
+    ∷ Refused NotOpened
     ∷ Refused NotOpened
     ∷ Withdrew 2 envelope.Withdrawn february
     ∷ OpenedAll n1 0 2 deadline
@@ -90,6 +100,7 @@ telling these those =
     }
     ∷ [])
     []
+    ∷ EvaluationSeen n1 (record { lot = l1; state = lot_in.Undecided; tenders = []; awards = [] } ∷ [])
     ∷ Awarded l1 None 3 decided
     ∷ []
 

@@ -1,0 +1,20 @@
+-- Worked examples of evaluations, computed.
+use Rattle.std.proofs.Common.{refl}
+use Rattle.office_base.specs.Rows.{row_at, row_put, row_drop}
+use Rattle.office_machine.specs.Worked.Evaluating.{EvaluatingWorked}
+
+pub evaluating_worked : EvaluatingWorked
+unfolding row_at row_put row_drop
+evaluating_worked = record {
+  not_yet = refl;
+  never = refl;
+  clerk_sees_all = refl;
+  clerk_sees_points = refl;
+  confidential = refl;
+  awarded_for_all = refl;
+  failed_for_all = refl;
+  without_points = refl;
+  cancelled = refl;
+  lot_by_lot = refl;
+  withdrawn_late = refl;
+}

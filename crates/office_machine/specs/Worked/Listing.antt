@@ -1,0 +1,170 @@
+-- Worked examples of lists: notices and tenderers page by page, the terms of a notice, one's own tenders of it, its securities, and what a contract is made of.
+use Rattle.std.specs.Prelude.{◌++◌, ◌+◌, ◌∷◌, ◌≡◌, List, None, Option, Some, [], codes, false, suc, true, zero, ℕ}
+use Rattle.office_commands.specs.declared.command.Caller.{Caller}
+use Rattle.office_commands.specs.declared.command.Caller.TheVariants.{Clerk, Public, Tenderer}
+use Rattle.office_commands.specs.declared.commands.Command.TheVariants.{Modify, Publish, Withdraw}
+use Rattle.office_commands.specs.declared.contract.How.{How}
+use Rattle.office_commands.specs.declared.contract.How.TheVariants.{ForDefault}
+use Rattle.office_commands.specs.declared.notice.Criteria.TheVariants.{Points}
+use Rattle.office_commands.specs.declared.notice.LateWithdrawal.TheVariants.{Forfeits}
+use Rattle.office_commands.specs.declared.queries.Query.{Query}
+use Rattle.office_commands.specs.declared.queries.Query.TheVariants as queries
+use Rattle.office_values.specs.declared.refusal.Refusal.TheVariants.{Forbidden, NoSuch, NotYourTender}
+use Rattle.office_values.specs.declared.refusal.Thing.TheVariants as things
+use Rattle.office_base.specs.Tables.{Tables, no_tables}
+use Rattle.office_base.specs.declared.records.EntryKind.TheVariants as entries
+use Rattle.office_base.specs.declared.records.EntryRow.{EntryRow}
+use Rattle.office_base.specs.declared.records.EnvelopeState.{EnvelopeState}
+use Rattle.office_base.specs.declared.records.EnvelopeState.TheVariants as envelope
+use Rattle.office_base.specs.declared.records.LotRow.{LotRow}
+use Rattle.office_base.specs.declared.records.LotState.TheVariants as lot_in
+use Rattle.office_base.specs.declared.records.NoticeRow.{NoticeRow}
+use Rattle.office_base.specs.declared.records.NoticeState.TheVariants as notice_in
+use Rattle.office_base.specs.declared.records.SecurityState.TheVariants as security_in
+use Rattle.office_machine.specs.Replies.{ContractSeen, ListedSecurity, ListedTenderer, NoticesSeen, OwnTender, OwnTendersSeen, Refused, Reply, SecuritiesSeen, TenderersSeen, TermsSeen}
+use Rattle.office_machine.specs.Requests.{Request}
+use Rattle.office_machine.specs.Sights.{shown}
+use Rattle.office_machine.specs.Worked.Amending.{amend}
+use Rattle.office_machine.specs.Worked.Contracts.{ends, pays, raises, signed}
+use Rattle.office_machine.specs.Worked.Office.{by, by_clerk, deadline, enrol, february, l1, looks, lot, money, n1, n2, next_day, notice, numbered_name, opens, packages, paving, presents, published, roads, setup, standstill_end, t1, t2, tenderers, told}
+
+-- a look by anybody
+abbrev pub sees : Caller → Query → Request
+sees caller query = looks caller february query
+
+-- the notice N1 as it is published, and its lot
+abbrev pub road_repair : NoticeRow
+road_repair = record {
+  notice = n1;
+  title = codes "Road repair";
+  published = published;
+  deadline = deadline;
+  validity = 90;
+  standstill = 10;
+  weight = 0;
+  performance = 0;
+  state = notice_in.Receiving;
+  opened = None;
+  amendments = 0;
+  releases = 1;
+}
+
+abbrev pub north : LotRow
+north = record { notice = n1; lot = l1; title = codes "North"; line = roads; estimate = 600; security = 50; items = paving; state = lot_in.Undecided; reserved = 600 }
+
+-- so many notices of these names: A000, A001 and so on
+abbrev pub notices_from : ℕ → ℕ → List NoticeRow
+notices_from first zero = []
+notices_from first (suc n) = record road_repair { notice = numbered_name 65 first } ∷ notices_from (first + 1) n
+
+abbrev pub with_notices : ℕ → Tables
+with_notices n = record no_tables { notices = notices_from 0 n }
+
+-- a page of them behind a notice
+abbrev pub page : ℕ → Option (List ℕ) → Reply
+page n after = shown packages (with_notices n) Public (queries.Notices after)
+
+-- the notice where points decide, the price has 60 of a hundred, tenders can be withdrawn late and contracts need a security of 70
+abbrev pub strict_setup : List Request
+strict_setup =
+    money
+    ++ tenderers
+    ++ by_clerk published (Publish n1 (record (notice deadline (Points 60) (lot l1 600 ∷ [])) { late_withdrawal = Forfeits; performance = 70 }))
+    ∷ []
+
+-- T1 presents a tender, replaces it and withdraws it
+abbrev pub withdrawn : List Request
+withdrawn = setup ++ presents t1 february (codes "500") ∷ by t1 february (Modify 1 (codes "4500")) ∷ by t1 february (Withdraw 2) ∷ []
+
+abbrev pub own : List ℕ → ℕ → ℕ → EnvelopeState → OwnTender
+own digest length receipt state = record { digest = digest; length = length; lot = l1; moment = february; receipt = receipt; security = Some 1; state = state }
+
+abbrev pub alpha : ListedTenderer
+alpha = record { tenderer = t1; name = codes "Alpha"; address = codes "High Street 1" }
+
+-- the security G1 of T1's tender
+abbrev pub held_security : Option (List ℕ) → ListedSecurity
+held_security tenderer = record { amount = 50; lot = l1; reference = codes "G1"; security = 1; state = security_in.Held; tenderer = tenderer }
+
+-- contract 1 is signed for 700 with T1, raised by 50, and 300 are paid under it
+abbrev pub running : List Request
+running = signed ++ raises (codes "A1") 50 ∷ pays (codes "P1") 300 ∷ []
+
+abbrev pub both_entries : List EntryRow
+both_entries =
+    record { contract = 1; entry = codes "A1"; kind = entries.Raise; amount = 50; moment = standstill_end; rationale = Some (codes "Changed") }
+    ∷ record { contract = 1; entry = codes "P1"; kind = entries.Payment; amount = 300; moment = standstill_end; rationale = None }
+    ∷ []
+
+-- what is told of it: when and how it ended, what was released then, and what is left
+abbrev pub contract_is : Option ℕ → Option How → ℕ → ℕ → Reply
+contract_is ended how released left =
+    ContractSeen
+    (record {
+      contract = 1;
+      notice = n1;
+      lot = l1;
+      tenderer = t1;
+      signed = 700;
+      moment = standstill_end;
+      ended = ended;
+      how = how;
+      released = released;
+    })
+    left
+    300
+    both_entries
+
+pub record ListingWorked : Type 0 where
+  -- an empty office has no notice
+  pub nothing_yet : told [] (sees Public (queries.Notices None) ∷ []) ≡ NoticesSeen None [] ∷ []
+  -- anybody sees the one that was published, also behind M and not behind itself
+  pub one_notice : told setup (sees Public (queries.Notices None) ∷ sees Public (queries.Notices (Some (codes "M"))) ∷ sees (Tenderer t1) (queries.Notices (Some n1)) ∷ [])
+      ≡ NoticesSeen None (road_repair ∷ []) ∷ NoticesSeen None (road_repair ∷ []) ∷ NoticesSeen None [] ∷ []
+  -- of 101 notices the first page has a hundred, and says where the next one begins
+  pub first_page : page 101 None ≡ NoticesSeen (Some (numbered_name 65 99)) (notices_from 0 100)
+  -- behind its last notice stands the last one
+  pub last_page : page 101 (Some (numbered_name 65 99)) ≡ NoticesSeen None (notices_from 100 1)
+  -- of a hundred there is one page
+  pub only_page : page 100 None ≡ NoticesSeen None (notices_from 0 100)
+  -- the terms of the notice
+  pub terms : told setup (sees Public (queries.Terms n1) ∷ sees Public (queries.Terms n2) ∷ []) ≡ TermsSeen road_repair false (north ∷ []) ∷ Refused (NoSuch things.Notice) ∷ []
+  -- points, late withdrawals and a performance security are terms
+  pub strict_terms : told strict_setup (sees Public (queries.Terms n1) ∷ []) ≡ TermsSeen (record road_repair { weight = 60; performance = 70 }) true (north ∷ []) ∷ []
+  -- an amended deadline is told with the count of amendments and of releases
+  pub amended : told (setup ++ amend february next_day ∷ []) (sees Public (queries.Notices None) ∷ [])
+      ≡ NoticesSeen None (record road_repair { deadline = next_day; amendments = 1; releases = 2 } ∷ []) ∷ []
+  -- and so is the opening
+  pub opened : told (setup ++ opens deadline ∷ []) (sees Public (queries.Terms n1) ∷ [])
+      ≡ TermsSeen (record road_repair { state = notice_in.Opened; opened = Some deadline; releases = 2 }) false (north ∷ []) ∷ []
+  -- a tenderer sees all its own tenders of the notice, also those that it took back, and no other tenderer's
+  pub own_tenders : told withdrawn (sees (Tenderer t1) (queries.OwnTenders n1) ∷ sees (Tenderer t2) (queries.OwnTenders n1) ∷ sees (Tenderer t1) (queries.OwnTenders n2) ∷ [])
+      ≡ OwnTendersSeen (own (codes "500") 3 1 envelope.Withdrawn ∷ own (codes "4500") 4 2 envelope.Withdrawn ∷ [])
+      ∷ OwnTendersSeen []
+      ∷ Refused (NoSuch things.Notice)
+      ∷ []
+  -- nobody else has any
+  pub tenderers_alone : told withdrawn (sees Clerk (queries.OwnTenders n1) ∷ sees Public (queries.OwnTenders n1) ∷ []) ≡ Refused Forbidden ∷ Refused Forbidden ∷ []
+  -- the clerk's list of securities names nobody while tenders are received
+  pub securities_are_held : told (setup ++ presents t1 february (codes "500") ∷ []) (sees Clerk (queries.Securities n1) ∷ []) ≡ SecuritiesSeen (held_security None ∷ []) ∷ []
+  -- from the opening on it does
+  pub then_named : told (setup ++ presents t1 february (codes "500") ∷ opens deadline ∷ []) (sees Clerk (queries.Securities n1) ∷ [])
+      ≡ SecuritiesSeen (held_security (Some t1) ∷ []) ∷ []
+  -- it is the clerk's
+  pub securities_are_the_clerks : told setup (sees (Tenderer t1) (queries.Securities n1) ∷ sees Public (queries.Securities n1) ∷ sees Clerk (queries.Securities n2) ∷ [])
+      ≡ Refused Forbidden ∷ Refused Forbidden ∷ Refused (NoSuch things.Notice) ∷ []
+  -- the clerk sees who is registered, and nothing of their keys
+  pub registered : told (enrol t1 (codes "Alpha") ∷ []) (sees Clerk (queries.Tenderers None) ∷ sees Clerk (queries.Tenderers (Some t1)) ∷ [])
+      ≡ TenderersSeen None (alpha ∷ []) ∷ TenderersSeen None [] ∷ []
+  -- in an empty office nobody is
+  pub nobody_yet : told [] (sees Clerk (queries.Tenderers None) ∷ []) ≡ TenderersSeen None [] ∷ []
+  -- nobody else sees it
+  pub tenderers_are_the_clerks : told setup (sees (Tenderer t1) (queries.Tenderers None) ∷ sees Public (queries.Tenderers None) ∷ []) ≡ Refused Forbidden ∷ Refused Forbidden ∷ []
+  -- a contract with its entries, for the clerk and its tenderer
+  pub contract_runs : told running (sees Clerk (queries.Contract 1) ∷ sees (Tenderer t1) (queries.Contract 1) ∷ [])
+      ≡ contract_is None None 0 450 ∷ contract_is None None 0 450 ∷ []
+  -- once it has ended for default
+  pub contract_ended : told (running ++ ends ForDefault ∷ []) (sees Clerk (queries.Contract 1) ∷ []) ≡ contract_is (Some standstill_end) (Some ForDefault) 450 0 ∷ []
+  -- for nobody else; that it isn't there is told first
+  pub contract_is_theirs : told running (sees (Tenderer t2) (queries.Contract 1) ∷ sees Public (queries.Contract 1) ∷ sees (Tenderer t2) (queries.Contract 9) ∷ [])
+      ≡ Refused NotYourTender ∷ Refused Forbidden ∷ Refused (NoSuch things.Contract) ∷ []
