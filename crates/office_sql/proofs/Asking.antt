@@ -1,6 +1,8 @@
 -- What a select over one table of the office shows.
 use Rattle.std.proofs.Common.{◌≡◌, ℕ, Bool, true, false, cond, List, [], ◌∷◌, map, filter, slice_get, option_map, Some, None, refl, sym, ap, ap₂, subst, ◌∙◌, Ordering, Less, Equal, Greater}
-use Rattle.std.specs.Prelude.{nat_le, ◌^◌, unwrap_or}
+use Rattle.std.specs.Prelude.{nat_le, ◌^◌, unwrap_or, take}
+use Rattle.std.specs.List.Sorted.{IsPermutation}
+use Rattle.std.proofs.lemmas.List.{take-map}
 use Rattle.std.specs.Cmp.{IsTotalOrder, tied_itself}
 use Rattle.std.specs.FinMap.{IsAntisymmetric}
 use Rattle.std.specs.List.{AllByRecursion, list_all}
@@ -8,10 +10,10 @@ use Rattle.std.specs.Ordering.{is_eq, is_lt, eq_by_cmp}
 use Rattle.sqlite_value.specs.declared.value.Value.{Value}
 use Rattle.sqlite_value.specs.declared.value.Value.TheVariants.{Null}
 use Rattle.sqlite_value.specs.Order.{Row}
-use Rattle.sqlite_sql.specs.Term.{holds}
-use Rattle.sqlite_sql.specs.Query.{Output, output, output_cmp}
+use Rattle.sqlite_sql.specs.Term.{Term, eval, holds}
+use Rattle.sqlite_sql.specs.Query.{Query, Output, as_count, limited, output, output_cmp}
 use Rattle.sqlite_schema.specs.declared.command.Command.TheVariants.{Select}
-use Rattle.sqlite_trees.specs.Tree.{Trees}
+use Rattle.sqlite_trees.specs.Tree.{Trees, rowid}
 use Rattle.sqlite.specs.Program.{overlay}
 use Rattle.sqlite.specs.State.{State, Shown}
 use Rattle.sqlite.specs.Effect.{Answers}
@@ -22,9 +24,9 @@ use Rattle.office_base.proofs.RowLaws.Starts.{all_above}
 use Rattle.office_base.proofs.RowLaws.Filters.{all_filter}
 use Rattle.office_sql.specs.Standing.{Stand}
 use Rattle.office_sql.proofs.KeptRows.{in_order-rows_kept}
-use Rattle.office_sql.proofs.Selected.{selects, comes_back, picked, passes_query}
+use Rattle.office_sql.proofs.Selected.{selects, comes_back, picked, passes_query, lists as all_in_order}
 use Rattle.office_sql.proofs.Meanings.{StatementMeans}
-use Rattle.office_sql.proofs.Selecting.{select, tested}
+use Rattle.office_sql.proofs.Selecting.{select, capped_select, tested}
 
 filter-none : {X : Type 0} (p : X → Bool) (xs : List X) → AllByRecursion (λ x. p x ≡ false) xs → filter p xs ≡ []
 filter-none p [] h = refl
@@ -106,3 +108,34 @@ module _ {K X : Type 0} (R : K → K → Ordering) (total : IsTotalOrder R) (sam
           sym (slice_get-map read rows)
           ∙ ap (λ (l : List X). slice_get l 0) (ap (map read) (shows_rows (λ x. ([], encode x)) shows (λ x y a b. ap is_lt (unordered ([], encode x) ([], encode y)) ∙ tied_keys p k is x y a b) h) ∙ read_back (λ x. []) (filter p xs) back)
           ∙ first_at p k is xs (subst (IsInOrder R key) stand.is (in_order-rows_kept R total same key form decode (old.now.trees n)))
+
+    -- the first of the rows that pass some tests
+    module _ (old new : State) (rows : List Row) (n : ℕ) (xs : List X) (stand : Stand R key form decode (old.now.trees n) xs)
+        (text : List ℕ) (params : Row) (tests : List Term) (shown order : List ℕ) (limit : Term) (names : List (List ℕ)) (means : StatementMeans old.now.schema text (Select (record { lets = []; body = capped_select n tests shown order limit }) names))
+        (p : X → Bool) (passing : (v : Value) (x : X) → list_all (holds (params ∷ form v x ∷ [])) tests ≡ p x) (most : ℕ) (counts : as_count (eval limit (params ∷ [])) ≡ Some most) where
+      abbrev q : Query
+      q = capped_select n tests shown order limit
+
+      come_back : AllByRecursion (λ x. read (encode x) ≡ x) (filter p xs)
+      come_back = all_filter _ p xs (subst (AllByRecursion (λ x. read (encode x) ≡ x)) stand.is (comes_back R total same key form decode (old.now.trees n) stand.kept encode read reads))
+
+      pub pages : (sorts : X → Row) → ((v : Value) (x : X) → output q (params ∷ form v x ∷ []) ≡ (sorts x, encode x))
+          → ((x y : X) → is_lt (output_cmp q (sorts x, encode x) (sorts y, encode y)) ≡ is_lt (R (key x) (key y)))
+          → Shown text params old new rows → map read rows ≡ take most (filter p xs)
+      pages sorts shows agrees h =
+          let a : Answers old.now (record { lets = []; body = q }) params rows = reads_as text params old new old.now.schema refl _ means.is means.plain means.unlisted rows h in
+          let here = a.answer Null in
+          let staged : here.staged ≡ picked (passes_query q params) (λ r. params ∷ r ∷ []) (old.now.trees n)
+          = subst (λ tree. here.staged ≡ picked (passes_query q params) (λ r. params ∷ r ∷ []) tree) (overlaid old.now.trees n) here.grouped in
+          let ordered : here.ordered ≡ map out (filter p xs)
+          = all_in_order R total same key form decode (passes_query q params) (λ r. params ∷ r ∷ []) (output q) p out (output_cmp q)
+          (λ r x e. ap (passes_query q params) e ∙ passing (rowid r) x)
+          (λ r x e. ap (λ z. output q (params ∷ z ∷ [])) e ∙ shows (rowid r) x)
+          (λ x y e f. agrees x y) (old.now.trees n) stand.kept here.ordered (subst (λ l. IsPermutation l here.ordered) (here.distinct ∙ ap (map (output q)) staged) here.same) here.sorted
+          ∙ ap (λ ys. map out (filter p ys)) stand.is in
+          ap (map read) (here.shown ∙ ap (λ o. limited o (map (λ (o : Output). o.1) here.ordered)) counts ∙ ap (λ os. take most (map (λ (o : Output). o.1) os)) ordered)
+          ∙ sym (take-map read most (map (λ (o : Output). o.1) (map out (filter p xs))))
+          ∙ ap (take most) (read_back sorts (filter p xs) come_back)
+        where
+          out : X → Output
+          out x = (sorts x, encode x)

@@ -2,7 +2,7 @@
 use Rattle.std.proofs.Common.{◌≡◌, inl, inr, ℕ, ℤ, pos, Bool, true, false, ◌&&◌, cond, List, Option, Some, None, refl, sym, ap, ap₂, ◌∙◌, arith, Ordering, Less, Equal, Greater, true≢false}
 use Rattle.std.proofs.lemmas.Bool.{cases_Bool}
 use Rattle.std.proofs.lemmas.Bool.Decides.{nat_tests}
-use Rattle.std.specs.Ordering.{is_eq, is_lt, nat_cmp, int_cmp, ordering_then, eq_by_cmp}
+use Rattle.std.specs.Ordering.{is_eq, is_lt, is_gt, nat_cmp, int_cmp, ordering_then, ordering_reverse, eq_by_cmp}
 use Rattle.std.specs.Cmp.{tied_itself, nat_cmp_total}
 use Rattle.std.specs.Cmp.Lexicographic.{nat_list_cmp_total}
 use Rattle.std.specs.FinMap.{nat_cmp-IsAntisymmetric}
@@ -12,6 +12,8 @@ use Rattle.sqlite_value.specs.declared.keys.Collation.TheVariants.{Binary}
 use Rattle.sqlite_value.specs.Order.{value_cmp}
 use Rattle.sqlite_value.proofs.OrderLemmas.{value_cmp-Text, value_cmp-Int}
 use Rattle.sqlite_sql.specs.Ops.{binary, unary, is_true, from_truth}
+use Rattle.sqlite_sql.specs.declared.ops.BinaryOp.TheVariants as by
+use Rattle.sqlite_sql.specs.declared.ops.CompareOp.TheVariants.{Gt}
 use Rattle.sqlite_schema.specs.Rules.{equal}
 use Rattle.sqlite_schema.specs.declared.schema.Kind.TheVariants.{Integer, Text as AsText}
 use Rattle.sqlite_rules.specs.Cast.{cast}
@@ -67,6 +69,20 @@ text_tested a b = elim (cases_Bool (same_id a b)) [
     by : (c : Bool) → equal Binary (Text a) (Text b) ≡ c → same_id a b ≡ false → c ≡ same_id a b
     by true e f = absurd (true≢false (sym (ap (λ z. same_id z b) (equal_texts a b e) ∙ same_itself b) ∙ f))
     by false e f = sym f
+
+truth_is : (b : Bool) → is_true (from_truth (Some b)) ≡ b
+truth_is true = refl
+truth_is false = refl
+
+above_is : (c : Ordering) → is_gt (ordering_reverse c) ≡ is_lt c
+above_is Less = refl
+above_is Equal = refl
+above_is Greater = refl
+
+-- a column of text stands above a parameter as an identifier stands behind another
+pub text_above : (a b : List ℕ) → is_true (binary (by.Compare Gt Binary) (Text a) (Text b)) ≡ is_lt (id_cmp b a)
+unfolding binary
+text_above a b = truth_is (is_gt (value_cmp (Text a) (Text b))) ∙ ap is_gt (value_cmp-Text a b ∙ nat_list_cmp_total.antisymm a b) ∙ above_is (id_cmp b a)
 
 -- ---- numbers
 

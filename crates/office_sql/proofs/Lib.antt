@@ -12,10 +12,13 @@ mod Whole
 mod Simple
 mod Selecting
 mod SelectTexts
+mod LotTexts
 mod Asking
 mod Deletes
 mod Drops
 mod Selects
+mod PageTexts
+mod PageSelects
 mod Asked
 mod Reading
 mod Cells

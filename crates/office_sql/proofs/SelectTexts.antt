@@ -21,11 +21,11 @@ batches_has : (n : ℕ) → Has (at_tree batches n) max_budget (columns_of batch
 unfolding same_name
 batches_has n = (refl, refl, refl, (refl, refl, refl, (refl, refl, refl, tt)))
 
-tenderers_has : (n : ℕ) → Has (at_tree tenderers n) max_budget (columns_of tenderers)
+pub tenderers_has : (n : ℕ) → Has (at_tree tenderers n) max_budget (columns_of tenderers)
 unfolding same_name
 tenderers_has n = (refl, refl, refl, (refl, refl, refl, (refl, refl, refl, (refl, refl, refl, tt))))
 
-notices_has : (n : ℕ) → Has (at_tree notices n) max_budget (columns_of notices)
+pub notices_has : (n : ℕ) → Has (at_tree notices n) max_budget (columns_of notices)
 unfolding same_name
 notices_has n = (refl, refl, refl, (refl, refl, refl, (refl, refl, refl, (refl, refl, refl, (refl, refl, refl, (refl, refl, refl, (refl, refl, refl, (refl, refl, refl, (refl, refl, refl, (refl, refl, refl, (refl, refl, refl, (refl, refl, refl, tt))))))))))))
 
@@ -37,7 +37,7 @@ lots_has : (n : ℕ) → Has (at_tree lots n) max_budget (columns_of lots)
 unfolding same_name
 lots_has n = (refl, refl, refl, (refl, refl, refl, (refl, refl, refl, (refl, refl, refl, (refl, refl, refl, (refl, refl, refl, (refl, refl, refl, (refl, refl, refl, (refl, refl, refl, tt)))))))))
 
-envelopes_has : (n : ℕ) → Has (at_tree envelopes n) max_budget (columns_of envelopes)
+pub envelopes_has : (n : ℕ) → Has (at_tree envelopes n) max_budget (columns_of envelopes)
 unfolding same_name
 envelopes_has n = (refl, refl, refl, (refl, refl, refl, (refl, refl, refl, (refl, refl, refl, (refl, refl, refl, (refl, refl, refl, (refl, refl, refl, (refl, refl, refl, (refl, refl, refl, (refl, refl, refl, (refl, refl, refl, (refl, refl, refl, (refl, refl, refl, (refl, refl, refl, (refl, refl, refl, (refl, refl, refl, tt))))))))))))))))
 
@@ -45,7 +45,7 @@ seals_has : (n : ℕ) → Has (at_tree seals n) max_budget (columns_of seals)
 unfolding same_name
 seals_has n = (refl, refl, refl, (refl, refl, refl, tt))
 
-securities_has : (n : ℕ) → Has (at_tree securities n) max_budget (columns_of securities)
+pub securities_has : (n : ℕ) → Has (at_tree securities n) max_budget (columns_of securities)
 unfolding same_name
 securities_has n = (refl, refl, refl, (refl, refl, refl, (refl, refl, refl, (refl, refl, refl, (refl, refl, refl, (refl, refl, refl, (refl, refl, refl, tt)))))))
 

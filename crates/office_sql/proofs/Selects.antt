@@ -11,7 +11,7 @@ use Rattle.sqlite_value.proofs.OrderLemmas.{value_cmp-Text}
 use Rattle.sqlite_sql.specs.Query.{Output}
 use Rattle.sqlite.specs.State.{State, Shown}
 use Rattle.office_values.specs.Ids.{id_cmp, same_id}
-use Rattle.office_base.specs.Tables.{Tables, same_number, line_key, line_at, batch_key, batch_at, tenderer_key, tenderer_at, notice_key, notice_at, lot_key, lot_at, envelope_key, envelope_at, seal_key, seal_at, security_key, security_at, award_key, award_at, contract_key, contract_at, entry_key, entry_at, release_key, release_at, compiled_key, compiled_at, late_key, late_at, performance_key, performance_at, entry_cmp, lot_cmp, release_cmp, awards_of_notice, contracts_of_notice, entries_of_contract, envelopes_of_notice, envelopes_of_tenderer, of_tenderer, lots_of_line, lots_of_notice, releases_of_notice, securities_of_notice}
+use Rattle.office_base.specs.Tables.{Tables, same_number, line_key, line_at, batch_key, batch_at, tenderer_key, tenderer_at, notice_key, notice_at, lot_key, lot_at, envelope_key, envelope_at, seal_key, seal_at, security_key, security_at, award_key, award_at, contract_key, contract_at, entry_key, entry_at, release_key, release_at, compiled_key, compiled_at, late_key, late_at, performance_key, performance_at, entry_cmp, lot_cmp, release_cmp, awards_of_notice, contracts_of_notice, entries_of_contract, envelopes_of_lot, envelopes_of_notice, envelopes_of_tenderer, of_tenderer, lots_of_line, lots_of_notice, releases_of_notice, securities_of_lot, securities_of_notice}
 use Rattle.office_base.specs.Joined.{reservations}
 use Rattle.office_base.specs.declared.records.LineRow.{LineRow}
 use Rattle.office_base.specs.declared.records.BatchRow.{BatchRow}
@@ -47,6 +47,7 @@ use Rattle.office_sql.specs.Standing.{Stand, Holds}
 use Rattle.office_sql.proofs.Cells.{text_tested, number_tested, three_tested, numbers_cmp, and_true, then_equal, pair_then, both_equal, same_number_is}
 use Rattle.office_sql.proofs.Keys.{clock_total, clock_exact}
 use Rattle.office_sql.proofs.SelectTexts.{get_line, get_line_means, get_batch, get_batch_means, get_tenderer, get_tenderer_means, get_notice, get_notice_means, get_lot, get_lot_means, get_envelope, get_envelope_means, get_seal, get_seal_means, get_security, get_security_means, get_award, get_award_means, get_contract, get_contract_means, get_entry, get_entry_means, get_release, get_release_means, get_compiled, get_compiled_means, get_late, get_late_means, get_performance, get_performance_means, get_clock, get_clock_means, get_version, get_version_means, list_lines, list_lines_means, list_former, list_former_means, list_lots_of_notice, list_lots_of_notice_means, list_lots_of_line, list_lots_of_line_means, list_reservations_of_line, list_reservations_of_line_means, list_envelopes_of_notice, list_envelopes_of_notice_means, list_envelopes_of_tenderer, list_envelopes_of_tenderer_means, list_securities_of_notice, list_securities_of_notice_means, list_awards_of_notice, list_awards_of_notice_means, list_contracts_of_notice, list_contracts_of_notice_means, list_entries_of_contract, list_entries_of_contract_means, list_releases_of_notice, list_releases_of_notice_means}
+use Rattle.office_sql.proofs.LotTexts.{list_envelopes_of_lot, list_envelopes_of_lot_means, list_securities_of_lot, list_securities_of_lot_means}
 use Rattle.office_sql.proofs.Asking.{shows_rows, lists, gets, filter-all}
 
 pub select_get_line : (old new : State) (rows : List Row) (t : Tables) → Holds old.now t → (k : List ℕ) → Shown get_line (Text k ∷ []) old new rows → option_map line_read (slice_get rows 0) ≡ line_at k t
@@ -174,6 +175,11 @@ select_list_envelopes_of_notice old new rows t was k h =
     lists nat_cmp nat_cmp_total numbers_exact envelope_key (by_rowid envelope_values) (read_by_rowid envelope_read) envelope_values envelope_read (λ v x. refl) old new rows (was.places Envelopes) t.envelopes (was.stands Envelopes) list_envelopes_of_notice (Text k ∷ []) (2 ∷ []) (0 ∷ range_with_len 2 15) (0 ∷ []) _ (list_envelopes_of_notice_means old.now.schema (was.places Envelopes) (was.tables Envelopes)) (λ (x : EnvelopeRow). same_id x.notice k) (λ v x. and_true _ ∙ text_tested x.notice k)
     (λ (x : EnvelopeRow). Int (pos x.receipt) ∷ []) (λ v x. refl) (λ x y. then_equal _ ∙ ap is_lt (numbers_cmp x.receipt y.receipt)) h
 
+pub select_list_envelopes_of_lot : (old new : State) (rows : List Row) (t : Tables) → Holds old.now t → (k l : List ℕ) → Shown list_envelopes_of_lot (Text k ∷ Text l ∷ []) old new rows → map envelope_read rows ≡ envelopes_of_lot k l t
+select_list_envelopes_of_lot old new rows t was k l h =
+    lists nat_cmp nat_cmp_total numbers_exact envelope_key (by_rowid envelope_values) (read_by_rowid envelope_read) envelope_values envelope_read (λ v x. refl) old new rows (was.places Envelopes) t.envelopes (was.stands Envelopes) list_envelopes_of_lot (Text k ∷ Text l ∷ []) (2 ∷ 3 ∷ []) (0 ∷ range_with_len 2 15) (0 ∷ []) _ (list_envelopes_of_lot_means old.now.schema (was.places Envelopes) (was.tables Envelopes)) (λ (x : EnvelopeRow). same_id x.notice k && same_id x.lot l) (λ v x. ap₂ (λ c d. c && d) (text_tested x.notice k) (and_true _ ∙ text_tested x.lot l))
+    (λ (x : EnvelopeRow). Int (pos x.receipt) ∷ []) (λ v x. refl) (λ x y. then_equal _ ∙ ap is_lt (numbers_cmp x.receipt y.receipt)) h
+
 pub select_list_envelopes_of_tenderer : (old new : State) (rows : List Row) (t : Tables) → Holds old.now t → (k l m : List ℕ) → Shown list_envelopes_of_tenderer (Text k ∷ Text l ∷ Text m ∷ []) old new rows → map envelope_read rows ≡ envelopes_of_tenderer k l m t
 select_list_envelopes_of_tenderer old new rows t was k l m h =
     lists nat_cmp nat_cmp_total numbers_exact envelope_key (by_rowid envelope_values) (read_by_rowid envelope_read) envelope_values envelope_read (λ v x. refl) old new rows (was.places Envelopes) t.envelopes (was.stands Envelopes) list_envelopes_of_tenderer (Text k ∷ Text l ∷ Text m ∷ []) (2 ∷ 3 ∷ 4 ∷ []) (0 ∷ range_with_len 2 15) (0 ∷ []) _ (list_envelopes_of_tenderer_means old.now.schema (was.places Envelopes) (was.tables Envelopes)) (of_tenderer k l m) (λ v x. three_tested x.notice x.lot x.tenderer k l m)
@@ -182,6 +188,11 @@ select_list_envelopes_of_tenderer old new rows t was k l m h =
 pub select_list_securities_of_notice : (old new : State) (rows : List Row) (t : Tables) → Holds old.now t → (k : List ℕ) → Shown list_securities_of_notice (Text k ∷ []) old new rows → map security_read rows ≡ securities_of_notice k t
 select_list_securities_of_notice old new rows t was k h =
     lists nat_cmp nat_cmp_total numbers_exact security_key (by_rowid security_values) (read_by_rowid security_read) security_values security_read (λ v x. refl) old new rows (was.places Securities) t.securities (was.stands Securities) list_securities_of_notice (Text k ∷ []) (3 ∷ []) (0 ∷ range_with_len 2 6) (0 ∷ []) _ (list_securities_of_notice_means old.now.schema (was.places Securities) (was.tables Securities)) (λ (x : SecurityRow). same_id x.notice k) (λ v x. and_true _ ∙ text_tested x.notice k)
+    (λ (x : SecurityRow). Int (pos x.security) ∷ []) (λ v x. refl) (λ x y. then_equal _ ∙ ap is_lt (numbers_cmp x.security y.security)) h
+
+pub select_list_securities_of_lot : (old new : State) (rows : List Row) (t : Tables) → Holds old.now t → (k l : List ℕ) → Shown list_securities_of_lot (Text k ∷ Text l ∷ []) old new rows → map security_read rows ≡ securities_of_lot k l t
+select_list_securities_of_lot old new rows t was k l h =
+    lists nat_cmp nat_cmp_total numbers_exact security_key (by_rowid security_values) (read_by_rowid security_read) security_values security_read (λ v x. refl) old new rows (was.places Securities) t.securities (was.stands Securities) list_securities_of_lot (Text k ∷ Text l ∷ []) (3 ∷ 4 ∷ []) (0 ∷ range_with_len 2 6) (0 ∷ []) _ (list_securities_of_lot_means old.now.schema (was.places Securities) (was.tables Securities)) (λ (x : SecurityRow). same_id x.notice k && same_id x.lot l) (λ v x. ap₂ (λ c d. c && d) (text_tested x.notice k) (and_true _ ∙ text_tested x.lot l))
     (λ (x : SecurityRow). Int (pos x.security) ∷ []) (λ v x. refl) (λ x y. then_equal _ ∙ ap is_lt (numbers_cmp x.security y.security)) h
 
 pub select_list_awards_of_notice : (old new : State) (rows : List Row) (t : Tables) → Holds old.now t → (k : List ℕ) → Shown list_awards_of_notice (Text k ∷ []) old new rows → map award_read rows ≡ awards_of_notice k t

@@ -29,6 +29,8 @@ use Rattle.sqlite_resolve.specs.Compare.{compared, affinity_of, of_column, of_de
 use Rattle.sqlite_resolve.specs.Expr.{lower, lower_to}
 use Rattle.sqlite_resolve.specs.Body as body
 use Rattle.sqlite_resolve.specs.Order as order
+use Rattle.sqlite_resolve.specs.Select as select
+use Rattle.sqlite_resolve.specs.Terms.{number}
 use Rattle.sqlite_tied.specs.Compute.{everything}
 use Rattle.sqlite_schema.specs.Names.{table_named}
 use Rattle.sqlite_value.specs.declared.value.Value.TheVariants.{Int}
@@ -45,8 +47,8 @@ use Rattle.sqlite_resolve.specs.declared.compiled.Compiled.{Compiled}
 use Rattle.sqlite_resolve.specs.Lowering.{max_budget}
 use Rattle.sqlite_resolve.specs.Program.{program}
 use Rattle.sqlite_resolve.specs.Compile.{first, compiled}
-use Rattle.office_sql.proofs.Whole.{compiles}
-use Rattle.office_sql.proofs.Columns.{at_budget, here, among, lower_is, then_shown, parameter_is, equal_is, and_is, then_sorted}
+use Rattle.office_sql.proofs.Whole.{compiles, pages_by}
+use Rattle.office_sql.proofs.Columns.{at_budget, here, among, lower_is, then_shown, parameter_is, equal_is, above_is, and_is, then_sorted}
 
 -- ---- as a text is written
 
@@ -55,6 +57,9 @@ column_e name = roll-Expr (Expr-F.Column None name)
 
 abbrev pub equals_e : Name → ℕ → Expr
 equals_e name n = roll-Expr (Expr-F.Binary binary.Eq (column_e name) (roll-Expr (Expr-F.Parameter n)))
+
+abbrev pub above_e : Name → ℕ → Expr
+above_e name n = roll-Expr (Expr-F.Binary binary.Gt (column_e name) (roll-Expr (Expr-F.Parameter n)))
 
 abbrev pub both_e : Expr → Expr → Expr
 both_e a b = roll-Expr (Expr-F.Binary binary.And a b)
@@ -71,8 +76,11 @@ sort_of name = roll-Sort (record { key = column_e name; descending = false; null
 abbrev pub core_of : Name → List Name → Option Expr → Core
 core_of table columns test = roll-Core (record { distinct = false; shown = map shown_of columns; from = source_of table ∷ []; filter = test; group = []; having = None })
 
+abbrev pub capped : Name → List Name → Option Expr → List Name → Option Expr → Select
+capped table columns test sorts cap = roll-Select (record { with = []; first = core_of table columns test; others = []; order = map sort_of sorts; limit = cap; offset = None })
+
 abbrev pub simple : Name → List Name → Option Expr → List Name → Select
-simple table columns test sorts = roll-Select (record { with = []; first = core_of table columns test; others = []; order = map sort_of sorts; limit = None; offset = None })
+simple table columns test sorts = capped table columns test sorts None
 
 pub out_column : (name : Name) → out-Expr (column_e name) ≡ Expr-F.Column None name
 unfolding everything
@@ -81,6 +89,10 @@ out_column name = refl
 pub out_equals : (name : Name) (n : ℕ) → out-Expr (equals_e name n) ≡ Expr-F.Binary binary.Eq (column_e name) (roll-Expr (Expr-F.Parameter n))
 unfolding everything
 out_equals name n = refl
+
+pub out_above : (name : Name) (n : ℕ) → out-Expr (above_e name n) ≡ Expr-F.Binary binary.Gt (column_e name) (roll-Expr (Expr-F.Parameter n))
+unfolding everything
+out_above name n = refl
 
 pub out_parameter : (n : ℕ) → out-Expr (roll-Expr (Expr-F.Parameter n)) ≡ Expr-F.Parameter n
 unfolding everything
@@ -231,6 +243,23 @@ module _ (schema : Schema) (at : ℕ) (table : Table) (found : slice_get schema.
       rw (and_is (scope shown) (both_e (equals_e p.1.name m) (equals_e q.1.name n)) (equals_e p.1.name m) (equals_e q.1.name n) _ _ b _ _ l _ _ enough 699 (out_both (equals_e p.1.name m) (equals_e q.1.name n))
       (tested_lowers 697 shown p m (b - 1) nothing has₁ first₁ still₁ is₁) (tested_lowers 697 shown q n (b - 1 - 1 - 1 - 1) nothing has₂ first₂ still₂ is₂))
 
+  abbrev pub above_term : ℕ → ℕ → Term
+  above_term place m = op2 (by.Compare compare.Gt Binary) (col 1 place) (col 0 m)
+
+  above_lowers : (d : ℕ) (shown : List Output) (p : ℕ × Column) (n b : ℕ) (l : Carried) → Has table (b - 1) (p ∷ []) → nat_lt 1 b ≡ true → nat_lt 1 (b - 1 - 1) ≡ true → IsTested p
+      → lower_to (suc (suc d)) (scope shown) (above_e p.1.name n) (at_budget b l) ≡ Ok (above_term (place_of table p.0) (n - 1), at_budget (b - 1 - 1 - 1) nothing)
+  above_lowers d shown p n b l h enough still is =
+      above_is (scope shown) (above_e p.1.name n) (column_e p.1.name) (roll-Expr (Expr-F.Parameter n)) _ _ b _ _ l _ _ enough (suc d) (out_above p.1.name n)
+      (lower_is schema at table found name p.0 p.1 h.0 h.1 d shown false (column_e p.1.name) (b - 1) nothing (out_column p.1.name) h.2)
+      (parameter_is d (scope shown) (roll-Expr (Expr-F.Parameter n)) n (b - 1 - 1) (declared table p.0 p.1) (out_parameter n) still)
+      ∙ ap (λ how. Ok (compared (scope shown) (by.Compare compare.Gt how) (col 1 (place_of table p.0)) (col 0 (n - 1)), at_budget (b - 1 - 1 - 1) nothing)) is.2
+      ∙ ap (λ t. Ok (t, at_budget (b - 1 - 1 - 1) nothing)) (place_compares shown (by.Compare compare.Gt Binary) p (n - 1) h.1 is.0)
+
+  pub above_test : (shown : List Output) (p : ℕ × Column) (n b : ℕ) (l : Carried) → Has table (b - 1) (p ∷ []) → nat_lt 1 b ≡ true → nat_lt 1 (b - 1 - 1) ≡ true → IsTested p
+      → body.tests lower (scope shown) [] (Some (above_e p.1.name n)) (at_budget b l) ≡ Ok (above_term (place_of table p.0) (n - 1) ∷ [], at_budget (b - 1 - 1 - 1) nothing)
+  unfolding body.tests
+  above_test shown p n b l h enough still is = rw (above_lowers 698 shown p n b l h enough still is)
+
   both_lower : (d : ℕ) (shown : List Output) (p q : ℕ × Column) (m n b : ℕ) (l : Carried) → nat_lt 1 b ≡ true
       → Has table (b - 1 - 1) (p ∷ []) → nat_lt 1 (b - 1) ≡ true → nat_lt 1 (b - 1 - 1 - 1) ≡ true → IsTested p
       → Has table (b - 1 - 1 - 1 - 1 - 1) (q ∷ []) → nat_lt 1 (b - 1 - 1 - 1 - 1) ≡ true → nat_lt 1 (b - 1 - 1 - 1 - 1 - 1 - 1) ≡ true → IsTested q
@@ -253,7 +282,7 @@ module _ (schema : Schema) (at : ℕ) (table : Table) (found : slice_get schema.
       (tested_lowers 697 shown r o (b - 1 - 1 - 1 - 1 - 1 - 1 - 1 - 1) nothing has₃ first₃ still₃ is₃))
 
 module _ (schema : Schema) (at : ℕ) (table : Table) (found : slice_get schema.tables at ≡ Some table) (name : Name) (named : table_named schema name ≡ Some at)
-    (ps qs : List (ℕ × Column)) (test : Option Expr) (filter : List Term) (b₂ : ℕ) (l₂ : Carried) where
+    (ps qs : List (ℕ × Column)) (test : Option Expr) (filter : List Term) (b₂ : ℕ) (l₂ : Carried) (cap : Option Expr) (limit : Term) where
   abbrev pub outs : List Output
   outs = outputs_of table [] ps
 
@@ -272,28 +301,33 @@ module _ (schema : Schema) (at : ℕ) (table : Table) (found : slice_get schema.
   sorts_from_is has free = sorts_are schema at table found name outs [] qs b₂ l₂ has free
 
   abbrev pub query_is : Query
-  query_is = record { from = inner table.tree end; filter = filter; group = None; project = map (λ (o : Output). o.term) outs; distinct = false; collations = []; order = keys; limit = lit (Int (negsuc 0)); offset = lit (Int (pos 0)) }
+  query_is = record { from = inner table.tree end; filter = filter; group = None; project = map (λ (o : Output). o.term) outs; distinct = false; collations = []; order = keys; limit = limit; offset = lit (Int (pos 0)) }
 
   abbrev pub means_select : Parsed → Compiled
   means_select p = record { command = command.Select (record { lets = []; body = query_is }) (map (λ (o : Output). o.name) outs); returning = None; names = p.names; formats = []; start = p.start; end = p.end; tail = p.tail }
 
   abbrev pub draft_is : Draft
-  draft_is = record { from = chain (Inner table.tree ∷ []); filter = filter; group = None; project = map (λ (o : Output). o.term) outs; distinct = false; collations = []; order = keys; limit = lit (Int (negsuc 0)); offset = lit (Int (pos 0)) }
+  draft_is = record { from = chain (Inner table.tree ∷ []); filter = filter; group = None; project = map (λ (o : Output). o.term) outs; distinct = false; collations = []; order = keys; limit = limit; offset = lit (Int (pos 0)) }
 
   programs : accepts_program schema [] query_is [] ≡ true → program schema [] draft_is ≡ Ok (record { lets = []; body = query_is })
   unfolding program
   programs h = rw h
 
-  pub simple_compiles : (text : List ℕ) (p : Parsed) → first text ≡ Ok p → p.statement ≡ written.Select (simple name (names_of ps) test (names_of qs)) → p.formats ≡ [] → Has table max_budget ps
+  pages_are : select.constant_or schema (lit (Int (negsuc 0))) cap ≡ Ok limit → select.paging schema (capped name (names_of ps) test (names_of qs) cap) ≡ Ok (limit, number 0)
+  pages_are h =
+      let whole = out-roll-Select (record { with = []; first = core_of name (names_of ps) test; others = []; order = map sort_of (names_of qs); limit = cap; offset = None }) in
+      pages_by schema (capped name (names_of ps) test (names_of qs) cap) cap limit (ap (λ r. r.limit) whole) (ap (λ r. r.offset) whole) h
+
+  pub simple_compiles : (text : List ℕ) (p : Parsed) → first text ≡ Ok p → p.statement ≡ written.Select (capped name (names_of ps) test (names_of qs) cap) → p.formats ≡ [] → Has table max_budget ps
       → body.tests lower (scope schema at table found name outs) [] test (at_budget (spent max_budget ps) (left_by table nothing ps)) ≡ Ok (filter, at_budget b₂ l₂)
-      → Has table b₂ qs → AreFree outs qs → accepts_program schema [] query_is [] ≡ true
+      → Has table b₂ qs → AreFree outs qs → accepts_program schema [] query_is [] ≡ true → select.constant_or schema (lit (Int (negsuc 0))) cap ≡ Ok limit
       → compiled schema text ≡ Ok (means_select p)
-  simple_compiles text p first_is statement_is untimed has tests sorted free accepted =
+  simple_compiles text p first_is statement_is untimed has tests sorted free accepted counts =
       let source = out_source name in
       let core = out-roll-Core (record { distinct = false; shown = map shown_of (names_of ps); from = source_of name ∷ []; filter = test; group = []; having = None }) in
-      let whole = out-roll-Select (record { with = []; first = core_of name (names_of ps) test; others = []; order = map sort_of (names_of qs); limit = None; offset = None }) in
+      let whole = out-roll-Select (record { with = []; first = core_of name (names_of ps) test; others = []; order = map sort_of (names_of qs); limit = cap; offset = None }) in
       compiles schema at table found name named (core_of name (names_of ps) test) (source_of name) (ap (λ c. c.from) core) (ap (λ r. r.origin) source) (ap (λ r. r.alias) source) (ap (λ r. r.using) source) (ap (λ r. r.is_left) source) (ap (λ r. r.on) source)
-      (ap (λ c. c.group) core) (ap (λ c. c.having) core) (ap (λ c. c.distinct) core) outs filter (map sort_of (names_of qs)) keys (spent max_budget ps) b₂ (spent b₂ qs) (left_by table nothing ps) l₂ (left_by table l₂ qs)
+      limit (ap (λ c. c.group) core) (ap (λ c. c.having) core) (ap (λ c. c.distinct) core) outs filter (map sort_of (names_of qs)) keys (spent max_budget ps) b₂ (spent b₂ qs) (left_by table nothing ps) l₂ (left_by table l₂ qs)
       (outputs_from_is has) (ap (λ c. body.tests lower (scope schema at table found name outs) [] c.filter (at_budget (spent max_budget ps) (left_by table nothing ps))) core ∙ tests) (sorts_from_is sorted free)
-      (simple name (names_of ps) test (names_of qs)) (ap (λ r. r.first) whole) (ap (λ r. r.order) whole) (ap (λ r. r.with) whole) (ap (λ r. r.others) whole) (ap (λ r. r.limit) whole) (ap (λ r. r.offset) whole)
+      (capped name (names_of ps) test (names_of qs) cap) (ap (λ r. r.first) whole) (ap (λ r. r.order) whole) (ap (λ r. r.with) whole) (ap (λ r. r.others) whole) (pages_are counts)
       text p (record { lets = []; body = query_is }) first_is statement_is untimed (programs accepted)

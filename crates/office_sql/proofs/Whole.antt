@@ -1,9 +1,10 @@
 -- A SELECT over one known table, whatever else the schema has.
-use Rattle.std.proofs.Common.{◌≡◌, ◌∷◌, [], ◌+◌, List, Ok, None, Some, false, true, Bool, ℕ, negsuc, suc, slice_get, map, Option}
+use Rattle.std.proofs.Common.{◌≡◌, ◌∷◌, [], ◌+◌, List, Ok, None, Some, false, true, Bool, ℕ, negsuc, suc, slice_get, map, Option, refl}
 use Rattle.sqlite_value.specs.declared.keys.Collation.{Collation}
 use Rattle.sqlite_value.specs.declared.keys.Key.{Key}
-use Rattle.sqlite_value.specs.declared.value.Value.TheVariants.{Int}
 use Rattle.sqlite_sql.specs.Term.{Term, lit}
+use Rattle.sqlite_value.specs.declared.value.Value.TheVariants.{Int}
+use Rattle.sqlite_ast.specs.declared.Expr.{Expr}
 use Rattle.sqlite_schema.specs.declared.schema.Schema.{Schema}
 use Rattle.sqlite_schema.specs.declared.schema.Table.{Table}
 use Rattle.sqlite_schema.specs.declared.command.Command.{Command}
@@ -39,6 +40,15 @@ use Rattle.sqlite_resolve.specs.Compile as compile
 use Rattle.sqlite.specs.Listing.{understood}
 use Rattle.office_sql.proofs.Columns.{at_budget, here, among}
 
+no_offset : (schema : Schema) → select.constant_or schema (number 0) None ≡ Ok (number 0)
+unfolding select.constant_or
+no_offset schema = refl
+
+pub pages_by : (schema : Schema) (s : Select) (cap : Option Expr) (limit : Term) → (out-Select s).limit ≡ cap → (out-Select s).offset ≡ None
+    → select.constant_or schema (lit (Int (negsuc 0))) cap ≡ Ok limit → select.paging schema s ≡ Ok (limit, number 0)
+unfolding select.paging
+pages_by schema s cap limit capped unoffset counts = rw (capped, counts, unoffset, no_offset schema)
+
 module _ (schema : Schema) (at : ℕ) (table : Table) (found : slice_get schema.tables at ≡ Some table) (name : Name) (named : table_named schema name ≡ Some at)
     (core : Core) (source : Source) (from_is : (out-Core core).from ≡ source ∷ []) (origin_is : (out-Source source).origin ≡ origin.Table name)
     (unaliased : (out-Source source).alias ≡ None) (unshared : (out-Source source).using ≡ []) (unjoined : (out-Source source).is_left ≡ false) (untested : (out-Source source).on ≡ None) where
@@ -56,10 +66,7 @@ module _ (schema : Schema) (at : ℕ) (table : Table) (found : slice_get schema.
   unfolding body.joins body.join body.shared body.inner_join body.tests
   joins_is shown s = rw (untested, unshared, found, unjoined)
 
-  abbrev no_limit : Term
-  no_limit = lit (Int (negsuc 0))
-
-  module _ (ungrouped : (out-Core core).group ≡ []) (unhaving : (out-Core core).having ≡ None) (undistinct : (out-Core core).distinct ≡ false)
+  module _ (limit : Term) (ungrouped : (out-Core core).group ≡ []) (unhaving : (out-Core core).having ≡ None) (undistinct : (out-Core core).distinct ≡ false)
       (shown : List Output) (filter : List Term) (by_order : List Sort) (keys : List (Term × Key)) (b₁ b₂ b₃ : ℕ) (l₁ l₂ l₃ : Carried)
       (outputs_are : body.outputs lower (scope [] true) (place ∷ []) (out-Core core).shown (at_budget max_budget nothing) ≡ Ok (shown, at_budget b₁ l₁))
       (filter_is : body.tests lower (scope shown false) [] (out-Core core).filter (at_budget b₁ l₁) ≡ Ok (filter, at_budget b₂ l₂))
@@ -99,33 +106,29 @@ module _ (schema : Schema) (at : ℕ) (table : Table) (found : slice_get schema.
       distinct = false;
       collations = [];
       order = keys;
-      limit = no_limit;
+      limit = limit;
       offset = number 0;
     }
 
     abbrev pub answer : Draft × List Name × List (Option Collation)
     answer = (draft, map (λ (o : Output). o.name) shown, map (λ (o : Output). o.carried.collation) shown)
 
-    pub named_is : select.named schema core by_order (no_limit, number 0) ≡ Ok answer
+    pub named_is : select.named schema core by_order (limit, number 0) ≡ Ok answer
     unfolding select.named select.assembled select.ungrouped
     named_is = rw (parts_are, undistinct)
 
     -- no view, no part of a compound and no table of WITH comes into it
     module _ (s : Select) (core_is : (out-Select s).first ≡ core) (order_is : (out-Select s).order ≡ by_order) (unlet : (out-Select s).with ≡ []) (uncompound : (out-Select s).others ≡ [])
-        (unlimited : (out-Select s).limit ≡ None) (unoffset : (out-Select s).offset ≡ None) where
-      pages : select.paging schema s ≡ Ok (no_limit, number 0)
-      unfolding select.paging select.constant_or
-      pages = rw (unlimited, unoffset)
-
+        (pages : select.paging schema s ≡ Ok (limit, number 0)) where
       sources_are : (query : Schema → Select → program.Building program.Shown) → program.sources query schema (out-Core core).from [] ≡ Ok (schema, [])
       unfolding program.sources program.source
       sources_are query = rw (from_is, origin_is)
 
-      viewed : (query : Schema → Select → program.Building program.Shown) (n : ℕ) → program.viewing query schema core by_order (no_limit, number 0) (suc n) schema [] ≡ Ok ((answer, schema), [])
+      viewed : (query : Schema → Select → program.Building program.Shown) (n : ℕ) → program.viewing query schema core by_order (limit, number 0) (suc n) schema [] ≡ Ok ((answer, schema), [])
       unfolding program.viewing
       viewed query n = rw named_is
 
-      alone_is : (query : Schema → Select → program.Building program.Shown) → program.alone query schema core by_order (no_limit, number 0) [] ≡ Ok (answer, [])
+      alone_is : (query : Schema → Select → program.Building program.Shown) → program.alone query schema core by_order (limit, number 0) [] ≡ Ok (answer, [])
       unfolding program.alone program.single
       alone_is query = rw (sources_are query, viewed query 63)
 

@@ -9,6 +9,7 @@ pub mod laws;
 pub mod lists;
 pub mod lookups;
 pub mod make;
+pub mod pages;
 pub mod puts;
 mod statement;
 mod values;

@@ -2,7 +2,7 @@
 ghost use Rattle.std.specs.Prelude.{◌≡◌};
 ghost use Rattle.sqlite.specs.Held.{state};
 ghost use Rattle.sqlite.specs.State.{HasCleanDisk, Survives};
-ghost use Rattle.office_base.specs.Tables.{awards_of_notice, contracts_of_notice, entries_of_contract, envelopes_of_notice, envelopes_of_tenderer, lots_of_line, lots_of_notice, releases_of_notice, securities_of_notice};
+ghost use Rattle.office_base.specs.Tables.{awards_of_notice, contracts_of_notice, entries_of_contract, envelopes_of_lot, envelopes_of_notice, envelopes_of_tenderer, lots_of_line, lots_of_notice, releases_of_notice, securities_of_lot, securities_of_notice};
 ghost use Rattle.office_base.specs.Joined.{reservations};
 ghost use Rattle.office_sql.specs.Steps.{Tells, Refused};
 
@@ -107,6 +107,25 @@ pub fn list_envelopes_of_notice<S: Alter>(
     )
 }
 
+/// The tenders of a lot, in the order of their receipts.
+pub fn list_envelopes_of_lot<S: Alter>(
+    alloc: Global,
+    conn: &mut Connection<S>,
+    notice: &Id,
+    lot: &Id,
+) -> Result<Vec<EnvelopeRow>, ShelfFault>
+    ensures got { Tells S.Store conn.old conn.new result (λ t rows. rows.items ≡ envelopes_of_lot notice.now lot.now t) }
+    ensures kept { HasCleanDisk (state S.Store conn.new) → Refused (state S.Store conn.old) (state S.Store conn.new) }
+    ensures survives { Survives (state S.Store conn.old) (state S.Store conn.new) (λ _. ⊥) }
+{
+    ask_all(
+        alloc,
+        conn,
+        "SELECT receipt, notice, lot, tenderer, moment, length, digest, security, state, reading, stated, corrected, corrections, responsive, quality, failed FROM envelopes WHERE notice = ?1 AND lot = ?2 ORDER BY receipt",
+        &[id_value(notice), id_value(lot)],
+    )
+}
+
 /// The tenders of a lot that a tenderer presented, in the order of their receipts.
 pub fn list_envelopes_of_tenderer<S: Alter>(
     alloc: Global,
@@ -142,6 +161,25 @@ pub fn list_securities_of_notice<S: Alter>(
         conn,
         "SELECT security, tenderer, notice, lot, reference, amount, state FROM securities WHERE notice = ?1 ORDER BY security",
         &[id_value(notice)],
+    )
+}
+
+/// The securities of a lot, in the order of their numbers.
+pub fn list_securities_of_lot<S: Alter>(
+    alloc: Global,
+    conn: &mut Connection<S>,
+    notice: &Id,
+    lot: &Id,
+) -> Result<Vec<SecurityRow>, ShelfFault>
+    ensures got { Tells S.Store conn.old conn.new result (λ t rows. rows.items ≡ securities_of_lot notice.now lot.now t) }
+    ensures kept { HasCleanDisk (state S.Store conn.new) → Refused (state S.Store conn.old) (state S.Store conn.new) }
+    ensures survives { Survives (state S.Store conn.old) (state S.Store conn.new) (λ _. ⊥) }
+{
+    ask_all(
+        alloc,
+        conn,
+        "SELECT security, tenderer, notice, lot, reference, amount, state FROM securities WHERE notice = ?1 AND lot = ?2 ORDER BY security",
+        &[id_value(notice), id_value(lot)],
     )
 }
 

@@ -20,6 +20,12 @@ pub(crate) fn number_value(number: AskedNumber) -> ValueRef<'static>
     ValueRef::Int(number.get() as i64)
 }
 
+pub(crate) fn count_value(most: u32) -> ValueRef<'static>
+    ensures { owned result ≡ Int (pos most) }
+{
+    ValueRef::Int(most as i64)
+}
+
 pub(crate) fn sequence_value(seq: Sequence) -> ValueRef<'static>
     ensures { owned result ≡ Int (pos seq) }
 {

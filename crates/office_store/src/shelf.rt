@@ -18,7 +18,7 @@ use office_base::shelf::{Lookups, Shelf, ShelfFault};
 use office_changes::apply::apply_all;
 use office_sql::faults::fault;
 use office_sql::laws::trees_tell_one_office;
-use office_sql::{lists, lookups};
+use office_sql::{lists, lookups, pages};
 use office_values::given::AskedNumber;
 use office_values::id::Id;
 use office_values::money::Amount;
@@ -225,6 +225,28 @@ impl<S: Alter> Lookups for SqlShelf<S> {
         }
     }
 
+    fn list_notices_after(
+        &mut self,
+        after: Option<Id>,
+        most: u32,
+    ) -> Result<Vec<NoticeRow>, ShelfFault> {
+        match pages::list_notices_after(self.alloc, &mut self.conn, after, most) {
+            Ok(rows) => Ok(rows),
+            Err(fault) => Err(self.count(fault)),
+        }
+    }
+
+    fn list_tenderers_after(
+        &mut self,
+        after: Option<Id>,
+        most: u32,
+    ) -> Result<Vec<TendererRow>, ShelfFault> {
+        match pages::list_tenderers_after(self.alloc, &mut self.conn, after, most) {
+            Ok(rows) => Ok(rows),
+            Err(fault) => Err(self.count(fault)),
+        }
+    }
+
     fn list_lots_of_notice(&mut self, notice: &Id) -> Result<Vec<LotRow>, ShelfFault> {
         match lists::list_lots_of_notice(self.alloc, &mut self.conn, notice) {
             Ok(rows) => Ok(rows),
@@ -246,6 +268,17 @@ impl<S: Alter> Lookups for SqlShelf<S> {
         }
     }
 
+    fn list_envelopes_of_lot(
+        &mut self,
+        notice: &Id,
+        lot: &Id,
+    ) -> Result<Vec<EnvelopeRow>, ShelfFault> {
+        match lists::list_envelopes_of_lot(self.alloc, &mut self.conn, notice, lot) {
+            Ok(rows) => Ok(rows),
+            Err(fault) => Err(self.count(fault)),
+        }
+    }
+
     fn list_envelopes_of_tenderer(
         &mut self,
         notice: &Id,
@@ -260,6 +293,17 @@ impl<S: Alter> Lookups for SqlShelf<S> {
 
     fn list_securities_of_notice(&mut self, notice: &Id) -> Result<Vec<SecurityRow>, ShelfFault> {
         match lists::list_securities_of_notice(self.alloc, &mut self.conn, notice) {
+            Ok(rows) => Ok(rows),
+            Err(fault) => Err(self.count(fault)),
+        }
+    }
+
+    fn list_securities_of_lot(
+        &mut self,
+        notice: &Id,
+        lot: &Id,
+    ) -> Result<Vec<SecurityRow>, ShelfFault> {
+        match lists::list_securities_of_lot(self.alloc, &mut self.conn, notice, lot) {
             Ok(rows) => Ok(rows),
             Err(fault) => Err(self.count(fault)),
         }

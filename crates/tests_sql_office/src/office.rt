@@ -122,6 +122,22 @@ impl Lookups for SqlOffice {
         self.shelf.list_lines()
     }
 
+    fn list_notices_after(
+        &mut self,
+        after: Option<Id>,
+        most: u32,
+    ) -> Result<Vec<NoticeRow>, ShelfFault> {
+        self.shelf.list_notices_after(after, most)
+    }
+
+    fn list_tenderers_after(
+        &mut self,
+        after: Option<Id>,
+        most: u32,
+    ) -> Result<Vec<TendererRow>, ShelfFault> {
+        self.shelf.list_tenderers_after(after, most)
+    }
+
     fn list_lots_of_notice(&mut self, notice: &Id) -> Result<Vec<LotRow>, ShelfFault> {
         self.shelf.list_lots_of_notice(notice)
     }
@@ -132,6 +148,14 @@ impl Lookups for SqlOffice {
 
     fn list_envelopes_of_notice(&mut self, notice: &Id) -> Result<Vec<EnvelopeRow>, ShelfFault> {
         self.shelf.list_envelopes_of_notice(notice)
+    }
+
+    fn list_envelopes_of_lot(
+        &mut self,
+        notice: &Id,
+        lot: &Id,
+    ) -> Result<Vec<EnvelopeRow>, ShelfFault> {
+        self.shelf.list_envelopes_of_lot(notice, lot)
     }
 
     fn list_envelopes_of_tenderer(
@@ -145,6 +169,14 @@ impl Lookups for SqlOffice {
 
     fn list_securities_of_notice(&mut self, notice: &Id) -> Result<Vec<SecurityRow>, ShelfFault> {
         self.shelf.list_securities_of_notice(notice)
+    }
+
+    fn list_securities_of_lot(
+        &mut self,
+        notice: &Id,
+        lot: &Id,
+    ) -> Result<Vec<SecurityRow>, ShelfFault> {
+        self.shelf.list_securities_of_lot(notice, lot)
     }
 
     fn list_awards_of_notice(&mut self, notice: &Id) -> Result<Vec<AwardRow>, ShelfFault> {
