@@ -218,7 +218,7 @@ def pay(asker: Asker, contract: int) -> None:
     if lost["state"] != "forfeited":
         asker.note(f"the performance security of a contract that ended by default is {lost['state']}")
     refused(asker, "performanceSecurity", "T1", ("NoSuch contract", [9999]), ("NoSuch security", [1]), ("NotYourTender", [contract]))
-    office.contract("T2", contract)
+    office.contract_seen("T2", contract)
     refused(asker, "contract", "T1", ("NoSuch contract", [9999]), ("NotYourTender", [contract]))
     refused(asker, "end", "clerk", ("NoSuch contract", [9999], sent("end", "regular")), ("ContractEnded", [contract], sent("end", "regular")))
 
@@ -246,7 +246,7 @@ def look(asker: Asker, receipts: Receipts) -> None:
     office.ledger()
     office.notices("N4")
     office.tenderers()
-    office.contract("clerk", 1)
+    office.contract_seen("clerk", 1)
     refused(asker, "line", "public", ("NoSuch line", ["9"]))
     refused(asker, "tender", "T3", ("NoSuch tender", [9999]), ("NotYourTender", [1]))
     refused(asker, "security", "T3", ("NoSuch security", [9999]), ("NotYourTender", [1]))

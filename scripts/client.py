@@ -328,7 +328,7 @@ class Client(Generic[Told]):
     def tenderers(self, after: str | None = None) -> Told:
         return self.query("clerk", f"/tenderers{behind(after)}")
 
-    def contract(self, who: str, contract: int) -> Told:
+    def contract_seen(self, who: str, contract: int) -> Told:
         return self.query(who, f"/contracts/{contract}")
 
 
@@ -336,4 +336,4 @@ class Client(Generic[Told]):
 COMMANDS = ("import_budget", "register", "publish", "amend_notice", "cancel", "open", "examine", "award", "fail", "sign", "amend_contract", "pay", "end",
             "present", "modify", "withdraw")
 QUERIES = ("line", "ledger", "releases", "record", "minutes", "tender_register", "tender", "security", "performance_security",
-           "notices", "terms", "own_tenders", "evaluation", "securities", "tenderers", "contract")
+           "notices", "terms", "own_tenders", "evaluation", "securities", "tenderers", "contract_seen")
