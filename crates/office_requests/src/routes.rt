@@ -76,7 +76,11 @@ const ROWS: [Row; 32] = [
     ),
     Row("/notices", Queries(QueryKind::Notices), Plain),
     Row("/notices/{n}/terms", Queries(QueryKind::Terms), OneId),
-    Row("/notices/{n}/tenders", Queries(QueryKind::OwnTenders), OneId),
+    Row(
+        "/notices/{n}/tenders",
+        Queries(QueryKind::OwnTenders),
+        OneId,
+    ),
     Row(
         "/notices/{n}/evaluation",
         Queries(QueryKind::Evaluation),
