@@ -41,6 +41,7 @@ class Operation:
         self.callers = node["x-callers"]
         parameters = [document.resolved(part) for part in item.get("parameters", [])]
         self.places = [part["schema"] for part in parameters if part["in"] == "path"]
+        self.queries = [part for part in map(document.resolved, node.get("parameters", [])) if part["in"] == "query"]
         self.responses: dict[str, dict[str, Any]] = {status: document.resolved(part) for status, part in node["responses"].items()}
         self.form = re.compile(re.sub(r"\\\{\w+\\\}", "([^/]+)", re.escape(template)))
         asked = node.get("requestBody", {"content": {}})

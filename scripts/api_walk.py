@@ -40,7 +40,11 @@ def begin(asker: Asker) -> str:
     like("roads").import_budget("B1", sent("import", "roads"))
     like("addedAndCut").import_budget("B2", sent("import", "addedAndCut"))
     office.import_budget("B3", budget("1000,add,5000,Roads", "2000,add,100000,Parks", "3000,add,600,Bridges"))
+    like("empty").notices()
+    like("empty").tenderers()
     like("alpha").clerk("/tenderers/T1", sent("register", "alpha"))
+    like("alpha").tenderers()
+    like("empty").tenderers("T1")
     like("beta").clerk("/tenderers/T2", sent("register", "beta"))
     office.register("T3", "Gamma")
     refused(asker, "register", "clerk", ("Exists", ["T1"], sent("register", "alpha")), ("Exists", ["clerk"], sent("register", "alpha")))
@@ -59,6 +63,8 @@ def publish(asker: Asker, now: int, deadline: str) -> None:
     office, like, sent = asker.office(), asker.office, asker.sent
     body = sent("publish", "twoLots", deadline=text_of(now + SECONDS // 2), standstill_days=0)
     like("twoLots").publish("N1", body)
+    like("receiving").notices()
+    like("empty").notices("N1")
     like("later").amend_notice("N1", deadline, sent("amendNotice", "later")["rationale"])
     office.publish("N2", plain_notice(deadline, 10))
     office.publish("N3", plain_notice(deadline, security=0))
@@ -87,6 +93,7 @@ def present(asker: Asker) -> Receipts:
     receipts = {(who, name): office.present(who, name, "L1", tender((3, unit)), "G3", 50)["receipt"] for (who, name), unit in units.items()}
     receipts["T2", "N2"] = office.present("T2", "N2", "L1", "abc", "G4", 51)["receipt"]
     receipts["T1", "N3"] = office.present("T1", "N3", "L1", "abc")["receipt"]
+    like("none").own_tenders("T3", "N1")
     third = office.present("T3", "N3", "L1", "a" * 32768)["receipt"]
     office.withdraw("T3", third)
     refused(asker, "present", "T3",
@@ -110,7 +117,11 @@ def before_the_deadline(asker: Asker, deadline: str, receipts: Receipts) -> None
     refused(asker, "award", "clerk", ("NotOpened", ["N2", "L1"]), ("NoSuch notice", ["N9", "L1"]), ("NoSuch lot", ["N2", "L9"]))
     refused(asker, "examine", "clerk", ("NotOpened", [receipts["T1", "N2"]], {"responsive": True}), ("NoSuch tender", [9999], {"responsive": True}),
             ("BadBody quality", [receipts["T1", "N2"]], {"responsive": True, "quality": 0}))
-    refused(asker, "minutes", "public", ("NotOpened", ["N2"]), ("NoSuch notice", ["N9"]))
+    for name in ("minutes", "evaluation"):
+        refused(asker, name, "public", ("NotOpened", ["N2"]), ("NoSuch notice", ["N9"]))
+    named_early = [one["security"] for one in office.securities("N1")["securities"] if one["tenderer"]]
+    if named_early:
+        asker.note(f"while tenders are received the securities {named_early} name their tenderers")
     refused(asker, "amendNotice", "clerk", ("NoSuch notice", ["N9"], sent("amendNotice", "later")),
             ("DeadlineEarlier", ["N1"], sent("amendNotice", "later", deadline="2026-01-01T00:00:00Z")))
     again = sent("amendNotice", "later", deadline=deadline)
@@ -207,6 +218,8 @@ def pay(asker: Asker, contract: int) -> None:
     if lost["state"] != "forfeited":
         asker.note(f"the performance security of a contract that ended by default is {lost['state']}")
     refused(asker, "performanceSecurity", "T1", ("NoSuch contract", [9999]), ("NoSuch security", [1]), ("NotYourTender", [contract]))
+    office.contract_seen("T2", contract)
+    refused(asker, "contract", "T1", ("NoSuch contract", [9999]), ("NotYourTender", [contract]))
     refused(asker, "end", "clerk", ("NoSuch contract", [9999], sent("end", "regular")), ("ContractEnded", [contract], sent("end", "regular")))
 
 
@@ -217,21 +230,31 @@ def look(asker: Asker, receipts: Receipts) -> None:
         office.releases(f"N{number}")
         office.record(f"N{number}")
         office.tender_register(f"N{number}")
+        office.terms(f"N{number}")
+        office.securities(f"N{number}")
         if number != 4:
             asker.ask("minutes", "T3", f"N{number}")
-    for (who, _), receipt in receipts.items():
+            office.evaluation(f"N{number}")
+            office.evaluation(f"N{number}", "clerk")
+    for (who, name), receipt in receipts.items():
         office.tender(who, receipt)
+        office.own_tenders(who, name)
     for number in (1, 2, receipts["T1", "N5"], receipts["T2", "N5"]):
         office.security("clerk", number)
     office.security("T1", receipts["T1", "N2"])
     office.line("2000")
     office.ledger()
+    office.notices("N4")
+    office.tenderers()
+    office.contract_seen("clerk", 1)
     refused(asker, "line", "public", ("NoSuch line", ["9"]))
     refused(asker, "tender", "T3", ("NoSuch tender", [9999]), ("NotYourTender", [1]))
     refused(asker, "security", "T3", ("NoSuch security", [9999]), ("NotYourTender", [1]))
     refused(asker, "tenderRegister", "clerk", ("NoSuch notice", ["N9"]))
-    for name in ("releases", "record"):
+    for name in ("releases", "record", "terms"):
         refused(asker, name, "public", ("NoSuch notice", ["N9"]))
+    for name, who in (("ownTenders", "T1"), ("securities", "clerk")):
+        refused(asker, name, who, ("NoSuch notice", ["N9"]))
 
 
 def walk(asker: Asker) -> str:

@@ -1,4 +1,4 @@
-"""One client for whatever asks an office: a method for each of its sixteen commands and nine queries, over what carries requests.
+"""One client for whatever asks an office: a method for each of its sixteen commands and sixteen queries, over what carries requests.
 
     Client(Port(port))              a connection for each request, over the loopback
     Client(Front(base, context))    a server of HTTP before the office, by TLS or not: who is told 429 waits as long as it is told, and asks again
@@ -199,6 +199,11 @@ class Front(Asking):
             connection.close()
 
 
+def behind(after: str | None) -> str:
+    """The query that says behind which one a page begins."""
+    return "" if after is None else f"?after={after}"
+
+
 def hello(_: str) -> str:
     """The key that each tenderer has where no other is said."""
     return "hello"
@@ -305,8 +310,30 @@ class Client(Generic[Told]):
     def performance_security(self, who: str, contract: int) -> Told:
         return self.query(who, f"/contracts/{contract}/security")
 
+    def notices(self, after: str | None = None) -> Told:
+        return self.query(None, f"/notices{behind(after)}")
+
+    def terms(self, name: str) -> Told:
+        return self.query(None, f"/notices/{name}/terms")
+
+    def own_tenders(self, who: str, name: str) -> Told:
+        return self.query(who, f"/notices/{name}/tenders")
+
+    def evaluation(self, name: str, who: str | None = None) -> Told:
+        return self.query(who, f"/notices/{name}/evaluation")
+
+    def securities(self, name: str) -> Told:
+        return self.query("clerk", f"/notices/{name}/securities")
+
+    def tenderers(self, after: str | None = None) -> Told:
+        return self.query("clerk", f"/tenderers{behind(after)}")
+
+    def contract_seen(self, who: str, contract: int) -> Told:
+        return self.query(who, f"/contracts/{contract}")
+
 
 # The names of the methods that are commands and queries: as many as docs/API.md has routes.
 COMMANDS = ("import_budget", "register", "publish", "amend_notice", "cancel", "open", "examine", "award", "fail", "sign", "amend_contract", "pay", "end",
             "present", "modify", "withdraw")
-QUERIES = ("line", "ledger", "releases", "record", "minutes", "tender_register", "tender", "security", "performance_security")
+QUERIES = ("line", "ledger", "releases", "record", "minutes", "tender_register", "tender", "security", "performance_security",
+           "notices", "terms", "own_tenders", "evaluation", "securities", "tenderers", "contract_seen")

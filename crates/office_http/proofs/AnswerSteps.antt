@@ -54,6 +54,13 @@ has_needed settings s stands (queries.Record notice) = stands
 has_needed settings s stands (queries.Tender receipt) = tt
 has_needed settings s stands (queries.Security security) = tt
 has_needed settings s stands (queries.Performance contract) = tt
+has_needed settings s stands (queries.Notices after) = tt
+has_needed settings s stands (queries.Terms notice) = tt
+has_needed settings s stands (queries.OwnTenders notice) = tt
+has_needed settings s stands (queries.Evaluation notice) = tt
+has_needed settings s stands (queries.Securities notice) = tt
+has_needed settings s stands (queries.Tenderers after) = tt
+has_needed settings s stands (queries.Contract contract) = tt
 
 -- an office that keeps its releases keeps those of each command's notice
 its_own : (x : Given) → KeepsReleases x.before → KeepsItsReleases x

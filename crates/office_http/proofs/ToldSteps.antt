@@ -15,23 +15,31 @@ use Rattle.office_base.specs.declared.records.LineRow.{LineRow}
 use Rattle.office_base.specs.declared.records.LotRow.{LotRow}
 use Rattle.office_base.specs.declared.records.NoticeRow.{NoticeRow}
 use Rattle.office_base.specs.declared.records.SecurityRow.{SecurityRow}
+use Rattle.office_base.specs.declared.records.AwardRow.{AwardRow}
 use Rattle.office_base.specs.declared.records.ContractRow.{ContractRow}
+use Rattle.office_base.specs.declared.records.EntryRow.{EntryRow}
+use Rattle.office_base.specs.declared.records.LateRow.{LateRow}
 use Rattle.office_base.specs.declared.records.PerformanceRow.{PerformanceRow}
 use Rattle.office_base.specs.declared.records.TendererRow.{TendererRow}
 use Rattle.office_base.specs.declared.records.EnvelopeRow.{EnvelopeRow}
 use Rattle.office_base.specs.declared.records.ClockRow.{ClockRow}
+use Rattle.office_base.specs.Joined.{outstanding, paid_under}
 use Rattle.office_base.specs.Parents.{notice_of_envelope}
 use Rattle.office_base.specs.Rules.{first_of}
 use Rattle.office_base.specs.States.{is_opened}
 use Rattle.office_base.specs.Tables.{Tables, envelope_at, envelopes_of_notice, line_at, lots_of_notice, notice_at, security_at, contract_at, performance_at}
+use Rattle.office_base.specs.Tables.{awards_of_notice, entries_of_contract, late_at, securities_of_notice}
 use Rattle.tender_core.specs.Rules.Modify.{modify_tests}
+use Rattle.office_machine.specs.Evaluation.{evaluated_lot, evaluation_told}
 use Rattle.office_machine.specs.Machine.{Given, done, may_give, refusal_of, reply_for, tests_for, time_of}
 use Rattle.office_machine.specs.Replies.{Reply, Refused, Imported, Enrolled, OfNotice, OpenedAll, Received, Withdrew, Examined}
 use Rattle.office_machine.specs.Replies.{Awarded, Failed, Signed, OfContract, LineSeen, LedgerSeen, Tender}
 use Rattle.office_machine.specs.Replies.{Security, PerformanceSeen, Registry, Minutes, Package, modify_reply}
+use Rattle.office_machine.specs.Replies.{NoticesSeen, TermsSeen, OwnTendersSeen, EvaluationSeen, SecuritiesSeen, TenderersSeen, ContractSeen}
 use Rattle.office_machine.specs.OfficeMeans.{office_readings}
 use Rattle.office_machine.specs.Readings.{Readings}
 use Rattle.office_machine.specs.Sights.{Packages, is_read_envelope, line_told, minuted, minutes_told, package_told, register_told, security_told, performance_told, shown, tender_told, told}
+use Rattle.office_machine.specs.Sights.{contract_told, own_tenders_told, securities_told, terms_told}
 use Rattle.office_plans.specs.Published.{accepted_reply}
 use Rattle.office_plans.specs.Replies.{reply_text, text_of}
 use Rattle.office_http.specs.Answering.{told_as, seen_as}
@@ -61,6 +69,13 @@ refused_as (PerformanceSeen a b c d e) why is = absurd (cc)
 refused_as (Registry a b) why is = absurd (cc)
 refused_as (Minutes a b c) why is = absurd (cc)
 refused_as (Package a) why is = absurd (cc)
+refused_as (NoticesSeen a b) why is = absurd (cc)
+refused_as (TermsSeen a b c) why is = absurd (cc)
+refused_as (OwnTendersSeen a) why is = absurd (cc)
+refused_as (EvaluationSeen a b) why is = absurd (cc)
+refused_as (SecuritiesSeen a) why is = absurd (cc)
+refused_as (TenderersSeen a b) why is = absurd (cc)
+refused_as (ContractSeen a b c d) why is = absurd (cc)
 
 -- The reply to an accepted command.
 
@@ -132,6 +147,34 @@ performance_seen caller (Some c) (Some w) text is =
     where_may (is_clerk caller || is_by caller c.tenderer) (PerformanceSeen w.amount c.contract w.reference w.state c.tenderer) NotYourTender (Json text) text
     (λ at. cc) is
 
+terms_seen : (n : Option NoticeRow) (late : Option LateRow) (lots : List LotRow) (text : List ℕ) → Ok text ≡ text_of (terms_told n late lots)
+    → told_as (terms_told n late lots) ≡ Json text
+terms_seen None late lots text is = absurd (cc)
+terms_seen (Some n) late lots text is = cc
+
+own_tenders_seen : (caller : Caller) (s : Tables) (n : Option NoticeRow) (lots : List LotRow) (text : List ℕ) → Ok text ≡ text_of (own_tenders_told caller s n lots)
+    → told_as (own_tenders_told caller s n lots) ≡ Json text
+own_tenders_seen caller s None lots text is = absurd (cc)
+own_tenders_seen caller s (Some n) lots text is = cc
+
+evaluation_seen : (caller : Caller) (s : Tables) (n : Option NoticeRow) (lots : List LotRow) (awards : List AwardRow) (text : List ℕ)
+    → Ok text ≡ text_of (evaluation_told caller s n lots awards) → told_as (evaluation_told caller s n lots awards) ≡ Text text
+evaluation_seen caller s None lots awards text is = absurd (cc)
+evaluation_seen caller s (Some n) lots awards text is =
+    where_may (is_opened n.state) (EvaluationSeen n.notice (map (evaluated_lot caller n.weight awards s) lots)) NotOpened (Text text) text (λ at. cc) is
+
+securities_seen : (n : Option NoticeRow) (securities : List SecurityRow) (text : List ℕ) → Ok text ≡ text_of (securities_told n securities)
+    → told_as (securities_told n securities) ≡ Json text
+securities_seen None securities text is = absurd (cc)
+securities_seen (Some n) securities text is = cc
+
+contract_seen : (caller : Caller) (c : Option ContractRow) (entries : List EntryRow) (text : List ℕ) → Ok text ≡ text_of (contract_told caller c entries)
+    → told_as (contract_told caller c entries) ≡ Json text
+contract_seen caller None entries text is = absurd (cc)
+contract_seen caller (Some c) entries text is =
+    where_may (is_clerk caller || is_by caller c.tenderer) (ContractSeen c (outstanding entries c) (paid_under entries c) entries) NotYourTender (Json text) text
+    (λ at. cc) is
+
 shown_as : (p : Packages) (s : Tables) (caller : Caller) (query : Query) (text : List ℕ) → Ok text ≡ text_of (shown p s caller query)
     → told_as (shown p s caller query) ≡ seen_as (query_kind_of query) text
 shown_as p s caller (queries.Line line) text is = line_seen s (line_at line s) text is
@@ -144,6 +187,14 @@ shown_as p s caller (queries.Record notice) text is = package_seen (notice_at no
 shown_as p s caller (queries.Tender receipt) text is = tender_seen caller (envelope_at receipt s) text is
 shown_as p s caller (queries.Security security) text is = security_seen caller (security_at security s) text is
 shown_as p s caller (queries.Performance contract) text is = performance_seen caller (contract_at contract s) (performance_at contract s) text is
+shown_as p s caller (queries.Notices after) text is = cc
+shown_as p s caller (queries.Terms notice) text is = terms_seen (notice_at notice s) (late_at notice s) (lots_of_notice notice s) text is
+shown_as p s caller (queries.OwnTenders notice) text is = own_tenders_seen caller s (notice_at notice s) (lots_of_notice notice s) text is
+shown_as p s caller (queries.Evaluation notice) text is =
+    evaluation_seen caller s (notice_at notice s) (lots_of_notice notice s) (awards_of_notice notice s) text is
+shown_as p s caller (queries.Securities notice) text is = securities_seen (notice_at notice s) (securities_of_notice notice s) text is
+shown_as p s caller (queries.Tenderers after) text is = cc
+shown_as p s caller (queries.Contract contract) text is = contract_seen caller (contract_at contract s) (entries_of_contract contract s) text is
 
 -- what is seen is told by the query's kind
 pub told_seen : (p : Packages) (s : Tables) (caller : Caller) (query : Query) (text : List ℕ) → Ok text ≡ text_of (told p s caller query)

@@ -29,12 +29,13 @@ use Rattle.office_http.specs.Response.{response_of}
 use Rattle.office_http.specs.declared.reply.Reply.{Reply}
 use Rattle.office_http.specs.declared.reply.Reply.TheVariants.{Json, Text, Refused}
 
--- what the machine replies, as it is told: the ledger, a register and minutes are plain texts, and all else is JSON
+-- what the machine replies, as it is told: the ledger, a register, minutes and an evaluation are plain texts, and all else is JSON
 abbrev pub told_as : machine.Reply → Reply
 told_as (machine.Refused why) = Refused why None
 told_as (machine.LedgerSeen rows) = Text (reply_text (machine.LedgerSeen rows))
 told_as (machine.Registry notice rows) = Text (reply_text (machine.Registry notice rows))
 told_as (machine.Minutes notice lots rows) = Text (reply_text (machine.Minutes notice lots rows))
+told_as (machine.EvaluationSeen notice lots) = Text (reply_text (machine.EvaluationSeen notice lots))
 told_as reply = Json (reply_text reply)
 
 -- what a query of this kind sees, as it is told
@@ -42,6 +43,7 @@ abbrev pub seen_as : QueryKind → List ℕ → Reply
 seen_as kinds.Ledger text = Text text
 seen_as kinds.Minutes text = Text text
 seen_as kinds.Register text = Text text
+seen_as kinds.Evaluation text = Text text
 seen_as _ text = Json text
 
 -- the reply to what is meant, at this moment

@@ -183,7 +183,7 @@ pub(crate) fn seen_response(
     ensures { IfOk result (λ out. out.items ≡ response_of (seen_as kind text.items)) }
 {
     match kind {
-        QueryKind::Ledger | QueryKind::Minutes | QueryKind::Register => {
+        QueryKind::Ledger | QueryKind::Minutes | QueryKind::Register | QueryKind::Evaluation => {
             response_around(alloc, PLAIN_TEXT, text)
         }
         _ => response_around(alloc, JSON, text),

@@ -16,7 +16,7 @@ use Rattle.office_requests.specs.Forms.{identifier_of, line_of, number_between, 
 use Rattle.office_requests.specs.Fields.{text_at, flag_at, number_at, field_or_refusal, perhaps_number_in, absent_in}
 use Rattle.office_requests.specs.Bodies.{object_in_body, registration_in, notice_amendment_in, cancellation_in, examination_in, contract_amendment_in, named_in, performance_of, payment_in, ending_in, sealed_in}
 use Rattle.office_requests.specs.Publications.{each_of, array_at, elements_at, new_item_of, items_of, new_lot_of, lots_in, criteria_with, criteria_in, late_in, performance_in, new_notice_in}
-use Rattle.office_requests.specs.Parameters.{given_from, security_in}
+use Rattle.office_requests.specs.Parameters.{given_from, security_in, after_in}
 use Rattle.office_requests.specs.Asking.{named_command, lot_command, numbered_command, command_at, query_at, asked_by}
 
 -- what a text or a number writes
@@ -49,12 +49,12 @@ unfoldable pub bodies_on_literals : ⊤
 unfolding fields_on_literals csv_on_literals rows_from registration_in notice_amendment_in cancellation_in examination_in named_in performance_of contract_amendment_in payment_in ending_in
 bodies_on_literals = tt
 
--- what a tender is
-unfoldable pub tenders_on_literals : ⊤
-unfolding form_urlencoded_on_literals given_from security_in sealed_in
-tenders_on_literals = tt
+-- what the query of a target says
+unfoldable pub queries_on_literals : ⊤
+unfolding form_urlencoded_on_literals given_from security_in after_in
+queries_on_literals = tt
 
 -- what is asked
 unfoldable pub requests_on_literals : ⊤
-unfolding paths_on_literals publications_on_literals bodies_on_literals tenders_on_literals named_command lot_command numbered_command command_at query_at asked_by
+unfolding paths_on_literals publications_on_literals bodies_on_literals queries_on_literals sealed_in named_command lot_command numbered_command command_at query_at asked_by
 requests_on_literals = tt

@@ -1,7 +1,7 @@
 -- Requests whose meaning is known, computed.
 use Rattle.std.proofs.Common.{refl}
 use Rattle.office_requests.proofs.OnLiterals.{requests_on_literals}
-use Rattle.office_requests.specs.WorkedRequests.{RoutesAreTaken, PathsAreRefused, BodiesAreRefused, PublicationsAreRefused, TendersAreRefused}
+use Rattle.office_requests.specs.WorkedRequests.{RoutesAreTaken, PathsAreRefused, BodiesAreRefused, PublicationsAreRefused, TendersAreRefused, LooksAreRefused}
 
 pub routes : RoutesAreTaken
 unfolding requests_on_literals
@@ -36,12 +36,23 @@ routes = record {
   sees_tenders = refl;
   sees_securities = refl;
   sees_performance_securities = refl;
+  sees_notices = refl;
+  sees_notices_behind = refl;
+  sees_notices_decoded = refl;
+  sees_terms = refl;
+  sees_own_tenders = refl;
+  sees_evaluations = refl;
+  sees_securities_of_a_notice = refl;
+  sees_tenderers = refl;
+  sees_tenderers_behind = refl;
+  sees_contracts = refl;
 }
 
 pub paths : PathsAreRefused
 unfolding requests_on_literals
 paths = record {
   no_path = refl;
+  no_notice = refl;
   slash_behind = refl;
   no_records = refl;
   no_percent = refl;
@@ -50,7 +61,9 @@ paths = record {
   eleven_digits = refl;
   not_posted = refl;
   not_got = refl;
+  no_list_posted = refl;
   rights_first = refl;
+  rights_before_queries = refl;
 }
 
 pub bodies : BodiesAreRefused
@@ -101,4 +114,14 @@ tenders = record {
   two_securities = refl;
   two_amounts = refl;
   nothing_sealed = refl;
+}
+
+pub looks : LooksAreRefused
+unfolding requests_on_literals
+looks = record {
+  no_identifier = refl;
+  nothing = refl;
+  no_value = refl;
+  two = refl;
+  no_tenderer = refl;
 }

@@ -19,7 +19,7 @@ use Rattle.tender_papers.specs.Budget.{budget_of}
 use Rattle.tender_papers.specs.Files.{csv_records}
 use Rattle.office_requests.specs.Bodies.{object_in_body, import_of, registration_in, notice_amendment_in, cancellation_in, examination_in, contract_amendment_in, payment_in, performance_of, ending_in, sealed_in}
 use Rattle.office_requests.specs.Fields.{◌>>=◌}
-use Rattle.office_requests.specs.Parameters.{query_of, security_in}
+use Rattle.office_requests.specs.Parameters.{query_of, after_in, security_in}
 use Rattle.office_requests.specs.Publications.{publication_in}
 use Rattle.office_requests.specs.declared.asked.Asked.{Asked}
 use Rattle.office_requests.specs.declared.asked.Asked.TheVariants.{Does, Looks}
@@ -72,23 +72,30 @@ command_at kind (Named name) query body = named_command kind name body
 command_at kind (Within notice lot) query body = lot_command kind notice lot query body
 command_at kind (Numbered number) query body = numbered_command kind number body
 
--- the query of a route; a place of another shape than the query's is that of no route
-unfoldable pub query_at : QueryKind → Place → Result Query Refusal
-query_at looks.Line (Named line) = Ok (queries.Line line)
-query_at looks.Ledger Nowhere = Ok queries.Ledger
-query_at looks.Minutes (Named notice) = Ok (queries.Minutes notice)
-query_at looks.Register (Named notice) = Ok (queries.Register notice)
-query_at looks.Releases (Named notice) = Ok (queries.Releases notice)
-query_at looks.Record (Named notice) = Ok (queries.Record notice)
-query_at looks.Tender (Numbered receipt) = Ok (queries.Tender receipt)
-query_at looks.Security (Numbered security) = Ok (queries.Security security)
-query_at looks.Performance (Numbered contract) = Ok (queries.Performance contract)
-query_at _ _ = Err NoRoute
+-- the query of a route with this query of its target; a place of another shape than the query's is that of no route
+unfoldable pub query_at : QueryKind → Place → List ℕ → Result Query Refusal
+query_at looks.Line (Named line) query = Ok (queries.Line line)
+query_at looks.Ledger Nowhere query = Ok queries.Ledger
+query_at looks.Minutes (Named notice) query = Ok (queries.Minutes notice)
+query_at looks.Register (Named notice) query = Ok (queries.Register notice)
+query_at looks.Releases (Named notice) query = Ok (queries.Releases notice)
+query_at looks.Record (Named notice) query = Ok (queries.Record notice)
+query_at looks.Tender (Numbered receipt) query = Ok (queries.Tender receipt)
+query_at looks.Security (Numbered security) query = Ok (queries.Security security)
+query_at looks.Performance (Numbered contract) query = Ok (queries.Performance contract)
+query_at looks.Notices Nowhere query = after_in query >>= λ after. Ok (queries.Notices after)
+query_at looks.Terms (Named notice) query = Ok (queries.Terms notice)
+query_at looks.OwnTenders (Named notice) query = Ok (queries.OwnTenders notice)
+query_at looks.Evaluation (Named notice) query = Ok (queries.Evaluation notice)
+query_at looks.Securities (Named notice) query = Ok (queries.Securities notice)
+query_at looks.Tenderers Nowhere query = after_in query >>= λ after. Ok (queries.Tenderers after)
+query_at looks.Contract (Numbered contract) query = Ok (queries.Contract contract)
+query_at _ _ query = Err NoRoute
 
 -- what a route asks with this query and this body
 unfoldable pub asked_by : Endpoint → Place → List ℕ → List ℕ → Result Asked Refusal
 asked_by (Commands kind) place query body = command_at kind place query body >>= λ command. Ok (Does command)
-asked_by (Queries kind) place query body = query_at kind place >>= λ look. Ok (Looks look)
+asked_by (Queries kind) place query body = query_at kind place query >>= λ look. Ok (Looks look)
 
 -- what the caller asks by a route with this request: the caller's rights come before the query and the body
 abbrev pub asked_by_route : Caller → Route → RequestView → Result Asked Refusal

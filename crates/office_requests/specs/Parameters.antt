@@ -1,4 +1,4 @@
--- What the query of a target says: the security that is named with a tender.
+-- What the query of a target says: the security that is named with a tender, and where a page of a list begins.
 use Rattle.std.specs.Prelude.{ℕ, Bool, true, false, ◌&&◌, nat_eq, List, [], ◌∷◌, codes, if◌then◌else◌, Option, Some, None, Result, Ok}
 use Rattle.std.specs.Str.{is_utf8}
 use Rattle.std.specs.Str.Lossy.{utf8_lossy}
@@ -66,3 +66,14 @@ security_with security amount =
 
 unfoldable pub security_in : List ℕ → Result (Option NamedSecurity) Refusal
 security_in query = security_with (given_in identifier_of (codes "security") query) (given_in amount_of (codes "amount") query)
+
+-- the identifier behind which a page of a list begins; where it is absent, the page is the first
+abbrev pub after_with : Given (List ℕ) → Result (Option (List ℕ)) Refusal
+after_with after =
+    if is_absent after then Ok None
+    else do
+      key ← field_or_refusal fields.After (right after)
+      Ok (Some key)
+
+unfoldable pub after_in : List ℕ → Result (Option (List ℕ)) Refusal
+after_in query = after_with (given_in identifier_of (codes "after") query)

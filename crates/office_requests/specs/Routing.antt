@@ -53,6 +53,13 @@ route_table =
     ∷ (codes "/tenders/{r}", (Queries queries.Tender, Number))
     ∷ (codes "/securities/{s}", (Queries queries.Security, Number))
     ∷ (codes "/contracts/{c}/security", (Queries queries.Performance, Number))
+    ∷ (codes "/notices", (Queries queries.Notices, Plain))
+    ∷ (codes "/notices/{n}/terms", (Queries queries.Terms, OneId))
+    ∷ (codes "/notices/{n}/tenders", (Queries queries.OwnTenders, OneId))
+    ∷ (codes "/notices/{n}/evaluation", (Queries queries.Evaluation, OneId))
+    ∷ (codes "/notices/{n}/securities", (Queries queries.Securities, OneId))
+    ∷ (codes "/tenderers", (Queries queries.Tenderers, Plain))
+    ∷ (codes "/contracts/{c}", (Queries queries.Contract, Number))
     ∷ []
 
 -- the rows of a router with one more pattern, if its text is one

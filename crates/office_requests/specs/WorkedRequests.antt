@@ -58,6 +58,10 @@ Refuses target body part = meaning Clerk (request_with (codes "POST") target bod
 abbrev pub RefusesTender : List ℕ → List ℕ → BadPart → Type 0
 RefusesTender target body part = meaning (Tenderer (codes "T1")) (request_with (codes "POST") target body) ≡ Err (BadBody part)
 
+-- a look is refused for this part of its query
+abbrev pub RefusesLook : Caller → List ℕ → BadPart → Type 0
+RefusesLook caller target part = meaning caller (request_with (codes "GET") target []) ≡ Err (BadBody part)
+
 -- a path that no route has
 abbrev pub IsNoPath : List ℕ → Type 0
 IsNoPath target = routed (codes "GET") target ≡ Err (NoRoute, None)
@@ -137,10 +141,21 @@ pub record RoutesAreTaken : Type 0 where
   pub sees_tenders : Sees (Tenderer (codes "T1")) (codes "/tenders/9999999999") (queries.Tender 9999999999)
   pub sees_securities : Sees Clerk (codes "/securities/17") (queries.Security 17)
   pub sees_performance_securities : Sees Clerk (codes "/contracts/17/security") (queries.Performance 17)
+  pub sees_notices : Sees Public (codes "/notices") (queries.Notices None)
+  pub sees_notices_behind : Sees Public (codes "/notices?x=1&after=N1&x=2") (queries.Notices (Some (codes "N1")))
+  pub sees_notices_decoded : Sees Public (codes "/notices?%61fter=N%31") (queries.Notices (Some (codes "N1")))
+  pub sees_terms : Sees Public (codes "/notices/N1/terms?after=!") (queries.Terms (codes "N1"))
+  pub sees_own_tenders : Sees (Tenderer (codes "T1")) (codes "/notices/N1/tenders") (queries.OwnTenders (codes "N1"))
+  pub sees_evaluations : Sees Public (codes "/notices/N1/evaluation") (queries.Evaluation (codes "N1"))
+  pub sees_securities_of_a_notice : Sees Clerk (codes "/notices/N1/securities") (queries.Securities (codes "N1"))
+  pub sees_tenderers : Sees Clerk (codes "/tenderers") (queries.Tenderers None)
+  pub sees_tenderers_behind : Sees Clerk (codes "/tenderers?after=T1") (queries.Tenderers (Some (codes "T1")))
+  pub sees_contracts : Sees (Tenderer (codes "T1")) (codes "/contracts/17") (queries.Contract 17)
 
 -- no other path is one, another method is refused with the one of the path, and rights come before the body
 pub record PathsAreRefused : Type 0 where
-  pub no_path : IsNoPath (codes "/notices")
+  pub no_path : IsNoPath (codes "/tenders")
+  pub no_notice : IsNoPath (codes "/notices/")
   pub slash_behind : IsNoPath (codes "/lines/1000/")
   pub no_records : IsNoPath (codes "/notices/N1/records")
   pub no_percent : IsNoPath (codes "/lines/a%20b")
@@ -149,7 +164,9 @@ pub record PathsAreRefused : Type 0 where
   pub eleven_digits : IsNoPath (codes "/tenders/10000000000")
   pub not_posted : routed (codes "HEAD") (codes "/awards/17/sign") ≡ Err (WrongMethod, Some Post)
   pub not_got : routed (codes "POST") (codes "/tenders/17") ≡ Err (WrongMethod, Some Get)
+  pub no_list_posted : routed (codes "POST") (codes "/notices") ≡ Err (WrongMethod, Some Get)
   pub rights_first : meaning Public (request_with (codes "POST") (codes "/notices/N1") (codes "[]")) ≡ Err Forbidden
+  pub rights_before_queries : meaning Public (request_with (codes "GET") (codes "/tenderers?after=!") []) ≡ Err Forbidden
 
 -- the first field that is missing or wrong is named
 pub record BodiesAreRefused : Type 0 where
@@ -201,3 +218,11 @@ pub record TendersAreRefused : Type 0 where
   pub two_securities : RefusesTender (codes "/notices/N1/lots/L1/tenders?security=G1&security=G1&amount=50") (codes "abc") (parts.Field fields.Security)
   pub two_amounts : RefusesTender (codes "/notices/N1/lots/L1/tenders?security=G1&amount=50&amount=50") [] (parts.Field fields.Amount)
   pub nothing_sealed : RefusesTender (codes "/notices/N1/lots/L1/tenders") [] parts.Body
+
+-- a page begins behind one identifier, or is the first
+pub record LooksAreRefused : Type 0 where
+  pub no_identifier : RefusesLook Public (codes "/notices?after=!") (parts.Field fields.After)
+  pub nothing : RefusesLook Public (codes "/notices?after=") (parts.Field fields.After)
+  pub no_value : RefusesLook Public (codes "/notices?after") (parts.Field fields.After)
+  pub two : RefusesLook Public (codes "/notices?after=A&after=A") (parts.Field fields.After)
+  pub no_tenderer : RefusesLook Clerk (codes "/tenderers?after=!") (parts.Field fields.After)

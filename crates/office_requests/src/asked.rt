@@ -10,7 +10,7 @@ use crate::bodies::{
     cancellation, contract_amendment, ending, examination, import_of, notice_amendment,
     object_in_body, payment, performance_of, registration, sealed,
 };
-use crate::parameters::security;
+use crate::parameters::{after, security};
 use crate::path::behind;
 use crate::publication::publication;
 use crate::route::{Endpoint, Place, Route};
@@ -145,10 +145,10 @@ fn command_at<'a>(
     }
 }
 
-// The query of a route.
+// The query of a route with this query of its target.
 #[tactic(auto, unfolding(crate::specs::Asking::query_at))]
-fn query_at(kind: QueryKind, place: Place) -> Result<Query, Refusal>
-    ensures read { result ≡ query_at kind place }
+fn query_at(alloc: Global, kind: QueryKind, place: Place, query: &[u8]) -> Result<Query, Refusal>
+    ensures read { ReadsAs result (query_at kind place query.now) }
     ensures kind { IfOk result (λ look. queries.query_kind_of look ≡ kind) }
 {
     match (kind, place) {
@@ -161,6 +161,17 @@ fn query_at(kind: QueryKind, place: Place) -> Result<Query, Refusal>
         (QueryKind::Tender, Place::Numbered(receipt)) => Ok(Query::Tender { receipt }),
         (QueryKind::Security, Place::Numbered(security)) => Ok(Query::Security { security }),
         (QueryKind::Performance, Place::Numbered(contract)) => Ok(Query::Performance { contract }),
+        (QueryKind::Notices, Place::Nowhere) => Ok(Query::Notices {
+            after: after(alloc, query)?,
+        }),
+        (QueryKind::Terms, Place::Named(notice)) => Ok(Query::Terms { notice }),
+        (QueryKind::OwnTenders, Place::Named(notice)) => Ok(Query::OwnTenders { notice }),
+        (QueryKind::Evaluation, Place::Named(notice)) => Ok(Query::Evaluation { notice }),
+        (QueryKind::Securities, Place::Named(notice)) => Ok(Query::Securities { notice }),
+        (QueryKind::Tenderers, Place::Nowhere) => Ok(Query::Tenderers {
+            after: after(alloc, query)?,
+        }),
+        (QueryKind::Contract, Place::Numbered(contract)) => Ok(Query::Contract { contract }),
         _ => Err(Refusal::NoRoute),
     }
 }
@@ -181,7 +192,7 @@ fn asked_by<'a>(
         Endpoint::Commands(kind) => {
             Ok(Asked::Does(command_at(alloc, kind, route.place, query, body)?))
         }
-        Endpoint::Queries(kind) => Ok(Asked::Looks(query_at(kind, route.place)?)),
+        Endpoint::Queries(kind) => { Ok(Asked::Looks(query_at(alloc, kind, route.place, query)?)) }
     }
 }
 

@@ -1,6 +1,6 @@
 //! What holds of the definitions: a law, and requests whose meaning is known.
 ghost use Rattle.office_requests.specs.Moments.{MomentsAreTheirTexts};
-ghost use Rattle.office_requests.specs.WorkedRequests.{BodiesAreRefused, PathsAreRefused, PublicationsAreRefused, RoutesAreTaken, TendersAreRefused};
+ghost use Rattle.office_requests.specs.WorkedRequests.{BodiesAreRefused, LooksAreRefused, PathsAreRefused, PublicationsAreRefused, RoutesAreTaken, TendersAreRefused};
 
 /// A text writes the moment whose text it is.
 pub fn moments()
@@ -26,4 +26,9 @@ pub fn refused_bodies()
 /// Tenders whose query or bytes are refused.
 pub fn refused_tenders()
     ensures { TendersAreRefused }
+{}
+
+/// Looks whose query is refused.
+pub fn refused_looks()
+    ensures { LooksAreRefused }
 {}

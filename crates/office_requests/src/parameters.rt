@@ -1,7 +1,7 @@
 //! The query of a target.
 ghost use Rattle.std.specs.Prelude.{◌≡◌, IfOk};
 ghost use Rattle.office_requests.specs.Inside.Answers.{ReadsAs};
-ghost use Rattle.office_requests.specs.Parameters.{with_value, with_pair, given_in, is_absent, right, security_in};
+ghost use Rattle.office_requests.specs.Parameters.{with_value, with_pair, given_in, is_absent, right, security_in, after_in};
 
 use crate::fields::field_or_refusal;
 use crate::forms::FromText;
@@ -85,4 +85,16 @@ pub fn security(alloc: Global, query: &[u8]) -> Result<Option<NamedSecurity>, Re
         reference: field_or_refusal(Field::Security, reference.right())?,
         amount: field_or_refusal(Field::Amount, amount.right())?,
     }))
+}
+
+/// The identifier behind which a page of a list begins, if the query names one. Other parameters are ignored, a repeated one is wrong.
+#[tactic(auto, unfolding(crate::specs::Parameters::after_in))]
+pub fn after(alloc: Global, query: &[u8]) -> Result<Option<Id>, Refusal>
+    ensures { ReadsAs result (after_in query.now) }
+{
+    let after = given_in::<Id>(alloc, query, "after")?;
+    if after.is_absent() {
+        return Ok(None);
+    }
+    Ok(Some(field_or_refusal(Field::After, after.right())?))
 }

@@ -20,7 +20,7 @@ use std::alloc::{AllocError, Global};
 #[derive(Clone, Copy)]
 struct Row(&'static str, Endpoint, Shape);
 
-const ROWS: [Row; 25] = [
+const ROWS: [Row; 32] = [
     Row("/budget/{batch}", Commands(CommandKind::Import), OneId),
     Row("/tenderers/{id}", Commands(CommandKind::Register), OneId),
     Row("/notices/{n}", Commands(CommandKind::Publish), OneId),
@@ -74,6 +74,25 @@ const ROWS: [Row; 25] = [
         Queries(QueryKind::Performance),
         Number,
     ),
+    Row("/notices", Queries(QueryKind::Notices), Plain),
+    Row("/notices/{n}/terms", Queries(QueryKind::Terms), OneId),
+    Row(
+        "/notices/{n}/tenders",
+        Queries(QueryKind::OwnTenders),
+        OneId,
+    ),
+    Row(
+        "/notices/{n}/evaluation",
+        Queries(QueryKind::Evaluation),
+        OneId,
+    ),
+    Row(
+        "/notices/{n}/securities",
+        Queries(QueryKind::Securities),
+        OneId,
+    ),
+    Row("/tenderers", Queries(QueryKind::Tenderers), Plain),
+    Row("/contracts/{c}", Queries(QueryKind::Contract), Number),
 ];
 
 /// The routes of the office, made once and asked for each request.

@@ -1,6 +1,7 @@
 //! Requests whose meaning is known, through the router that the office makes.
 use office_commands::command::{Caller, CommandKind, QueryKind};
 use office_commands::commands::Command;
+use office_commands::queries::Query;
 use office_requests::asked::{Asked, command_of};
 use office_requests::route::Endpoint;
 use office_requests::route::Endpoint::{Commands, Queries};
@@ -89,7 +90,7 @@ const REGISTRATION: &[u8] =
 const AMENDMENT: &[u8] = b"{\"id\":\"E1\",\"kind\":\"cut\",\"amount\":5,\"rationale\":\"less\"}";
 
 // Each route but those of tenderers alone, with a body that it takes.
-const OF_CLERKS: [(&str, &[u8], Endpoint); 21] = [
+const OF_CLERKS: [(&str, &[u8], Endpoint); 27] = [
     (
         "POST /budget/B1",
         b"line,kind,amount,title\n1000,add,5,Roads\n",
@@ -167,10 +168,28 @@ const OF_CLERKS: [(&str, &[u8], Endpoint); 21] = [
         b"",
         Queries(QueryKind::Performance),
     ),
+    ("GET /notices", b"", Queries(QueryKind::Notices)),
+    ("GET /notices/N1/terms", b"", Queries(QueryKind::Terms)),
+    (
+        "GET /notices/N1/evaluation",
+        b"",
+        Queries(QueryKind::Evaluation),
+    ),
+    (
+        "GET /notices/N1/securities",
+        b"",
+        Queries(QueryKind::Securities),
+    ),
+    (
+        "GET /tenderers?after=T1",
+        b"",
+        Queries(QueryKind::Tenderers),
+    ),
+    ("GET /contracts/17", b"", Queries(QueryKind::Contract)),
 ];
 
 // The routes of tenderers alone.
-const OF_TENDERERS: [(&str, &[u8], Endpoint); 4] = [
+const OF_TENDERERS: [(&str, &[u8], Endpoint); 5] = [
     (
         "POST /notices/N1/lots/L1/tenders?security=G1&amount=50",
         b"abc",
@@ -187,6 +206,11 @@ const OF_TENDERERS: [(&str, &[u8], Endpoint); 4] = [
         Commands(CommandKind::Withdraw),
     ),
     ("GET /tenders/17", b"", Queries(QueryKind::Tender)),
+    (
+        "GET /notices/N1/tenders",
+        b"",
+        Queries(QueryKind::OwnTenders),
+    ),
 ];
 
 fn tenderers_ask(alloc: Global) -> bool {
@@ -212,7 +236,7 @@ fn is_about(why: &Refusal, number: u8, name: &str) -> bool {
 }
 
 // Requests of the clerk's with the number and the name of their refusal; the number 0 where there is none.
-const REFUSED: [(&str, &[u8], (u8, &str)); 17] = [
+const REFUSED: [(&str, &[u8], (u8, &str)); 28] = [
     ("GET /lines/1000/", b"", (4, "")),
     ("GET /tenders/01", b"", (4, "")),
     ("GET /notices/N1/releases/1", b"", (4, "")),
@@ -242,6 +266,17 @@ const REFUSED: [(&str, &[u8], (u8, &str)); 17] = [
     ),
     ("POST /awards/1/sign", b"{\"amount\":70}", (8, "security")),
     ("POST /awards/1/fail", b"{", (0, "")),
+    ("GET /notices/", b"", (4, "")),
+    ("POST /notices", b"", (5, "")),
+    ("POST /contracts/1", b"{}", (5, "")),
+    ("GET /notices/N1/tenders", b"", (7, "")),
+    ("GET /notices?after=!", b"", (8, "after")),
+    ("GET /notices?after=", b"", (8, "after")),
+    ("GET /notices?after", b"", (8, "after")),
+    ("GET /notices?after=A&after=A", b"", (8, "after")),
+    ("GET /tenderers?x=1&after=%21", b"", (8, "after")),
+    ("GET /tenderers?afters=!", b"", (0, "")),
+    ("GET /notices/N1/terms?after=!", b"", (0, "")),
 ];
 
 fn is_refused(alloc: Global, routes: &Routes, row: &(&str, &[u8], (u8, &str))) -> bool {
@@ -350,4 +385,58 @@ fn reads_publication(alloc: Global) -> bool {
 #[test]
 fn reads_publications(rt: HostRuntime) {
     assert!(rt; reads_publication(rt.alloc()));
+}
+
+// Looks at a page of a list, and the identifier behind which it begins; none where it is the first.
+const PAGES: [(&str, Option<&str>); 6] = [
+    ("GET /notices", None),
+    ("GET /notices?x=1&AFTER=N1", None),
+    ("GET /notices?x=1&after=N1&x=2", Some("N1")),
+    ("GET /notices?%61fter=N%31", Some("N1")),
+    ("GET /tenderers", None),
+    ("GET /tenderers?after=T1", Some("T1")),
+];
+
+fn is_behind(after: &Option<Id>, key: Option<&str>) -> bool {
+    match (after, key) {
+        (Some(after), Some(key)) => after.as_str() == key,
+        (None, None) => true,
+        _ => false,
+    }
+}
+
+// Whether a page is asked for that begins behind this identifier.
+fn is_page(asked: &Asked<'_>, key: Option<&str>) -> bool {
+    match asked {
+        Asked::Looks(Query::Notices { after }) => is_behind(after, key),
+        Asked::Looks(Query::Tenderers { after }) => is_behind(after, key),
+        _ => false,
+    }
+}
+
+fn asks_page(alloc: Global, routes: &Routes, line: &str, key: Option<&str>) -> bool {
+    let Some(request) = request_of(alloc, line, b"") else {
+        return false;
+    };
+    match asked_of(alloc, routes, &Caller::Clerk, &request) {
+        Ok(asked) => is_page(&asked, key),
+        Err(_) => false,
+    }
+}
+
+fn asks_each_page(alloc: Global, rows: &[(&str, Option<&str>)]) -> bool {
+    let Ok(routes) = Routes::new(alloc) else {
+        return false;
+    };
+    for (line, key) in rows {
+        if !asks_page(alloc, &routes, line, *key) {
+            return false;
+        }
+    }
+    true
+}
+
+#[test]
+fn reads_where_pages_begin(rt: HostRuntime) {
+    assert!(rt; asks_each_page(rt.alloc(), &PAGES));
 }

@@ -40,6 +40,13 @@ const QUERIES: &[(QueryKind, bool, bool, bool)] = &[
     (QueryKind::Tender, false, false, true),
     (QueryKind::Security, false, true, true),
     (QueryKind::Performance, false, true, true),
+    (QueryKind::Notices, true, true, true),
+    (QueryKind::Terms, true, true, true),
+    (QueryKind::OwnTenders, false, false, true),
+    (QueryKind::Evaluation, true, true, true),
+    (QueryKind::Securities, false, true, false),
+    (QueryKind::Tenderers, false, true, false),
+    (QueryKind::Contract, false, true, true),
 ];
 
 // The digest of "abc": FIPS 180-4's example of one block.
