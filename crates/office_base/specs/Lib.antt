@@ -19,3 +19,4 @@ pub mod Readings
 pub mod Transitions
 pub mod Parents
 pub mod Deciding
+pub mod Pages

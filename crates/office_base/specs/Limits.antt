@@ -14,6 +14,10 @@ release_limit = 9999
 abbrev pub entry_limit : ℕ
 entry_limit = 200
 
+-- the most rows of a page
+abbrev pub page_limit : ℕ
+page_limit = 100
+
 -- seconds of so many days
 abbrev pub days : ℕ → ℕ
 days n = 86400 * n

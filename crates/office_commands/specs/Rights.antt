@@ -41,7 +41,8 @@ may caller commands.AmendContract = is_clerk caller
 may caller commands.Pay = is_clerk caller
 may caller commands.End = is_clerk caller
 
--- the books are open to anybody, the register of tenders to the clerk, a tender to tenderers, securities to both
+-- the books, the notices and how awards came about are open to anybody; the register of tenders, all securities of a notice and all tenderers to the clerk;
+-- tenders to tenderers; a security and a contract to both
 abbrev pub may_look : Caller → QueryKind → Bool
 may_look caller queries.Line = true
 may_look caller queries.Ledger = true
@@ -52,3 +53,10 @@ may_look caller queries.Record = true
 may_look caller queries.Tender = is_tenderer caller
 may_look caller queries.Security = not (is_public caller)
 may_look caller queries.Performance = not (is_public caller)
+may_look caller queries.Notices = true
+may_look caller queries.Terms = true
+may_look caller queries.OwnTenders = is_tenderer caller
+may_look caller queries.Evaluation = true
+may_look caller queries.Securities = is_clerk caller
+may_look caller queries.Tenderers = is_clerk caller
+may_look caller queries.Contract = not (is_public caller)

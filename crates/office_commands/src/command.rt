@@ -45,6 +45,13 @@ pub enum QueryKind {
     Tender,
     Security,
     Performance,
+    Notices,
+    Terms,
+    OwnTenders,
+    Evaluation,
+    Securities,
+    Tenderers,
+    Contract,
 }
 
 /// Whether the caller may give a command of this kind: tenderers alone present, modify and withdraw tenders, and the
@@ -63,15 +70,20 @@ pub fn may(caller: &Caller, kind: CommandKind) -> bool
     }
 }
 
-/// Whether the caller may ask a query of this kind: a register of tenders is for the clerk, a tender for tenderers, a
-/// security for both, and all else for anybody. Whose tender or security it is is looked at later.
+/// Whether the caller may ask a query of this kind: a register of tenders, all securities of a notice and all tenderers are for the clerk,
+/// tenders for tenderers, a security and a contract for both, and all else for anybody. Whose tender, security or contract it is is looked at
+/// later.
 pub fn may_look(caller: &Caller, kind: QueryKind) -> bool
     ensures { result ≡ may_look caller.now kind }
 {
     match kind {
-        QueryKind::Register => matches!(caller, Caller::Clerk),
-        QueryKind::Tender => matches!(caller, Caller::Tenderer(_)),
-        QueryKind::Security | QueryKind::Performance => !matches!(caller, Caller::Public),
+        QueryKind::Register | QueryKind::Securities | QueryKind::Tenderers => {
+            matches!(caller, Caller::Clerk)
+        }
+        QueryKind::Tender | QueryKind::OwnTenders => matches!(caller, Caller::Tenderer(_)),
+        QueryKind::Security | QueryKind::Performance | QueryKind::Contract => {
+            !matches!(caller, Caller::Public)
+        }
         _ => true,
     }
 }

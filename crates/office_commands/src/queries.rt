@@ -27,6 +27,20 @@ pub enum Query {
     Security { security: AskedNumber },
     /// The performance security of a contract, for the contract's tenderer and for the clerk.
     Performance { contract: AskedNumber },
+    /// A page of the notices: those behind this one, or the first.
+    Notices { after: Option<Id> },
+    /// The terms of a notice, and its lots.
+    Terms { notice: Id },
+    /// The caller's own tenders of a notice.
+    OwnTenders { notice: Id },
+    /// How the awards of a notice came about.
+    Evaluation { notice: Id },
+    /// The tender securities of a notice, for the clerk.
+    Securities { notice: Id },
+    /// A page of the tenderers: those behind this one, or the first. For the clerk.
+    Tenderers { after: Option<Id> },
+    /// A contract, for its tenderer and for the clerk.
+    Contract { contract: AskedNumber },
 }
 
 impl Query {
@@ -44,6 +58,13 @@ impl Query {
             Query::Tender { .. } => QueryKind::Tender,
             Query::Security { .. } => QueryKind::Security,
             Query::Performance { .. } => QueryKind::Performance,
+            Query::Notices { .. } => QueryKind::Notices,
+            Query::Terms { .. } => QueryKind::Terms,
+            Query::OwnTenders { .. } => QueryKind::OwnTenders,
+            Query::Evaluation { .. } => QueryKind::Evaluation,
+            Query::Securities { .. } => QueryKind::Securities,
+            Query::Tenderers { .. } => QueryKind::Tenderers,
+            Query::Contract { .. } => QueryKind::Contract,
         }
     }
 }

@@ -1,6 +1,7 @@
 -- Two worlds, alike but for what one tenderer seals.
 pub mod RepliesAlike
 pub mod SealsKept
+pub mod TendersShown
 pub mod WholeRuns
 pub mod WorldsKept
 pub mod WorldsPut

@@ -19,6 +19,7 @@ pub mod Order
 pub mod Worlds
 pub mod Fates
 pub mod Outstanding
+pub mod Evaluation
 pub mod Sights
 pub mod Requests
 pub mod MergesApart

@@ -9,6 +9,7 @@ use Rattle.office_base.specs.declared.ledger.LedgerRow.{LedgerRow}
 use Rattle.office_base.specs.declared.records.EnvelopeState.{EnvelopeState}
 use Rattle.office_base.specs.declared.records.EnvelopeState.TheVariants.{Withdrawn}
 use Rattle.office_base.specs.declared.records.SecurityState.{SecurityState}
+use Rattle.office_base.specs.declared.records.LotState.{LotState}
 use Rattle.office_base.specs.declared.records.TendererRow.{TendererRow}
 use Rattle.office_base.specs.declared.records.NoticeRow.{NoticeRow}
 use Rattle.office_base.specs.declared.records.LotRow.{LotRow}
@@ -39,6 +40,50 @@ pub record Minuted : Type 0 where
   pub party : Option TendererRow
   pub reading : Option Reading
 
+-- one's own tender, in a list of them
+pub record OwnTender : Type 0 where
+  pub digest : List ℕ
+  pub length : ℕ
+  pub lot : List ℕ
+  pub moment : ℕ
+  pub receipt : ℕ
+  pub security : Option ℕ
+  pub state : EnvelopeState
+
+-- a security of a notice: who named it is told once tenders are no longer received
+pub record ListedSecurity : Type 0 where
+  pub amount : ℕ
+  pub lot : List ℕ
+  pub reference : List ℕ
+  pub security : ℕ
+  pub state : SecurityState
+  pub tenderer : Option (List ℕ)
+
+-- a tenderer, without its key's digest
+pub record ListedTenderer : Type 0 where
+  pub tenderer : List ℕ
+  pub name : List ℕ
+  pub address : List ℕ
+
+-- what was found of an opened tender: how it reads, whether its examination found it responsive and of which quality, its thousandths of points, whether it may
+-- win, and whether it is out of the running
+pub record EvaluatedTender : Type 0 where
+  pub receipt : ℕ
+  pub tenderer : List ℕ
+  pub reading : Option Reading
+  pub responsive : Option Bool
+  pub quality : Option ℕ
+  pub points : Option ℕ
+  pub admissible : Bool
+  pub failed : Bool
+
+-- a lot with its opened tenders and its awards, both none where the caller isn't shown them
+pub record EvaluatedLot : Type 0 where
+  pub lot : List ℕ
+  pub state : LotState
+  pub tenders : List EvaluatedTender
+  pub awards : List AwardRow
+
 -- what is told of a lot's winner
 pub record Winning : Type 0 where
   pub award : ℕ
@@ -66,6 +111,13 @@ pub data Reply : Type 0 where
   Registry : (notice : List ℕ) → (rows : List Registered) → Reply
   Minutes : (notice : NoticeRow) → (lots : List LotRow) → (rows : List Minuted) → Reply
   Package : (text : List ℕ) → Reply
+  NoticesSeen : (next : Option (List ℕ)) → (rows : List NoticeRow) → Reply
+  TermsSeen : (notice : NoticeRow) → (late : Bool) → (lots : List LotRow) → Reply
+  OwnTendersSeen : (rows : List OwnTender) → Reply
+  EvaluationSeen : (notice : List ℕ) → (lots : List EvaluatedLot) → Reply
+  SecuritiesSeen : (rows : List ListedSecurity) → Reply
+  TenderersSeen : (next : Option (List ℕ)) → (rows : List ListedTenderer) → Reply
+  ContractSeen : (contract : ContractRow) → (left : ℕ) → (paid : ℕ) → (entries : List EntryRow) → Reply
 
 -- The replies to accepted commands.
 

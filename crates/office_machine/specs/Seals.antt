@@ -1,5 +1,5 @@
 -- Two lists of requests that differ in the bytes that one tenderer seals for one lot alone, and what their runs tell.
-use Rattle.std.specs.Prelude.{◌≡◌, ℕ, Bool, true, false, not, ◌&&◌, List, [], ◌∷◌, Option, Some, None, is_some, ◌⊎◌}
+use Rattle.std.specs.Prelude.{◌≡◌, ℕ, Bool, true, false, not, ◌&&◌, List, [], ◌∷◌, map, Option, Some, None, is_some, ◌⊎◌}
 use Rattle.office_values.specs.Ids.{same_id}
 use Rattle.office_commands.specs.declared.command.Caller.{Caller}
 use Rattle.office_commands.specs.Callers.{is_by}
@@ -15,6 +15,7 @@ use Rattle.office_machine.specs.Fates.{Reception, received_at, fate_of_tender}
 use Rattle.office_machine.specs.Worlds.{ChosenTender, Pairs, SameBut, OpensAlike}
 use Rattle.office_commands.specs.declared.queries.Query.{Query}
 use Rattle.office_machine.specs.Replies.{Reply, Refused, Imported, Enrolled, OfNotice, OpenedAll, Received, Withdrew, Examined, Awarded, Failed, Signed, OfContract, LineSeen, LedgerSeen, Tender, Security, PerformanceSeen, Registry, Minutes, Package}
+use Rattle.office_machine.specs.Replies.{NoticesSeen, TermsSeen, OwnTendersSeen, EvaluationSeen, SecuritiesSeen, TenderersSeen, ContractSeen, OwnTender}
 use Rattle.office_machine.specs.Sights.{Packages}
 use Rattle.office_machine.specs.Requests.{Demand, Asks, Looks, Request, given_by_request, reply_to, office_after, all_accepted, AreRequests}
 
@@ -51,6 +52,10 @@ SameButSeals means th s [] [] = Unit {0}
 SameButSeals means th s (a ∷ rest) (b ∷ rest') = SameRequest th s a b × SameButSeals means th (office_after means s a) rest rest'
 SameButSeals means th s rest rest' = ⊥
 
+-- without the digest of the bytes handed in
+abbrev pub bare_tender : OwnTender → OwnTender
+bare_tender t = record t { digest = [] }
+
 abbrev pub without_digest : Reply → Reply
 without_digest (Refused why) = Refused why
 without_digest (Imported batch rows moment) = Imported batch rows moment
@@ -72,6 +77,13 @@ without_digest (PerformanceSeen amount contract reference state tenderer) = Perf
 without_digest (Registry notice rows) = Registry notice rows
 without_digest (Minutes notice lots rows) = Minutes notice lots rows
 without_digest (Package text) = Package text
+without_digest (NoticesSeen next rows) = NoticesSeen next rows
+without_digest (TermsSeen notice late lots) = TermsSeen notice late lots
+without_digest (OwnTendersSeen rows) = OwnTendersSeen (map bare_tender rows)
+without_digest (EvaluationSeen notice lots) = EvaluationSeen notice lots
+without_digest (SecuritiesSeen rows) = SecuritiesSeen rows
+without_digest (TenderersSeen next rows) = TenderersSeen next rows
+without_digest (ContractSeen contract left paid entries) = ContractSeen contract left paid entries
 
 -- every other caller is told the same, and this tenderer the same but for the digest
 pub record ToldAlike (th : ChosenTender) (caller : Caller) (r r' : Reply) : Type 0 where

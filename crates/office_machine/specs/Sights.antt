@@ -1,15 +1,18 @@
 -- What queries see, and who may look.
-use Rattle.std.specs.Prelude.{ℕ, Bool, cond, ◌||◌, List, map, filter, Option, Some, None}
+use Rattle.std.specs.Prelude.{ℕ, ◌+◌, Bool, cond, ◌||◌, List, map, filter, take, Option, Some, None, is_some}
+use Rattle.std.specs.List.{flat_map}
 use Rattle.office_commands.specs.declared.command.Caller.{Caller}
 use Rattle.office_commands.specs.declared.queries.Query.{Query}
 use Rattle.office_commands.specs.declared.queries.Query.TheVariants as queries
 use Rattle.office_commands.specs.Queries.{query_kind_of}
-use Rattle.office_commands.specs.Callers.{is_by}
+use Rattle.office_commands.specs.Callers.{is_by, tenderer_of}
 use Rattle.office_commands.specs.Rights.{is_clerk, may_look}
 use Rattle.office_values.specs.declared.refusal.Thing.TheVariants as things
 use Rattle.office_values.specs.declared.refusal.Refusal.TheVariants.{Forbidden, NoSuch, NotYourTender, NotOpened}
-use Rattle.office_base.specs.States.{is_read, is_opened}
-use Rattle.office_base.specs.Joined.{pots_of, ledger_of}
+use Rattle.office_base.specs.Limits.{page_limit}
+use Rattle.office_base.specs.Pages.{next_after, notices_after, tenderers_after}
+use Rattle.office_base.specs.States.{is_read, is_receiving, is_opened}
+use Rattle.office_base.specs.Joined.{outstanding, paid_under, pots_of, ledger_of}
 use Rattle.office_base.specs.declared.records.LineRow.{LineRow}
 use Rattle.office_base.specs.declared.records.TendererRow.{TendererRow}
 use Rattle.office_base.specs.declared.records.NoticeRow.{NoticeRow}
@@ -17,9 +20,14 @@ use Rattle.office_base.specs.declared.records.LotRow.{LotRow}
 use Rattle.office_base.specs.declared.records.EnvelopeRow.{EnvelopeRow}
 use Rattle.office_base.specs.declared.records.SecurityRow.{SecurityRow}
 use Rattle.office_base.specs.declared.records.ContractRow.{ContractRow}
+use Rattle.office_base.specs.declared.records.EntryRow.{EntryRow}
+use Rattle.office_base.specs.declared.records.LateRow.{LateRow}
 use Rattle.office_base.specs.declared.records.PerformanceRow.{PerformanceRow}
-use Rattle.office_base.specs.Tables.{Tables, find_tenderer, line_at, notice_at, envelope_at, security_at, contract_at, performance_at, lots_of_notice, envelopes_of_notice}
+use Rattle.office_base.specs.Tables.{Tables, notice_key, tenderer_key, find_tenderer, line_at, notice_at, envelope_at, security_at, contract_at, late_at, performance_at}
+use Rattle.office_base.specs.Tables.{lots_of_notice, envelopes_of_notice, envelopes_of_tenderer, securities_of_notice, awards_of_notice, entries_of_contract}
+use Rattle.office_machine.specs.Evaluation.{evaluation_told}
 use Rattle.office_machine.specs.Replies.{Reply, Refused, LineSeen, LedgerSeen, Tender, Security, PerformanceSeen, Registry, Minutes, Package, Registered, Minuted}
+use Rattle.office_machine.specs.Replies.{NoticesSeen, TermsSeen, OwnTendersSeen, SecuritiesSeen, TenderersSeen, ContractSeen, OwnTender, ListedSecurity, ListedTenderer}
 
 -- the line's two columns and the sums over the rows that are joined with it
 abbrev pub line_told : Tables → Option LineRow → Reply
@@ -63,6 +71,53 @@ performance_told caller (Some c) None = Refused (NoSuch things.Security)
 performance_told caller (Some c) (Some w) =
     cond (is_clerk caller || is_by caller c.tenderer) (PerformanceSeen w.amount c.contract w.reference w.state c.tenderer) (Refused NotYourTender)
 
+-- of the rows that a page is told from, one more than it has: the page, and its last row where one more is there
+abbrev pub notices_told : List NoticeRow → Reply
+notices_told rows = NoticesSeen (next_after notice_key page_limit rows) (take page_limit rows)
+
+abbrev pub listed_tenderer : TendererRow → ListedTenderer
+listed_tenderer r = record { tenderer = r.tenderer; name = r.name; address = r.address }
+
+abbrev pub tenderers_told : List TendererRow → Reply
+tenderers_told rows = TenderersSeen (next_after tenderer_key page_limit rows) (map listed_tenderer (take page_limit rows))
+
+-- what binds who presents a tender: the notice, whether it may be withdrawn late, and the lots (Model Law, article 39)
+abbrev pub terms_told : Option NoticeRow → Option LateRow → List LotRow → Reply
+terms_told None late lots = Refused (NoSuch things.Notice)
+terms_told (Some n) late lots = TermsSeen n (is_some late) lots
+
+-- the tenders that the caller presented, lot by lot
+abbrev pub own_tender : EnvelopeRow → OwnTender
+own_tender e = record { digest = e.digest; length = e.length; lot = e.lot; moment = e.moment; receipt = e.receipt; security = e.security; state = e.state }
+
+abbrev pub own_of_lot : Caller → Tables → LotRow → List EnvelopeRow
+own_of_lot caller s l = envelopes_of_tenderer l.notice l.lot (tenderer_of caller) s
+
+abbrev pub own_tenders_told : Caller → Tables → Option NoticeRow → List LotRow → Reply
+own_tenders_told caller s None lots = Refused (NoSuch things.Notice)
+own_tenders_told caller s (Some n) lots = OwnTendersSeen (map own_tender (flat_map (own_of_lot caller s) lots))
+
+-- while tenders are received the list of securities names nobody
+abbrev pub listed_security : NoticeRow → SecurityRow → ListedSecurity
+listed_security n w = record {
+  amount = w.amount;
+  lot = w.lot;
+  reference = w.reference;
+  security = w.security;
+  state = w.state;
+  tenderer = cond (is_receiving n.state) None (Some w.tenderer);
+}
+
+abbrev pub securities_told : Option NoticeRow → List SecurityRow → Reply
+securities_told None securities = Refused (NoSuch things.Notice)
+securities_told (Some n) securities = SecuritiesSeen (map (listed_security n) securities)
+
+-- a contract is shown to its tenderer and to the clerk, with what is outstanding of it and what was paid under it, by its entries
+abbrev pub contract_told : Caller → Option ContractRow → List EntryRow → Reply
+contract_told caller None entries = Refused (NoSuch things.Contract)
+contract_told caller (Some c) entries =
+    cond (is_clerk caller || is_by caller c.tenderer) (ContractSeen c (outstanding entries c) (paid_under entries c) entries) (Refused NotYourTender)
+
 -- the text of a package of a notice that is there
 abbrev pub package_told : Option NoticeRow → List ℕ → Reply
 package_told None text = Refused (NoSuch things.Notice)
@@ -83,6 +138,13 @@ shown packages s caller (queries.Record notice) = package_told (notice_at notice
 shown packages s caller (queries.Tender receipt) = tender_told caller (envelope_at receipt s)
 shown packages s caller (queries.Security security) = security_told caller (security_at security s)
 shown packages s caller (queries.Performance contract) = performance_told caller (contract_at contract s) (performance_at contract s)
+shown packages s caller (queries.Notices after) = notices_told (notices_after after (page_limit + 1) s)
+shown packages s caller (queries.Terms notice) = terms_told (notice_at notice s) (late_at notice s) (lots_of_notice notice s)
+shown packages s caller (queries.OwnTenders notice) = own_tenders_told caller s (notice_at notice s) (lots_of_notice notice s)
+shown packages s caller (queries.Evaluation notice) = evaluation_told caller s (notice_at notice s) (lots_of_notice notice s) (awards_of_notice notice s)
+shown packages s caller (queries.Securities notice) = securities_told (notice_at notice s) (securities_of_notice notice s)
+shown packages s caller (queries.Tenderers after) = tenderers_told (tenderers_after after (page_limit + 1) s)
+shown packages s caller (queries.Contract contract) = contract_told caller (contract_at contract s) (entries_of_contract contract s)
 
 abbrev pub told : Packages → Tables → Caller → Query → Reply
 told packages s caller query = cond (may_look caller (query_kind_of query)) (shown packages s caller query) (Refused Forbidden)

@@ -4,7 +4,7 @@ use Rattle.office_values.specs.Ids.{same_id}
 use Rattle.office_commands.specs.declared.command.Caller.{Caller}
 use Rattle.office_commands.specs.declared.command.Caller.TheVariants.{Public, Clerk, Tenderer}
 use Rattle.office_commands.specs.Callers.{is_by}
-use Rattle.office_commands.specs.Rights.{may_look}
+use Rattle.office_commands.specs.Rights.{is_tenderer, may_look}
 use Rattle.office_commands.specs.declared.commands.Command.{Command}
 use Rattle.office_commands.specs.declared.commands.Command.TheVariants as commands
 use Rattle.office_values.specs.declared.refusal.Refusal.TheVariants.{Forbidden, NotYourTender}
@@ -20,7 +20,7 @@ use Rattle.office_base.specs.declared.records.SealRow.{SealRow}
 use Rattle.office_base.specs.declared.records.ClockRow.{ClockRow}
 use Rattle.tender_core.specs.Rules.Open.{is_sealed_envelope}
 use Rattle.award_core.specs.Rules.Award.{winner}
-use Rattle.office_base.specs.Tables.{Tables, find_envelope, notice_at, envelope_at, contract_at, envelopes_of_notice, envelopes_of_lot, lots_of_notice, late_at}
+use Rattle.office_base.specs.Tables.{Tables, find_envelope, notice_at, envelope_at, contract_at, envelopes_of_notice, envelopes_of_lot, lots_of_notice, awards_of_notice, late_at}
 use Rattle.office_machine.specs.Readings.{Readings}
 use Rattle.office_machine.specs.Worlds.{ChosenTender, is_theirs, is_for_chosen_lot, AlikeRows, Pairs, AlikeOffices, SameBut, Same, Presented, Modified, OpensAlike}
 use Rattle.office_commands.specs.declared.queries.Query.{Query}
@@ -28,9 +28,10 @@ use Rattle.office_commands.specs.declared.queries.Query.TheVariants as queries
 use Rattle.office_commands.specs.Queries.{query_kind_of}
 use Rattle.office_machine.specs.Replies.{Reply, Refused, OpenedAll, Received, Awarded, OfContract, Tender, Registry, Minutes, release_of, release_of_contract, left_of, modify_reply, winning, Withdrew, state_after}
 use Rattle.office_machine.specs.Machine.{reply_for}
-use Rattle.office_machine.specs.Sights.{Packages, tender_told, registered, register_told, minuted, is_read_envelope, minutes_told, package_told, shown, told}
+use Rattle.office_machine.specs.Sights.{Packages, tender_told, registered, register_told, minuted, is_read_envelope, minutes_told, own_tenders_told, package_told, shown, told}
 use Rattle.office_machine.specs.Seals.{ButDigest, PackagesHideSeals, without_digest, ToldAlike}
 use Rattle.office_base.proofs.ExactKeys.{equal_ids, same_itself}
+use Rattle.office_machine.proofs.Worlds.TendersShown.{pairs-same, evaluation_same, others_own, own_but_digest}
 use Rattle.office_machine.proofs.Worlds.WorldsPut.{Alike, AlikeOptions, IsBlind, blind, blind-option, pairs-filter}
 use Rattle.office_machine.proofs.Worlds.WorldsRows.{envelope_pair, lot_pairs, notice_pairs, pairs-winner}
 
@@ -70,12 +71,6 @@ module _ (th : ChosenTender) (W : ℕ → Bool) where
       subst (λ (x : EnvelopeRow). ToldAlike th caller (tender_told caller (Some e)) (tender_told caller (Some x))) (sym a.rows.but_digest)
       (tender_by th caller e e'.digest a.rows.digest (is_by caller e.tenderer) refl)
 
-  pairs-same : {A : Type 0} (f : EnvelopeRow → A) → IsBlind th W f → (es es' : List EnvelopeRow) → Pairs (Alike th W) es es' → map f es' ≡ map f es
-  pairs-same f b [] [] all = refl
-  pairs-same f b [] (e' ∷ es') all = absurd all
-  pairs-same f b (e ∷ es) [] all = absurd all
-  pairs-same f b (e ∷ es) (e' ∷ es') all = λ i. blind th W f b e e' all.0 i ∷ pairs-same f b es es' all.1 i
-
   pairs-length : (es es' : List EnvelopeRow) → Pairs (Alike th W) es es' → length es' ≡ length es
   pairs-length [] [] all = refl
   pairs-length [] (e' ∷ es') all = absurd all
@@ -84,13 +79,13 @@ module _ (th : ChosenTender) (W : ℕ → Bool) where
 
   register_same : (o : Option NoticeRow) (es es' : List EnvelopeRow) → Pairs (Alike th W) es es' → register_told o es' ≡ register_told o es
   register_same None es es' all = refl
-  register_same (Some n) es es' all = ap (Registry n.notice) (pairs-same registered (λ _ _. refl) es es' all)
+  register_same (Some n) es es' all = ap (Registry n.notice) (pairs-same th W registered (λ _ _. refl) es es' all)
 
   minutes_same : (o : Option NoticeRow) (lots : List LotRow) (tenderers : List TendererRow) (es es' : List EnvelopeRow) → Pairs (Alike th W) es es' → minutes_told o lots tenderers es' ≡ minutes_told o lots tenderers es
   minutes_same None lots tenderers es es' all = refl
   minutes_same (Some n) lots tenderers es es' all =
       ap (λ rows. cond (is_opened n.state) (Minutes n lots rows) (Refused Rattle.office_values.specs.declared.refusal.Refusal.TheVariants.NotOpened))
-      (pairs-same (minuted tenderers) (λ _ _. refl) (filter is_read_envelope es) (filter is_read_envelope es') (pairs-filter th W is_read_envelope (λ _ _. refl) es es' all))
+      (pairs-same th W (minuted tenderers) (λ _ _. refl) (filter is_read_envelope es) (filter is_read_envelope es') (pairs-filter th W is_read_envelope (λ _ _. refl) es es' all))
 
   modified_told : (readings : Readings) (clock : ClockRow) (t : ℕ) (bytes bytes' : List ℕ) (o o' : Option EnvelopeRow) → AlikeOptions th W o o'
       → without_digest (modify_reply readings clock t bytes' o') ≡ without_digest (modify_reply readings clock t bytes o)
@@ -103,29 +98,52 @@ module _ (th : ChosenTender) (W : ℕ → Bool) where
     abbrev other : Tables
     other = record s { envelopes = es'; seals = ss' }
 
-    shown_alike : (packages : Packages) → PackagesHideSeals packages → Pairs ButDigest s.envelopes es' → (caller : Caller) (query : Query) → ToldAlike th caller (shown packages s caller query) (shown packages other caller query)
-    shown_alike packages blindly rows caller (queries.Line line) = told_same th caller (shown packages s caller (queries.Line line)) (shown packages other caller (queries.Line line)) refl
-    shown_alike packages blindly rows caller queries.Ledger = told_same th caller (shown packages s caller queries.Ledger) (shown packages other caller queries.Ledger) refl
-    shown_alike packages blindly rows caller (queries.Minutes notice) =
+    own_alike : (caller : Caller) (o : Option NoticeRow) (lots : List LotRow) → is_tenderer caller ≡ true → ToldAlike th caller (own_tenders_told caller s o lots) (own_tenders_told caller other o lots)
+    own_alike Public o lots may = cc
+    own_alike Clerk o lots may = cc
+    own_alike (Tenderer id) o lots may = record {
+      others = λ out. others_own th W s es' ss' all id out o lots;
+      but_digest = own_but_digest th W s es' ss' all (Tenderer id) o lots;
+    }
+
+    shown_alike : (packages : Packages) → PackagesHideSeals packages → Pairs ButDigest s.envelopes es' → (caller : Caller) (query : Query) → may_look caller (query_kind_of query) ≡ true
+        → ToldAlike th caller (shown packages s caller query) (shown packages other caller query)
+    shown_alike packages blindly rows caller (queries.Line line) may = told_same th caller (shown packages s caller (queries.Line line)) (shown packages other caller (queries.Line line)) refl
+    shown_alike packages blindly rows caller queries.Ledger may = told_same th caller (shown packages s caller queries.Ledger) (shown packages other caller queries.Ledger) refl
+    shown_alike packages blindly rows caller (queries.Minutes notice) may =
         told_same th caller (shown packages s caller (queries.Minutes notice)) (shown packages other caller (queries.Minutes notice))
         (minutes_same (notice_at notice s) (lots_of_notice notice s) s.tenderers (envelopes_of_notice notice s) (envelopes_of_notice notice other) (notice_pairs th W s es' all notice))
-    shown_alike packages blindly rows caller (queries.Register notice) =
+    shown_alike packages blindly rows caller (queries.Register notice) may =
         told_same th caller (shown packages s caller (queries.Register notice)) (shown packages other caller (queries.Register notice))
         (register_same (notice_at notice s) (envelopes_of_notice notice s) (envelopes_of_notice notice other) (notice_pairs th W s es' all notice))
-    shown_alike packages blindly rows caller (queries.Releases notice) =
+    shown_alike packages blindly rows caller (queries.Releases notice) may =
         told_same th caller (shown packages s caller (queries.Releases notice)) (shown packages other caller (queries.Releases notice))
         (ap (package_told (notice_at notice s)) (blindly (queries.Releases notice) s es' ss' rows))
-    shown_alike packages blindly rows caller (queries.Record notice) =
+    shown_alike packages blindly rows caller (queries.Record notice) may =
         told_same th caller (shown packages s caller (queries.Record notice)) (shown packages other caller (queries.Record notice))
         (ap (package_told (notice_at notice s)) (blindly (queries.Record notice) s es' ss' rows))
-    shown_alike packages blindly rows caller (queries.Tender receipt) = tender_alike caller (envelope_at receipt s) (find_envelope es' receipt) (envelope_pair th W s es' all receipt)
-    shown_alike packages blindly rows caller (queries.Security security) =
+    shown_alike packages blindly rows caller (queries.Tender receipt) may = tender_alike caller (envelope_at receipt s) (find_envelope es' receipt) (envelope_pair th W s es' all receipt)
+    shown_alike packages blindly rows caller (queries.Security security) may =
         told_same th caller (shown packages s caller (queries.Security security)) (shown packages other caller (queries.Security security)) refl
-    shown_alike packages blindly rows caller (queries.Performance contract) =
+    shown_alike packages blindly rows caller (queries.Performance contract) may =
         told_same th caller (shown packages s caller (queries.Performance contract)) (shown packages other caller (queries.Performance contract)) refl
+    shown_alike packages blindly rows caller (queries.Notices after) may =
+        told_same th caller (shown packages s caller (queries.Notices after)) (shown packages other caller (queries.Notices after)) refl
+    shown_alike packages blindly rows caller (queries.Terms notice) may =
+        told_same th caller (shown packages s caller (queries.Terms notice)) (shown packages other caller (queries.Terms notice)) refl
+    shown_alike packages blindly rows caller (queries.OwnTenders notice) may = own_alike caller (notice_at notice s) (lots_of_notice notice s) may
+    shown_alike packages blindly rows caller (queries.Evaluation notice) may =
+        told_same th caller (shown packages s caller (queries.Evaluation notice)) (shown packages other caller (queries.Evaluation notice))
+        (evaluation_same th W s es' ss' all caller (notice_at notice s) (lots_of_notice notice s) (awards_of_notice notice s))
+    shown_alike packages blindly rows caller (queries.Securities notice) may =
+        told_same th caller (shown packages s caller (queries.Securities notice)) (shown packages other caller (queries.Securities notice)) refl
+    shown_alike packages blindly rows caller (queries.Tenderers after) may =
+        told_same th caller (shown packages s caller (queries.Tenderers after)) (shown packages other caller (queries.Tenderers after)) refl
+    shown_alike packages blindly rows caller (queries.Contract contract) may =
+        told_same th caller (shown packages s caller (queries.Contract contract)) (shown packages other caller (queries.Contract contract)) refl
 
-    told_if : (caller : Caller) (b : Bool) (r r' : Reply) → ToldAlike th caller r r' → ToldAlike th caller (cond b r (Refused Forbidden)) (cond b r' (Refused Forbidden))
-    told_if caller true r r' a = a
+    told_if : (caller : Caller) (b : Bool) (r r' : Reply) → (b ≡ true → ToldAlike th caller r r') → ToldAlike th caller (cond b r (Refused Forbidden)) (cond b r' (Refused Forbidden))
+    told_if caller true r r' a = a refl
     told_if caller false r r' a = told_same th caller (Refused Forbidden) (Refused Forbidden) refl
 
     -- a query

@@ -27,7 +27,7 @@ module _ (th : ChosenTender) (W : ℕ → Bool) (s : Tables) (es' : List Envelop
 
 -- the best of rows that are alike
 module _ (th : ChosenTender) (W : ℕ → Bool) where
-  pairs-lowest : (es es' : List EnvelopeRow) → Pairs (Alike th W) es es' → lowest_price es' ≡ lowest_price es
+  pub pairs-lowest : (es es' : List EnvelopeRow) → Pairs (Alike th W) es es' → lowest_price es' ≡ lowest_price es
   pairs-lowest [] [] all = refl
   pairs-lowest [] (e' ∷ es') all = absurd all
   pairs-lowest (e ∷ es) [] all = absurd all
