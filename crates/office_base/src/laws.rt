@@ -1,4 +1,5 @@
 //! Laws of tables, for those who prove things of them.
+ghost use Rattle.office_base.specs.Pages.{TablesArePaged};
 ghost use Rattle.office_base.specs.RowLaws.{RowsAreKept};
 ghost use Rattle.office_base.specs.Shelves.{LooksFollow};
 ghost use Rattle.office_base.specs.Tables.{ChangesKeepOrder};
@@ -19,4 +20,10 @@ pub fn changes_keep_order()
 /// A law: of two calls that leave a shelf's content, one after the other, both together do.
 pub fn looks_follow<H: Lookups>()
     ensures { LooksFollow H.meaning }
+{}
+
+/// A law: whoever reads the notices, or the tenderers, page by page, each page behind the last row of the one before, has seen each row
+/// once, in the order of their identifiers, when no page follows; whatever size above 0 a page has.
+pub fn pages()
+    ensures { TablesArePaged }
 {}

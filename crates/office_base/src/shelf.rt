@@ -2,7 +2,8 @@
 ghost use Rattle.std.specs.Prelude.{◌≡◌};
 ghost use Rattle.office_values.specs.declared.refusal.Refusal.TheVariants.{Unavailable};
 ghost use Rattle.office_base.specs.Tables.{Tables, IsSorted};
-ghost use Rattle.office_base.specs.Tables.{line_at, batch_at, tenderer_at, notice_at, lot_at, envelope_at, seal_at, security_at, award_at, contract_at, entry_at, release_at, compiled_at, late_at, performance_at, lots_of_notice, lots_of_line, envelopes_of_notice, envelopes_of_tenderer, securities_of_notice, awards_of_notice, contracts_of_notice, entries_of_contract, releases_of_notice};
+ghost use Rattle.office_base.specs.Tables.{line_at, batch_at, tenderer_at, notice_at, lot_at, envelope_at, seal_at, security_at, award_at, contract_at, entry_at, release_at, compiled_at, late_at, performance_at, lots_of_notice, lots_of_line, envelopes_of_notice, envelopes_of_lot, envelopes_of_tenderer, securities_of_notice, securities_of_lot, awards_of_notice, contracts_of_notice, entries_of_contract, releases_of_notice};
+ghost use Rattle.office_base.specs.Pages.{notices_after, tenderers_after};
 ghost use Rattle.office_base.specs.Joined.{reservations, sums_of_line, ledger_of, LinesFit};
 ghost use Rattle.office_base.specs.Shelves.{Meaning, Keeps, LooksUp, AddsUp, Changes};
 
@@ -114,6 +115,22 @@ pub trait Lookups {
     fn list_lines(&mut self) -> Result<Vec<LineRow>, ShelfFault>
         ensures { LooksUp meaning self.old self.new result (λ t rows. rows.items ≡ t.lines) };
 
+    /// The first so many notices behind this one, or of all, in the order of their identifiers.
+    fn list_notices_after(
+        &mut self,
+        after: Option<Id>,
+        most: u32,
+    ) -> Result<Vec<NoticeRow>, ShelfFault>
+        ensures { LooksUp meaning self.old self.new result (λ t rows. rows.items ≡ notices_after after most t) };
+
+    /// The first so many tenderers behind this one, or of all, in the order of their identifiers.
+    fn list_tenderers_after(
+        &mut self,
+        after: Option<Id>,
+        most: u32,
+    ) -> Result<Vec<TendererRow>, ShelfFault>
+        ensures { LooksUp meaning self.old self.new result (λ t rows. rows.items ≡ tenderers_after after most t) };
+
     /// The lots of a notice, in the order of their identifiers.
     fn list_lots_of_notice(&mut self, notice: &Id) -> Result<Vec<LotRow>, ShelfFault>
         ensures { LooksUp meaning self.old self.new result (λ t rows. rows.items ≡ lots_of_notice notice.now t) };
@@ -125,6 +142,14 @@ pub trait Lookups {
     /// The tenders of a notice, in the order of their receipts.
     fn list_envelopes_of_notice(&mut self, notice: &Id) -> Result<Vec<EnvelopeRow>, ShelfFault>
         ensures { LooksUp meaning self.old self.new result (λ t rows. rows.items ≡ envelopes_of_notice notice.now t) };
+
+    /// The tenders of a lot, in the order of their receipts.
+    fn list_envelopes_of_lot(
+        &mut self,
+        notice: &Id,
+        lot: &Id,
+    ) -> Result<Vec<EnvelopeRow>, ShelfFault>
+        ensures { LooksUp meaning self.old self.new result (λ t rows. rows.items ≡ envelopes_of_lot notice.now lot.now t) };
 
     /// The tenders of a lot that this tenderer presented, in the order of their receipts.
     fn list_envelopes_of_tenderer(
@@ -138,6 +163,14 @@ pub trait Lookups {
     /// The securities of a notice, in the order of their numbers.
     fn list_securities_of_notice(&mut self, notice: &Id) -> Result<Vec<SecurityRow>, ShelfFault>
         ensures { LooksUp meaning self.old self.new result (λ t rows. rows.items ≡ securities_of_notice notice.now t) };
+
+    /// The securities of a lot, in the order of their numbers.
+    fn list_securities_of_lot(
+        &mut self,
+        notice: &Id,
+        lot: &Id,
+    ) -> Result<Vec<SecurityRow>, ShelfFault>
+        ensures { LooksUp meaning self.old self.new result (λ t rows. rows.items ≡ securities_of_lot notice.now lot.now t) };
 
     /// The awards of a notice, in the order of their numbers.
     fn list_awards_of_notice(&mut self, notice: &Id) -> Result<Vec<AwardRow>, ShelfFault>
