@@ -1,6 +1,8 @@
 -- The text of an object, as it is written.
-use Rattle.std.proofs.Common.{◌≡◌, ℕ, Bool, true, List, [], ◌∷◌, ◌++◌, append_assoc, append-nil, refl, sym, ap, ◌∙◌}
+use Rattle.std.proofs.Common.{◌≡◌, ℕ, Bool, true, List, [], ◌∷◌, ◌++◌, map, append_assoc, append-nil, refl, sym, ap, ◌∙◌}
 use Rattle.std.proofs.lemmas.Bool.{and_parts}
+use Rattle.std.proofs.lemmas.Grind.{flat_map-append}
+use Rattle.std.proofs.lemmas.List.{flat_map_more, map-append}
 use Rattle.std.specs.Cmp.Lexicographic.{slice_cmp}
 use Rattle.std.specs.List.{AllByRecursion, flat_map, list_all}
 use Rattle.std.specs.Ordering.{is_gt, match_ordering, nat_cmp}
@@ -76,6 +78,31 @@ items_written (d ∷ ds) = ap (λ ts. value_tokens d ++ ts) (items_written ds) �
 
 pub list_written : (ds : List Data) → value_tokens (array (items_of ds)) ≡ token.begin_array ∷ (flat_map value_tokens ds ++ token.end_array ∷ [])
 list_written ds = ap (λ ts. token.begin_array ∷ ts) (items_written ds)
+
+-- ---- step by step
+
+-- an element more
+pub one_written : {X Y A : Type 0} (f : Y → List A) (g : X → Y) (front : List A) (xs : List X) (x : X)
+    → (front ++ flat_map f (map g xs)) ++ f (g x) ≡ front ++ flat_map f (map g (xs ++ x ∷ []))
+one_written f g front xs x = flat_map_more f front (map g xs) (g x) ∙ ap (λ ys. front ++ flat_map f ys) (sym (map-append g xs (x ∷ [])))
+
+-- a name and its value
+pub named_written : (front : List token.Token) (e : Member) → (front ++ token.key e.0 ∷ []) ++ value_tokens e.1 ≡ front ++ member_tokens e
+named_written front e = append_assoc front (token.key e.0 ∷ []) (value_tokens e.1)
+
+-- what stands between two marks
+pub between : {A : Type 0} (front : List A) (first : A) (inner : List A) (last : A) → ((front ++ first ∷ []) ++ inner) ++ last ∷ [] ≡ front ++ first ∷ (inner ++ last ∷ [])
+between front first inner last = append_assoc (front ++ first ∷ []) inner (last ∷ []) ∙ append_assoc front (first ∷ []) (inner ++ last ∷ [])
+
+-- members, one with a list, and members
+pub three_parts : (front : List token.Token) (es : List Member) (e : Member) (fs : List Member)
+    → (((front ++ flat_map member_tokens es) ++ token.key e.0 ∷ []) ++ value_tokens e.1) ++ flat_map member_tokens fs
+    ≡ front ++ flat_map member_tokens (es ++ e ∷ fs)
+three_parts front es e fs =
+    ap (λ ts. ts ++ flat_map member_tokens fs) (named_written (front ++ flat_map member_tokens es) e)
+    ∙ append_assoc (front ++ flat_map member_tokens es) (member_tokens e) (flat_map member_tokens fs)
+    ∙ append_assoc front (flat_map member_tokens es) (member_tokens e ++ flat_map member_tokens fs)
+    ∙ ap (λ ts. front ++ ts) (sym (flat_map-append member_tokens es (e ∷ fs)))
 
 -- the text
 pub value_printed : (d : Data) → print (value_tokens d) ≡ compact_text d

@@ -118,10 +118,12 @@ pub fn write_object(
 {
     out.begin_object()?;
     write_members(alloc, out, members)?;
-    out.end_object()
+    out.end_object()?;
+    Ok(())
 }
 
 /// The text of the object with these members, whose names rise in the order of their bytes.
+#[tactic(auto, using(crate::proofs::Printed::value_printed))]
 pub fn object_text(alloc: Global, members: &[(&str, Plain)]) -> Result<Vec<u8>, AllocError>
     requires rising { names_rise (map entry_of members.now) ≡ true }
     ensures { IfOk result (λ text. text.items ≡ object_text (map entry_of members.now)) }
@@ -155,7 +157,8 @@ fn write_rows<O: RowObject>(
     for row in rows {
         shown.write(alloc, out, row)?;
     }
-    out.end_array()
+    out.end_array()?;
+    Ok(())
 }
 
 /// Writes the object with these members, a list of rows under this name, and the members behind it; all names rise in the order of their bytes.
@@ -177,11 +180,13 @@ pub fn write_with_rows<O: RowObject>(
     out.key(name)?;
     write_rows(alloc, out, shown, rows)?;
     write_members(alloc, out, rest)?;
-    out.end_object()
+    out.end_object()?;
+    Ok(())
 }
 
 /// The text of the object with these members, a list of rows under this name, and the members behind it; all names rise in the order of their
 /// bytes. One function for each answer that has a list.
+#[tactic(auto, using(crate::proofs::Printed::value_printed))]
 pub fn rows_text<O: RowObject>(
     alloc: Global,
     front: &[(&str, Plain)],

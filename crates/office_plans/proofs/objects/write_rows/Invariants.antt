@@ -7,4 +7,4 @@ use Rattle.office_plans.proofs.objects.write_rows.Given as goal
 abbrev pub invariant-loop-row : goal.invariant-loop-row
 invariant-loop-row g l =
     (l.out.before ≡ l.fn.out.before)
-    × (l.out.tokens ≡ (l.fn.out.tokens ++ begin_array ∷ []) ++ flat_map value_tokens (map json_object (map (g.O.RowObject.members_of l.shown) (take l.row-index l.rows))))
+    × (l.out.tokens ≡ (l.fn.out.tokens ++ begin_array ∷ []) ++ flat_map value_tokens (map (λ row. json_object (g.O.RowObject.members_of l.shown row)) (take l.row-index l.rows)))
