@@ -13,9 +13,7 @@ ghost use Rattle.tender_papers.specs.Evaluation.{award_line, finding_line};
 
 use award_core::best::{is_admissible, lowest, points};
 use office_base::laws;
-use office_base::records::{
-    AwardRow, EnvelopeRow, EnvelopeState, LotRow, LotState, NoticeState,
-};
+use office_base::records::{AwardRow, EnvelopeRow, EnvelopeState, LotRow, LotState, NoticeState};
 use office_base::shelf::Lookups;
 use office_commands::command::Caller;
 use office_commands::notice::Weight;

@@ -16,8 +16,8 @@ loop-name-preserved c =
     let more : take (c.loop-name.name-index + 1) ms ≡ done ++ item ∷ [] = search (rules, take_more) in (
       c.in_ok-write_value.ensures.0 ∙ c.in_ok-key.ensures.room.0 ∙ c.loop-name.invariant.0,
       c.in_ok-write_value.ensures.1
-      ∙ ap (λ ts. ts ++ value_tokens e.1) (c.in_ok-key.ensures.ok ∙ ap (λ ts. ts ++ key e.0 ∷ []) c.loop-name.invariant.1)
-      ∙ named_written (front ++ flat_map member_tokens (map entry_of done)) e
-      ∙ one_written member_tokens entry_of front done item
-      ∙ ap (λ l. front ++ flat_map member_tokens (map entry_of l)) (sym more),
+          ∙ ap (λ ts. ts ++ value_tokens e.1) (c.in_ok-key.ensures.ok ∙ ap (λ ts. ts ++ key e.0 ∷ []) c.loop-name.invariant.1)
+          ∙ named_written (front ++ flat_map member_tokens (map entry_of done)) e
+          ∙ one_written member_tokens entry_of front done item
+          ∙ ap (λ l. front ++ flat_map member_tokens (map entry_of l)) (sym more),
     )

@@ -12,7 +12,7 @@ returns c =
     let front = c.args.out.now.tokens in (
       c.in_ok-end_object.ensures.room.0 ∙ c.in_ok-write_members.ensures.0 ∙ c.in_ok-begin_object.ensures.room.0,
       c.in_ok-end_object.ensures.ok
-      ∙ ap (λ ts. ts ++ end_object ∷ []) (c.in_ok-write_members.ensures.1 ∙ ap (λ ts. ts ++ inner) c.in_ok-begin_object.ensures.ok)
-      ∙ between front begin_object inner end_object
-      ∙ ap (λ ts. front ++ ts) (sym (object_written es c.requires.rising)),
+          ∙ ap (λ ts. ts ++ end_object ∷ []) (c.in_ok-write_members.ensures.1 ∙ ap (λ ts. ts ++ inner) c.in_ok-begin_object.ensures.ok)
+          ∙ between front begin_object inner end_object
+          ∙ ap (λ ts. front ++ ts) (sym (object_written es c.requires.rising)),
     )

@@ -19,8 +19,8 @@ loop-row-preserved g c =
     let more : take (c.loop-row.row-index + 1) rows ≡ done ++ row ∷ [] = search (rules, take_more) in (
       c.in_ok-write.ensures.0 ∙ c.loop-row.invariant.0,
       c.in_ok-write.ensures.1 ∙ ap (λ ts. ts ++ value_tokens (shown row)) c.loop-row.invariant.1
-      ∙ one_written value_tokens shown front done row
-      ∙ ap (λ l. front ++ flat_map value_tokens (map shown l)) (sym more),
+          ∙ one_written value_tokens shown front done row
+          ∙ ap (λ l. front ++ flat_map value_tokens (map shown l)) (sym more),
     )
 
 pub returns : goal.returns
@@ -33,8 +33,8 @@ returns g c =
     let all : take c.loop-row.row-index rows ≡ rows = take_all c.loop-row.row-index rows (omega arith) in (
       c.in_ok-end_array.ensures.room.0 ∙ c.loop-row.invariant.0,
       c.in_ok-end_array.ensures.ok
-      ∙ ap (λ ts. ts ++ end_array ∷ []) (c.loop-row.invariant.1 ∙ ap (λ l. (front ++ begin_array ∷ []) ++ flat_map value_tokens (map shown l)) all)
-      ∙ between front begin_array (flat_map value_tokens ds) end_array
-      ∙ ap (λ ts. front ++ ts) (sym (list_written ds))
-      ∙ ap (λ l. front ++ value_tokens (array (items_of l))) (sym (map-map json_object members rows)),
+          ∙ ap (λ ts. ts ++ end_array ∷ []) (c.loop-row.invariant.1 ∙ ap (λ l. (front ++ begin_array ∷ []) ++ flat_map value_tokens (map shown l)) all)
+          ∙ between front begin_array (flat_map value_tokens ds) end_array
+          ∙ ap (λ ts. front ++ ts) (sym (list_written ds))
+          ∙ ap (λ l. front ++ value_tokens (array (items_of l))) (sym (map-map json_object members rows)),
     )

@@ -17,16 +17,16 @@ returns g c =
     let first = flat_map member_tokens front in
     let last = flat_map member_tokens rest in (
       c.in_ok-end_object.ensures.room.0 ∙ c.in_ok-write_members-2.ensures.0 ∙ c.in_ok-write_rows.ensures.0 ∙ c.in_ok-key.ensures.room.0
-      ∙ c.in_ok-write_members.ensures.0 ∙ c.in_ok-begin_object.ensures.room.0,
+          ∙ c.in_ok-write_members.ensures.0 ∙ c.in_ok-begin_object.ensures.room.0,
       c.in_ok-end_object.ensures.ok
-      ∙ ap (λ ts. ts ++ end_object ∷ [])
-      (c.in_ok-write_members-2.ensures.1
-      ∙ ap (λ ts. ts ++ last)
-      (c.in_ok-write_rows.ensures.1
-      ∙ ap (λ ts. ts ++ value_tokens list.1)
-      (c.in_ok-key.ensures.ok
-      ∙ ap (λ ts. ts ++ key name ∷ []) (c.in_ok-write_members.ensures.1 ∙ ap (λ ts. ts ++ first) c.in_ok-begin_object.ensures.ok)))
-      ∙ three_parts begun front list rest)
-      ∙ between c.args.out.now.tokens begin_object (flat_map member_tokens all) end_object
-      ∙ ap (λ ts. c.args.out.now.tokens ++ ts) (sym (object_written all c.requires.rising)),
+          ∙ ap (λ ts. ts ++ end_object ∷ [])
+          (c.in_ok-write_members-2.ensures.1
+          ∙ ap (λ ts. ts ++ last)
+          (c.in_ok-write_rows.ensures.1
+          ∙ ap (λ ts. ts ++ value_tokens list.1)
+          (c.in_ok-key.ensures.ok
+          ∙ ap (λ ts. ts ++ key name ∷ []) (c.in_ok-write_members.ensures.1 ∙ ap (λ ts. ts ++ first) c.in_ok-begin_object.ensures.ok)))
+          ∙ three_parts begun front list rest)
+          ∙ between c.args.out.now.tokens begin_object (flat_map member_tokens all) end_object
+          ∙ ap (λ ts. c.args.out.now.tokens ++ ts) (sym (object_written all c.requires.rising)),
     )
