@@ -1,4 +1,4 @@
-use Rattle.std.proofs.Common.{rules, arith, ◌≡◌, [], ◌∷◌, ◌++◌, ◌+◌, map, take, ap, sym, ◌∙◌}
+use Rattle.std.proofs.Common.{arith, ◌≡◌, [], ◌∷◌, ◌++◌, ◌+◌, map, take, ap, sym, ◌∙◌}
 use Rattle.std.specs.List.{flat_map}
 use Rattle.std.proofs.lemmas.List.{take_more, take_all}
 use Rattle.std.proofs.lemmas.Simd.{map-map}
@@ -12,11 +12,12 @@ use Rattle.office_plans.proofs.objects.write_rows.Goals as goal
 pub loop-row-preserved : goal.loop-row-preserved
 loop-row-preserved g c =
     let rows = c.args.rows.now in
-    let row = c.loop-row-item.result in
+    let row = c.row-item.result in
     let shown = λ r. json_object (g.O.RowObject.members_of c.args.shown.now r) in
     let front = c.args.out.now.tokens ++ begin_array ∷ [] in
     let done = take c.loop-row.row-index rows in
-    let more : take (c.loop-row.row-index + 1) rows ≡ done ++ row ∷ [] = search (rules, take_more) in (
+    let more : take (c.loop-row.row-index + 1) rows ≡ done ++ row ∷ [] =
+    take_more rows c.loop-row.row-index row c.loop-row-test.true ∙ ap (λ r. done ++ r ∷ []) (sym c.row-item.is) in (
       c.in_ok-write.ensures.0 ∙ c.loop-row.invariant.0,
       c.in_ok-write.ensures.1 ∙ ap (λ ts. ts ++ value_tokens (shown row)) c.loop-row.invariant.1
           ∙ one_written value_tokens shown front done row
