@@ -92,22 +92,27 @@ fn contract_text(
 {
     let number = row.contract.get();
     let how = how_word(row.how);
-    let front = [
-        ("contract", Plain::Number(number)),
-        ("ended", Plain::Since(row.ended)),
-    ];
-    let rest = [
-        ("how", Plain::Remark(how)),
-        ("lot", Plain::Id(row.lot)),
-        ("moment", Plain::Moment(row.moment)),
-        ("notice", Plain::Id(row.notice)),
-        ("outstanding", Plain::Total(left)),
-        ("paid", Plain::Total(paid)),
-        ("released", Plain::Total(row.released)),
-        ("signed", Plain::Total(row.signed)),
-        ("tenderer", Plain::Id(row.tenderer)),
-    ];
-    rows_text(alloc, &front, "entries", &ListedEntry, entries, &rest)
+    rows_text(
+        alloc,
+        &[
+            ("contract", Plain::Number(number)),
+            ("ended", Plain::Since(row.ended)),
+        ],
+        "entries",
+        &ListedEntry,
+        entries,
+        &[
+            ("how", Plain::Remark(how)),
+            ("lot", Plain::Id(row.lot)),
+            ("moment", Plain::Moment(row.moment)),
+            ("notice", Plain::Id(row.notice)),
+            ("outstanding", Plain::Total(left)),
+            ("paid", Plain::Total(paid)),
+            ("released", Plain::Total(row.released)),
+            ("signed", Plain::Total(row.signed)),
+            ("tenderer", Plain::Id(row.tenderer)),
+        ],
+    )
 }
 
 /// A contract with its entries. It is shown to its tenderer and to the clerk.

@@ -56,8 +56,14 @@ fn notices_text(alloc: Global, rows: &[NoticeRow]) -> Result<Vec<u8>, AllocError
 {
     let next = next_after(rows);
     let page = page_of(rows);
-    let front = [("next", Plain::Named(next))];
-    rows_text(alloc, &front, "notices", &ListedNotice, page, &[])
+    rows_text(
+        alloc,
+        &[("next", Plain::Named(next))],
+        "notices",
+        &ListedNotice,
+        page,
+        &[],
+    )
 }
 
 /// A page of the notices: the first hundred behind this one, or of all.

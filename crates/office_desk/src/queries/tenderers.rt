@@ -48,8 +48,14 @@ fn tenderers_text(alloc: Global, rows: &[TendererRow]) -> Result<Vec<u8>, AllocE
 {
     let next = next_after(rows);
     let page = page_of(rows);
-    let front = [("next", Plain::Named(next))];
-    rows_text(alloc, &front, "tenderers", &ListedTenderer, page, &[])
+    rows_text(
+        alloc,
+        &[("next", Plain::Named(next))],
+        "tenderers",
+        &ListedTenderer,
+        page,
+        &[],
+    )
 }
 
 /// A page of the tenderers: the first hundred behind this one, or of all. The clerk alone asks for it.

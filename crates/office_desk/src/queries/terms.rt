@@ -58,18 +58,24 @@ impl RowObject for ListedLot {
         let security = row.security.units();
         let word = lot_word(row.state);
         let title = row.title.as_str();
-        let front = [
-            ("estimate", Plain::Number(estimate)),
-            ("id", Plain::Id(row.lot)),
-        ];
-        let rest = [
-            ("line", Plain::Id(row.line)),
-            ("security", Plain::Number(security)),
-            ("state", Plain::Text(word)),
-            ("title", Plain::Text(title)),
-        ];
         let items = row.items.as_slice();
-        write_with_rows(alloc, out, &front, "items", &ListedItem, items, &rest)
+        write_with_rows(
+            alloc,
+            out,
+            &[
+                ("estimate", Plain::Number(estimate)),
+                ("id", Plain::Id(row.lot)),
+            ],
+            "items",
+            &ListedItem,
+            items,
+            &[
+                ("line", Plain::Id(row.line)),
+                ("security", Plain::Number(security)),
+                ("state", Plain::Text(word)),
+                ("title", Plain::Text(title)),
+            ],
+        )
     }
 }
 
@@ -115,23 +121,28 @@ fn terms_text(
     let word = notice_word(row.state);
     let title = row.title.as_str();
     let validity = row.validity.get();
-    let front = [
-        ("criteria", Plain::Text(criteria)),
-        ("deadline", Plain::Moment(row.deadline)),
-        ("late_withdrawal", Plain::Text(withdrawal)),
-    ];
-    let rest = [
-        ("notice", Plain::Id(row.notice)),
-        ("opened", Plain::Since(row.opened)),
-        ("performance", Plain::Number(performance)),
-        ("price_weight", Plain::Count(weight)),
-        ("published", Plain::Moment(row.published)),
-        ("standstill_days", Plain::Number(standstill)),
-        ("state", Plain::Text(word)),
-        ("title", Plain::Text(title)),
-        ("validity_days", Plain::Number(validity)),
-    ];
-    rows_text(alloc, &front, "lots", &ListedLot, lots, &rest)
+    rows_text(
+        alloc,
+        &[
+            ("criteria", Plain::Text(criteria)),
+            ("deadline", Plain::Moment(row.deadline)),
+            ("late_withdrawal", Plain::Text(withdrawal)),
+        ],
+        "lots",
+        &ListedLot,
+        lots,
+        &[
+            ("notice", Plain::Id(row.notice)),
+            ("opened", Plain::Since(row.opened)),
+            ("performance", Plain::Number(performance)),
+            ("price_weight", Plain::Count(weight)),
+            ("published", Plain::Moment(row.published)),
+            ("standstill_days", Plain::Number(standstill)),
+            ("state", Plain::Text(word)),
+            ("title", Plain::Text(title)),
+            ("validity_days", Plain::Number(validity)),
+        ],
+    )
 }
 
 /// The terms of a notice: what binds who presents a tender, with its lots (UNCITRAL Model Law 2011, article 39).
