@@ -37,9 +37,9 @@ pub fn price_of(row: &EnvelopeRow) -> Amount
     }
 }
 
-// Whether the tender may win: it was opened, is priced, was found responsive, and is not out of the running (its tenderer neither failed
-// to sign nor took it back after the deadline).
-pub(crate) fn is_admissible(row: &EnvelopeRow) -> bool
+/// Whether the tender may win: it was opened, is priced, was found responsive, and is not out of the running (its tenderer neither failed
+/// to sign nor took it back after the deadline).
+pub fn is_admissible(row: &EnvelopeRow) -> bool
     ensures { result ≡ is_admissible row.now }
 {
     row.state == EnvelopeState::Opened
@@ -71,6 +71,13 @@ fn lowest_price(rows: &[EnvelopeRow]) -> Option<Amount>
     lowest
 }
 
+/// The lowest price of the tenders that may win, which price points are measured by; no money where none may.
+pub fn lowest(rows: &[EnvelopeRow]) -> Amount
+    ensures { result ≡ lowest_in rows.now }
+{
+    lowest_price(rows).unwrap_or(nothing())
+}
+
 // The points for a price: its share of the lowest, in thousandths and rounded down.
 fn price_points(weight: Weight, lowest: Amount, price: Amount) -> u64
     ensures value { result ≡ price_points weight lowest price }
@@ -84,8 +91,8 @@ fn price_points(weight: Weight, lowest: Amount, price: Amount) -> u64
     }
 }
 
-// Thousandths of points, for the price and for quality.
-fn points(weight: Weight, lowest: Amount, row: &EnvelopeRow) -> u64
+/// Thousandths of points, for the price, measured by this lowest one, and for quality.
+pub fn points(weight: Weight, lowest: Amount, row: &EnvelopeRow) -> u64
     ensures { result ≡ points weight lowest row.now }
 {
     let quality = match row.quality {
@@ -149,7 +156,7 @@ fn best_with(weight: Weight, lowest: Amount, rows: &[EnvelopeRow]) -> Option<&En
 pub fn best_row(weight: Weight, rows: &[EnvelopeRow]) -> Option<&EnvelopeRow>
     ensures { option_map (λ row. row.now) result ≡ best_of weight rows.now }
 {
-    best_with(weight, lowest_price(rows).unwrap_or(nothing()), rows)
+    best_with(weight, lowest(rows), rows)
 }
 
 /// The receipt of the best tender of a lot's, with what the price weighs in a hundred points (0: it alone decides); None where none of

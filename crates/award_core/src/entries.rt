@@ -1,8 +1,8 @@
 //! What the entries of a contract come to.
 ghost use Rattle.std.specs.Prelude.{◌≡◌, ◌<◌, ◌+◌, ◌-◌, ◌^◌, ◌||◌};
 ghost use Rattle.std.specs.List.{list_any};
-ghost use Rattle.office_base.specs.EntryKinds.{is_raise, is_less};
-ghost use Rattle.office_base.specs.Joined.{entry_sum, is_overdrawn, minus, outstanding, plus};
+ghost use Rattle.office_base.specs.EntryKinds.{is_raise, is_payment, is_less};
+ghost use Rattle.office_base.specs.Joined.{entry_sum, is_overdrawn, minus, outstanding, paid_under, plus};
 ghost use Rattle.office_base.specs.Transitions.{has_all_releases};
 ghost use Rattle.office_base.specs.Tables.{same_number};
 ghost use Rattle.award_core.specs.Rules.AmendContract.{is_beyond, is_taken, has_all_entries};
@@ -44,6 +44,20 @@ fn lessened(entries: &[EntryRow], contract: GivenNumber) -> u128
     let mut sum = 0;
     for entry in entries {
         if entry.kind != EntryKind::Raise && is_of(entry, contract) {
+            sum += entry.amount.get() as u128;
+        }
+    }
+    sum
+}
+
+/// What was paid under the contract.
+pub fn paid(entries: &[EntryRow], contract: &ContractRow) -> u128
+    ensures sum { result ≡ paid_under entries.now contract.now }
+    ensures small { result < 2 ^ 110 }
+{
+    let mut sum = 0;
+    for entry in entries {
+        if entry.kind == EntryKind::Payment && is_of(entry, contract.contract) {
             sum += entry.amount.get() as u128;
         }
     }

@@ -6,14 +6,22 @@ ghost use Rattle.office_base.specs.Shelves.{Looks};
 ghost use Rattle.office_base.specs.Tables.{Tables};
 ghost use Rattle.office_desk.specs.Steps.{HasShown, IsSeen, read_text};
 
+mod contract;
+mod evaluation;
 mod ledger;
 mod line;
 mod minutes;
+mod notices;
+mod own_tenders;
 mod packages;
+mod pages;
 mod performance;
 mod register;
+mod securities;
 mod security;
 mod tender;
+mod tenderers;
+mod terms;
 
 use office_base::shelf::Lookups;
 use office_commands::command::Caller;
@@ -42,6 +50,13 @@ pub(crate) fn look_at<H: Lookups>(
         Query::Tender { receipt } => tender::look(alloc, shelf, caller, receipt),
         Query::Security { security } => security::look(alloc, shelf, caller, security),
         Query::Performance { contract } => performance::look(alloc, shelf, caller, contract),
+        Query::Notices { after } => notices::look(alloc, shelf, caller, after),
+        Query::Terms { notice } => terms::look(alloc, shelf, caller, notice),
+        Query::OwnTenders { notice } => own_tenders::look(alloc, shelf, caller, notice),
+        Query::Evaluation { notice } => evaluation::look(alloc, shelf, caller, notice),
+        Query::Securities { notice } => securities::look(alloc, shelf, caller, notice),
+        Query::Tenderers { after } => tenderers::look(alloc, shelf, caller, after),
+        Query::Contract { contract } => contract::look(alloc, shelf, caller, contract),
         Query::Releases { notice } => packages::look_at_releases(
             alloc, shelf, settings, caller, notice,
         ),

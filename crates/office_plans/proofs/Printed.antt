@@ -1,70 +1,26 @@
--- The text of an object of plain values, as it is written.
-use Rattle.std.proofs.Common.{◌≡◌, ℕ, Bool, true, false, List, [], ◌∷◌, ◌++◌, map, append_assoc, append-nil, None, Some, refl, sym, ap, ap₂, ◌∙◌}
+-- The text of an object, as it is written.
+use Rattle.std.proofs.Common.{◌≡◌, ℕ, Bool, true, List, [], ◌∷◌, ◌++◌, map, append_assoc, append-nil, refl, sym, ap, ◌∙◌}
 use Rattle.std.proofs.lemmas.Bool.{and_parts}
-use Rattle.std.specs.Borrow.{Bor}
+use Rattle.std.proofs.lemmas.Grind.{flat_map-append}
+use Rattle.std.proofs.lemmas.List.{flat_map_more, map-append}
 use Rattle.std.specs.Cmp.Lexicographic.{slice_cmp}
-use Rattle.std.specs.List.{AllByRecursion, list_all}
+use Rattle.std.specs.List.{AllByRecursion, flat_map, list_all}
 use Rattle.std.specs.Ordering.{is_gt, match_ordering, nat_cmp}
 use Rattle.std.specs.declared.cmp.Ordering.{Ordering}
 use Rattle.std.specs.declared.cmp.Ordering.TheVariants.{Less, Equal, Greater}
-use Rattle.json.specs.Print.{ends, print, print_from, quoted, token_text}
+use Rattle.json.specs.Print.{print}
 use Rattle.json.specs.Token as token
-use Rattle.serde_json.specs.Data.{Members, no_members, member, put}
-use Rattle.serde_json.specs.Written.{compact_text, members_text}
-use Rattle.office_plans.specs.Json.{Member, data_of, entry_of, names_rise, object_text, token_of, tokens_of, with_members}
-use Rattle.office_plans.specs.declared.objects.Plain.{Plain}
-use Rattle.office_plans.specs.declared.objects.Plain.TheVariants.{Number, Count, Truth, Total, Id, Moment, Digest, Text}
-
--- ---- what is written
-
--- one member more
-pub next_tokens : (ms : List (Bor (List ℕ) × Plain)) (m : Bor (List ℕ) × Plain) → tokens_of (ms ++ m ∷ []) ≡ tokens_of ms ++ token.key m.0.now ∷ token_of m.1 ∷ []
-next_tokens [] m = refl
-next_tokens (x ∷ ms) m = ap (λ ts. token.key x.0.now ∷ token_of x.1 ∷ ts) (next_tokens ms m)
-
-value_ends : (p : Plain) → ends (token_of p) ≡ true
-value_ends (Number n) = refl
-value_ends (Count None) = refl
-value_ends (Count (Some n)) = refl
-value_ends (Truth truth) = refl
-value_ends (Total total) = refl
-value_ends (Id id) = refl
-value_ends (Moment second) = refl
-value_ends (Digest digest) = refl
-value_ends (Text text) = refl
-
-value_text : (p : Plain) → token_text (token_of p) ≡ compact_text (data_of p)
-value_text (Number n) = refl
-value_text (Count None) = refl
-value_text (Count (Some n)) = refl
-value_text (Truth truth) = refl
-value_text (Total total) = refl
-value_text (Id id) = refl
-value_text (Moment second) = refl
-value_text (Digest digest) = refl
-value_text (Text text) = refl
+use Rattle.json.specs.Tree.{items_tokens, members_tokens}
+use Rattle.serde_json.specs.Data.{Data, array, Members, no_members, member, put}
+use Rattle.serde_json.specs.View.{items_of}
+use Rattle.serde_json.specs.Written.{compact_text, items_outline, members_outline}
+use Rattle.serde_json.proofs.Texts.{print-outline}
+use Rattle.office_plans.specs.Json.{Member, json_object, member_tokens, names_rise, value_tokens, with_members}
 
 -- the members, in the order in which they stand
 abbrev members_of : List Member → Members
 members_of [] = no_members
 members_of (e ∷ es) = member e.0 e.1 (members_of es)
-
-abbrev pub rest_of : List (Bor (List ℕ) × Plain) → List token.Token
-rest_of ms = tokens_of ms ++ token.end_object ∷ []
-
-member_printed : (m : Bor (List ℕ) × Plain) (ms : List (Bor (List ℕ) × Plain)) → print_from true (rest_of ms) ≡ members_text true (members_of (map entry_of ms))
-    → (quoted m.0.now ++ 58 ∷ []) ++ (token_text (token_of m.1) ++ print_from (ends (token_of m.1)) (rest_of ms))
-    ≡ quoted m.0.now ++ 58 ∷ (compact_text (data_of m.1) ++ members_text true (members_of (map entry_of ms)))
-member_printed m ms h =
-    append_assoc (quoted m.0.now) (58 ∷ []) (token_text (token_of m.1) ++ print_from (ends (token_of m.1)) (rest_of ms))
-    ∙ ap (λ t. quoted m.0.now ++ 58 ∷ t) (ap₂ (λ a b. a ++ b) (value_text m.1) (ap (λ e. print_from e (rest_of ms)) (value_ends m.1) ∙ h))
-
-printed : (later : Bool) (ms : List (Bor (List ℕ) × Plain)) → print_from later (rest_of ms) ≡ members_text later (members_of (map entry_of ms))
-unfolding print_from
-printed true [] = refl
-printed false [] = refl
-printed true (m ∷ ms) = ap (λ t. 44 ∷ t) (member_printed m ms (printed true ms))
-printed false (m ∷ ms) = member_printed m ms (printed true ms)
 
 -- ---- what is meant
 
@@ -104,6 +60,50 @@ none_below (e ∷ es) = (tt, none_below es)
 
 -- ---- so what is written is what is meant
 
-pub object_printed : (ms : List (Bor (List ℕ) × Plain)) → names_rise (map entry_of ms) ≡ true → print (token.begin_object ∷ rest_of ms) ≡ object_text (map entry_of ms)
-unfolding print_from
-object_printed ms rise = ap (λ t. 123 ∷ t) (printed false ms ∙ ap (members_text false) (sym (put_in_order [] (map entry_of ms) rise (none_below (map entry_of ms)))))
+members_written : (es : List Member) → members_tokens (members_outline (members_of es)) ≡ flat_map member_tokens es ++ token.end_object ∷ []
+members_written [] = refl
+members_written (e ∷ es) =
+    ap (λ ts. token.key e.0 ∷ (value_tokens e.1 ++ ts)) (members_written es) ∙ sym (append_assoc (member_tokens e) (flat_map member_tokens es) (token.end_object ∷ []))
+
+-- an object, whose names rise
+pub object_written : (es : List Member) → names_rise es ≡ true
+    → value_tokens (json_object es) ≡ token.begin_object ∷ (flat_map member_tokens es ++ token.end_object ∷ [])
+object_written es rise =
+    ap (λ ms. token.begin_object ∷ members_tokens (members_outline ms)) (put_in_order [] es rise (none_below es)) ∙ ap (λ ts. token.begin_object ∷ ts) (members_written es)
+
+-- a list
+items_written : (ds : List Data) → items_tokens (items_outline (items_of ds)) ≡ flat_map value_tokens ds ++ token.end_array ∷ []
+items_written [] = refl
+items_written (d ∷ ds) = ap (λ ts. value_tokens d ++ ts) (items_written ds) ∙ sym (append_assoc (value_tokens d) (flat_map value_tokens ds) (token.end_array ∷ []))
+
+pub list_written : (ds : List Data) → value_tokens (array (items_of ds)) ≡ token.begin_array ∷ (flat_map value_tokens ds ++ token.end_array ∷ [])
+list_written ds = ap (λ ts. token.begin_array ∷ ts) (items_written ds)
+
+-- ---- step by step
+
+-- an element more
+pub one_written : {X Y A : Type 0} (f : Y → List A) (g : X → Y) (front : List A) (xs : List X) (x : X)
+    → (front ++ flat_map f (map g xs)) ++ f (g x) ≡ front ++ flat_map f (map g (xs ++ x ∷ []))
+one_written f g front xs x = flat_map_more f front (map g xs) (g x) ∙ ap (λ ys. front ++ flat_map f ys) (sym (map-append g xs (x ∷ [])))
+
+-- a name and its value
+pub named_written : (front : List token.Token) (e : Member) → (front ++ token.key e.0 ∷ []) ++ value_tokens e.1 ≡ front ++ member_tokens e
+named_written front e = append_assoc front (token.key e.0 ∷ []) (value_tokens e.1)
+
+-- what stands between two marks
+pub between : {A : Type 0} (front : List A) (first : A) (inner : List A) (last : A) → ((front ++ first ∷ []) ++ inner) ++ last ∷ [] ≡ front ++ first ∷ (inner ++ last ∷ [])
+between front first inner last = append_assoc (front ++ first ∷ []) inner (last ∷ []) ∙ append_assoc front (first ∷ []) (inner ++ last ∷ [])
+
+-- members, one with a list, and members
+pub three_parts : (front : List token.Token) (es : List Member) (e : Member) (fs : List Member)
+    → (((front ++ flat_map member_tokens es) ++ token.key e.0 ∷ []) ++ value_tokens e.1) ++ flat_map member_tokens fs
+    ≡ front ++ flat_map member_tokens (es ++ e ∷ fs)
+three_parts front es e fs =
+    ap (λ ts. ts ++ flat_map member_tokens fs) (named_written (front ++ flat_map member_tokens es) e)
+    ∙ append_assoc (front ++ flat_map member_tokens es) (member_tokens e) (flat_map member_tokens fs)
+    ∙ append_assoc front (flat_map member_tokens es) (member_tokens e ++ flat_map member_tokens fs)
+    ∙ ap (λ ts. front ++ ts) (sym (flat_map-append member_tokens es (e ∷ fs)))
+
+-- the text
+pub value_printed : (d : Data) → print (value_tokens d) ≡ compact_text d
+value_printed d = print-outline d

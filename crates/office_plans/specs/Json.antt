@@ -1,16 +1,19 @@
--- JSON objects of plain values: compact, members in the byte order of their names.
-use Rattle.std.specs.Prelude.{ℕ, List, [], ◌∷◌, Bool, true, ◌&&◌, Option, Some, None, decimal}
+-- JSON objects of plain values and of lists of objects: compact, members in the byte order of their names.
+use Rattle.std.specs.Prelude.{◌≡◌, ℕ, List, [], ◌∷◌, ◌++◌, map, Bool, true, ◌&&◌, Option, Some, None, codes, option_map}
 use Rattle.std.specs.Cmp.Lexicographic.{slice_cmp}
 use Rattle.std.specs.List.{list_all}
 use Rattle.std.specs.Ordering.{is_gt, nat_cmp}
 use Rattle.std.specs.Borrow.{Bor}
 use Rattle.hex.specs.Hex.{encode_lower}
 use Rattle.json.specs.Token as token
-use Rattle.serde_json.specs.Data.{Data, null, boolean, number, unsigned, string, object, Members, no_members, put}
-use Rattle.serde_json.specs.Written.{compact_text}
+use Rattle.json.specs.Tree.{json_tokens}
+use Rattle.json.specs.Written.{Written}
+use Rattle.serde_json.specs.Data.{Data, null, boolean, number, unsigned, string, array, object, Members, no_members, put}
+use Rattle.serde_json.specs.View.{items_of}
+use Rattle.serde_json.specs.Written.{compact_text, outline}
 use Rattle.office_values.specs.Moments.{moment_text}
 use Rattle.office_plans.specs.declared.objects.Plain.{Plain}
-use Rattle.office_plans.specs.declared.objects.Plain.TheVariants.{Number, Count, Truth, Total, Id, Moment, Digest, Text}
+use Rattle.office_plans.specs.declared.objects.Plain.TheVariants.{Number, Count, Truth, Total, Id, Named, Moment, Since, Digest, Text, Remark}
 
 -- a name and its value
 abbrev pub Member : Type 0
@@ -21,15 +24,23 @@ abbrev pub number_or_null : Option ℕ → Data
 number_or_null None = null
 number_or_null (Some n) = number (unsigned n)
 
+-- a text, or null where there is none
+abbrev pub string_or_null : Option (List ℕ) → Data
+string_or_null None = null
+string_or_null (Some text) = string text
+
 abbrev pub data_of : Plain → Data
 data_of (Number n) = number (unsigned n)
 data_of (Count count) = number_or_null count
 data_of (Truth truth) = boolean truth
 data_of (Total total) = number (unsigned total)
 data_of (Id id) = string id
+data_of (Named id) = string_or_null id
 data_of (Moment second) = string (moment_text second)
+data_of (Since second) = string_or_null (option_map moment_text second)
 data_of (Digest digest) = string (encode_lower digest)
 data_of (Text text) = string text.now
+data_of (Remark text) = string_or_null (option_map (λ t. t.now) text)
 
 abbrev pub entry_of : Bor (List ℕ) × Plain → Member
 entry_of m = (m.0.now, data_of m.1)
@@ -50,29 +61,47 @@ abbrev pub names_rise : List Member → Bool
 names_rise [] = true
 names_rise (e ∷ es) = list_all (λ (f : Member). is_gt (slice_cmp nat_cmp f.0 e.0)) es && names_rise es
 
--- what stands in the text for a value
-abbrev pub token_of : Plain → token.Token
-token_of (Number n) = token.number (decimal n)
-token_of (Count None) = token.null
-token_of (Count (Some n)) = token.number (decimal n)
-token_of (Truth truth) = token.boolean truth
-token_of (Total total) = token.number (decimal total)
-token_of (Id id) = token.string id
-token_of (Moment second) = token.string (moment_text second)
-token_of (Digest digest) = token.string (encode_lower digest)
-token_of (Text text) = token.string text.now
+-- a name with a list of objects
+abbrev pub objects_entry : List ℕ → List (List Member) → Member
+objects_entry name objects = (name, array (items_of (map json_object objects)))
 
--- and for members, one after another
-abbrev pub tokens_of : List (Bor (List ℕ) × Plain) → List token.Token
-tokens_of [] = []
-tokens_of (m ∷ ms) = token.key m.0.now ∷ token_of m.1 ∷ tokens_of ms
+-- members, a list of objects, and members behind it
+abbrev pub with_objects : List Member → List ℕ → List (List Member) → List Member → List Member
+with_objects front name objects rest = front ++ objects_entry name objects ∷ rest
+
+-- what stands in a text for a value, and for a member
+abbrev pub value_tokens : Data → List token.Token
+value_tokens d = json_tokens (outline d)
+
+abbrev pub member_tokens : Member → List token.Token
+member_tokens e = token.key e.0 ∷ value_tokens e.1
+
+-- the value is written behind what stands there
+abbrev pub AddsValue : Written → Written → Data → Type 0
+AddsValue old new d = (new.before ≡ old.before) × (new.tokens ≡ old.tokens ++ value_tokens d)
 
 -- entries of plain values
 abbrev pub text_entry : List ℕ → List ℕ → Member
 text_entry name text = (name, string text)
+
+abbrev pub named_entry : List ℕ → Option (List ℕ) → Member
+named_entry name text = (name, string_or_null text)
 
 abbrev pub number_entry : List ℕ → ℕ → Member
 number_entry name n = (name, number (unsigned n))
 
 abbrev pub count_entry : List ℕ → Option ℕ → Member
 count_entry name count = (name, number_or_null count)
+
+abbrev pub date_entry : List ℕ → ℕ → Member
+date_entry name second = text_entry name (moment_text second)
+
+abbrev pub since_entry : List ℕ → Option ℕ → Member
+since_entry name second = named_entry name (option_map moment_text second)
+
+-- members that several replies have
+abbrev pub moment_entry : ℕ → Member
+moment_entry moment = date_entry (codes "moment") moment
+
+abbrev pub digest_entry : List ℕ → Member
+digest_entry digest = text_entry (codes "digest") (encode_lower digest)

@@ -1,4 +1,6 @@
 pub mod Json
+pub mod Words
+pub mod RowMembers
 pub mod Replies
 pub mod Plans
 pub mod Asking

@@ -1,39 +1,29 @@
--- The texts of replies: JSON objects, and the texts of the ledger, registers and minutes.
+-- The texts of replies: JSON objects, and the texts of the ledger, registers, minutes and evaluations.
 use Rattle.std.specs.Prelude.{ℕ, ◌++◌, List, [], ◌∷◌, map, Option, Some, None, Result, Ok, Err, codes, decimal, option_map, unwrap_or}
 use Rattle.std.specs.List.{flat_map}
-use Rattle.hex.specs.Hex.{encode_lower}
 use Rattle.serde_json.specs.Data.{boolean}
 use Rattle.office_values.specs.Moments.{moment_text}
 use Rattle.office_values.specs.declared.refusal.Refusal.{Refusal}
 use Rattle.office_base.specs.declared.reading.Reading.TheVariants.{Unreadable}
 use Rattle.office_base.specs.declared.records.EnvelopeState.{EnvelopeState}
-use Rattle.office_base.specs.declared.records.SecurityState.{SecurityState}
-use Rattle.office_base.specs.declared.records.SecurityState.TheVariants as securities
 use Rattle.office_base.specs.declared.records.TendererRow.{TendererRow}
+use Rattle.tender_papers.specs.Evaluation.{evaluation_end, evaluation_head, findings_text}
 use Rattle.tender_papers.specs.Ledger.{ledger_text}
 use Rattle.tender_papers.specs.Lines.{line}
 use Rattle.tender_papers.specs.Minutes.{minutes_text}
 use Rattle.tender_papers.specs.Register.{state_word}
+use Rattle.tender_papers.specs.declared.evaluation.Finding.{Finding}
 use Rattle.tender_papers.specs.declared.minutes.OpenedTender.{OpenedTender}
-use Rattle.office_machine.specs.Replies.{Reply, Winning, Registered, Minuted, Refused, Imported, Enrolled, OfNotice, OpenedAll, Received, Withdrew}
+use Rattle.office_machine.specs.Replies.{Reply, Winning, Registered, Minuted, EvaluatedTender, EvaluatedLot, Refused, Imported, Enrolled, OfNotice, OpenedAll, Received, Withdrew}
 use Rattle.office_machine.specs.Replies.{Examined, Awarded, Failed, Signed, OfContract, LineSeen, LedgerSeen, Tender, Security, PerformanceSeen, Registry, Minutes, Package}
-use Rattle.office_plans.specs.Json.{Member, text_entry, number_entry, count_entry, object_text}
-
--- where a security is
-abbrev pub security_word : SecurityState → List ℕ
-security_word securities.Held = codes "held"
-security_word securities.Returned = codes "returned"
-security_word securities.Forfeited = codes "forfeited"
+use Rattle.office_machine.specs.Replies.{NoticesSeen, TermsSeen, OwnTendersSeen, EvaluationSeen, SecuritiesSeen, TenderersSeen, ContractSeen}
+use Rattle.office_plans.specs.Json.{Member, text_entry, number_entry, count_entry, moment_entry, digest_entry, with_objects, object_text}
+use Rattle.office_plans.specs.RowMembers.{notice_entries, own_tender_entries, listed_security_entries, listed_tenderer_entries, page_entries, terms_entries, contract_entries}
+use Rattle.office_plans.specs.Words.{security_word}
 
 -- members that several replies have
-abbrev pub moment_entry : ℕ → Member
-moment_entry moment = text_entry (codes "moment") (moment_text moment)
-
 abbrev pub release_entry : ℕ → Member
 release_entry release = number_entry (codes "release") release
-
-abbrev pub digest_entry : List ℕ → Member
-digest_entry digest = text_entry (codes "digest") (encode_lower digest)
 
 abbrev pub state_entry : EnvelopeState → Member
 state_entry state = text_entry (codes "state") (state_word state)
@@ -79,6 +69,12 @@ reply_entries (Security amount reference security state tenderer) =
 reply_entries (PerformanceSeen amount contract reference state tenderer) =
     number_entry (codes "amount") amount ∷ number_entry (codes "contract") contract ∷ text_entry (codes "reference") reference
     ∷ text_entry (codes "state") (security_word state) ∷ text_entry (codes "tenderer") tenderer ∷ []
+reply_entries (NoticesSeen next rows) = page_entries next (codes "notices") (map notice_entries rows)
+reply_entries (TermsSeen notice late lots) = terms_entries notice late lots
+reply_entries (OwnTendersSeen rows) = with_objects [] (codes "tenders") (map own_tender_entries rows) []
+reply_entries (SecuritiesSeen rows) = with_objects [] (codes "securities") (map listed_security_entries rows) []
+reply_entries (TenderersSeen next rows) = page_entries next (codes "tenderers") (map listed_tenderer_entries rows)
+reply_entries (ContractSeen contract left paid entries) = contract_entries contract left paid entries
 reply_entries _ = []
 
 -- the line of a tender in a register, and the register's text: it shows no digest and no tenderer
@@ -97,6 +93,26 @@ presenter_of tenderer (Some row) = row
 abbrev pub minuted_tender : Minuted → OpenedTender
 minuted_tender m = record { lot = m.lot; receipt = m.receipt; tenderer = presenter_of m.tenderer m.party; reading = unwrap_or m.reading Unreadable }
 
+-- what was found of a tender; each that was opened was read
+abbrev pub finding_of : EvaluatedTender → Finding
+finding_of t = record {
+  receipt = t.receipt;
+  tenderer = t.tenderer;
+  reading = unwrap_or t.reading Unreadable;
+  responsive = t.responsive;
+  quality = t.quality;
+  points = t.points;
+  admissible = t.admissible;
+  failed = t.failed;
+}
+
+-- the lines of a lot of an evaluation, and its text
+abbrev pub evaluated_lines : EvaluatedLot → List ℕ
+evaluated_lines l = findings_text l.lot l.state (map finding_of l.tenders) l.awards
+
+abbrev pub evaluation_text : List ℕ → List EvaluatedLot → List ℕ
+evaluation_text notice lots = evaluation_head notice ++ flat_map evaluated_lines lots ++ evaluation_end
+
 -- the text of a reply; a refusal has a response of its own
 abbrev pub reply_text : Reply → List ℕ
 reply_text (Refused why) = []
@@ -104,6 +120,7 @@ reply_text (LedgerSeen rows) = ledger_text rows
 reply_text (Registry notice rows) = registry_text notice rows
 reply_text (Minutes notice lots rows) = minutes_text notice (unwrap_or notice.opened 0) lots (map minuted_tender rows)
 reply_text (Package text) = text
+reply_text (EvaluationSeen notice lots) = evaluation_text notice lots
 reply_text reply = object_text (reply_entries reply)
 
 -- the refusal, or the text

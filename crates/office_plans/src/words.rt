@@ -1,9 +1,21 @@
-//! The words for where tenders and securities are.
-ghost use Rattle.std.specs.Prelude.{◌≡◌};
-ghost use Rattle.office_plans.specs.Replies.{security_word};
+//! The words for where notices, tenders and securities are, what entries do, and how contracts ended.
+ghost use Rattle.std.specs.Prelude.{◌≡◌, option_map};
+ghost use Rattle.office_plans.specs.Words.{entry_word, how_word, notice_word, security_word};
 ghost use Rattle.tender_papers.specs.Register.{state_word};
 
-use office_base::records::{EnvelopeState, SecurityState};
+use office_base::records::{EntryKind, EnvelopeState, NoticeState, SecurityState};
+use office_commands::contract::How;
+
+/// The word for how far a notice has come.
+pub fn notice_word(state: NoticeState) -> &'static str
+    ensures { result.now ≡ notice_word state }
+{
+    match state {
+        NoticeState::Receiving => "receiving",
+        NoticeState::Opened => "opened",
+        NoticeState::Cancelled => "cancelled",
+    }
+}
 
 /// The word for where a tender is.
 pub fn state_word(state: EnvelopeState) -> &'static str
@@ -25,5 +37,27 @@ pub fn security_word(state: SecurityState) -> &'static str
         SecurityState::Held => "held",
         SecurityState::Returned => "returned",
         SecurityState::Forfeited => "forfeited",
+    }
+}
+
+/// The word for what an entry does to its contract.
+pub fn entry_word(kind: EntryKind) -> &'static str
+    ensures { result.now ≡ entry_word kind }
+{
+    match kind {
+        EntryKind::Raise => "raise",
+        EntryKind::Cut => "cut",
+        EntryKind::Payment => "payment",
+    }
+}
+
+/// The word for how a contract ended, where it has.
+pub fn how_word(how: Option<How>) -> Option<&'static str>
+    ensures { option_map (λ word. word.now) result ≡ option_map how_word how }
+{
+    match how {
+        Some(How::Regular) => Some("regular"),
+        Some(How::ForDefault) => Some("default"),
+        None => None,
     }
 }

@@ -5,5 +5,6 @@ pub mod Lines
 pub mod Register
 pub mod Ledger
 pub mod Minutes
+pub mod Evaluation
 pub mod WorkedPapers
 pub mod Inside

@@ -1,11 +1,14 @@
 -- Worked examples of files and texts.
-use Rattle.std.specs.Prelude.{ℕ, suc, List, [], ◌∷◌, codes, replicate, Some, None, false}
+use Rattle.std.specs.Prelude.{ℕ, suc, Bool, true, false, List, [], ◌∷◌, codes, replicate, Option, Some, None}
 use Rattle.std.proofs.Math.Nat.{zero-lt-suc}
 use Rattle.office_commands.specs.declared.budget.BudgetKind.TheVariants.{Add}
 use Rattle.office_commands.specs.declared.budget.BudgetRow.{BudgetRow}
 use Rattle.office_commands.specs.declared.item.Item.{Item}
 use Rattle.office_base.specs.declared.ledger.LedgerRow.{LedgerRow}
 use Rattle.office_base.specs.declared.reading.Reading.{Reading}
+use Rattle.office_base.specs.declared.reading.Reading.TheVariants.{Priced}
+use Rattle.office_base.specs.declared.records.AwardRow.{AwardRow}
+use Rattle.office_base.specs.declared.records.AwardState.{AwardState}
 use Rattle.office_base.specs.declared.records.EnvelopeRow.{EnvelopeRow}
 use Rattle.office_base.specs.declared.records.EnvelopeState.{EnvelopeState}
 use Rattle.office_base.specs.declared.records.LotRow.{LotRow}
@@ -14,6 +17,7 @@ use Rattle.office_base.specs.declared.records.NoticeRow.{NoticeRow}
 use Rattle.office_base.specs.declared.records.NoticeState.TheVariants.{Opened}
 use Rattle.tender_papers.specs.Files.{csv_records}
 use Rattle.tender_papers.specs.Tender.{reading_of}
+use Rattle.tender_papers.specs.declared.evaluation.Finding.{Finding}
 use Rattle.tender_papers.specs.declared.minutes.OpenedTender.{OpenedTender}
 
 -- a row that adds one unit and these more to a line
@@ -96,3 +100,34 @@ worked_tender receipt lot reading = record {
   tenderer = record { tenderer = codes "T1"; name = codes "Alpha"; address = codes "High Street 1"; key = replicate 32 7 };
   reading = reading;
 }
+
+-- a tender of T1 with nothing found of it but how it reads
+abbrev pub worked_finding : ℕ → Reading → Finding
+worked_finding receipt reading = record {
+  receipt = receipt;
+  tenderer = codes "T1";
+  reading = reading;
+  responsive = None;
+  quality = None;
+  points = None;
+  admissible = false;
+  failed = false;
+}
+
+-- one that was found responsive, with a quality, points or none, and whether it is out of the running
+abbrev pub worked_answer : ℕ → ℕ → ℕ → Option ℕ → Bool → Bool → Finding
+worked_answer receipt price quality points admissible failed = record {
+  receipt = receipt;
+  tenderer = codes "T1";
+  reading = Priced price price 0;
+  responsive = Some true;
+  quality = Some quality;
+  points = points;
+  admissible = admissible;
+  failed = failed;
+}
+
+-- an award of a lot
+abbrev pub worked_award : ℕ → ℕ → ℕ → AwardState → AwardRow
+worked_award award receipt price state =
+    record { award = award; notice = codes "N1"; lot = codes "L1"; receipt = receipt; price = price; moment = 1772445600; state = state }

@@ -1,13 +1,16 @@
 //! Worked examples of the definitions.
-ghost use Rattle.std.specs.Prelude.{◌≡◌, ◌∷◌, ◌++◌, [], codes, Ok, Err};
+ghost use Rattle.std.specs.Prelude.{◌≡◌, ◌∷◌, ◌++◌, [], codes, Ok, Err, Some, None, true, false};
 ghost use Rattle.office_base.specs.declared.reading.Reading.TheVariants.{Unreadable, Nonconforming, Priced};
+ghost use Rattle.office_base.specs.declared.records.AwardState.TheVariants.{Failed};
 ghost use Rattle.office_base.specs.declared.records.EnvelopeState.TheVariants.{Sealed, Withdrawn};
+ghost use Rattle.office_base.specs.declared.records.LotState.TheVariants.{Undecided, Cancelled};
 ghost use Rattle.tender_papers.specs.Budget.{budget_of};
+ghost use Rattle.tender_papers.specs.Evaluation.{evaluation_end, evaluation_head, findings_text};
 ghost use Rattle.tender_papers.specs.Files.{csv_records};
 ghost use Rattle.tender_papers.specs.Ledger.{ledger_text};
 ghost use Rattle.tender_papers.specs.Minutes.{minutes_text};
 ghost use Rattle.tender_papers.specs.Register.{register_text};
-ghost use Rattle.tender_papers.specs.WorkedPapers.{worked_envelope, worked_lot, worked_notice, worked_ledger_row, worked_reading, worked_reading_of_two, worked_row, worked_tender};
+ghost use Rattle.tender_papers.specs.WorkedPapers.{worked_answer, worked_award, worked_envelope, worked_finding, worked_lot, worked_notice, worked_ledger_row, worked_reading, worked_reading_of_two, worked_row, worked_tender};
 
 /// Budget files.
 pub fn worked_budgets()
@@ -44,4 +47,11 @@ pub fn worked_printed_texts()
         ≡ codes "MINUTES\tN1\tRoad repair\ndeadline\t2026-03-01T12:00:00Z\nopened\t2026-03-01T12:00:01Z\n"
         ++ codes "lot\tL1\tNorth\ntender\t1\tT1\tAlpha\tHigh Street 1\tpriced\t40\t30\t2\ntender\t3\tT1\tAlpha\tHigh Street 1\tunreadable\n"
         ++ codes "lot\tL2\tSouth\ntender\t2\tT1\tAlpha\tHigh Street 1\tnonconforming\nEND\n" }
+    ensures evaluation { evaluation_head (codes "N1")
+        ++ findings_text (codes "L1") Undecided
+        (worked_answer 1 500 10 (Some 70000) true false ∷ worked_answer 2 750 35 None false true ∷ worked_finding 3 Unreadable ∷ []) (worked_award 1 2 750 Failed ∷ [])
+        ++ findings_text (codes "L2") Cancelled (worked_finding 4 (Priced 300 300 0) ∷ []) [] ++ evaluation_end
+        ≡ codes "EVALUATION\tN1\nlot\tL1\tundecided\ntender\t1\tT1\tpriced\t500\tresponsive\t10\t70000\tadmissible\n"
+        ++ codes "tender\t2\tT1\tpriced\t750\tresponsive\t35\t-\tfailed\ntender\t3\tT1\tunreadable\naward\t1\t2\t750\tfailed\n"
+        ++ codes "lot\tL2\tcancelled\ntender\t4\tT1\tpriced\t300\t-\t-\t-\t-\nEND\n" }
 {}

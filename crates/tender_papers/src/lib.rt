@@ -2,6 +2,7 @@
 #![tactic(auto)]
 
 pub mod budget;
+pub mod evaluation;
 pub mod examples;
 pub mod ledger;
 mod lines;

@@ -9,6 +9,8 @@ mod kept_merges;
 #[cfg(test)]
 mod ledger_rows;
 #[cfg(test)]
+mod looked_at_rows;
+#[cfg(test)]
 mod missing_releases;
 #[cfg(test)]
 mod showing;

@@ -1,8 +1,7 @@
 use Rattle.std.specs.Prelude.{◌≡◌, IfOk, ℕ, List, [], ◌∷◌, Vec, codes}
 use Rattle.std.proofs.Common.{subst}
 use Rattle.std.specs.declared.alloc.Global.{Global}
-use Rattle.office_plans.specs.Json.{text_entry, number_entry, count_entry, object_text}
-use Rattle.office_plans.specs.Replies.{digest_entry, moment_entry}
+use Rattle.office_plans.specs.Json.{text_entry, number_entry, count_entry, digest_entry, moment_entry, object_text}
 use Rattle.office_plans.proofs.replies.received_text.Goals as goal
 
 pub returns : goal.returns

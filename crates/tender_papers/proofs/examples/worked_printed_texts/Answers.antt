@@ -14,3 +14,7 @@ returns-clause-register c = refl
 pub returns-clause-minutes : goal.returns-clause-minutes
 unfolding digits moment_text month_after year_after
 returns-clause-minutes c = refl
+
+pub returns-clause-evaluation : goal.returns-clause-evaluation
+unfolding digits
+returns-clause-evaluation c = refl

@@ -1,0 +1,12 @@
+use Rattle.std.proofs.Common.{◌≡◌, ◌∙◌, sym, ap, map, [], codes, subst}
+use Rattle.std.specs.Prelude.{List, ℕ, IfOk}
+use Rattle.std.proofs.lemmas.Simd.{map-map}
+use Rattle.office_plans.specs.Json.{Member, object_text, with_objects}
+use Rattle.office_plans.specs.RowMembers.{listed_security_entries}
+use Rattle.office_machine.specs.Sights.{listed_security}
+use Rattle.office_desk.proofs.queries.securities.securities_text.Goals as goal
+
+pub returns : goal.returns
+returns c =
+    let family : List (List Member) → Type 0 = λ rows. IfOk c.rows_text.result (λ text. text.items ≡ object_text (with_objects [] (codes "securities") rows [])) in
+    subst family (sym (map-map listed_security_entries (listed_security c.args.notice.now) c.args.rows.now)) c.rows_text.ensures

@@ -1,0 +1,168 @@
+//! How the awards of a notice came about: what was found of each tender, and what was decided.
+ghost use Rattle.std.specs.Prelude.{◌≡◌, ◌||◌, ◌++◌, true, IfOk, IfErr, map};
+ghost use Rattle.std.specs.List.{flat_map};
+ghost use Rattle.office_commands.specs.Rights.{is_clerk, may_look};
+ghost use Rattle.office_commands.specs.declared.command.QueryKind.TheVariants as kinds;
+ghost use Rattle.office_commands.specs.declared.queries.Query.TheVariants.{Evaluation};
+ghost use Rattle.office_values.specs.declared.refusal.Refusal.TheVariants.{Unavailable};
+ghost use Rattle.office_base.specs.Shelves.{Looks};
+ghost use Rattle.office_machine.specs.Evaluation.{awards_of_lot, evaluated_lot, evaluated_tender, evaluated_tenders, has_outcome, points_told};
+ghost use Rattle.office_plans.specs.Replies.{evaluated_lines, finding_of};
+ghost use Rattle.office_desk.specs.Steps.{IsShown, read_text};
+ghost use Rattle.tender_papers.specs.Evaluation.{award_line, finding_line};
+
+use award_core::best::{is_admissible, lowest, points};
+use office_base::laws;
+use office_base::records::{AwardRow, EnvelopeRow, EnvelopeState, LotRow, LotState, NoticeState};
+use office_base::shelf::Lookups;
+use office_commands::command::Caller;
+use office_commands::notice::Weight;
+use office_values::id::Id;
+use office_values::money::Amount;
+use office_values::refusal::{Refusal, Thing};
+use std::alloc::{AllocError, Global};
+use tender_papers::evaluation::{EvaluationText, Finding};
+
+// The thousandths of points of a tender that may win, measured by this lowest price; none where the price alone decides.
+fn points_told(weight: Weight, lowest: Amount, row: &EnvelopeRow) -> Option<u64>
+    ensures { result ≡ points_told weight lowest row.now }
+{
+    if weight.get() != 0 && is_admissible(row) {
+        Some(points(weight, lowest, row))
+    } else {
+        None
+    }
+}
+
+// What was found of a tender that was opened. In an office that commands lead to it was read.
+fn finding_of(weight: Weight, lowest: Amount, row: &EnvelopeRow) -> Result<Finding, Refusal>
+    ensures found { IfOk result (λ finding. finding ≡ finding_of (evaluated_tender weight lowest row.now)) }
+    ensures fault { IfErr result (λ e. e ≡ Unavailable) }
+{
+    let Some(reading) = row.reading else {
+        return Err(Refusal::Unavailable);
+    };
+    Ok(Finding {
+        receipt: row.receipt,
+        tenderer: row.tenderer,
+        reading,
+        responsive: row.responsive,
+        quality: row.quality,
+        points: points_told(weight, lowest, row),
+        admissible: is_admissible(row),
+        failed: row.failed,
+    })
+}
+
+// A line for each of a lot's tenders that was opened, behind what is there.
+fn put_tenders(
+    text: &mut EvaluationText,
+    weight: Weight,
+    rows: &[EnvelopeRow],
+) -> Result<(), Refusal>
+    ensures text { IfOk result (λ _. text.new ≡ text.old ++ flat_map finding_line (map finding_of (evaluated_tenders weight rows.now))) }
+    ensures fault { IfErr result (λ e. e ≡ Unavailable) }
+{
+    let lowest = lowest(rows);
+    for row in rows {
+        if row.state == EnvelopeState::Opened {
+            text.put_tender(&finding_of(weight, lowest, row)?)?;
+        }
+    }
+    Ok(())
+}
+
+// A line for each of these awards that is of the lot, behind what is there.
+fn put_awards(text: &mut EvaluationText, lot: Id, awards: &[AwardRow]) -> Result<(), AllocError>
+    ensures { IfOk result (λ _. text.new ≡ text.old ++ flat_map award_line (awards_of_lot lot awards.now)) }
+{
+    for award in awards {
+        if award.lot == lot {
+            text.put_award(award)?;
+        }
+    }
+    Ok(())
+}
+
+// Whether the lot has had an outcome.
+fn has_outcome(awards: &[AwardRow], lot: &LotRow) -> bool
+    ensures { result ≡ has_outcome awards.now lot.now }
+{
+    lot.state != LotState::Undecided || awards.iter().any(|award| award.lot == lot.lot)
+}
+
+// Whether the caller is shown the lot's tenders and awards.
+fn is_shown(caller: &Caller, awards: &[AwardRow], lot: &LotRow) -> bool
+    ensures { result ≡ (is_clerk caller.now || has_outcome awards.now lot.now) }
+{
+    matches!(caller, Caller::Clerk) || has_outcome(awards, lot)
+}
+
+// The lines of a lot, behind what is there: its own, and, where they are shown, those of its tenders and of its awards, which are among these.
+fn put_lot<H: Lookups>(
+    shelf: &mut H,
+    text: &mut EvaluationText,
+    caller: &Caller,
+    weight: Weight,
+    awards: &[AwardRow],
+    lot: &LotRow,
+) -> Result<(), Refusal>
+    ensures looks { Looks H.meaning shelf.old shelf.new (λ s. IfOk result (λ _.
+        text.new ≡ text.old ++ evaluated_lines (evaluated_lot caller.now weight awards.now s lot.now))) }
+    ensures fault { IfErr result (λ e. e ≡ Unavailable) }
+{
+    laws::looks_follow::<H>();
+    text.put_lot(lot.lot, lot.state)?;
+    if !is_shown(caller, awards, lot) {
+        return Ok(());
+    }
+    let rows = shelf.list_envelopes_of_lot(&lot.notice, &lot.lot)?;
+    put_tenders(text, weight, &rows)?;
+    put_awards(text, lot.lot, awards)?;
+    Ok(())
+}
+
+// The text of the evaluation of a notice, lot by lot.
+fn lots_text<H: Lookups>(
+    shelf: &mut H,
+    begun: EvaluationText,
+    caller: &Caller,
+    weight: Weight,
+    awards: &[AwardRow],
+    lots: &[LotRow],
+) -> Result<EvaluationText, Refusal>
+    ensures looks { Looks H.meaning shelf.old shelf.new (λ s. IfOk result (λ text.
+        text ≡ begun ++ flat_map evaluated_lines (map (evaluated_lot caller.now weight awards.now s) lots.now))) }
+    ensures fault { IfErr result (λ e. e ≡ Unavailable) }
+{
+    laws::looks_follow::<H>();
+    let mut text = begun;
+    for lot in lots {
+        put_lot(shelf, &mut text, caller, weight, awards, lot)?;
+    }
+    Ok(text)
+}
+
+/// How the awards of a notice that was opened came about: to the clerk all of it, to others of each lot that has had an outcome.
+pub(crate) fn look<H: Lookups>(
+    alloc: Global,
+    shelf: &mut H,
+    caller: &Caller,
+    notice: Id,
+) -> Result<Vec<u8>, Refusal>
+    requires { may_look caller.now kinds.Evaluation ≡ true }
+    ensures { Looks H.meaning shelf.old shelf.new (λ s. IsShown caller.now (Evaluation notice) s (read_text result)) }
+{
+    laws::looks_follow::<H>();
+    let Some(row) = shelf.get_notice(&notice)? else {
+        return Err(Refusal::NoSuch(Thing::Notice));
+    };
+    if row.state != NoticeState::Opened {
+        return Err(Refusal::NotOpened);
+    }
+    let lots = shelf.list_lots_of_notice(&notice)?;
+    let awards = shelf.list_awards_of_notice(&notice)?;
+    let begun = EvaluationText::begin(alloc, row.notice, lots.len())?;
+    let text = lots_text(shelf, begun, caller, row.weight, &awards, &lots)?;
+    Ok(text.end()?.into_vec())
+}

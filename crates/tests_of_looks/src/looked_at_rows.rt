@@ -1,0 +1,165 @@
+//! Looks at rows that no commands lead to: a contract from which more has gone than came, and a tender that was opened and not read.
+use office_base::counts::TenderLength;
+use office_base::puts::Put;
+use office_base::reading::Reading;
+use office_base::records::{
+    ContractRow, EntryKind, EntryRow, EnvelopeRow, EnvelopeState, NoticeState,
+};
+use office_base::shelf::Shelf;
+use office_commands::amounts::EntryAmount;
+use office_commands::command::Caller;
+use office_commands::queries::Query;
+use office_memory::memory::MemoryShelf;
+use office_values::given::{AskedNumber, GivenNumber};
+use office_values::id::Id;
+use office_values::moment::Moment;
+use office_values::money::Total;
+use office_values::refusal::Refusal;
+use std::alloc::Global;
+use std::test::Fail;
+use tests_sql_office::office::in_sql;
+use tests_transcripts::session::{desk_over, played};
+use tests_transcripts::setup::{MONEY, NOTICE, TENDERERS};
+
+// What a look is answered; None where memory is wanting.
+type Told = Option<Result<Vec<u8>, Refusal>>;
+
+// A contract over so much.
+fn contract_over(signed: u64) -> Option<ContractRow> {
+    Some(ContractRow {
+        contract: GivenNumber::read(1)?,
+        notice: Id::read(b"N1")?,
+        lot: Id::read(b"L1")?,
+        tenderer: Id::read(b"T1")?,
+        signed: Total::read(signed)?,
+        moment: Moment::EPOCH,
+        ended: None,
+        how: None,
+        released: Total::ZERO,
+    })
+}
+
+// A payment of 1 under it.
+fn payment() -> Option<EntryRow> {
+    Some(EntryRow {
+        contract: GivenNumber::read(1)?,
+        entry: Id::read(b"P1")?,
+        kind: EntryKind::Payment,
+        amount: EntryAmount::read(1)?,
+        moment: Moment::EPOCH,
+        rationale: None,
+    })
+}
+
+// What the clerk is told of a contract over so much, under which 1 was paid.
+fn told_of_contract<H: Shelf + Drop>(alloc: Global, shelf: H, signed: u64) -> Told {
+    let mut shelf = shelf;
+    let mut puts = Vec::new(alloc);
+    puts.push(Put::Contract(contract_over(signed)?)).ok()?;
+    puts.push(Put::Entry(payment()?)).ok()?;
+    shelf.apply(puts).ok()?;
+    let contract = AskedNumber::read(1)?;
+    let mut desk = desk_over(alloc, shelf).ok()?;
+    Some(desk.look(&Caller::Clerk, Query::Contract { contract }))
+}
+
+// An opened tender that reads so.
+fn opened_tender(reading: Option<Reading>) -> Option<EnvelopeRow> {
+    Some(EnvelopeRow {
+        receipt: GivenNumber::read(1)?,
+        notice: Id::read(b"N1")?,
+        lot: Id::read(b"L1")?,
+        tenderer: Id::read(b"T1")?,
+        moment: Moment::EPOCH,
+        length: TenderLength::read(3)?,
+        digest: [0; 32],
+        security: None,
+        state: EnvelopeState::Opened,
+        reading,
+        responsive: None,
+        quality: None,
+        failed: false,
+    })
+}
+
+// What the clerk is told of the evaluation of a notice that was opened, with this tender.
+fn told_of_tender<H: Shelf + Drop>(alloc: Global, shelf: H, reading: Option<Reading>) -> Told {
+    let mut shelf = played(alloc, shelf, 0, &[MONEY, TENDERERS, NOTICE]).ok()?;
+    let notice = Id::read(b"N1")?;
+    let mut row = shelf.get_notice(&notice).ok()??;
+    row.state = NoticeState::Opened;
+    row.opened = Some(row.deadline);
+    let mut puts = Vec::new(alloc);
+    puts.push(Put::Notice(row)).ok()?;
+    puts.push(Put::Envelope(opened_tender(reading)?)).ok()?;
+    shelf.apply(puts).ok()?;
+    let mut desk = desk_over(alloc, shelf).ok()?;
+    Some(desk.look(&Caller::Clerk, Query::Evaluation { notice }))
+}
+
+fn is_unavailable(told: Told) -> bool {
+    matches!(told, Some(Err(Refusal::Unavailable)))
+}
+
+fn is_text(told: Told, wanted: &[u8]) -> bool {
+    match told {
+        Some(Ok(text)) => text.as_slice() == wanted,
+        _ => false,
+    }
+}
+
+static CONTRACT: &[u8] =
+    b"{\"contract\":1,\"ended\":null,\"entries\":[{\"amount\":1,\"entry\":\"P1\",\"kind\":\"payment\",\"moment\":\"1970-01-01T00:00:00Z\",\"rationale\":null}],\"how\":null,\"lot\":\"L1\",\"moment\":\"1970-01-01T00:00:00Z\",\"notice\":\"N1\",\"outstanding\":0,\"paid\":1,\"released\":0,\"signed\":1,\"tenderer\":\"T1\"}";
+
+static EVALUATION: &[u8] =
+    b"EVALUATION\tN1\nlot\tL1\tundecided\ntender\t1\tT1\tnonconforming\nEND\n";
+
+// Whether a contract is shown from which no more has gone than came, and another isn't.
+fn shows_contracts<H: Shelf + Drop>(alloc: Global, one: H, other: H) -> bool {
+    is_text(told_of_contract(alloc, one, 1), CONTRACT)
+        && is_unavailable(told_of_contract(alloc, other, 0))
+}
+
+// Whether an evaluation is shown of a tender that was read, and of another isn't.
+fn shows_evaluations<H: Shelf + Drop>(alloc: Global, one: H, other: H) -> bool {
+    let read = told_of_tender(alloc, one, Some(Reading::Nonconforming));
+    is_text(read, EVALUATION) && is_unavailable(told_of_tender(alloc, other, None))
+}
+
+fn right_in_memory(alloc: Global) -> bool {
+    shows_contracts(alloc, MemoryShelf::new(alloc), MemoryShelf::new(alloc))
+        && shows_evaluations(alloc, MemoryShelf::new(alloc), MemoryShelf::new(alloc))
+}
+
+fn contracts_in_sql(alloc: Global) -> bool {
+    match (in_sql(alloc), in_sql(alloc)) {
+        (Some(one), Some(other)) => shows_contracts(alloc, one, other),
+        _ => false,
+    }
+}
+
+fn evaluations_in_sql(alloc: Global) -> bool {
+    match (in_sql(alloc), in_sql(alloc)) {
+        (Some(one), Some(other)) => shows_evaluations(alloc, one, other),
+        _ => false,
+    }
+}
+
+#[test]
+fn looked_at_rows(rt: HostRuntime) -> Result<(), Fail> {
+    let alloc = rt.alloc();
+    // At a second try where the first isn't right: one allocation of a test may be refused.
+    assert!(rt;
+        right_in_memory(alloc) || right_in_memory(alloc),
+        "in memory"
+    );
+    assert!(rt;
+        contracts_in_sql(alloc) || contracts_in_sql(alloc),
+        "contracts in SQL"
+    );
+    assert!(rt;
+        evaluations_in_sql(alloc) || evaluations_in_sql(alloc),
+        "evaluations in SQL"
+    );
+    Ok(())
+}
