@@ -164,7 +164,10 @@ where
         self.below.put(row)
     }
 
-    fn take_back(&mut self, replaced: Replaced<R>) {
+    fn take_back(&mut self, replaced: Replaced<R>)
+        requires { CanTakeBack R.Key.cmp R.key_of replaced self.old }
+        ensures { self.new ≡ taken_back R.Key.cmp R.key_of replaced self.old }
+    {
         if let Some(boxed) = &replaced.old {
             // The index still has a row that `put` replaced. To add another could find no memory.
             let row = boxed.get();

@@ -46,7 +46,10 @@ where
         Table::put(self, row)
     }
 
-    fn take_back(&mut self, replaced: Replaced<R>) {
+    fn take_back(&mut self, replaced: Replaced<R>)
+        requires { CanTakeBack R.Key.cmp R.key_of replaced self.old }
+        ensures { self.new ≡ taken_back R.Key.cmp R.key_of replaced self.old }
+    {
         Table::take_back(self, replaced)
     }
 }
