@@ -21,6 +21,7 @@ use office_values::refusal::{Refusal, Thing};
 use std::alloc::{AllocError, Global};
 
 // A security in the list of its notice.
+#[derive(Drop)]
 struct ListedSecurity<'a> {
     notice: &'a NoticeRow,
 }
