@@ -3,6 +3,7 @@ use Rattle.std.proofs.Common.{◌≡◌, ℕ, Bool, true, List, [], ◌∷◌, �
 use Rattle.std.proofs.lemmas.Bool.{and_parts}
 use Rattle.std.proofs.lemmas.Grind.{flat_map-append}
 use Rattle.std.proofs.lemmas.List.{flat_map_more, map-append}
+use Rattle.std.proofs.lemmas.Simd.{map-map}
 use Rattle.std.specs.Cmp.Lexicographic.{slice_cmp}
 use Rattle.std.specs.List.{AllByRecursion, flat_map, list_all}
 use Rattle.std.specs.Ordering.{is_gt, match_ordering, nat_cmp}
@@ -103,6 +104,21 @@ three_parts front es e fs =
     ∙ append_assoc (front ++ flat_map member_tokens es) (member_tokens e) (flat_map member_tokens fs)
     ∙ append_assoc front (flat_map member_tokens es) (member_tokens e ++ flat_map member_tokens fs)
     ∙ ap (λ ts. front ++ ts) (sym (flat_map-append member_tokens es (e ∷ fs)))
+
+-- rows, an object each
+abbrev pub row_tokens : {X : Type 0} → (X → List Member) → List X → List token.Token
+row_tokens members rows = flat_map value_tokens (map (λ r. json_object (members r)) rows)
+
+pub one_row : {X : Type 0} (members : X → List Member) (front : List token.Token) (rows : List X) (row : X)
+    → (front ++ row_tokens members rows) ++ value_tokens (json_object (members row)) ≡ front ++ row_tokens members (rows ++ row ∷ [])
+one_row members front rows row = one_written value_tokens (λ r. json_object (members r)) front rows row
+
+pub rows_written : {X : Type 0} (members : X → List Member) (front : List token.Token) (rows : List X)
+    → ((front ++ token.begin_array ∷ []) ++ row_tokens members rows) ++ token.end_array ∷ [] ≡ front ++ value_tokens (array (items_of (map json_object (map members rows))))
+rows_written members front rows =
+    between front token.begin_array (row_tokens members rows) token.end_array
+    ∙ ap (λ ts. front ++ ts) (sym (list_written (map (λ r. json_object (members r)) rows)))
+    ∙ ap (λ ds. front ++ value_tokens (array (items_of ds))) (sym (map-map json_object members rows))
 
 -- the text
 pub value_printed : (d : Data) → print (value_tokens d) ≡ compact_text d

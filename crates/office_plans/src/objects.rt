@@ -123,7 +123,6 @@ pub fn write_object(
 }
 
 /// The text of the object with these members, whose names rise in the order of their bytes.
-#[tactic(auto, using(crate::proofs::Printed::value_printed))]
 pub fn object_text(alloc: Global, members: &[(&str, Plain)]) -> Result<Vec<u8>, AllocError>
     requires rising { names_rise (map entry_of members.now) ≡ true }
     ensures { IfOk result (λ text. text.items ≡ object_text (map entry_of members.now)) }
@@ -186,7 +185,6 @@ pub fn write_with_rows<O: RowObject>(
 
 /// The text of the object with these members, a list of rows under this name, and the members behind it; all names rise in the order of their
 /// bytes. One function for each answer that has a list.
-#[tactic(auto, using(crate::proofs::Printed::value_printed))]
 pub fn rows_text<O: RowObject>(
     alloc: Global,
     front: &[(&str, Plain)],
