@@ -17,7 +17,7 @@ use Rattle.office_base.specs.Pages.{is_after, rows_after}
 use Rattle.keyed_table.specs.Inside.Keyed.{stands_at_its_key}
 use Rattle.keyed_table.specs.RowRanges.{is_between, rows_between, start_of}
 use Rattle.std.specs.BTreeMap.Range.{range_contains}
-use Rattle.core.specs.declared.ops.bounds.Bound.TheVariants.{Unbounded}
+use Rattle.std.specs.declared.ops.Bound.TheVariants.{Unbounded}
 use Rattle.office_base.proofs.Orders.{alike_right, equal_from_test}
 
 and_true : (b : Bool) → b && true ≡ b
