@@ -88,7 +88,7 @@ pub fn empty(alloc: Global) -> MemoryTables
         tenderers: Table::new(alloc),
         notices: Table::new(alloc),
         lots: IndexedTable::new(alloc),
-        envelopes: IndexedTable::new(alloc, IndexedTable::new(alloc, listed(alloc))),
+        envelopes: OwnedTable::new(alloc),
         seals: Table::new(alloc),
         securities: LotTable::new(alloc),
         awards: IndexedTable::new(alloc),
