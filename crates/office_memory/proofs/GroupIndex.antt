@@ -98,29 +98,34 @@ module _ {G K : Type 0} {S : G → G → Ordering} {R : K → K → Ordering} (s
     indexed-put r rows index is_whole now_whole h has whole =
         all-put o key (λ x. has_key S R index (group x) (key x) ≡ true) rows r (has whole).1 (h (has whole).0)
 
-    by_result : {Y E : Type 0} (r : X) (rows after : List X) (index : KeysOfGroups G K) (is_whole : Bool) (result : Result Y E)
-        → IsIndexed S R group key rows index is_whole → has_key S R index (group r) (key r) ≡ true
-        → OnOk result (after ≡ row_put R key rows r) → OnErr result (after ≡ rows) → IsIndexed S R group key after index is_whole
-    by_result r rows after index is_whole (Ok x) h has put kept = rw put (indexed-put r rows index is_whole is_whole h (λ whole. (whole, has)))
-    by_result r rows after index is_whole (Err e) h has put kept = rw kept h
+    -- a key is added to it, and it stays as whole as it was
+    pub indexed_with : (rows : List X) (index next : KeysOfGroups G K) (is_whole now_whole : Bool) → IsIndexed S R group key rows index is_whole
+        → ((q : G) (k : K) → has_key S R index q k ≡ true → has_key S R next q k ≡ true) → now_whole ≡ is_whole → IsIndexed S R group key rows next now_whole
+    indexed_with rows index next is_whole now_whole h more same whole = still_indexed rows index next is_whole h more (sym same ∙ whole)
 
-    -- a key is added to it and then its row put, or refused
-    pub indexed_after_put : {Y E : Type 0} (r : X) (rows after : List X) (index next : KeysOfGroups G K) (is_whole : Bool) (result : Result Y E)
-        → IsIndexed S R group key rows index is_whole → has_key S R next (group r) (key r) ≡ true
-        → ((q : G) (k : K) → has_key S R index q k ≡ true → has_key S R next q k ≡ true)
-        → OnOk result (after ≡ row_put R key rows r) → OnErr result (after ≡ rows) → IsIndexed S R group key after next is_whole
-    indexed_after_put r rows after index next is_whole result h has more put kept =
-        by_result r rows after next is_whole result (still_indexed rows index next is_whole h more) has put kept
+    -- then its row may be put
+    pub ready_for : {Y E : Type 0} (r : X) (index next : KeysOfGroups G K) (is_whole now_whole : Bool) (result : Result Y E)
+        → OnOk result (has_key S R next (group r) (key r) ≡ true) → ((q : G) (k : K) → has_key S R index q k ≡ true → has_key S R next q k ≡ true) → now_whole ≡ is_whole
+        → OnOk result ((rows : List X) → IsIndexed S R group key rows index is_whole → IsIndexed S R group key (row_put R key rows r) next now_whole)
+    ready_for r index next is_whole now_whole (Ok v) has more same rows h =
+        indexed-put r rows next is_whole now_whole (still_indexed rows index next is_whole h more) (λ whole. (sym same ∙ whole, has))
+    ready_for r index next is_whole now_whole (Err e) has more same = tt
 
-    -- a row that was replaced comes again
-    pub indexed_again : (r : X) (rows : List X) (index : KeysOfGroups G K) (is_whole is_listed : Bool) → IsIndexed S R group key rows index is_whole
-        → is_listed ≡ has_key S R index (group r) (key r) → IsIndexed S R group key (row_put R key rows r) index (is_whole && is_listed)
-    indexed_again r rows index is_whole is_listed h has =
-        indexed-put r rows index is_whole (is_whole && is_listed) h
-        (λ whole. ((and_parts is_whole is_listed whole).0, sym has ∙ (and_parts is_whole is_listed whole).1))
+    -- a row that was replaced comes again: it stays whole where it has the row
+    pub indexed_again : (r : X) (rows : List X) (index next : KeysOfGroups G K) (is_whole now_whole : Bool) → IsIndexed S R group key rows index is_whole
+        → next ≡ index → now_whole ≡ (is_whole && has_key S R index (group r) (key r)) → IsIndexed S R group key (row_put R key rows r) next now_whole
+    indexed_again r rows index next is_whole now_whole h same stays =
+        rw (same, stays)
+        (indexed-put r rows index is_whole (is_whole && has_key S R index (group r) (key r)) h (λ whole. and_parts is_whole (has_key S R index (group r) (key r)) whole))
 
     -- a row is dropped
     pub indexed_after_drop : (k : K) (rows : List X) (index : KeysOfGroups G K) (is_whole : Bool) → IsIndexed S R group key rows index is_whole
         → IsIndexed S R group key (row_drop R key rows k) index is_whole
     indexed_after_drop k rows index is_whole h whole =
         all-drop R key (λ r. has_key S R index (group r) (key r) ≡ true) rows k (h whole)
+
+-- what holds of rows with one put, and of those without, holds of them once it was put, or refused
+pub put_or_not : {K X Y E : Type 0} (R : K → K → Ordering) (key : X → K) (P : List X → Type 0) (r : X) (rows after : List X) (result : Result Y E)
+    → OnOk result (after ≡ row_put R key rows r) → OnErr result (after ≡ rows) → P (row_put R key rows r) → P rows → P after
+put_or_not R key P r rows after (Ok v) put kept yes no = subst P (sym put) yes
+put_or_not R key P r rows after (Err e) put kept yes no = subst P (sym kept) no

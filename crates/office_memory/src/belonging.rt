@@ -3,8 +3,8 @@ ghost use Rattle.office_values.specs.Ids.{same_id};
 ghost use Rattle.office_base.specs.Tables.{same_number, of_notice};
 
 use crate::child::Child;
+use crate::grouped::Grouped;
 use crate::id_bounds::{greatest_id, least_id};
-use crate::indexed_table::Grouped;
 use office_base::records::{
     AwardRow, ContractRow, EntryRow, EnvelopeRow, LotRow, ReleaseRow, SecurityRow,
 };

@@ -1,5 +1,5 @@
 //! An index of rows by their groups.
-ghost use Rattle.std.specs.Prelude.{◌≡◌, IfOk, OnOk, true, [], ◌∷◌};
+ghost use Rattle.std.specs.Prelude.{◌≡◌, ◌&&◌, IfOk, OnOk, true, [], ◌∷◌};
 ghost use Rattle.std.specs.BTreeMap.{IsEmpty};
 ghost use Rattle.std.specs.BTreeSet.{contains};
 ghost use Rattle.std.specs.List.Sorted.{IsStrictlySortedBy};
@@ -13,6 +13,8 @@ use std::collections::{BTreeMap, BTreeSet};
 pub struct GroupIndex<G: Ord + Copy, K: Ord + Copy> {
     alloc: Global,
     pub keys: BTreeMap<G, BTreeSet<K>>,
+    /// Whether the index has each row. It has, unless a row was taken back that had never been put.
+    pub is_whole: bool,
 }
 
 // This key alone.
@@ -41,11 +43,12 @@ impl<G: Ord + Copy, K: Ord + Copy> GroupIndex<G, K> {
         GroupIndex {
             alloc,
             keys: BTreeMap::new(alloc),
+            is_whole: true,
         }
     }
 
-    /// Whether it has the key under the group.
-    pub fn has(&self, group: &G, key: &K) -> bool
+    // Whether it has the key under the group.
+    fn has(&self, group: &G, key: &K) -> bool
         ensures { result ≡ has_key G.cmp K.cmp self.now.keys group.now key.now }
     {
         match self.keys.get(group) {
@@ -58,11 +61,20 @@ impl<G: Ord + Copy, K: Ord + Copy> GroupIndex<G, K> {
     pub fn add(&mut self, group: G, key: K) -> Result<(), AllocError>
         ensures has { OnOk result (has_key G.cmp K.cmp self.new.keys group key ≡ true) }
         ensures kept { (g : G) (k : K) → has_key G.cmp K.cmp self.old.keys g k ≡ true → has_key G.cmp K.cmp self.new.keys g k ≡ true }
+        ensures whole { self.new.is_whole ≡ self.old.is_whole }
     {
         if let Some(keys) = self.keys.get_mut(&group) {
             return add_to(keys, key);
         }
         self.keys.insert(group, only(self.alloc, key)?)?;
         Ok(())
+    }
+
+    /// It stays whole only where it has the key under the group. Takes no memory.
+    pub fn keep_whole(&mut self, group: &G, key: &K)
+        ensures keys { self.new.keys ≡ self.old.keys }
+        ensures whole { self.new.is_whole ≡ (self.old.is_whole && has_key G.cmp K.cmp self.old.keys group.now key.now) }
+    {
+        self.is_whole &= self.has(group, key);
     }
 }

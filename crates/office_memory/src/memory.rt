@@ -6,7 +6,6 @@ ghost use Rattle.office_memory.specs.MemoryMeaning.{memory_meaning};
 ghost use Rattle.office_base.specs.declared.shelf.ShelfFault.TheVariants.{NoMemory};
 
 use crate::child::copy_rows_of;
-use crate::row_table::RowTable;
 use crate::tables::MemoryTables;
 use crate::{sums, tables};
 use office_base::counts::Sequence;
@@ -134,7 +133,8 @@ impl Lookups for MemoryShelf {
     }
 
     fn get_envelope(&mut self, receipt: AskedNumber) -> Result<Option<EnvelopeRow>, ShelfFault> {
-        match self.tables.envelopes.rows().copy_at(&receipt.get()) {
+        let by_notice = self.tables.envelopes.by_lot().by_group();
+        match by_notice.rows().copy_at(&receipt.get()) {
             Ok(found) => Ok(found),
             Err(_) => Err(self.refused()),
         }
@@ -148,7 +148,13 @@ impl Lookups for MemoryShelf {
     }
 
     fn get_security(&mut self, security: AskedNumber) -> Result<Option<SecurityRow>, ShelfFault> {
-        match self.tables.securities.rows().copy_at(&security.get()) {
+        match self
+            .tables
+            .securities
+            .by_group()
+            .rows()
+            .copy_at(&security.get())
+        {
             Ok(found) => Ok(found),
             Err(_) => Err(self.refused()),
         }
@@ -266,7 +272,7 @@ impl Lookups for MemoryShelf {
     }
 
     fn list_envelopes_of_notice(&mut self, notice: &Id) -> Result<Vec<EnvelopeRow>, ShelfFault> {
-        let by_notice = self.tables.envelopes.below().below();
+        let by_notice = self.tables.envelopes.by_lot().by_group();
         match by_notice.copy_of_group(self.alloc, notice) {
             Ok(rows) => Ok(rows),
             Err(_) => Err(self.refused()),
@@ -278,8 +284,8 @@ impl Lookups for MemoryShelf {
         notice: &Id,
         lot: &Id,
     ) -> Result<Vec<EnvelopeRow>, ShelfFault> {
-        let by_lot = self.tables.envelopes.below();
-        match by_lot.copy_of_group(self.alloc, &(*notice, *lot)) {
+        let by_lot = self.tables.envelopes.by_lot();
+        match by_lot.copy_of_lot(self.alloc, &(*notice, *lot)) {
             Ok(rows) => Ok(rows),
             Err(_) => Err(self.refused()),
         }
@@ -291,15 +297,15 @@ impl Lookups for MemoryShelf {
         lot: &Id,
         tenderer: &Id,
     ) -> Result<Vec<EnvelopeRow>, ShelfFault> {
-        let group = (*notice, *lot, *tenderer);
-        match self.tables.envelopes.copy_of_group(self.alloc, &group) {
+        let owner = (*notice, *lot, *tenderer);
+        match self.tables.envelopes.copy_of_owner(self.alloc, &owner) {
             Ok(rows) => Ok(rows),
             Err(_) => Err(self.refused()),
         }
     }
 
     fn list_securities_of_notice(&mut self, notice: &Id) -> Result<Vec<SecurityRow>, ShelfFault> {
-        let by_notice = self.tables.securities.below();
+        let by_notice = self.tables.securities.by_group();
         match by_notice.copy_of_group(self.alloc, notice) {
             Ok(rows) => Ok(rows),
             Err(_) => Err(self.refused()),
@@ -311,8 +317,8 @@ impl Lookups for MemoryShelf {
         notice: &Id,
         lot: &Id,
     ) -> Result<Vec<SecurityRow>, ShelfFault> {
-        let by_lot = &self.tables.securities;
-        match by_lot.copy_of_group(self.alloc, &(*notice, *lot)) {
+        let securities = &self.tables.securities;
+        match securities.copy_of_lot(self.alloc, &(*notice, *lot)) {
             Ok(rows) => Ok(rows),
             Err(_) => Err(self.refused()),
         }

@@ -1,13 +1,13 @@
 //! The tables of an office in memory.
-ghost use Rattle.std.specs.Prelude.{◌≡◌, ◌<◌, ◌≤◌, IfOk, OnOk, OnErr, [], not, filter, vec_len, vec_capacity, nat_eq};
+ghost use Rattle.std.specs.Prelude.{◌≡◌, ◌<◌, ◌≤◌, IfOk, OnOk, OnErr, not, filter, vec_len, vec_capacity, nat_eq};
 ghost use Rattle.office_base.specs.Tables.{Tables, after_put, after_puts, no_tables};
 ghost use Rattle.office_base.specs.declared.puts.Put.TheVariants.{Seal};
 ghost use Rattle.office_memory.specs.Inside.Drops.{without_seals};
 ghost use Rattle.office_memory.specs.MemoryTables.{tables_of, after_undo, after_undos, CanUndo, CanUndoAll};
 
-use crate::indexed_table::{Grouped, IndexedTable};
-use crate::row_table::RowTable;
-use keyed_table::known::Known;
+use crate::indexed_table::IndexedTable;
+use crate::lot_table::LotTable;
+use crate::owned_table::OwnedTable;
 use keyed_table::table::{Replaced, Table};
 use office_base::laws::rows_are_kept;
 use office_base::puts::Put;
@@ -22,15 +22,6 @@ use office_values::moment::Moment;
 use std::alloc::{AllocError, Global};
 use std::mem;
 
-/// Rows that are listed by a group of one identifier: by their notice, or by their budget line.
-pub type ListedTable<R> = IndexedTable<Table<R>, R, Id>;
-
-/// Rows that are listed by their notice, and by their lot.
-pub type LotTable<R> = IndexedTable<ListedTable<R>, R, (Id, Id)>;
-
-/// Tenders, listed by their notice, by their lot, and by their lot and tenderer.
-pub type EnvelopeTable = IndexedTable<LotTable<EnvelopeRow>, EnvelopeRow, (Id, Id, Id)>;
-
 /// The tables of an office in memory.
 #[derive(Drop)]
 pub struct MemoryTables {
@@ -38,12 +29,12 @@ pub struct MemoryTables {
     pub batches: Table<BatchRow>,
     pub tenderers: Table<TendererRow>,
     pub notices: Table<NoticeRow>,
-    pub lots: ListedTable<LotRow>,
-    pub envelopes: EnvelopeTable,
+    pub lots: IndexedTable<LotRow, Id>,
+    pub envelopes: OwnedTable<EnvelopeRow, Id, (Id, Id), (Id, Id, Id)>,
     pub seals: Table<SealRow>,
-    pub securities: LotTable<SecurityRow>,
-    pub awards: ListedTable<AwardRow>,
-    pub contracts: ListedTable<ContractRow>,
+    pub securities: LotTable<SecurityRow, Id, (Id, Id)>,
+    pub awards: IndexedTable<AwardRow, Id>,
+    pub contracts: IndexedTable<ContractRow, Id>,
     pub entries: Table<EntryRow>,
     pub releases: Table<ReleaseRow>,
     pub compiled: Table<CompiledRow>,
@@ -87,15 +78,6 @@ fn first_clock() -> ClockRow
     }
 }
 
-// No rows, to be listed by a group of one identifier.
-fn listed<R: Grouped<Id> + Drop>(alloc: Global) -> ListedTable<R>
-where
-    R::Key: Known,
-    ensures { result ≡ [] }
-{
-    IndexedTable::new(alloc, Table::new(alloc))
-}
-
 /// Tables without rows. Takes no memory.
 pub fn empty(alloc: Global) -> MemoryTables
     ensures { tables_of result ≡ no_tables }
@@ -105,12 +87,12 @@ pub fn empty(alloc: Global) -> MemoryTables
         batches: Table::new(alloc),
         tenderers: Table::new(alloc),
         notices: Table::new(alloc),
-        lots: listed(alloc),
-        envelopes: IndexedTable::new(alloc, IndexedTable::new(alloc, listed(alloc))),
+        lots: IndexedTable::new(alloc),
+        envelopes: OwnedTable::new(alloc),
         seals: Table::new(alloc),
-        securities: IndexedTable::new(alloc, listed(alloc)),
-        awards: listed(alloc),
-        contracts: listed(alloc),
+        securities: LotTable::new(alloc),
+        awards: IndexedTable::new(alloc),
+        contracts: IndexedTable::new(alloc),
         entries: Table::new(alloc),
         releases: Table::new(alloc),
         compiled: Table::new(alloc),

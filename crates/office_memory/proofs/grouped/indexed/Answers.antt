@@ -1,7 +1,7 @@
 use Rattle.std.proofs.Common.{ap}
 use Rattle.office_memory.specs.Inside.GroupIndex.{keys_in}
 use Rattle.office_memory.proofs.GroupIndex.{rows_found, no_rows}
-use Rattle.office_memory.proofs.indexed_table.indexed.Goals as goal
+use Rattle.office_memory.proofs.grouped.indexed.Goals as goal
 
 pub returns-in_default : goal.returns-in_default
 returns-in_default g c =
