@@ -13,3 +13,4 @@ pub mod Publishing
 pub mod ReadTenders
 pub mod ReleaseJoins
 pub mod Silent
+pub mod Telling

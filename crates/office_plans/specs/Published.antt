@@ -1,8 +1,13 @@
 -- What a command plans, with what it publishes.
-use Rattle.std.specs.Prelude.{◌≡◌, ◌⊎◌, Some, None, Result, Ok, Err}
+use Rattle.std.specs.Prelude.{◌≡◌, ◌⊎◌, Bool, true, false, Some, None, Result, Ok, Err}
 use Rattle.office_values.specs.declared.refusal.Refusal.{Refusal}
 use Rattle.office_values.specs.declared.refusal.Refusal.TheVariants.{Unavailable}
 use Rattle.office_values.specs.declared.settings.Settings.{Settings}
+use Rattle.office_commands.specs.declared.commands.Command.{Command}
+use Rattle.office_commands.specs.declared.commands.Command.TheVariants as commands
+use Rattle.office_base.specs.Faults.{HasRisen}
+use Rattle.office_base.specs.Shelves.{Meaning}
+use Rattle.office_base.specs.Tables.{Tables}
 use Rattle.office_machine.specs.Machine.{Given, IsCommand, done, refusal_of, reply_for, time_of}
 use Rattle.office_machine.specs.OfficeMeans.{office_readings}
 use Rattle.office_machine.specs.Replies.{Reply}
@@ -32,3 +37,15 @@ pub record IsPlan (settings : Settings) (x : Given) (planned : Plan) : Type 0 wh
 abbrev pub IsPlanned : Settings → Given → Result Plan Refusal → Type 0
 IsPlanned settings x (Ok planned) = IsPlan settings x planned
 IsPlanned settings x (Err why) = (refusal_of x ≡ Some why) ⊎ (why ≡ Unavailable)
+
+-- a command that is to be refused is told its refusal, or the store's count of faults rose
+abbrev pub TellsRefusal : {S T : Type 0} → Meaning S → S → S → (Tables → Given) → Result T Refusal → Type 0
+TellsRefusal M old new x result =
+    M.honest new → (s : Tables) → M.holds old s → (why : Refusal) → refusal_of (x s) ≡ Some why
+    → (result ≡ Err why) ⊎ HasRisen (M.fault_count old) (M.fault_count new)
+
+-- a command that isn't decided before memory was taken for a table of the budget lines that it names
+abbrev pub gathers_lines : Command → Bool
+gathers_lines (commands.Import batch rows) = true
+gathers_lines (commands.Publish notice content) = true
+gathers_lines command = false

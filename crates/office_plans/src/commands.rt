@@ -1,10 +1,10 @@
 //! Commands, planned over any shelf: each in its room, and here all of them.
-ghost use Rattle.std.specs.Prelude.{◌≡◌, true};
+ghost use Rattle.std.specs.Prelude.{◌≡◌, true, false};
 ghost use Rattle.office_commands.specs.Commands.{kind_of};
 ghost use Rattle.office_commands.specs.Rights.{may};
 ghost use Rattle.office_base.specs.Shelves.{Looks};
 ghost use Rattle.office_plans.specs.Asking.{given_by};
-ghost use Rattle.office_plans.specs.Published.{IsPlanned};
+ghost use Rattle.office_plans.specs.Published.{IsPlanned, TellsRefusal, gathers_lines};
 
 pub mod amend_contract;
 pub mod amend_notice;
@@ -31,7 +31,7 @@ use office_values::settings::Settings;
 use std::alloc::Global;
 use tender_core::asking::Asking;
 
-/// Plans a command that the caller may give.
+/// Plans a command that the caller may give. One that gathers lines may be `Unavailable` in place of its refusal though no look-up failed.
 pub fn plan_command<H: Lookups>(
     alloc: Global,
     shelf: &mut H,
@@ -40,7 +40,8 @@ pub fn plan_command<H: Lookups>(
     command: Command<'_>,
 ) -> Result<Planned, Refusal>
     requires { may asking.now.caller.now (kind_of command) ≡ true }
-    ensures { Looks H.meaning shelf.old shelf.new (λ s. IsPlanned settings.now (given_by asking.now s command.entry) result) }
+    ensures looks { Looks H.meaning shelf.old shelf.new (λ s. IsPlanned settings.now (given_by asking.now s command.entry) result) }
+    ensures tells { gathers_lines command.entry ≡ false → TellsRefusal H.meaning shelf.old shelf.new (λ s. given_by asking.now s command.entry) result }
 {
     match command {
         Command::Import { batch, rows } => import::plan(alloc, shelf, asking, batch, rows),

@@ -14,14 +14,14 @@ pub(crate) enum LeftOut {
     Release(Sequence),
 }
 
-fn is_left_out(row: &ReleaseRow, left_out: LeftOut) -> bool {
+fn is_left_out(row: &ReleaseRow, left_out: &LeftOut) -> bool {
     match left_out {
         LeftOut::Merge => false,
-        LeftOut::Release(seq) => row.seq == seq,
+        LeftOut::Release(seq) => row.seq == *seq,
     }
 }
 
-fn is_merge(left_out: LeftOut) -> bool {
+fn is_merge(left_out: &LeftOut) -> bool {
     match left_out {
         LeftOut::Merge => true,
         LeftOut::Release(_) => false,
@@ -33,7 +33,7 @@ fn push_releases<H: Shelf>(
     puts: &mut Vec<Put>,
     shelf: &mut H,
     notice: &Id,
-    left_out: LeftOut,
+    left_out: &LeftOut,
 ) -> Result<(), Refusal> {
     for row in shelf.list_releases_of_notice(notice)? {
         if !is_left_out(&row, left_out) {
@@ -67,7 +67,7 @@ fn rows_but<H: Shelf>(
     for row in shelf.list_lots_of_notice(notice)? {
         puts.push(Put::Lot(row))?;
     }
-    push_releases(&mut puts, shelf, notice, left_out)?;
+    push_releases(&mut puts, shelf, notice, &left_out)?;
     puts.push(Put::Clock(shelf.get_clock()?))?;
     Ok(puts)
 }

@@ -249,23 +249,41 @@ fn block_of(alloc: Global, command: &Command, answer: &str) -> Result<String, Al
     Ok(block)
 }
 
-// Whether, where this is lost, all rows are kept in memory, and in SQL, once the command is answered so.
-fn kept(alloc: Global, command: &Command, lost: Lost, answer: &str) -> Result<[bool; 2], Wrong> {
+// Whether, where this is lost, all rows are kept once the command is answered so; none where an office in memory and one in SQL differ.
+fn kept(alloc: Global, command: &Command, lost: Lost, answer: &str) -> Result<Option<bool>, Wrong> {
     let block = block_of(alloc, command, answer)?;
     let rows = left_of(alloc, command.count, lost)?;
     let in_memory = keeps_all(alloc, MemoryShelf::new(alloc), rows, block.as_str())?;
     let rows = left_of(alloc, command.count, lost)?;
     let office = in_sql(alloc).ok_or(Wrong::Unopened)?;
-    Ok([in_memory, keeps_all(alloc, office, rows, block.as_str())?])
+    let in_sql = keeps_all(alloc, office, rows, block.as_str())?;
+    Ok(if in_memory == in_sql {
+        Some(in_memory)
+    } else {
+        None
+    })
+}
+
+fn are_kept(found: Result<Option<bool>, Wrong>) -> bool {
+    match found {
+        Ok(Some(kept)) => kept,
+        Ok(None) => false,
+        Err(_) => false,
+    }
+}
+
+fn are_changed(found: Result<Option<bool>, Wrong>) -> bool {
+    match found {
+        Ok(Some(kept)) => !kept,
+        Ok(None) => false,
+        Err(_) => false,
+    }
 }
 
 // Whether the command is refused there, and accepted where nothing is lost.
 fn is_right(alloc: Global, command: &Command, lost: Lost) -> bool {
-    matches!(kept(alloc, command, lost, UNAVAILABLE), Ok([true, true]))
-        && matches!(
-            kept(alloc, command, Lost::Nothing, command.accepted),
-            Ok([false, false])
-        )
+    are_kept(kept(alloc, command, lost, UNAVAILABLE))
+        && are_changed(kept(alloc, command, Lost::Nothing, command.accepted))
 }
 
 // At a second try where the first isn't right: one allocation of a test may be refused.

@@ -8,7 +8,7 @@ ghost use Rattle.office_base.specs.Shelves.{Looks, LooksUp};
 ghost use Rattle.office_base.specs.Tables.{Tables};
 ghost use Rattle.office_machine.specs.Machine.{refusal_of};
 ghost use Rattle.office_plans.specs.Asking.{given_by};
-ghost use Rattle.office_plans.specs.Published.{IsPlanned, accepted_reply};
+ghost use Rattle.office_plans.specs.Published.{IsPlanned, TellsRefusal, accepted_reply};
 ghost use Rattle.office_plans.specs.Released.{IsReleased};
 ghost use Rattle.office_plans.specs.Replies.{reply_text};
 ghost use Rattle.office_values.specs.declared.refusal.Refusal.TheVariants.{Unavailable};
@@ -127,7 +127,9 @@ pub fn plan<H: Lookups>(
     rationale: TextLine,
 ) -> Result<Planned, Refusal>
     requires { may asking.now.caller.now kinds.AmendContract ≡ true }
-    ensures { Looks H.meaning shelf.old shelf.new (λ s. IsPlanned settings.now (given_by asking.now s (AmendContract contract entry kind amount rationale)) result) }
+    ensures looks { Looks H.meaning shelf.old shelf.new (λ s.
+        IsPlanned settings.now (given_by asking.now s (AmendContract contract entry kind amount rationale)) result) }
+    ensures tells { TellsRefusal H.meaning shelf.old shelf.new (λ s. given_by asking.now s (AmendContract contract entry kind amount rationale)) result }
 {
     looks_follow::<H>();
     let rows = load(shelf, contract)?;

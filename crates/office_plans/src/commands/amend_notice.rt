@@ -6,7 +6,7 @@ ghost use Rattle.office_commands.specs.declared.commands.Command.TheVariants.{Am
 ghost use Rattle.office_base.specs.Shelves.{Looks, LooksUp};
 ghost use Rattle.office_base.specs.Tables.{Tables};
 ghost use Rattle.office_plans.specs.Asking.{given_by};
-ghost use Rattle.office_plans.specs.Published.{IsPlanned};
+ghost use Rattle.office_plans.specs.Published.{IsPlanned, TellsRefusal};
 ghost use Rattle.office_plans.specs.Released.{IsReleased};
 ghost use Rattle.office_publications.specs.NoticeEvents.{deadline_in};
 ghost use Rattle.office_values.specs.declared.refusal.Refusal.TheVariants.{Unavailable};
@@ -86,7 +86,8 @@ pub fn plan<H: Lookups>(
     rationale: TextLine,
 ) -> Result<Planned, Refusal>
     requires { may asking.now.caller.now kinds.AmendNotice ≡ true }
-    ensures { Looks H.meaning shelf.old shelf.new (λ s. IsPlanned settings.now (given_by asking.now s (AmendNotice notice deadline rationale)) result) }
+    ensures looks { Looks H.meaning shelf.old shelf.new (λ s. IsPlanned settings.now (given_by asking.now s (AmendNotice notice deadline rationale)) result) }
+    ensures tells { TellsRefusal H.meaning shelf.old shelf.new (λ s. given_by asking.now s (AmendNotice notice deadline rationale)) result }
 {
     looks_follow::<H>();
     let rows = load(shelf, &notice)?;

@@ -1,16 +1,17 @@
 //! A cancellation, planned: its reply, its release, and what it puts.
-ghost use Rattle.std.specs.Prelude.{◌≡◌, IfErr, IfOk, filter, map, true};
+ghost use Rattle.std.specs.Prelude.{◌≡◌, [], IfErr, IfOk, filter, map, true};
 ghost use Rattle.office_commands.specs.Rights.{may};
 ghost use Rattle.office_commands.specs.declared.command.CommandKind.TheVariants as kinds;
 ghost use Rattle.office_commands.specs.declared.commands.Command.TheVariants.{Cancel};
-ghost use Rattle.office_base.specs.Shelves.{Looks};
+ghost use Rattle.office_base.specs.Shelves.{Looks, LooksUp};
 ghost use Rattle.office_base.specs.Tables.{Tables};
 ghost use Rattle.office_plans.specs.Asking.{given_by};
 ghost use Rattle.office_plans.specs.Named.{line_of_lot, lines_named, cancel_named};
-ghost use Rattle.office_plans.specs.Published.{IsPlanned};
+ghost use Rattle.office_plans.specs.Published.{IsPlanned, TellsRefusal};
 ghost use Rattle.office_plans.specs.Released.{IsReleased};
 ghost use Rattle.office_values.specs.declared.refusal.Refusal.TheVariants.{Unavailable};
-ghost use Rattle.tender_core.specs.Rules.Cancel.{is_open_lot};
+ghost use Rattle.tender_core.specs.Agreeing.{cancel_on};
+ghost use Rattle.tender_core.specs.Rules.Cancel.{cancel_rows, is_open_lot};
 
 use crate::events::{ended_awards, open_lots};
 use crate::lines::load_line;
@@ -52,9 +53,9 @@ fn load_lines<H: Lookups>(
     Ok(lines)
 }
 
-// The rows that it is decided on: of the lines those of the open lots, on which the decision is the same as on all lines of the office.
+// The rows that it is refused on: those that it is decided on, but for the lines. Takes no memory beside them.
 fn load<H: Lookups>(alloc: Global, shelf: &mut H, notice: &Id) -> Result<CancelRows, ShelfFault>
-    ensures { Looks H.meaning shelf.old shelf.new (λ s. IfOk result (λ rows. rows ≡ cancel_named s notice.now)) }
+    ensures { LooksUp H.meaning shelf.old shelf.new result (λ s rows. rows ≡ cancel_on [] (cancel_rows s notice.now)) }
 {
     let clock = shelf.get_clock()?;
     let row = shelf.get_notice(notice)?;
@@ -62,16 +63,29 @@ fn load<H: Lookups>(alloc: Global, shelf: &mut H, notice: &Id) -> Result<CancelR
     let securities = shelf.list_securities_of_notice(notice)?;
     let envelopes = shelf.list_envelopes_of_notice(notice)?;
     let lots = shelf.list_lots_of_notice(notice)?;
-    let lines = load_lines(alloc, shelf, lots.as_slice())?;
     Ok(CancelRows {
         notice: row,
-        lines,
+        lines: Table::new(alloc),
         lots: Rows::from_vec(lots),
         awards: Rows::from_vec(awards),
         envelopes: Rows::from_vec(envelopes),
         securities: Rows::from_vec(securities),
         clock,
     })
+}
+
+// The rows that it is decided on: of the lines those of the open lots, on which the decision is the same as on all lines of the office.
+fn with_lines<H: Lookups>(
+    alloc: Global,
+    shelf: &mut H,
+    found: CancelRows,
+) -> Result<CancelRows, ShelfFault>
+    ensures { Looks H.meaning shelf.old shelf.new (λ s. IfOk result (λ rows.
+        rows ≡ cancel_on (lines_named s (map line_of_lot (filter is_open_lot found.lots))) found)) }
+{
+    let mut rows = found;
+    rows.lines = load_lines(alloc, shelf, rows.lots.as_slice())?;
+    Ok(rows)
 }
 
 // The release of an accepted cancellation: of the lots that are open, and the active awards of these.
@@ -107,7 +121,7 @@ fn release(
     make_release(alloc, settings, notice, &rows.notice, t, &event)
 }
 
-/// Plans a cancellation: a refusal takes no memory beside the rows. Its rationale is kept for the release alone.
+/// Plans a cancellation: a refusal takes no memory beside the rows, and asks for no line. Its rationale is kept for the release alone.
 pub fn plan<H: Lookups>(
     alloc: Global,
     shelf: &mut H,
@@ -117,16 +131,18 @@ pub fn plan<H: Lookups>(
     rationale: TextLine,
 ) -> Result<Planned, Refusal>
     requires { may asking.now.caller.now kinds.Cancel ≡ true }
-    ensures { Looks H.meaning shelf.old shelf.new (λ s. IsPlanned settings.now (given_by asking.now s (Cancel notice rationale)) result) }
+    ensures looks { Looks H.meaning shelf.old shelf.new (λ s. IsPlanned settings.now (given_by asking.now s (Cancel notice rationale)) result) }
+    ensures tells { TellsRefusal H.meaning shelf.old shelf.new (λ s. given_by asking.now s (Cancel notice rationale)) result }
 {
     looks_follow::<H>();
     rows_are_kept::<LineRow>();
     cancels_agree();
-    let rows = load(alloc, shelf, &notice)?;
-    let t = asking.time(&rows.clock);
-    if let Some(why) = refusal(&rows) {
+    let found = load(alloc, shelf, &notice)?;
+    let t = asking.time(&found.clock);
+    if let Some(why) = refusal(&found) {
         return Err(why);
     }
+    let rows = with_lines(alloc, shelf, found)?;
     let text = notice_reply(alloc, asking, notice, &rows.notice, &rows.clock)?;
     let release = release(alloc, settings, asking, &rows, notice, &rationale)?;
     let puts = puts(alloc, t, rows)?;

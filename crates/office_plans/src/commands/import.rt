@@ -61,7 +61,8 @@ fn reply(alloc: Global, batch: Id, rows: u64, moment: Moment) -> Result<Vec<u8>,
     )
 }
 
-/// Plans the import of a budget file: a refusal takes no memory beside the rows.
+/// Plans the import of a budget file: a refusal takes no memory beside the rows. Where the lines stand that it names is among these, gathered
+/// in a table, so that a refused one may be `Unavailable` though no look-up failed.
 pub fn plan<H: Lookups>(
     alloc: Global,
     shelf: &mut H,

@@ -7,7 +7,7 @@ ghost use Rattle.office_commands.specs.declared.commands.Command.TheVariants.{Mo
 ghost use Rattle.office_base.specs.Shelves.{Looks, LooksUp};
 ghost use Rattle.office_machine.specs.Replies.{received_reply};
 ghost use Rattle.office_plans.specs.Asking.{given_by};
-ghost use Rattle.office_plans.specs.Published.{IsPlanned};
+ghost use Rattle.office_plans.specs.Published.{IsPlanned, TellsRefusal};
 ghost use Rattle.office_plans.specs.Replies.{reply_text};
 ghost use Rattle.office_values.specs.declared.settings.Settings.{Settings};
 ghost use Rattle.tender_core.specs.Rules.Modify.{modify_rows, replacing};
@@ -66,7 +66,9 @@ pub fn plan<H: Lookups>(
     sealed: Sealed<'_>,
 ) -> Result<Planned, Refusal>
     requires { may asking.now.caller.now kinds.Modify ≡ true }
-    ensures { (settings : Settings) → Looks H.meaning shelf.old shelf.new (λ s. IsPlanned settings (given_by asking.now s (Modify receipt sealed.entry)) result) }
+    ensures looks { (settings : Settings) → Looks H.meaning shelf.old shelf.new (λ s.
+        IsPlanned settings (given_by asking.now s (Modify receipt sealed.entry)) result) }
+    ensures tells { TellsRefusal H.meaning shelf.old shelf.new (λ s. given_by asking.now s (Modify receipt sealed.entry)) result }
 {
     let rows = load(shelf, receipt)?;
     let t = asking.time(&rows.clock);

@@ -8,7 +8,7 @@ ghost use Rattle.office_base.specs.Tables.{Tables};
 ghost use Rattle.office_machine.specs.Machine.{refusal_of};
 ghost use Rattle.office_values.specs.declared.refusal.Refusal.TheVariants.{Unavailable};
 ghost use Rattle.office_plans.specs.Asking.{given_by};
-ghost use Rattle.office_plans.specs.Published.{IsPlanned, accepted_reply};
+ghost use Rattle.office_plans.specs.Published.{IsPlanned, TellsRefusal, accepted_reply};
 ghost use Rattle.office_plans.specs.Released.{IsReleased};
 ghost use Rattle.office_plans.specs.Replies.{reply_text};
 ghost use Rattle.award_core.specs.Rules.Pay.{pay_rows};
@@ -114,7 +114,8 @@ pub fn plan<H: Lookups>(
     amount: EntryAmount,
 ) -> Result<Planned, Refusal>
     requires { may asking.now.caller.now kinds.Pay ≡ true }
-    ensures { Looks H.meaning shelf.old shelf.new (λ s. IsPlanned settings.now (given_by asking.now s (Pay contract entry amount)) result) }
+    ensures looks { Looks H.meaning shelf.old shelf.new (λ s. IsPlanned settings.now (given_by asking.now s (Pay contract entry amount)) result) }
+    ensures tells { TellsRefusal H.meaning shelf.old shelf.new (λ s. given_by asking.now s (Pay contract entry amount)) result }
 {
     looks_follow::<H>();
     let rows = load(shelf, contract)?;

@@ -91,7 +91,8 @@ fn release(
     make_release(alloc, settings, notice, &rows.notice, t, &event)
 }
 
-/// Plans the publication of a notice: a refusal takes no memory beside the rows.
+/// Plans the publication of a notice: a refusal takes no memory beside the rows. The lines of its lots among these are gathered in a table,
+/// so that a refused one may be `Unavailable` though no look-up failed.
 pub fn plan<H: Lookups>(
     alloc: Global,
     shelf: &mut H,

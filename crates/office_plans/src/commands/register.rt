@@ -6,7 +6,7 @@ ghost use Rattle.office_commands.specs.declared.commands.Command.TheVariants.{Re
 ghost use Rattle.office_base.specs.Shelves.{Looks, LooksUp};
 ghost use Rattle.office_machine.specs.Replies.{Enrolled};
 ghost use Rattle.office_plans.specs.Asking.{given_by};
-ghost use Rattle.office_plans.specs.Published.{IsPlanned};
+ghost use Rattle.office_plans.specs.Published.{IsPlanned, TellsRefusal};
 ghost use Rattle.office_plans.specs.Replies.{reply_text};
 ghost use Rattle.office_values.specs.declared.settings.Settings.{Settings};
 ghost use Rattle.tender_core.specs.Rules.Register.{register_rows};
@@ -57,7 +57,9 @@ pub fn plan<H: Lookups>(
     key: [u8; 32],
 ) -> Result<Planned, Refusal>
     requires { may asking.now.caller.now kinds.Register ≡ true }
-    ensures { (settings : Settings) → Looks H.meaning shelf.old shelf.new (λ s. IsPlanned settings (given_by asking.now s (Register tenderer name address key)) result) }
+    ensures looks { (settings : Settings) → Looks H.meaning shelf.old shelf.new (λ s.
+        IsPlanned settings (given_by asking.now s (Register tenderer name address key)) result) }
+    ensures tells { TellsRefusal H.meaning shelf.old shelf.new (λ s. given_by asking.now s (Register tenderer name address key)) result }
 {
     let rows = load(shelf, &tenderer)?;
     let t = asking.time(&rows.clock);

@@ -9,7 +9,7 @@ ghost use Rattle.office_base.specs.Shelves.{Looks, LooksUp};
 ghost use Rattle.office_base.specs.Tables.{Tables};
 ghost use Rattle.office_machine.specs.Replies as replies;
 ghost use Rattle.office_plans.specs.Asking.{given_by};
-ghost use Rattle.office_plans.specs.Published.{IsPlanned, accepted_reply};
+ghost use Rattle.office_plans.specs.Published.{IsPlanned, TellsRefusal, accepted_reply};
 ghost use Rattle.office_plans.specs.Released.{IsReleased};
 ghost use Rattle.office_plans.specs.Replies.{reply_text};
 ghost use Rattle.office_values.specs.declared.refusal.Refusal.TheVariants.{Unavailable};
@@ -128,7 +128,8 @@ pub fn plan<H: Lookups>(
     security: Option<NamedSecurity>,
 ) -> Result<Planned, Refusal>
     requires { may asking.now.caller.now kinds.Sign ≡ true }
-    ensures { Looks H.meaning shelf.old shelf.new (λ s. IsPlanned settings.now (given_by asking.now s (Sign award security)) result) }
+    ensures looks { Looks H.meaning shelf.old shelf.new (λ s. IsPlanned settings.now (given_by asking.now s (Sign award security)) result) }
+    ensures tells { TellsRefusal H.meaning shelf.old shelf.new (λ s. given_by asking.now s (Sign award security)) result }
 {
     looks_follow::<H>();
     let rows = load(alloc, shelf, award)?;

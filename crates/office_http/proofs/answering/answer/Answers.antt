@@ -25,5 +25,5 @@ returns-in-Err-clause-kept g c =
       why = c.in-Err.fault;
       refused = c.in-Err.ensures.refused c.args.bytes.now c.new-reader.ensures.remaining;
       text_is = c.constant.ensures ∙ c.fault_response.ensures;
-      kept = λ honest s held xs reached. (held, c.kept.ensures.steps xs (held_by c.args.desk.now s) reached []);
+      kept = λ honest s held xs reached. (held, c.accounts_and_fates.ensures.steps xs (held_by c.args.desk.now s) reached []);
     })

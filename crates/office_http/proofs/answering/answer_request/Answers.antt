@@ -8,6 +8,6 @@ returns-clause-kept g c honest s held xs reached keeps =
       answered.0,
       answered.1,
       answered.2,
-      c.kept.ensures.requests c.args.desk.now.settings xs s reached c.args.request.now c.args.moment answered.0,
+      c.accounts_and_fates.ensures.requests c.args.desk.now.settings xs s reached c.args.request.now c.args.moment answered.0,
       answered.3.keeps,
     )

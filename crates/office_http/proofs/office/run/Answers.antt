@@ -22,5 +22,5 @@ returns-clause-kept g c honest input remains s held xs reached keeps =
       ran.0,
       ran_watched M old.shelf c.run.new.desk h c.run.result input c.run.new.reader.remaining ran.0 c.args.writer.now.contents c.run.new.writer.contents ran.1,
       end.0,
-      c.kept.ensures.steps xs h reached ran.0,
+      c.accounts_and_fates.ensures.steps xs h reached ran.0,
     )

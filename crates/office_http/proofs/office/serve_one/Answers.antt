@@ -26,7 +26,7 @@ returns-clause-kept g c honest input remains s held xs reached keeps =
       office_now served.0,
       one,
       served.2.0,
-      served_kept c.kept.ensures.steps input c.serve_one.new.reader.remaining c.args.moment h (office_now served.0) xs reached c.serve_one.result one.told one.served,
+      served_kept c.accounts_and_fates.ensures.steps input c.serve_one.new.reader.remaining c.args.moment h (office_now served.0) xs reached c.serve_one.result one.told one.served,
     )
 
 pub returns-clause-stepped : goal.returns-clause-stepped

@@ -10,7 +10,7 @@ returns-clause-serves g c = turns_serve g.H.Lookups.meaning g.H.StoredShelf.stor
 
 pub returns-clause-kept : goal.returns-clause-kept
 returns-clause-kept g c =
-    serving_kept g.H.Lookups.meaning c.args.count c.args.office.now c.take_turns.new.office c.kept.ensures.steps
+    serving_kept g.H.Lookups.meaning c.args.count c.args.office.now c.take_turns.new.office c.accounts_and_fates.ensures.steps
     (turns_serve g.H.Lookups.meaning g.H.StoredShelf.store c.args.count c.args.office.now c.take_turns.new.office c.take_turns.result c.take_turns.ensures)
 
 pub returns-clause-fault : goal.returns-clause-fault

@@ -7,6 +7,7 @@ use Rattle.office_machine.specs.Machine.{time_of}
 use Rattle.office_machine.specs.OfficeMeans.{office_readings}
 use Rattle.office_machine.specs.Replies.{modify_reply}
 use Rattle.office_plans.proofs.Publishing.{IsTested, not_planned, on_rows, puts_on, refused_on}
+use Rattle.office_plans.proofs.Telling.{fault_told, none_to_tell, refusal_told}
 use Rattle.office_plans.proofs.commands.modify.plan.Goals as goal
 use Rattle.office_plans.specs.Asking.{given_by}
 use Rattle.office_plans.specs.Replies.{reply_text}
@@ -21,13 +22,13 @@ rule : (asking : Asking) (receipt : ℕ) (sealed : List ℕ) → IsTested asking
     (λ (rows : ModifyRows) (t : ℕ). modify_tests rows t asking.caller.now)
 rule asking receipt sealed = record { clock = λ s. refl; tested = λ s. refl }
 
-pub returns-in-Some : goal.returns-in-Some
-returns-in-Some g c settings =
+pub returns-in-Some-clause-looks : goal.returns-in-Some-clause-looks
+returns-in-Some-clause-looks g c settings =
     let a = c.args in
     not_planned (rule a.asking.now a.receipt a.sealed) _ _ c.time-t.ensures _ settings _ _ _ _ c.in_ok-rows.ensures.0 c.requires c.refusal.ensures c.in-Some.is
 
-pub returns : goal.returns
-returns g c settings =
+pub returns-clause-looks : goal.returns-clause-looks
+returns-clause-looks g c settings =
     let a = c.args in
     let ruled = rule a.asking.now a.receipt a.sealed in
     let moment = c.time-t.ensures in (
@@ -44,3 +45,31 @@ returns g c settings =
           ∙ ap (λ tender. reply tender (modify_rows s a.receipt) (time_of (given_by a.asking.now s (Modify a.receipt a.sealed)))) there in
           c.silent.ensures settings (given_by a.asking.now s (Modify a.receipt a.sealed)) tt allowed refl refl puts told,
     )
+
+pub returns-in_err-rows-clause-tells : goal.returns-in_err-rows-clause-tells
+returns-in_err-rows-clause-tells g c =
+    let a = c.args in
+    fault_told _ _ _ a.asking.now (Modify a.receipt a.sealed) _ _ c.in_err-rows.ensures.1
+
+pub returns-in-Some-clause-tells : goal.returns-in-Some-clause-tells
+returns-in-Some-clause-tells g c =
+    let a = c.args in
+    refusal_told (rule a.asking.now a.receipt a.sealed) _ _ c.time-t.ensures _ _ _ c.in_ok-rows.ensures.0 c.requires _ c.refusal.ensures _ c.in-Some.is
+
+pub returns-in_err-text-clause-tells : goal.returns-in_err-text-clause-tells
+returns-in_err-text-clause-tells g c =
+    let a = c.args in
+    none_to_tell (rule a.asking.now a.receipt a.sealed) _ _ c.time-t.ensures _ _ _ c.in_ok-rows.ensures.0 c.requires _ c.refusal.ensures _ _
+    (λ honest. honest) c.in_default.is
+
+pub returns-in_err-puts-clause-tells : goal.returns-in_err-puts-clause-tells
+returns-in_err-puts-clause-tells g c =
+    let a = c.args in
+    none_to_tell (rule a.asking.now a.receipt a.sealed) _ _ c.time-t.ensures _ _ _ c.in_ok-rows.ensures.0 c.requires _ c.refusal.ensures _ _
+    (λ honest. honest) c.in_default.is
+
+pub returns-clause-tells : goal.returns-clause-tells
+returns-clause-tells g c =
+    let a = c.args in
+    none_to_tell (rule a.asking.now a.receipt a.sealed) _ _ c.time-t.ensures _ _ _ c.in_ok-rows.ensures.0 c.requires _ c.refusal.ensures _ _
+    (λ honest. honest) c.in_default.is

@@ -7,6 +7,7 @@ use Rattle.office_machine.specs.OfficeMeans.{office_readings}
 use Rattle.office_machine.specs.Rule.{sealed_tenders}
 use Rattle.office_plans.proofs.Publishing.{IsTested, four_looks, not_planned, puts_on, refused_on}
 use Rattle.office_plans.proofs.ReadTenders.{tenders_are}
+use Rattle.office_plans.proofs.Telling.{fault_told, none_to_tell, refusal_told}
 use Rattle.office_plans.proofs.commands.open.plan.Goals as goal
 use Rattle.office_plans.specs.Asking.{given_by}
 use Rattle.tender_core.specs.Rules.Open.{open_rows, open_tests, opened_with}
@@ -19,13 +20,13 @@ rule : (asking : Asking) (notice : List ℕ) → IsTested asking (Open notice) (
     (λ (rows : OpenRows) (t : ℕ). open_tests rows t)
 rule asking notice = record { clock = λ s. refl; tested = λ s. refl }
 
-pub returns-in-Some : goal.returns-in-Some
-returns-in-Some g c =
+pub returns-in-Some-clause-looks : goal.returns-in-Some-clause-looks
+returns-in-Some-clause-looks g c =
     let a = c.args in
     not_planned (rule a.asking.now a.notice) _ _ c.time-t.ensures _ a.settings.now _ _ _ _ c.in_ok-rows.ensures.0 c.requires c.refusal.ensures c.in-Some.is
 
-pub returns : goal.returns
-returns g c =
+pub returns-clause-looks : goal.returns-clause-looks
+returns-clause-looks g c =
     let a = c.args in
     let ruled = rule a.asking.now a.notice in
     let moment = c.time-t.ensures in
@@ -38,3 +39,43 @@ returns g c =
     (c.readings_are_put.ensures office_readings.read (open_rows s a.notice) time (sealed_tenders a.notice s)
     ∙ ap (λ (ts : List OpenedTender). opened_with s.clock time (notice_at a.notice s) ts) (sym (read ∙ tenders_are a.notice s))) in
     joined a.settings.now (given_by a.asking.now s (Open a.notice)) refl tt allowed puts (c.in_ok-text.ensures s are (c.as_slice.ensures ∙ read)) (released are (c.as_slice-2.ensures ∙ read)))
+
+pub returns-in_err-rows-clause-tells : goal.returns-in_err-rows-clause-tells
+returns-in_err-rows-clause-tells g c =
+    let a = c.args in
+    fault_told _ _ _ a.asking.now (Open a.notice) _ _ c.in_err-rows.ensures.1
+
+pub returns-in-Some-clause-tells : goal.returns-in-Some-clause-tells
+returns-in-Some-clause-tells g c =
+    let a = c.args in
+    refusal_told (rule a.asking.now a.notice) _ _ c.time-t.ensures _ _ _ c.in_ok-rows.ensures.0 c.requires _ c.refusal.ensures _ c.in-Some.is
+
+pub returns-in_err-tenders-clause-tells : goal.returns-in_err-tenders-clause-tells
+returns-in_err-tenders-clause-tells g c =
+    let a = c.args in
+    none_to_tell (rule a.asking.now a.notice) _ _ c.time-t.ensures _ _ _ c.in_ok-rows.ensures.0 c.requires _ c.refusal.ensures _ _
+    c.in_err-tenders.ensures.looks.0.before c.in_default.is
+
+pub returns-in_err-text-clause-tells : goal.returns-in_err-text-clause-tells
+returns-in_err-text-clause-tells g c =
+    let a = c.args in
+    none_to_tell (rule a.asking.now a.notice) _ _ c.time-t.ensures _ _ _ c.in_ok-rows.ensures.0 c.requires _ c.refusal.ensures _ _
+    c.in_ok-tenders.ensures.looks.0.before c.in_default.is
+
+pub returns-in_err-release-clause-tells : goal.returns-in_err-release-clause-tells
+returns-in_err-release-clause-tells g c =
+    let a = c.args in
+    none_to_tell (rule a.asking.now a.notice) _ _ c.time-t.ensures _ _ _ c.in_ok-rows.ensures.0 c.requires _ c.refusal.ensures _ _
+    (λ honest. c.in_ok-tenders.ensures.looks.0.before (c.in_err-release.ensures.looks.0.before honest)) c.in_default.is
+
+pub returns-in_err-puts-clause-tells : goal.returns-in_err-puts-clause-tells
+returns-in_err-puts-clause-tells g c =
+    let a = c.args in
+    none_to_tell (rule a.asking.now a.notice) _ _ c.time-t.ensures _ _ _ c.in_ok-rows.ensures.0 c.requires _ c.refusal.ensures _ _
+    (λ honest. c.in_ok-tenders.ensures.looks.0.before (c.in_ok-release.ensures.looks.0.before honest)) c.in_default.is
+
+pub returns-clause-tells : goal.returns-clause-tells
+returns-clause-tells g c =
+    let a = c.args in
+    none_to_tell (rule a.asking.now a.notice) _ _ c.time-t.ensures _ _ _ c.in_ok-rows.ensures.0 c.requires _ c.refusal.ensures _ _
+    (λ honest. c.in_ok-tenders.ensures.looks.0.before (c.in_ok-release.ensures.looks.0.before (c.published.ensures.0.before honest))) c.in_default.is

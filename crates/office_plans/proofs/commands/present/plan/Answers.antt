@@ -9,6 +9,7 @@ use Rattle.office_machine.specs.Machine.{time_of}
 use Rattle.office_machine.specs.Replies.{received_reply}
 use Rattle.office_plans.proofs.OwnTenders.{own_tests}
 use Rattle.office_plans.proofs.Publishing.{IsTested, not_planned, on_rows, puts_on, refused_on}
+use Rattle.office_plans.proofs.Telling.{fault_told, none_to_tell, refusal_told}
 use Rattle.office_plans.proofs.commands.present.plan.Goals as goal
 use Rattle.office_plans.specs.Asking.{given_by}
 use Rattle.office_plans.specs.OwnTenders.{own_rows}
@@ -23,13 +24,13 @@ rule : (asking : Asking) (notice : List ℕ) (lot : List ℕ) (security : Option
     (λ (rows : PresentRows) (t : ℕ). present_tests rows t asking.caller.now security)
 rule asking notice lot security sealed = record { clock = λ s. refl; tested = λ s. sym (own_tests asking.caller.now notice lot s (time_of (given_by asking s (Present notice lot security sealed))) security) }
 
-pub returns-in-Some : goal.returns-in-Some
-returns-in-Some g c settings =
+pub returns-in-Some-clause-looks : goal.returns-in-Some-clause-looks
+returns-in-Some-clause-looks g c settings =
     let a = c.args in
     not_planned (rule a.asking.now a.notice a.lot a.security a.sealed) _ _ c.time-t.ensures _ settings _ _ _ _ c.in_ok-rows.ensures.0 c.requires c.refusal.ensures c.in-Some.is
 
-pub returns : goal.returns
-returns g c settings =
+pub returns-clause-looks : goal.returns-clause-looks
+returns-clause-looks g c settings =
     let a = c.args in
     let ruled = rule a.asking.now a.notice a.lot a.security a.sealed in
     let moment = c.time-t.ensures in (
@@ -43,3 +44,31 @@ returns g c settings =
           let told = c.in_ok-text.ensures a.asking.now.caller.now a.notice a.lot ∙ on_rows ruled _ _ moment reply s are in
           c.silent.ensures settings (given_by a.asking.now s (Present a.notice a.lot a.security a.sealed)) tt allowed refl refl puts told,
     )
+
+pub returns-in_err-rows-clause-tells : goal.returns-in_err-rows-clause-tells
+returns-in_err-rows-clause-tells g c =
+    let a = c.args in
+    fault_told _ _ _ a.asking.now (Present a.notice a.lot a.security a.sealed) _ _ c.in_err-rows.ensures.1
+
+pub returns-in-Some-clause-tells : goal.returns-in-Some-clause-tells
+returns-in-Some-clause-tells g c =
+    let a = c.args in
+    refusal_told (rule a.asking.now a.notice a.lot a.security a.sealed) _ _ c.time-t.ensures _ _ _ c.in_ok-rows.ensures.0 c.requires _ c.refusal.ensures _ c.in-Some.is
+
+pub returns-in_err-text-clause-tells : goal.returns-in_err-text-clause-tells
+returns-in_err-text-clause-tells g c =
+    let a = c.args in
+    none_to_tell (rule a.asking.now a.notice a.lot a.security a.sealed) _ _ c.time-t.ensures _ _ _ c.in_ok-rows.ensures.0 c.requires _ c.refusal.ensures _ _
+    (λ honest. honest) c.in_default.is
+
+pub returns-in_err-puts-clause-tells : goal.returns-in_err-puts-clause-tells
+returns-in_err-puts-clause-tells g c =
+    let a = c.args in
+    none_to_tell (rule a.asking.now a.notice a.lot a.security a.sealed) _ _ c.time-t.ensures _ _ _ c.in_ok-rows.ensures.0 c.requires _ c.refusal.ensures _ _
+    (λ honest. honest) c.in_default.is
+
+pub returns-clause-tells : goal.returns-clause-tells
+returns-clause-tells g c =
+    let a = c.args in
+    none_to_tell (rule a.asking.now a.notice a.lot a.security a.sealed) _ _ c.time-t.ensures _ _ _ c.in_ok-rows.ensures.0 c.requires _ c.refusal.ensures _ _
+    (λ honest. honest) c.in_default.is

@@ -4,6 +4,7 @@ use Rattle.office_commands.specs.declared.commands.Command.TheVariants.{Register
 use Rattle.office_base.specs.Tables.{Tables}
 use Rattle.office_machine.specs.Replies.{Enrolled}
 use Rattle.office_plans.proofs.Publishing.{IsTested, not_planned, puts_on, refused_on, time_is}
+use Rattle.office_plans.proofs.Telling.{fault_told, none_to_tell, refusal_told}
 use Rattle.office_plans.proofs.commands.register.plan.Goals as goal
 use Rattle.office_plans.specs.Asking.{given_by}
 use Rattle.office_plans.specs.Replies.{reply_text}
@@ -16,13 +17,13 @@ rule : (asking : Asking) (tenderer : List ℕ) (name : List ℕ) (address : List
     (λ (rows : RegisterRows) (t : ℕ). register_tests rows tenderer)
 rule asking tenderer name address key = record { clock = λ s. refl; tested = λ s. refl }
 
-pub returns-in-Some : goal.returns-in-Some
-returns-in-Some g c settings =
+pub returns-in-Some-clause-looks : goal.returns-in-Some-clause-looks
+returns-in-Some-clause-looks g c settings =
     let a = c.args in
     not_planned (rule a.asking.now a.tenderer a.name a.address a.key) _ _ c.time-t.ensures _ settings _ _ _ _ c.in_ok-rows.ensures.0 c.requires c.refusal.ensures c.in-Some.is
 
-pub returns : goal.returns
-returns g c settings =
+pub returns-clause-looks : goal.returns-clause-looks
+returns-clause-looks g c settings =
     let a = c.args in
     let ruled = rule a.asking.now a.tenderer a.name a.address a.key in
     let moment = c.time-t.ensures in (
@@ -34,3 +35,31 @@ returns g c settings =
           let told = c.in_ok-text.ensures ∙ ap (λ t. reply_text (Enrolled a.tenderer t)) (time_is ruled _ _ moment s are) in
           c.silent.ensures settings (given_by a.asking.now s (Register a.tenderer a.name a.address a.key)) tt allowed refl refl puts told,
     )
+
+pub returns-in_err-rows-clause-tells : goal.returns-in_err-rows-clause-tells
+returns-in_err-rows-clause-tells g c =
+    let a = c.args in
+    fault_told _ _ _ a.asking.now (Register a.tenderer a.name a.address a.key) _ _ c.in_err-rows.ensures.1
+
+pub returns-in-Some-clause-tells : goal.returns-in-Some-clause-tells
+returns-in-Some-clause-tells g c =
+    let a = c.args in
+    refusal_told (rule a.asking.now a.tenderer a.name a.address a.key) _ _ c.time-t.ensures _ _ _ c.in_ok-rows.ensures.0 c.requires _ c.refusal.ensures _ c.in-Some.is
+
+pub returns-in_err-text-clause-tells : goal.returns-in_err-text-clause-tells
+returns-in_err-text-clause-tells g c =
+    let a = c.args in
+    none_to_tell (rule a.asking.now a.tenderer a.name a.address a.key) _ _ c.time-t.ensures _ _ _ c.in_ok-rows.ensures.0 c.requires _ c.refusal.ensures _ _
+    (λ honest. honest) c.in_default.is
+
+pub returns-in_err-puts-clause-tells : goal.returns-in_err-puts-clause-tells
+returns-in_err-puts-clause-tells g c =
+    let a = c.args in
+    none_to_tell (rule a.asking.now a.tenderer a.name a.address a.key) _ _ c.time-t.ensures _ _ _ c.in_ok-rows.ensures.0 c.requires _ c.refusal.ensures _ _
+    (λ honest. honest) c.in_default.is
+
+pub returns-clause-tells : goal.returns-clause-tells
+returns-clause-tells g c =
+    let a = c.args in
+    none_to_tell (rule a.asking.now a.tenderer a.name a.address a.key) _ _ c.time-t.ensures _ _ _ c.in_ok-rows.ensures.0 c.requires _ c.refusal.ensures _ _
+    (λ honest. honest) c.in_default.is

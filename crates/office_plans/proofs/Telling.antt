@@ -1,0 +1,44 @@
+-- A command's refusal is told, unless a look-up failed.
+use Rattle.std.specs.Prelude.{◌≡◌, ◌<◌, ◌⊎◌, ◌+◌, ◌-◌, ◌^◌, ℕ, Bool, true, List, Option, Some, None, Result, Ok, Err, max, min}
+use Rattle.std.proofs.Common.{◌∙◌, ap, arith, inl, inr, sym}
+use Rattle.office_values.specs.declared.refusal.Refusal.{Refusal}
+use Rattle.office_commands.specs.Commands.{kind_of}
+use Rattle.office_commands.specs.declared.commands.Command.{Command}
+use Rattle.office_base.specs.Faults.{HasRisen, count_after, one_fault_more}
+use Rattle.office_base.specs.Rules.{first_of}
+use Rattle.office_base.specs.Shelves.{CountsFaults, Looks, Meaning}
+use Rattle.office_base.specs.Tables.{Tables}
+use Rattle.office_base.specs.declared.records.ClockRow.{ClockRow}
+use Rattle.office_base.specs.declared.shelf.ShelfFault.{ShelfFault}
+use Rattle.office_machine.specs.Machine.{may_give, refusal_of}
+use Rattle.office_plans.proofs.Publishing.{IsTested, refused_on}
+use Rattle.office_plans.specs.Asking.{given_by}
+use Rattle.office_plans.specs.Published.{TellsRefusal}
+use Rattle.tender_core.specs.declared.asking.Asking.{Asking}
+
+-- one fault more is a higher count, or the last one
+has_risen : (old new : ℕ) → new ≡ one_fault_more old → HasRisen old new
+has_risen old new counted = grind (arith, counted)
+
+-- a look-up that failed is counted
+pub fault_told : {S T V : Type 0} (M : Meaning S) (a b : S) (asking : Asking) (command : Command) (fault : ShelfFault) (result : Result T Refusal)
+    → CountsFaults {T = V} M a b (Err fault) → TellsRefusal M a b (λ s. given_by asking s command) result
+fault_told M a b asking command fault result counts honest s held why refused = inr (has_risen _ _ counts.counted)
+
+-- rows that were looked up, the moment by their clock, and what the decision on them answered
+module _ {R : Type 0} {asking : Asking} {command : Command} {rows_of : Tables → R} {clock_in : R → ClockRow} {tests : R → ℕ → List (Bool × Refusal)}
+    (ruled : IsTested asking command rows_of clock_in tests) (rows : R) (t : ℕ) (moment : t ≡ max asking.moment (clock_in rows).moment)
+    {S T : Type 0} (M : Meaning S) (a b : S) (looked : Looks M a b (λ s. rows ≡ rows_of s)) (may : may_give asking.caller.now command ≡ true)
+    (answer : Option Refusal) (is : answer ≡ first_of (tests rows t)) where
+  -- where it refuses, this refusal is told
+  pub refusal_told : (why : Refusal) → answer ≡ Some why → TellsRefusal {T = T} M a b (λ s. given_by asking s command) (Err why)
+  refusal_told why refuses honest s held own refused =
+      let same : Some why ≡ Some own = sym refuses ∙ sym (refused_on ruled rows t moment answer may is s (looked.1 honest s held)) ∙ refused in
+      let are : why ≡ own = cc in
+      inl (λ i. Err (are i))
+
+  -- where it refuses nothing, there is no refusal to be told, whatever is looked at behind it
+  pub none_to_tell : (c : S) (result : Result T Refusal) → (M.honest c → M.honest b) → answer ≡ None → TellsRefusal M a c (λ s. given_by asking s command) result
+  none_to_tell c result before allows honest s held why refused =
+      let differ : None ≡ Some why = sym allows ∙ sym (refused_on ruled rows t moment answer may is s (looked.1 (before honest) s held)) ∙ refused in
+      absurd (cc)
