@@ -107,8 +107,8 @@ module _ {G K : Type 0} {S : G → G → Ordering} {R : K → K → Ordering} (s
     pub ready_for : {Y E : Type 0} (r : X) (index next : KeysOfGroups G K) (is_whole now_whole : Bool) (result : Result Y E)
         → OnOk result (has_key S R next (group r) (key r) ≡ true) → ((q : G) (k : K) → has_key S R index q k ≡ true → has_key S R next q k ≡ true) → now_whole ≡ is_whole
         → OnOk result ((rows : List X) → IsIndexed S R group key rows index is_whole → IsIndexed S R group key (row_put R key rows r) next now_whole)
-    ready_for r index next is_whole now_whole (Ok v) has more same rows h =
-        indexed-put r rows next is_whole now_whole (still_indexed rows index next is_whole h more) (λ whole. (sym same ∙ whole, has))
+    ready_for r index next is_whole now_whole (Ok v) has more same =
+        λ rows h. indexed-put r rows next is_whole now_whole (still_indexed rows index next is_whole h more) (λ whole. (sym same ∙ whole, has))
     ready_for r index next is_whole now_whole (Err e) has more same = tt
 
     -- a row that was replaced comes again: it stays whole where it has the row

@@ -79,7 +79,7 @@ where
 
 /// The rows of a group among these, in the order of their keys. Costs a look-up for each row that is or was of the group; a look at each
 /// of the rows, where the index isn't whole.
-pub fn rows_of_group<'a, R: Grouped<G> + Drop, G: Ord + Copy>(
+pub(crate) fn rows_of_group<'a, R: Grouped<G> + Drop, G: Ord + Copy>(
     alloc: Global,
     rows: &'a Table<R>,
     index: &GroupIndex<G, R::Key>,
@@ -97,7 +97,7 @@ where
 }
 
 /// The rows of a group, copied, in the order of their keys. Costs as `rows_of_group`, and the copies.
-pub fn copy_of_group<R: Grouped<G> + Drop, G: Ord + Copy>(
+pub(crate) fn copy_of_group<R: Grouped<G> + Drop, G: Ord + Copy>(
     alloc: Global,
     rows: &Table<R>,
     index: &GroupIndex<G, R::Key>,
@@ -112,7 +112,7 @@ where
 }
 
 /// Adds a row that is to be put. Where it then isn't put, the index has a key too many, which does no harm.
-pub fn add_row<R: Grouped<G>, G: Ord + Copy>(
+pub(crate) fn add_row<R: Grouped<G>, G: Ord + Copy>(
     index: &mut GroupIndex<G, R::Key>,
     row: &R,
 ) -> Result<(), AllocError>
@@ -126,7 +126,10 @@ pub fn add_row<R: Grouped<G>, G: Ord + Copy>(
 
 /// A row comes again that another had replaced. The index still has it, if it was put; else the index isn't whole any more, since to add
 /// a row could find no memory.
-pub fn row_comes_again<R: Grouped<G>, G: Ord + Copy>(index: &mut GroupIndex<G, R::Key>, row: &R)
+pub(crate) fn row_comes_again<R: Grouped<G>, G: Ord + Copy>(
+    index: &mut GroupIndex<G, R::Key>,
+    row: &R,
+)
     ensures { (rows : List R) → IsIndexed G.cmp R.Key.cmp R.group_of R.key_of rows index.old.keys index.old.is_whole
         → IsIndexed G.cmp R.Key.cmp R.group_of R.key_of (row_put R.Key.cmp R.key_of rows row.now) index.new.keys index.new.is_whole }
 {
@@ -134,7 +137,7 @@ pub fn row_comes_again<R: Grouped<G>, G: Ord + Copy>(index: &mut GroupIndex<G, R
 }
 
 /// A law: rows may leave a table, and its index stays as it is.
-pub fn rows_may_leave<R: Grouped<G>, G: Ord + Copy>()
+pub(crate) fn rows_may_leave<R: Grouped<G>, G: Ord + Copy>()
     ensures { (rows : List R) (keys : KeysOfGroups G R.Key) (is_whole : Bool) (key : R.Key) → IsIndexed G.cmp R.Key.cmp R.group_of R.key_of rows keys is_whole
         → IsIndexed G.cmp R.Key.cmp R.group_of R.key_of (row_drop R.Key.cmp R.key_of rows key) keys is_whole }
 {}
