@@ -27,7 +27,7 @@ use Rattle.office_base.specs.declared.records.SecurityState.TheVariants.{Forfeit
 use Rattle.office_base.proofs.RowLaws.Keyed.{found_key}
 use Rattle.tender_core.specs.Rules.Cancel.{award_put, cancel_puts, cancelled_award, cancelled_lot_put, drop_put, envelope_put, freed_line_put, is_ended_award, is_ended_envelope, is_ended_security, is_open_lot}
 use Rattle.award_core.specs.Best.{IsAnswer, IsBest}
-use Rattle.award_core.specs.Rules.Award.{award_puts, award_rows, award_tests, decision_puts, price_of, winner}
+use Rattle.award_core.specs.Rules.Award.{award_puts, award_row, award_rows, award_tests, decision_puts, price_of, winner}
 use Rattle.award_core.specs.Rules.Fail.{fail_puts}
 use Rattle.award_core.specs.Rules.Sign.{performance_put, sign_puts}
 use Rattle.award_core.proofs.BestFound.{best_is_found}
@@ -116,6 +116,9 @@ module _ (means : Means) (xs : List Given) (s : Tables) (moment : ℕ) (caller :
   earlier : (command : Command) (number : ℕ) (a : AwardRow) (state : AwardState) → award_at number s ≡ Some a → WasMade (given command ∷ xs) (record a { state = state })
   earlier command number a state is = inr (still xs a state (kept number a is))
 
+  made_now : (command : Command) (a : AwardRow) → MakesAward (given command) a command → WasMade (given command ∷ xs) a
+  made_now command a made = inl made
+
   returned_off : (command : Command) (securities : List SecurityRow) → Makes command (securities_returned securities)
   returned_off command securities =
       all_off (given command ∷ xs) isnt_award refl (securities_returned securities) (on-map isnt_award security_returned (filter is_held_security securities) (λ _. refl))
@@ -131,7 +134,7 @@ module _ (means : Means) (xs : List Given) (s : Tables) (moment : ℕ) (caller :
         let tenders : List EnvelopeRow = envelopes_of_lot notice lot s in
         let named : lot_key l ≡ (notice, lot) = found_key keyed.lots s.lots (notice, lot) l is in
         let best : IsBest n.weight tenders e = subst (IsAnswer n.weight tenders) won (best_is_found.found n.weight tenders) in (
-          inl
+          made_now (Award notice lot) (award_row s.clock (time_of x) l e)
           (record {
             of_notice = ap (λ (k : List ℕ × List ℕ). k.0) named;
             of_lot = ap (λ (k : List ℕ × List ℕ). k.1) named;
