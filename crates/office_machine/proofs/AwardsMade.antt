@@ -56,9 +56,9 @@ one_still x _ a state h = h
 still : (xs : List Given) (a : AwardRow) (state : AwardState) → WasMade xs a → WasMade xs (record a { state = state })
 still [] a state h = h
 still (x ∷ xs) a state h = elim h as (λ _. MakesAward x (record a { state = state }) x.command ⊎ WasMade xs (record a { state = state })) [
-    | inl made ↦ inl (one_still x x.command a state made)
-    | inr earlier ↦ inr (still xs a state earlier)
-  ]
+  | inl made ↦ inl (one_still x x.command a state made)
+  | inr earlier ↦ inr (still xs a state earlier)
+]
 
 -- Puts whose awards were made.
 
@@ -135,15 +135,15 @@ module _ (means : Means) (xs : List Given) (s : Tables) (moment : ℕ) (caller :
         let named : lot_key l ≡ (notice, lot) = found_key keyed.lots s.lots (notice, lot) l is in
         let best : IsBest n.weight tenders e = subst (IsAnswer n.weight tenders) won (best_is_found.found n.weight tenders) in (
           made_now (Award notice lot) (award_row s.clock (time_of x) l e)
-          (record {
-            of_notice = ap (λ (k : List ℕ × List ℕ). k.0) named;
-            of_lot = ap (λ (k : List ℕ × List ℕ). k.1) named;
-            number = refl;
-            moment = refl;
-            shown =
-                lot_shown Clerk s notice lot n l there (open_notice s notice lot (time_of x) tests n there) is refl (λ shown. IsShownBest shown e.receipt (price_of e))
-                (best_shown n.weight tenders e best);
-          }),
+              (record {
+                of_notice = ap (λ (k : List ℕ × List ℕ). k.0) named;
+                of_lot = ap (λ (k : List ℕ × List ℕ). k.1) named;
+                number = refl;
+                moment = refl;
+                shown =
+                    lot_shown Clerk s notice lot n l there (open_notice s notice lot (time_of x) tests n there) is refl (λ shown. IsShownBest shown e.receipt (price_of e))
+                    (best_shown n.weight tenders e best);
+              }),
           (tt, (tt, (tt, (tt, tt)))),
         )
 
