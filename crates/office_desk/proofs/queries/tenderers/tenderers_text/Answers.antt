@@ -1,4 +1,4 @@
-use Rattle.std.proofs.Common.{◌≡◌, [], ◌∷◌, ◌∙◌, sym, ap, map, take, codes, subst}
+use Rattle.std.proofs.Common.{◌≡◌, sym, map, take, codes, subst}
 use Rattle.std.specs.Prelude.{List, ℕ, Option, IfOk}
 use Rattle.std.proofs.lemmas.Simd.{map-map}
 use Rattle.office_base.specs.declared.records.TendererRow.{TendererRow}
