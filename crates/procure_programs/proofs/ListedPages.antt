@@ -14,11 +14,11 @@ use Rattle.tender_papers.specs.Listing.{listing_line, listing_text}
 use Rattle.procure_programs.specs.Listing.{WritesPage, page_rows}
 
 -- so many pages behind a notice
-abbrev read : ℕ → Option (List ℕ) → Tables → List NoticeRow
+abbrev pub read : ℕ → Option (List ℕ) → Tables → List NoticeRow
 read more after s = read_pages id_cmp notice_key page_limit more after s.notices
 
 -- the first of them
-abbrev page : Option (List ℕ) → Tables → List NoticeRow
+abbrev pub page : Option (List ℕ) → Tables → List NoticeRow
 page after s = take page_limit (rows_after id_cmp notice_key after s.notices)
 
 -- what was written of these tables by now: some pages from the first on, behind which those behind this notice follow
