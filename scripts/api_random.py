@@ -11,7 +11,8 @@ NAMES = ("N1", "N2", "N3", "N4", "N5", "L1", "L2", "1000", "2000", "B1", "T1", "
 NUMBERS = (*range(1, 13), 9999, 9999999999)
 QUERIES = ("", "?", "?after=N1", "?after=N9", "?after=", "?after", "?after=%4e1", "?after=N1&after=N2", "?x=1&after=A", "?AFTER=!", "?security=G1&amount=50",
            "?security=G1", "?amount=50", "?security=G1&amount=0", "?security=%ff&amount=1", "?&&=&", "?x=%ff", "?after=%00", "?" + "a" * 4000)
-OTHERS = (None, True, 0, 1, -1, 1.5, 10 ** 12, 10 ** 15 + 1, "", "N1", "a b", "\u00e4", "2099-12-31T23:59:59Z", "1970-01-01T00:00:00Z", "0" * 64, [], {}, [{}])
+OTHERS: tuple[Any, ...] = (None, True, 0, 1, -1, 1.5, 10 ** 12, 10 ** 15 + 1, "", "N1", "a b", "\u00e4", "2099-12-31T23:59:59Z", "1970-01-01T00:00:00Z",
+                           "0" * 64, [], {}, [{}])
 ROUNDS = 20
 
 

@@ -152,7 +152,7 @@ def due_in_list(notice: str, releases: list[Json]) -> Json:
 def listed_notices_are_of_the_releases(seen: Seen) -> Found:
     """The list says of each notice what its releases say; where all notices are there, it has these and no others."""
     for it in seen.listed or []:
-        releases = seen.releases.get(it.get("notice"))
+        releases = seen.releases.get(str(it.get("notice")))
         if releases is None:
             yield from [(f"notices {it.get('notice')}", "is in the list, and there are no releases of it")] if seen.complete else []
         elif found := difference(it, due_in_list(it["notice"], releases[:it["releases"]])):
@@ -177,8 +177,8 @@ def terms_are_of_the_releases(seen: Seen) -> Found:
     """Terms say of title, publication, criteria, lots and items what the first release says."""
     for notice, terms in seen.terms.items():
         due = due_in_terms(seen.releases[notice])
-        told = {**{name: terms.get(name) for name in due},
-                "lots": [{name: lot.get(name) for name in ("estimate", "id", "items", "title")} for lot in terms.get("lots", [])]}
+        told: Json = {name: terms.get(name) for name in due}
+        told["lots"] = [{name: lot.get(name) for name in ("estimate", "id", "items", "title")} for lot in terms.get("lots", [])]
         found = difference(told, due)
         if found:
             yield f"notices {notice}", "its terms at {} are {}, and its releases say {}".format(*found)
@@ -240,13 +240,18 @@ def evaluations_are_of_the_minutes(seen: Seen) -> Found:
 
 # ---- Saved before.
 
+def fixed_in(terms: Json) -> Json:
+    """What no command changes of terms."""
+    lots = [{**lot, "state": None} for lot in terms.get("lots", [])]
+    return {**{name: value for name, value in terms.items() if name not in CHANGES}, "lots": lots}
+
+
 @rule("saved")
 def saved_terms_stay(later: Later, office: Office | None, saved: Answers, notice: str) -> Found:
     """Terms that were saved are still the terms: of a notice its deadline alone may have been moved, and it and its lots may have gone on."""
     before, here = saved.terms(notice), later.terms(notice) if notice in later.notices else None
     if before is not None and here is not None:
-        found = difference(*({**{name: value for name, value in terms.items() if name not in CHANGES},
-                              "lots": [{**lot, "state": None} for lot in terms.get("lots", [])]} for terms in (here, before)))
+        found = difference(fixed_in(here), fixed_in(before))
         if found:
             yield f"notices {notice}", "its terms at {} are {}, and were {} in {}".format(*found, saved.place)
         if str(here.get("deadline")) < str(before.get("deadline")) or before.get("opened") not in (None, here.get("opened")):
