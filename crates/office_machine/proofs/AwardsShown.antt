@@ -61,10 +61,10 @@ has_kept y x xs true c = has_tail y x xs c
 has_kept y x xs false c = c
 
 has_filtered : {X : Type 0} (p : X → Bool) (xs : List X) (x : X) (k : ℕ) → k < length xs → slice_index_or xs k x ≡ x → p x ≡ true → Contains (filter p xs) x
-has_filtered p [] x k few is yes = absurd (let none : k < 0 = few in omega arith)
-has_filtered p (y ∷ ys) x zero few is yes =
-    subst (λ b. Contains (cond b (y ∷ filter p ys) (filter p ys)) x) (sym (ap p is ∙ yes)) (subst (λ z. Contains (y ∷ filter p ys) z) is (has_head y (filter p ys)))
-has_filtered p (y ∷ ys) x (suc k) few is yes = has_kept y x (filter p ys) (p y) (has_filtered p ys x k (omega arith) is yes)
+has_filtered p [] x k few is passing = absurd (let none : k < 0 = few in omega arith)
+has_filtered p (y ∷ ys) x zero few is passing =
+    subst (λ b. Contains (cond b (y ∷ filter p ys) (filter p ys)) x) (sym (ap p is ∙ passing)) (subst (λ z. Contains (y ∷ filter p ys) z) is (has_head y (filter p ys)))
+has_filtered p (y ∷ ys) x (suc k) few is passing = has_kept y x (filter p ys) (p y) (has_filtered p ys x k (omega arith) is passing)
 
 module _ {X : Type 0} where
   has_first : (y x : X) (ys : List X) (o : Option X) (c : Ordering) → (o ≡ Some x → Contains ys x) → by_order c None (Some y) o ≡ Some x → Contains (y ∷ ys) x

@@ -127,5 +127,5 @@ module _ {G K : Type 0} {S : G → G → Ordering} {R : K → K → Ordering} (s
 -- what holds of rows with one put, and of those without, holds of them once it was put, or refused
 pub put_or_not : {K X Y E : Type 0} (R : K → K → Ordering) (key : X → K) (P : List X → Type 0) (r : X) (rows after : List X) (result : Result Y E)
     → OnOk result (after ≡ row_put R key rows r) → OnErr result (after ≡ rows) → P (row_put R key rows r) → P rows → P after
-put_or_not R key P r rows after (Ok v) put kept yes no = subst P (sym put) yes
-put_or_not R key P r rows after (Err e) put kept yes no = subst P (sym kept) no
+put_or_not R key P r rows after (Ok v) put kept with_it without = subst P (sym put) with_it
+put_or_not R key P r rows after (Err e) put kept with_it without = subst P (sym kept) without

@@ -2,4 +2,5 @@
 pub mod Drops
 pub mod IdBounds
 pub mod GroupIndex
+pub mod OfLots
 pub mod Adding

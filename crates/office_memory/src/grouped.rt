@@ -1,11 +1,12 @@
 //! Rows that are listed with others of their group.
-ghost use Rattle.std.specs.Prelude.{◌≡◌, List, Bool, IfOk, OnOk, [], filter, map};
-ghost use Rattle.office_memory.specs.Inside.GroupIndex.{HasRows, IsIndexed, KeysOfGroups};
-ghost use Rattle.office_base.specs.Rows.{row_put, row_drop};
+ghost use Rattle.std.specs.Prelude.{◌≡◌, List, IfOk, OnOk, [], filter, map};
+ghost use Rattle.office_memory.specs.Inside.GroupIndex.{HasRows, IsIndexed};
+ghost use Rattle.keyed_table.specs.Replacing.{taken_back};
+ghost use Rattle.office_base.specs.Rows.{row_put};
 
 use crate::group_index::GroupIndex;
 use keyed_table::known::Known;
-use keyed_table::table::Table;
+use keyed_table::table::{Replaced, Table};
 use office_base::row::{Row, copy_of};
 use std::alloc::{AllocError, Global};
 
@@ -124,20 +125,25 @@ pub(crate) fn add_row<R: Grouped<G>, G: Ord + Copy>(
     index.add(row.group(), row.key())
 }
 
-/// A row comes again that another had replaced. The index still has it, if it was put; else the index isn't whole any more, since to add
-/// a row could find no memory.
-pub(crate) fn row_comes_again<R: Grouped<G>, G: Ord + Copy>(
-    index: &mut GroupIndex<G, R::Key>,
-    row: &R,
-)
+// A row comes again that another had replaced. The index still has it, if it was put; else the index isn't whole any more, since to add
+// a row could find no memory.
+fn row_comes_again<R: Grouped<G>, G: Ord + Copy>(index: &mut GroupIndex<G, R::Key>, row: &R)
     ensures { (rows : List R) → IsIndexed G.cmp R.Key.cmp R.group_of R.key_of rows index.old.keys index.old.is_whole
         → IsIndexed G.cmp R.Key.cmp R.group_of R.key_of (row_put R.Key.cmp R.key_of rows row.now) index.new.keys index.new.is_whole }
 {
     index.keep_whole(&row.group(), &row.key());
 }
 
-/// A law: rows may leave a table, and its index stays as it is.
-pub(crate) fn rows_may_leave<R: Grouped<G>, G: Ord + Copy>()
-    ensures { (rows : List R) (keys : KeysOfGroups G R.Key) (is_whole : Bool) (key : R.Key) → IsIndexed G.cmp R.Key.cmp R.group_of R.key_of rows keys is_whole
-        → IsIndexed G.cmp R.Key.cmp R.group_of R.key_of (row_drop R.Key.cmp R.key_of rows key) keys is_whole }
-{}
+/// A row is to be taken back that was put: the one that it replaced comes again, or it leaves. Takes no memory.
+pub(crate) fn go_back<R: Grouped<G> + Drop, G: Ord + Copy>(
+    index: &mut GroupIndex<G, R::Key>,
+    replaced: &Replaced<R>,
+)
+    ensures { (rows : List R) → IsIndexed G.cmp R.Key.cmp R.group_of R.key_of rows index.old.keys index.old.is_whole
+        → IsIndexed G.cmp R.Key.cmp R.group_of R.key_of (taken_back R.Key.cmp R.key_of replaced.now rows) index.new.keys index.new.is_whole }
+{
+    match &replaced.old {
+        Some(boxed) => row_comes_again(index, boxed.get()),
+        None => {}
+    }
+}

@@ -86,10 +86,7 @@ where
         requires { CanTakeBack R.Key.cmp R.key_of replaced self.old }
         ensures { self.new ≡ taken_back R.Key.cmp R.key_of replaced self.old }
     {
-        grouped::rows_may_leave::<R, G>();
-        if let Some(boxed) = &replaced.old {
-            grouped::row_comes_again(&mut self.index, boxed.get());
-        }
+        grouped::go_back(&mut self.index, &replaced);
         self.rows.take_back(replaced);
     }
 }

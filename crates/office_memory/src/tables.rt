@@ -5,9 +5,9 @@ ghost use Rattle.office_base.specs.declared.puts.Put.TheVariants.{Seal};
 ghost use Rattle.office_memory.specs.Inside.Drops.{without_seals};
 ghost use Rattle.office_memory.specs.MemoryTables.{tables_of, after_undo, after_undos, CanUndo, CanUndoAll};
 
+use crate::envelope_table::EnvelopeTable;
 use crate::indexed_table::IndexedTable;
-use crate::lot_table::LotTable;
-use crate::owned_table::OwnedTable;
+use crate::security_table::SecurityTable;
 use keyed_table::table::{Replaced, Table};
 use office_base::laws::rows_are_kept;
 use office_base::puts::Put;
@@ -30,9 +30,9 @@ pub struct MemoryTables {
     pub tenderers: Table<TendererRow>,
     pub notices: Table<NoticeRow>,
     pub lots: IndexedTable<LotRow, Id>,
-    pub envelopes: OwnedTable<EnvelopeRow, Id, (Id, Id), (Id, Id, Id)>,
+    pub envelopes: EnvelopeTable,
     pub seals: Table<SealRow>,
-    pub securities: LotTable<SecurityRow, Id, (Id, Id)>,
+    pub securities: SecurityTable,
     pub awards: IndexedTable<AwardRow, Id>,
     pub contracts: IndexedTable<ContractRow, Id>,
     pub entries: Table<EntryRow>,
@@ -88,9 +88,9 @@ pub fn empty(alloc: Global) -> MemoryTables
         tenderers: Table::new(alloc),
         notices: Table::new(alloc),
         lots: IndexedTable::new(alloc),
-        envelopes: OwnedTable::new(alloc),
+        envelopes: EnvelopeTable::new(alloc),
         seals: Table::new(alloc),
-        securities: LotTable::new(alloc),
+        securities: SecurityTable::new(alloc),
         awards: IndexedTable::new(alloc),
         contracts: IndexedTable::new(alloc),
         entries: Table::new(alloc),

@@ -1,6 +1,7 @@
 //! The list of an office's notices.
-ghost use Rattle.std.specs.Prelude.{◌≡◌, ◌++◌, IfOk};
-ghost use Rattle.tender_papers.specs.Lines.{tabbed};
+ghost use Rattle.std.specs.Prelude.{◌≡◌, ◌++◌, ◌∷◌, [], IfOk, decimal};
+ghost use Rattle.office_values.specs.Moments.{moment_text};
+ghost use Rattle.tender_papers.specs.Lines.{line, tabbed};
 ghost use Rattle.tender_papers.specs.Listing.{listing_line, listing_text, moment_or_dash, notice_word};
 
 use crate::lines::Lines;
@@ -33,18 +34,33 @@ fn put_moment(lines: &mut Lines, moment: Option<Moment>) -> Result<(), AllocErro
     }
 }
 
+// When a notice was published, its deadline, and when it was opened.
+fn put_moments(lines: &mut Lines, row: &NoticeRow) -> Result<(), AllocError>
+    ensures { IfOk result (λ _. lines.new ≡ lines.old
+        ++ tabbed (moment_text row.now.published) ++ tabbed (moment_text row.now.deadline) ++ tabbed (moment_or_dash row.now.opened)) }
+{
+    lines.field(&row.published.text())?;
+    lines.field(&row.deadline.text())?;
+    put_moment(lines, row.opened)
+}
+
+// How often a notice was amended, how many releases it has, and its title, up to the end of its line.
+fn put_counts(lines: &mut Lines, row: &NoticeRow) -> Result<(), AllocError>
+    ensures { IfOk result (λ _. lines.new ≡ lines.old ++ line (decimal row.now.amendments ∷ decimal row.now.releases ∷ row.now.title ∷ [])) }
+{
+    lines.number(row.amendments.get())?;
+    lines.number(row.releases.get())?;
+    lines.last(row.title.as_str().as_bytes())
+}
+
 // The line of a notice, behind what is there.
 fn put_notice(lines: &mut Lines, row: &NoticeRow) -> Result<(), AllocError>
     ensures { IfOk result (λ _. lines.new ≡ lines.old ++ listing_line row.now) }
 {
     lines.field(row.notice.as_bytes())?;
     lines.field(notice_word(row.state).as_bytes())?;
-    lines.field(&row.published.text())?;
-    lines.field(&row.deadline.text())?;
-    put_moment(lines, row.opened)?;
-    lines.number(row.amendments.get())?;
-    lines.number(row.releases.get())?;
-    lines.last(row.title.as_str().as_bytes())
+    put_moments(lines, row)?;
+    put_counts(lines, row)
 }
 
 /// The lines of these notices, in their order: name, how far it has come, when it was published, deadline, when it was opened (`-` where it

@@ -16,8 +16,8 @@ returns-clause-looks g c =
     let step = c.in_ok-rows.ensures.0 in (
       step.0,
       λ honest s held.
-          shown_lot a.caller.now a.weight a.awards.now s a.lot.now c.in_ok-rows.rows.items a.text.now
+          shown_lot a.caller.now a.weight a.awards.now s a.lot.now c.deref.result.now a.text.now
           c.put_lot.new.self c.put_tenders.new.text c.put_awards.new.text
-          (sym c.is_shown.ensures ∙ c.if-not-is_shown.false) (step.1 honest s held)
+          (sym c.is_shown.ensures ∙ c.if-not-is_shown.false) (c.deref.ensures.value ∙ step.1 honest s held)
           c.in_ok-put_lot.ensures c.in_ok-put_tenders.ensures.text c.in_ok-put_awards.ensures,
     )
