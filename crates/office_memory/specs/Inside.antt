@@ -2,5 +2,4 @@
 pub mod Drops
 pub mod IdBounds
 pub mod GroupIndex
-pub mod OfLots
 pub mod Adding

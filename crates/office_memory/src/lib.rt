@@ -3,12 +3,12 @@
 
 mod belonging;
 pub mod child;
-mod envelope_table;
 mod group_index;
 pub mod grouped;
 mod id_bounds;
 pub mod indexed_table;
+pub mod lot_table;
 pub mod memory;
-mod security_table;
+pub mod owned_table;
 mod sums;
 pub mod tables;

@@ -133,7 +133,7 @@ impl Lookups for MemoryShelf {
     }
 
     fn get_envelope(&mut self, receipt: AskedNumber) -> Result<Option<EnvelopeRow>, ShelfFault> {
-        let by_notice = self.tables.envelopes.by_notice();
+        let by_notice = self.tables.envelopes.by_lot().by_group();
         match by_notice.rows().copy_at(&receipt.get()) {
             Ok(found) => Ok(found),
             Err(_) => Err(self.refused()),
@@ -151,7 +151,7 @@ impl Lookups for MemoryShelf {
         match self
             .tables
             .securities
-            .by_notice()
+            .by_group()
             .rows()
             .copy_at(&security.get())
         {
@@ -272,7 +272,7 @@ impl Lookups for MemoryShelf {
     }
 
     fn list_envelopes_of_notice(&mut self, notice: &Id) -> Result<Vec<EnvelopeRow>, ShelfFault> {
-        let by_notice = self.tables.envelopes.by_notice();
+        let by_notice = self.tables.envelopes.by_lot().by_group();
         match by_notice.copy_of_group(self.alloc, notice) {
             Ok(rows) => Ok(rows),
             Err(_) => Err(self.refused()),
@@ -284,8 +284,8 @@ impl Lookups for MemoryShelf {
         notice: &Id,
         lot: &Id,
     ) -> Result<Vec<EnvelopeRow>, ShelfFault> {
-        let envelopes = &self.tables.envelopes;
-        match envelopes.copy_of_lot(self.alloc, &(*notice, *lot)) {
+        let by_lot = self.tables.envelopes.by_lot();
+        match by_lot.copy_of_lot(self.alloc, &(*notice, *lot)) {
             Ok(rows) => Ok(rows),
             Err(_) => Err(self.refused()),
         }
@@ -305,7 +305,7 @@ impl Lookups for MemoryShelf {
     }
 
     fn list_securities_of_notice(&mut self, notice: &Id) -> Result<Vec<SecurityRow>, ShelfFault> {
-        let by_notice = self.tables.securities.by_notice();
+        let by_notice = self.tables.securities.by_group();
         match by_notice.copy_of_group(self.alloc, notice) {
             Ok(rows) => Ok(rows),
             Err(_) => Err(self.refused()),

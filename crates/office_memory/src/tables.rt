@@ -5,9 +5,10 @@ ghost use Rattle.office_base.specs.declared.puts.Put.TheVariants.{Seal};
 ghost use Rattle.office_memory.specs.Inside.Drops.{without_seals};
 ghost use Rattle.office_memory.specs.MemoryTables.{tables_of, after_undo, after_undos, CanUndo, CanUndoAll};
 
-use crate::envelope_table::EnvelopeTable;
+use crate::belonging::{ByLine, ByLot, ByNotice, ByTenderer};
 use crate::indexed_table::IndexedTable;
-use crate::security_table::SecurityTable;
+use crate::lot_table::LotTable;
+use crate::owned_table::OwnedTable;
 use keyed_table::table::{Replaced, Table};
 use office_base::laws::rows_are_kept;
 use office_base::puts::Put;
@@ -17,7 +18,6 @@ use office_base::records::{
 };
 use office_base::row::Row;
 use office_values::given::LastNumber;
-use office_values::id::Id;
 use office_values::moment::Moment;
 use std::alloc::{AllocError, Global};
 use std::mem;
@@ -29,12 +29,12 @@ pub struct MemoryTables {
     pub batches: Table<BatchRow>,
     pub tenderers: Table<TendererRow>,
     pub notices: Table<NoticeRow>,
-    pub lots: IndexedTable<LotRow, Id>,
-    pub envelopes: EnvelopeTable,
+    pub lots: IndexedTable<LotRow, ByLine>,
+    pub envelopes: OwnedTable<EnvelopeRow, ByNotice, ByLot, ByTenderer>,
     pub seals: Table<SealRow>,
-    pub securities: SecurityTable,
-    pub awards: IndexedTable<AwardRow, Id>,
-    pub contracts: IndexedTable<ContractRow, Id>,
+    pub securities: LotTable<SecurityRow, ByNotice, ByLot>,
+    pub awards: IndexedTable<AwardRow, ByNotice>,
+    pub contracts: IndexedTable<ContractRow, ByNotice>,
     pub entries: Table<EntryRow>,
     pub releases: Table<ReleaseRow>,
     pub compiled: Table<CompiledRow>,
@@ -88,9 +88,9 @@ pub fn empty(alloc: Global) -> MemoryTables
         tenderers: Table::new(alloc),
         notices: Table::new(alloc),
         lots: IndexedTable::new(alloc),
-        envelopes: EnvelopeTable::new(alloc),
+        envelopes: OwnedTable::new(alloc),
         seals: Table::new(alloc),
-        securities: SecurityTable::new(alloc),
+        securities: LotTable::new(alloc),
         awards: IndexedTable::new(alloc),
         contracts: IndexedTable::new(alloc),
         entries: Table::new(alloc),
