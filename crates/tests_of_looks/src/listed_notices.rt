@@ -103,10 +103,8 @@ fn is_full_writer_told(alloc: Global) -> bool {
         return false;
     };
     let mut writer = Cursor::new([0u8; 20]);
-    matches!(
-        list_notices(alloc, &mut shelf, &mut writer),
-        Err(ProgramFault::Output)
-    )
+    let listed = list_notices(alloc, &mut shelf, &mut writer);
+    matches!(&listed, Err(ProgramFault::Output))
 }
 
 #[test]
