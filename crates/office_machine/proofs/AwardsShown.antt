@@ -30,7 +30,7 @@ use Rattle.office_base.specs.declared.records.SecurityRow.{SecurityRow}
 use Rattle.award_core.specs.Best.{lowest_in, IsBest, IsAnswer}
 use Rattle.award_core.specs.Rules.Award.{is_admissible, is_better, is_cheaper, is_responsive, points, price_of, weight_in, winner, award_puts, award_rows, award_tests, awarded, unsuccessful, decision_puts}
 use Rattle.award_core.proofs.BestFound.{best_is_found}
-use Rattle.office_machine.specs.AwardsShown.{is_shown_better, IsShownBest, IsShownWinner, LotIsShown, ShowsLot, evaluation_in, WinnerIsShown, ReplyIsShown, WinnersAreShown}
+use Rattle.office_machine.specs.AwardsShown.{is_shown_better, IsShownBest, IsShownWinner, LotIsShown, ShowsLot, evaluation_shown, WinnerIsShown, ReplyIsShown, WinnersAreShown}
 use Rattle.office_machine.specs.Evaluation.{awards_of_lot, evaluated_tender, evaluated_tenders, evaluated_lot, evaluation_told, has_outcome, is_award_of, lot_told}
 use Rattle.office_machine.specs.Machine.{Means, Given, Reaches, command_tests, effect, publication, publication_puts, time_of}
 use Rattle.office_machine.specs.Replies.{EvaluatedLot, EvaluatedTender, EvaluationSeen, Refused, winning}
@@ -161,12 +161,12 @@ module _ (caller : Caller) (s : Tables) (notice lot : List ℕ) (n : NoticeRow) 
       let has : Contains s.lots l = has_found lot_cmp lot_key s.lots (notice, lot) l is in
       has_filtered (of_notice notice) s.lots l has.0 has.1 has.2 (ap (λ (k : List ℕ × List ℕ). same_id k.0 notice) named ∙ same_itself notice)
 
-  all_told : evaluation_in caller s notice ≡ EvaluationSeen n.notice (map told_lot (lots_of_notice notice s))
+  all_told : evaluation_shown caller s notice ≡ EvaluationSeen n.notice (map told_lot (lots_of_notice notice s))
   all_told =
       ap (λ o. evaluation_told caller s o (lots_of_notice notice s) (awards_of_notice notice s)) there
       ∙ ap (λ b. cond b (EvaluationSeen n.notice (map told_lot (lots_of_notice notice s))) (Refused NotOpened)) opened
 
-  pub lot_shown : (Such : List EvaluatedTender → Type 0) → Such (evaluated_tenders n.weight (envelopes_of_lot notice lot s)) → ShowsLot Such (evaluation_in caller s notice) lot
+  pub lot_shown : (Such : List EvaluatedTender → Type 0) → Such (evaluated_tenders n.weight (envelopes_of_lot notice lot s)) → ShowsLot Such (evaluation_shown caller s notice) lot
   lot_shown Such such =
       let open_lot : EvaluatedLot = lot_told (evaluated_tenders n.weight (envelopes_of_lot l.notice l.lot s)) (awards_of_lot l.lot (awards_of_notice notice s)) l in
       let its_own : l.lot ≡ lot = ap (λ (k : List ℕ × List ℕ). k.1) named in
@@ -182,13 +182,13 @@ module _ (caller : Caller) (s : Tables) (notice lot : List ℕ) (n : NoticeRow) 
 -- What an award leaves.
 
 -- neither securities that go back nor a release are shown
-returned_shown : (Such : List EvaluatedTender → Type 0) (caller : Caller) (notice lot : List ℕ) (ws : List SecurityRow) (v : Tables) → ShowsLot Such (evaluation_in caller v notice) lot
-    → ShowsLot Such (evaluation_in caller (after_puts (map security_returned ws) v) notice) lot
+returned_shown : (Such : List EvaluatedTender → Type 0) (caller : Caller) (notice lot : List ℕ) (ws : List SecurityRow) (v : Tables) → ShowsLot Such (evaluation_shown caller v notice) lot
+    → ShowsLot Such (evaluation_shown caller (after_puts (map security_returned ws) v) notice) lot
 returned_shown Such caller notice lot [] v h = h
 returned_shown Such caller notice lot (w ∷ ws) v h = returned_shown Such caller notice lot ws (after_put (security_returned w) v) h
 
-published_shown : (Such : List EvaluatedTender → Type 0) (caller : Caller) (notice lot : List ℕ) (p : Option ReleaseRow) (v : Tables) → ShowsLot Such (evaluation_in caller v notice) lot
-    → ShowsLot Such (evaluation_in caller (after_puts (publication_puts p) v) notice) lot
+published_shown : (Such : List EvaluatedTender → Type 0) (caller : Caller) (notice lot : List ℕ) (p : Option ReleaseRow) (v : Tables) → ShowsLot Such (evaluation_shown caller v notice) lot
+    → ShowsLot Such (evaluation_shown caller (after_puts (publication_puts p) v) notice) lot
 published_shown Such caller notice lot None v h = h
 published_shown Such caller notice lot (Some p) v h = h
 
@@ -199,7 +199,7 @@ module _ (s : Tables) (notice lot : List ℕ) (n : NoticeRow) (l : LotRow) (ther
     (Such : List EvaluatedTender → Type 0) (such : Such (evaluated_tenders n.weight (envelopes_of_lot notice lot s))) (caller : Caller) where
   -- the same tenders, where the notice has one release more and the lot is decided
   decided_shown : (v : Tables) (decided : LotRow) → v.notices ≡ put_notice s.notices (with_next_release n) → v.lots ≡ put_lot s.lots decided → v.envelopes ≡ s.envelopes
-      → lot_key decided ≡ (notice, lot) → is_undecided decided.state ≡ false → ShowsLot Such (evaluation_in caller v notice) lot
+      → lot_key decided ≡ (notice, lot) → is_undecided decided.state ≡ false → ShowsLot Such (evaluation_shown caller v notice) lot
   decided_shown v decided notices lots envelopes at state =
       let notice_there : notice_at notice v ≡ Some (with_next_release n) =
       ap (λ rows. find_notice rows notice) notices ∙ found_as keyed.notices s.notices (with_next_release n) notice (found_key keyed.notices s.notices notice n there) in
@@ -210,7 +210,7 @@ module _ (s : Tables) (notice lot : List ℕ) (n : NoticeRow) (l : LotRow) (ther
       (subst (λ (es : List EnvelopeRow). Such (evaluated_tenders n.weight (filter (λ (e : EnvelopeRow). same_id e.notice notice && same_id e.lot lot) es))) (sym envelopes) such)
 
   decision_shown : (t : ℕ) (r : LineRow) (o : Option EnvelopeRow) (securities : List SecurityRow)
-      → ShowsLot Such (evaluation_in caller (after_puts (decision_puts s.clock t n l r o securities) s) notice) lot
+      → ShowsLot Such (evaluation_shown caller (after_puts (decision_puts s.clock t n l r o securities) s) notice) lot
   decision_shown t r None securities =
       let v : Tables = after_puts (puts.Lot (unsuccessful l) ∷ puts.Line (record r { free = r.free + l.reserved }) ∷ puts.Notice (with_next_release n) ∷ clock_put s.clock t ∷ []) s in
       returned_shown Such caller notice lot (filter is_held_security securities) v
@@ -252,9 +252,9 @@ module _ (means : Means) (xs : List Given) (s : Tables) (moment : ℕ) (caller :
       record {
         before = lot_shown Clerk s notice lot n.0 l.0 n.1 opened l.1 refl (Wins notice lot) such;
         after = λ who.
-            subst (λ (v : Tables). ShowsLot (Wins notice lot) (evaluation_in who v notice) lot) (sym (after-append (effect means.readings x) (publication_puts (publication means x)) s))
+            subst (λ (v : Tables). ShowsLot (Wins notice lot) (evaluation_shown who v notice) lot) (sym (after-append (effect means.readings x) (publication_puts (publication means x)) s))
             (published_shown (Wins notice lot) who notice lot (publication means x) (after_puts (effect means.readings x) s)
-            (subst (λ (ps : List Put). ShowsLot (Wins notice lot) (evaluation_in who (after_puts ps s) notice) lot) (sym decided)
+            (subst (λ (ps : List Put). ShowsLot (Wins notice lot) (evaluation_shown who (after_puts ps s) notice) lot) (sym decided)
             (decision_shown s notice lot n.0 l.0 n.1 opened l.1 (Wins notice lot) such who now r.0 (winner (Some n.0) tenders) securities)));
       }
 

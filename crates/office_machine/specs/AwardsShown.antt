@@ -51,15 +51,15 @@ ShowsLot Such (EvaluationSeen notice lots) lot = LotIsShown Such lots lot
 ShowsLot Such reply lot = ⊥
 
 -- what a caller sees of the evaluation of a notice
-abbrev pub evaluation_in : Caller → Tables → List ℕ → Reply
-evaluation_in caller s notice = evaluation_told caller s (notice_at notice s) (lots_of_notice notice s) (awards_of_notice notice s)
+abbrev pub evaluation_shown : Caller → Tables → List ℕ → Reply
+evaluation_shown caller s notice = evaluation_told caller s (notice_at notice s) (lots_of_notice notice s) (awards_of_notice notice s)
 
 -- Of each accepted award: who wins.
 
 -- the tenders by which this winner won are shown to the clerk just before the award, and to anybody just after it
 pub record WinnerIsShown (means : Means) (x : Given) (notice lot : List ℕ) (winner : Option Winning) : Type 0 where
-  pub before : ShowsLot (IsShownWinner winner) (evaluation_in Clerk x.before notice) lot
-  pub after : (caller : Caller) → ShowsLot (IsShownWinner winner) (evaluation_in caller (next means x) notice) lot
+  pub before : ShowsLot (IsShownWinner winner) (evaluation_shown Clerk x.before notice) lot
+  pub after : (caller : Caller) → ShowsLot (IsShownWinner winner) (evaluation_shown caller (next means x) notice) lot
 
 -- so of the winner that the reply to an award names
 abbrev pub ReplyIsShown : Means → Given → Command → Reply → Type 0
@@ -79,7 +79,7 @@ pub record IsMade (x : Given) (notice lot : List ℕ) (a : AwardRow) : Type 0 wh
   pub of_lot : a.lot ≡ lot
   pub number : a.award ≡ x.before.clock.awards + 1
   pub moment : a.moment ≡ time_of x
-  pub shown : ShowsLot (λ tenders. IsShownBest tenders a.receipt a.price) (evaluation_in Clerk x.before notice) lot
+  pub shown : ShowsLot (λ tenders. IsShownBest tenders a.receipt a.price) (evaluation_shown Clerk x.before notice) lot
 
 abbrev pub MakesAward : Given → AwardRow → Command → Type 0
 MakesAward x a (Award notice lot) = IsMade x notice lot a
