@@ -1,5 +1,5 @@
 //! Rows that are listed with others of their group.
-ghost use Rattle.std.specs.Prelude.{◌≡◌, List, IfOk, OnOk, [], filter, map};
+ghost use Rattle.std.specs.Prelude.{◌≡◌, List, IfOk, OnOk, filter, map};
 ghost use Rattle.office_memory.specs.Inside.GroupIndex.{HasRows, IsIndexed};
 ghost use Rattle.keyed_table.specs.Replacing.{taken_back};
 ghost use Rattle.office_base.specs.Rows.{row_put};

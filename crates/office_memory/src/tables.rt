@@ -1,5 +1,5 @@
 //! The tables of an office in memory.
-ghost use Rattle.std.specs.Prelude.{◌≡◌, ◌<◌, ◌≤◌, IfOk, OnOk, OnErr, not, filter, vec_len, vec_capacity, nat_eq};
+ghost use Rattle.std.specs.Prelude.{◌≡◌, ◌<◌, IfOk, OnOk, OnErr, not, filter, vec_len, vec_capacity, nat_eq};
 ghost use Rattle.office_base.specs.Tables.{Tables, after_put, after_puts, no_tables};
 ghost use Rattle.office_base.specs.declared.puts.Put.TheVariants.{Seal};
 ghost use Rattle.office_memory.specs.Inside.Drops.{without_seals};

@@ -1,5 +1,5 @@
 //! What the program is asked to do, read from its words.
-ghost use Rattle.std.specs.Prelude.{◌≡◌, ◌≤◌, true, false, codes, [], ◌∷◌, map, None, Some, IfOk, IfErr, IfSome, IsSome, option_map};
+ghost use Rattle.std.specs.Prelude.{◌≡◌, true, codes, [], ◌∷◌, map, None, Some, IfOk, IfErr, IsSome, option_map};
 ghost use Rattle.clap.specs.Words.{fault_of, first_of, found_of, one_of, rows_of, subcommand_rows_of, takes};
 ghost use Rattle.procure_config.specs.Faults.{no_memory};
 ghost use Rattle.procure_config.specs.Jobs as spec;

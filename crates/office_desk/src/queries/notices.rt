@@ -1,5 +1,5 @@
 //! A page of the notices.
-ghost use Rattle.std.specs.Prelude.{◌≡◌, ◌+◌, true, IfOk};
+ghost use Rattle.std.specs.Prelude.{◌≡◌, true, IfOk};
 ghost use Rattle.office_commands.specs.Rights.{may_look};
 ghost use Rattle.office_commands.specs.declared.command.QueryKind.TheVariants as kinds;
 ghost use Rattle.office_commands.specs.declared.queries.Query.TheVariants.{Notices};
