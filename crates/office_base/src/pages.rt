@@ -3,17 +3,17 @@ ghost use Rattle.std.specs.Prelude.{◌≡◌, take};
 ghost use Rattle.office_base.specs.Limits.{page_limit};
 ghost use Rattle.office_base.specs.Pages.{next_after};
 
-use office_base::row::Row;
+use crate::row::Row;
 use office_values::id::Id;
 
 /// As many rows as a page has.
-const PAGE_ROWS: usize = 100;
+pub const PAGE_ROWS: usize = 100;
 
 /// As many rows as are looked up for a page.
-pub(crate) const ASKED_ROWS: u32 = 101;
+pub const ASKED_ROWS: u32 = 101;
 
 /// The rows of a page.
-pub(crate) fn page_of<R>(rows: &[R]) -> &[R]
+pub fn page_of<R>(rows: &[R]) -> &[R]
     ensures { result.now ≡ take page_limit rows.now }
 {
     if rows.len() > PAGE_ROWS {
@@ -24,7 +24,7 @@ pub(crate) fn page_of<R>(rows: &[R]) -> &[R]
 }
 
 /// The key of the last row of a page, where one more is there.
-pub(crate) fn next_after<R: Row<Key = Id>>(rows: &[R]) -> Option<Id>
+pub fn next_after<R: Row<Key = Id>>(rows: &[R]) -> Option<Id>
     ensures { result ≡ next_after R.key_of page_limit rows.now }
 {
     if rows.len() > PAGE_ROWS {

@@ -1,6 +1,6 @@
 use Rattle.std.proofs.Common.{sym, arith, length-take-le, take_all}
 use Rattle.office_base.specs.Limits.{page_limit}
-use Rattle.office_desk.proofs.queries.pages.page_of.Goals as goal
+use Rattle.office_base.proofs.pages.page_of.Goals as goal
 
 -- a front of a length that is written out computes element by element, so that no lemma fits
 pub slice_bounds-result-end : goal.slice_bounds-result-end
