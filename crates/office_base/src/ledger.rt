@@ -69,7 +69,7 @@ pub struct LineAmounts {
 }
 
 impl LineAmounts {
-    /// Of these. Takes no memory.
+    /// These amounts, one for each lot, and the sums of these contracts. Takes no memory.
     pub fn from_vecs(reserved: Vec<Amount>, contracts: Vec<ContractSums>) -> LineAmounts
         ensures { result ≡ record { reserved = reserved.items; contracts = contracts.items } }
     {
