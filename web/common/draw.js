@@ -1,4 +1,5 @@
 // Elements and texts. Texts become text nodes and never markup, whatever stands in them.
+import { number } from "./money.js";
 
 /** An element with attributes and with children: elements, texts, lists of them, or nothing. */
 export function element(name, attributes, ...children) {
@@ -10,40 +11,44 @@ export function element(name, attributes, ...children) {
   return made;
 }
 
+let count = 0;
+
+/** An identifier that no other element of the page has. */
+export function fresh(word) {
+  count += 1;
+  return `${word}-${count}`;
+}
+
+/** The heading of a view, to which the focus goes. */
+export function title(...content) {
+  return element("h1", { tabindex: "-1" }, ...content);
+}
+
+/** A section with a heading that names it. */
+export function section(heading, ...content) {
+  const id = fresh("part");
+  return element("section", { "aria-labelledby": id }, element("h2", { id }, heading), ...content);
+}
+
+/** What is less, in a line of its own. */
+export function below(...content) {
+  return element("span", { class: "quiet below" }, ...content);
+}
+
+/** A way to a view, or to another page, where the language is spoken on that was chosen by hand: it stands in the address alone. */
+export function link(content, href, kind = "") {
+  const to = href.replace(/^\/(tender\/|clerk\/)?(?=#|$)/, (page) => page + location.search);
+  return element("a", kind ? { href: to, class: kind } : { href: to }, content);
+}
+
+/** The address of a view, and of what it is about. */
+export function placeOf(page, ...rest) {
+  return `#${[page, ...rest].map(encodeURIComponent).join("/")}`;
+}
+
 /** A text that somebody gave, as a title or a name: whatever its direction, what stands beside it keeps its own. */
 export function given(text) {
   return element("bdi", {}, text);
-}
-
-/** Whole units with groups of three, as `12,500`. */
-export function number(amount) {
-  return new Intl.NumberFormat("en").format(amount);
-}
-
-/** A count with its word, as `1 lot` and `2 lots`. */
-export function count(amount, word) {
-  return `${number(amount)} ${word}${amount === 1 ? "" : "s"}`;
-}
-
-/** An OCDS value, as `12,500 EUR`. */
-export function money(value) {
-  return value ? `${number(value.amount)} ${value.currency}` : "an amount that isn't told";
-}
-
-/** A moment of the office, as `2 March 2026, 12:00:00 UTC`. */
-export function moment(text) {
-  const format = new Intl.DateTimeFormat("en-GB", {
-    day: "numeric", month: "long", year: "numeric", hour: "2-digit", minute: "2-digit", second: "2-digit", timeZone: "UTC", hourCycle: "h23",
-  });
-  const date = new Date(text);
-  const part = Object.fromEntries(Number.isNaN(date.getTime()) ? [] : format.formatToParts(date).map(({ type, value }) => [type, value]));
-  const shown = part.year ? `${part.day} ${part.month} ${part.year}, ${part.hour}:${part.minute}:${part.second} UTC` : text;
-  return element("time", { datetime: text }, shown);
-}
-
-/** What a change of a contract did, as `Raised by 12,000 EUR`: the office tells it without groups and currency. */
-export function change({ description }, currency) {
-  return given(description.replace(/\d+/g, (digits) => `${number(Number(digits))} ${currency}`));
 }
 
 /** A list of names with what each is: pairs of texts or elements. */
@@ -53,7 +58,7 @@ export function facts(pairs) {
 
 /** A text in a frame, with a sign that isn't read out. */
 export function badge(kind, text) {
-  const signs = { open: "○", running: "◐", done: "●", stopped: "✕" };
+  const signs = { open: "○", running: "◐", done: "●", stopped: "✕", ended: "■" };
   return element("span", { class: `badge ${kind}` }, element("span", { "aria-hidden": "true" }, signs[kind] ?? "", " "), text);
 }
 
