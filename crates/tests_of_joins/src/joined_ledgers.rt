@@ -173,7 +173,7 @@ fn is_sum(sums: &ContractSums, wanted: [u128; 3]) -> bool {
 }
 
 // Three lots have reserved this, and two contracts come to this.
-fn are_amounts(amounts: &LineAmounts) -> bool {
+pub(crate) fn are_amounts(amounts: &LineAmounts) -> bool {
     let reserved = match amounts.reserved.as_slice() {
         [first, second, third] => [first.units(), second.units(), third.units()] == [7, 0, 30],
         _ => false,

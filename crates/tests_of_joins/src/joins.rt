@@ -1,5 +1,6 @@
 //! Tests of the selects over a store in memory.
-use office_base::ledger::{ContractSums, LedgerRow, LineAmounts};
+use crate::joined_ledgers::are_amounts;
+use office_base::ledger::LedgerRow;
 use office_joins::adding::{amounts_of_rows, ledger_of_rows};
 use office_joins::select::{list_joined, list_joined_of_line};
 use sqlite::{Connection, MemStore, Row, params};
@@ -74,24 +75,6 @@ fn ledger_is_selected(alloc: Global) -> bool {
 #[test]
 fn the_ledger_is_selected(rt: HostRuntime) {
     assert!(rt; ledger_is_selected(rt.alloc()));
-}
-
-fn is_sum(sums: &ContractSums, wanted: [u128; 3]) -> bool {
-    [sums.gained, sums.lost, sums.paid] == wanted
-}
-
-// Three lots have reserved this, and two contracts come to this.
-fn are_amounts(amounts: &LineAmounts) -> bool {
-    let reserved = match amounts.reserved.as_slice() {
-        [first, second, third] => [first.units(), second.units(), third.units()] == [7, 0, 30],
-        _ => false,
-    };
-    match amounts.contracts.as_slice() {
-        [first, second] => {
-            reserved && is_sum(first, [100, 20, 20]) && is_sum(second, [50, 0, 0])
-        }
-        _ => false,
-    }
 }
 
 fn are_added_up(alloc: Global, rows: &[Row]) -> bool {
