@@ -120,10 +120,12 @@ class Desk:
         """Leaves the desk, so that nothing of it asks any more."""
         self.page.ask("Fetch.disable")
         self.page.ask("Page.navigate", url="about:blank")
-        self.page.browser.events = [event for event in self.page.browser.events if event["method"] != "Fetch.requestPaused"]
+        self.page.browser.paused.clear()
 
     def picture(self, name: str) -> None:
         """The screen, narrow and wide, light and dark: within the window, and with contrast."""
+        if name == "evaluation":
+            self.page.small_picture(os.path.join(self.scene.pictures, "clerk.png"))
         for width in WIDTHS:
             self.page.shape(width)
             page_checks.is_within(name, width, self.page)

@@ -135,6 +135,8 @@ def with_file(scene: Scene, desk: Desk, language: str) -> None:
 def looked_at(scene: Scene, desk: Desk, name: str, language: str) -> None:
     """One view in all widths, light and dark."""
     page, called = desk.page, f"{name}, {language}"
+    if (name, language) == ("send", "en"):
+        page.small_picture(os.path.join(scene.pictures, "tender.png"))
     for width in WIDTHS:
         page.shape(width)
         is_within(called, width, page)

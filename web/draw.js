@@ -1,4 +1,5 @@
 // Elements and texts. Texts become text nodes and never markup, whatever stands in them.
+import { number } from "./common/money.js";
 
 /** An element with attributes and with children: elements, texts, lists of them, or nothing. */
 export function element(name, attributes, ...children) {
@@ -15,37 +16,6 @@ export function given(text) {
   return element("bdi", {}, text);
 }
 
-/** Whole units with groups of three, as `12,500`. */
-export function number(amount) {
-  return new Intl.NumberFormat("en").format(amount);
-}
-
-/** A count with its word, as `1 lot` and `2 lots`. */
-export function count(amount, word) {
-  return `${number(amount)} ${word}${amount === 1 ? "" : "s"}`;
-}
-
-/** An OCDS value, as `12,500 EUR`. */
-export function money(value) {
-  return value ? `${number(value.amount)} ${value.currency}` : "an amount that isn't told";
-}
-
-/** A moment of the office, as `2 March 2026, 12:00:00 UTC`. */
-export function moment(text) {
-  const format = new Intl.DateTimeFormat("en-GB", {
-    day: "numeric", month: "long", year: "numeric", hour: "2-digit", minute: "2-digit", second: "2-digit", timeZone: "UTC", hourCycle: "h23",
-  });
-  const date = new Date(text);
-  const part = Object.fromEntries(Number.isNaN(date.getTime()) ? [] : format.formatToParts(date).map(({ type, value }) => [type, value]));
-  const shown = part.year ? `${part.day} ${part.month} ${part.year}, ${part.hour}:${part.minute}:${part.second} UTC` : text;
-  return element("time", { datetime: text }, shown);
-}
-
-/** What a change of a contract did, as `Raised by 12,000 EUR`: the office tells it without groups and currency. */
-export function change({ description }, currency) {
-  return given(description.replace(/\d+/g, (digits) => `${number(Number(digits))} ${currency}`));
-}
-
 /** A list of names with what each is: pairs of texts or elements. */
 export function facts(pairs) {
   return element("dl", { class: "facts" }, pairs.map(([name, value]) => element("div", {}, element("dt", {}, name), element("dd", {}, value))));
@@ -53,7 +23,7 @@ export function facts(pairs) {
 
 /** A text in a frame, with a sign that isn't read out. */
 export function badge(kind, text) {
-  const signs = { open: "○", running: "◐", done: "●", stopped: "✕" };
+  const signs = { open: "○", running: "◐", done: "●", stopped: "✕", ended: "■" };
   return element("span", { class: `badge ${kind}` }, element("span", { "aria-hidden": "true" }, signs[kind] ?? "", " "), text);
 }
 

@@ -1,14 +1,14 @@
-// What became of a lot and of its tenders: told by the record, the releases and the minutes, and what follows from them by the office's rules.
+// What became of a procurement, of its lots and of their tenders: as kinds of badges and names of texts. Nothing of the page: this runs in node too.
+
+/** The awards of a lot, in the order in which they were made. */
+export function awardsOf(compiled, lot) {
+  return (compiled.awards ?? []).filter((award) => award.relatedLots?.includes(lot.id));
+}
 
 /** The awards that ended since their winner didn't sign: those that a release cancels without cancelling the tender. */
 export function passedOver(releases) {
   const alone = releases.filter(({ tag }) => tag.includes("awardCancellation") && !tag.includes("tenderCancellation"));
   return new Set(alone.flatMap((release) => (release.awards ?? []).map(({ id }) => id)));
-}
-
-/** The awards of a lot, in the order in which they were made. */
-export function awardsOf(compiled, lot) {
-  return (compiled.awards ?? []).filter((award) => award.relatedLots?.includes(lot.id));
 }
 
 /** The contract of an award, if it was signed. */
@@ -21,113 +21,129 @@ export function paidOf(contract) {
   return (contract.implementation?.transactions ?? []).reduce((sum, { value }) => sum + value.amount, 0);
 }
 
-/** The state of the whole process, as a kind of badge and a text. */
-export function stateOf(compiled) {
-  const { status, numberOfTenderers, tenderPeriod } = compiled.tender;
-  if (status === "cancelled") {
-    return ["stopped", "Cancelled"];
-  }
-  if (status === "unsuccessful") {
-    return ["stopped", "Ended without a contract"];
+/** What changes added to a contract since its award, which may be less than nothing. */
+export function addedTo(contract, award) {
+  return contract.value.amount - award.value.amount;
+}
+
+/** The state of the whole process, as a kind of badge and the name of a text; `now` in milliseconds. How a contract ended is published nowhere, and it may have
+ * been by default: so no end is shown as if it were well. */
+export function stateOf(compiled, now) {
+  const { status, numberOfTenderers, tenderPeriod, lots } = compiled.tender;
+  if (status === "cancelled" || status === "unsuccessful") {
+    return ["stopped", status];
   }
   if (status === "complete") {
     return stateOfContracts(compiled.contracts ?? []);
   }
   if (numberOfTenderers === undefined) {
-    return Date.now() <= Date.parse(tenderPeriod.endDate) ? ["open", "Open for tenders"] : ["running", "Deadline passed, tenders not opened yet"];
+    return now <= Date.parse(tenderPeriod.endDate) ? ["open", "open"] : ["running", "waiting"];
   }
-  const waiting = compiled.tender.lots.filter((lot) => lot.status === "active" && !awardsOf(compiled, lot).some((award) => award.status === "active"));
-  const waits = waiting.length === compiled.tender.lots.length ? "Opened, not decided yet" : "Opened, not all lots decided yet";
-  return ["running", waiting.length > 0 ? waits : "Awarded, not signed yet"];
+  const waiting = lots.filter((lot) => lot.status === "active" && !awardsOf(compiled, lot).some((award) => award.status === "active"));
+  return ["running", waiting.length === 0 ? "awarded" : waiting.length === lots.length ? "opened" : "decided"];
 }
 
 function stateOfContracts(contracts) {
-  const isOne = contracts.length === 1;
-  if (contracts.every(({ status }) => status === "terminated")) {
-    return ["done", isOne ? "Contract ended" : "All contracts ended"];
-  }
   const running = contracts.filter(({ status }) => status !== "terminated");
-  if (running.every((contract) => paidOf(contract) >= contract.value.amount)) {
-    return ["done", "Paid in full"];
+  if (running.length === 0) {
+    return ["ended", "complete"];
   }
-  const paid = contracts.some((contract) => paidOf(contract) > 0) ? "paid in part" : "nothing paid yet";
-  return ["running", `${isOne ? "Contract runs" : "Contracts run"}, ${paid}`];
+  const isPaid = running.every((contract) => paidOf(contract) >= contract.value.amount);
+  const allRun = running.length === contracts.length;
+  return isPaid ? [allRun ? "done" : "ended", "paid"] : ["running", contracts.some((contract) => paidOf(contract) > 0) ? "part" : "unpaid"];
 }
 
 /** The state of one lot, likewise. */
 export function stateOfLot(compiled, lot) {
-  const states = { complete: ["done", "Contracted"], cancelled: ["stopped", "Cancelled"], unsuccessful: ["stopped", "Ended without a contract"] };
-  if (states[lot.status]) {
-    return states[lot.status];
+  if (lot.status === "complete") {
+    const contract = awardsOf(compiled, lot).map((award) => contractOf(compiled, award)).find(Boolean);
+    return contract?.status === "terminated" ? ["ended", "contractended"] : ["running", "contracted"];
+  }
+  if (lot.status === "cancelled" || lot.status === "unsuccessful") {
+    return ["stopped", lot.status];
   }
   if (awardsOf(compiled, lot).some(({ status }) => status === "active")) {
-    return ["running", "Awarded, not signed yet"];
+    return ["running", "awarded"];
   }
-  return compiled.tender.numberOfTenderers === undefined ? ["open", "Tenders sealed"] : ["running", "Not decided yet"];
+  return compiled.tender.numberOfTenderers === undefined ? ["open", "sealed"] : ["running", "undecided"];
 }
 
-/** Where the price alone decides: whether the first of two tenders goes before the second. */
-function isBetter(first, second) {
-  return first.corrected < second.corrected || (first.corrected === second.corrected && first.receipt < second.receipt);
-}
-
-/** A lot's tenders, each with what was found of it: a tender, a kind of badge, a word and a sentence. `passed` are the awards that were passed over. */
-export function findings(compiled, lot, tenders, passed) {
-  const awards = awardsOf(compiled, lot);
-  const awardTo = (tender) => awards.filter(({ suppliers }) => suppliers?.[0]?.id === `T-${tender.tenderer}`).at(-1);
-  const winners = tenders.filter(awardTo);
-  const byPrice = compiled.tender.awardCriteria === "priceOnly";
-  return tenders.map((tender) => {
-    const award = awardTo(tender);
-    const found = award ? ofWinner(award, passed, byPrice) : UNPRICED[tender.reading] ?? ofOther(lot, awards, byPrice ? placeOf(tender, winners) : "unknown");
-    return [tender, ...found];
-  });
-}
-
-/** Where a tender stands by its price, as to the winners. By points that can't be told. */
-function placeOf(tender, winners) {
-  if (winners.some((winner) => isBetter(tender, winner))) {
-    return "before";
+/** The lots of an evaluation, each with its state, the tenders that are shown of it and its awards: lines of words with tabs between them. A lot of which
+ * nothing is shown yet isn't there. */
+export function evaluationOf(text) {
+  const lots = new Map();
+  let lot = null;
+  for (const words of (text ?? "").split("\n").map((line) => line.split("\t"))) {
+    if (words[0] === "lot") {
+      lot = { state: words[2], tenders: new Map(), awards: [] };
+      lots.set(words[1], lot);
+    } else if (words[0] === "tender") {
+      const [, receipt, , reading, price, answer, quality, points, standing] = words;
+      lot.tenders.set(Number(receipt), { reading, price: figureOf(price), answer, quality: figureOf(quality), points: figureOf(points), standing });
+    } else if (words[0] === "award") {
+      const [, award, receipt, price, state] = words;
+      lot.awards.push({ award: Number(award), receipt: Number(receipt), price: Number(price), state });
+    }
   }
-  return winners.some(({ corrected }) => corrected === tender.corrected) ? "beside" : "behind";
+  return new Map([...lots].filter(([, { state, awards }]) => state !== "undecided" || awards.length > 0));
 }
 
-const UNPRICED = {
-  unreadable: ["stopped", "Not admitted", "It couldn't be read as a list of prices."],
-  nonconforming: ["stopped", "Not admitted", "It doesn't offer the lot's items in their quantities."],
-};
-
-function ofWinner(award, passed, byPrice) {
-  if (award.status === "active") {
-    return ["done", "Won", byPrice ? "Examined. The lowest price that can win." : "Examined. The most points of those that can win."];
-  }
-  return passed.has(award.id) ? ["stopped", "Passed over", "Examined, and won; then the winner didn't sign."]
-    : ["stopped", "Award ended", "Examined, and won; then the lot was cancelled."];
+function figureOf(word) {
+  return word === undefined || word === "-" ? null : Number(word);
 }
 
-/** A priced tender that never won. A lot is decided only when each of these was examined or withdrawn, and goes to the best of those that were found responsive; so one
- * that was better than a winner, or stands in a lot that nobody won, was found not responsive, or was withdrawn from the deadline on, where its notice lets it:
- * which of the two is published nowhere. */
-function ofOther(lot, awards, place) {
-  if (lot.status === "unsuccessful" || place === "before") {
-    return ["stopped", "Couldn't win", "It doesn't meet what was asked, or was withdrawn from the deadline on."];
+/** What became of a tender of a lot: a kind of badge and the name of a text. `shown` is the lot's evaluation, or nothing where it isn't shown yet. */
+export function outcomeOf(tender, shown, byPoints) {
+  if (tender.reading !== "priced") {
+    return ["stopped", tender.reading];
   }
-  if (awards.length === 0) {
-    return lot.status === "cancelled" ? ["stopped", "Not decided", "The lot was cancelled before a decision."] : ["running", "Waits", "The lot isn't decided yet."];
+  const found = shown?.tenders.get(tender.receipt);
+  if (!found) {
+    return ["running", "waits"];
   }
-  const again = lot.status === "active" && awards.every(({ status }) => status !== "active") ? " The lot is decided again." : "";
-  return ["open", "Not chosen", BEHIND[place] + again];
+  const award = shown.awards.filter(({ receipt }) => receipt === tender.receipt).at(-1);
+  if (award) {
+    return { active: ["running", "won"], signed: ["done", "signed"], failed: ["stopped", "passed"], cancelled: ["stopped", "awardended"] }[award.state];
+  }
+  return found.standing === "failed" ? ["stopped", "late"] : found.answer === "unresponsive" ? ["stopped", "unresponsive"]
+    : found.answer === "-" ? ["stopped", "unexamined"] : shown.state === "undecided" ? ["running", "again"] : ["open", notChosen(tender, shown, byPoints)];
 }
 
-const BEHIND = {
-  beside: "As low a price as a winner's, but it came later.",
-  behind: "Its price wasn't the lowest.",
-  unknown: "Not the best by points, not responsive, or withdrawn from the deadline on; which of these isn't published.",
-};
+/** The kind of badge of a contract that was signed: green for as long as it runs, since it may have ended by default. */
+export function kindOfSigned(contract) {
+  return contract?.status === "terminated" ? "ended" : "done";
+}
 
-/** How the best tender is found, as a sentence. */
-export function criteria(compiled) {
-  return compiled.tender.awardCriteria === "priceOnly"
-    ? "The lowest price wins, among the tenders that were found responsive and were neither withdrawn nor passed over; of equal prices the one that came first."
-    : "The most points for price and quality win, among the tenders that were found responsive and were neither withdrawn nor passed over; of equal points the lower price.";
+/** Why a tender that could win didn't. */
+function notChosen(tender, shown, byPoints) {
+  if (shown.awards.length === 0) {
+    return "undecided";
+  }
+  const isEqual = shown.awards.some(({ price }) => price === tender.corrected);
+  return byPoints ? "points" : isEqual ? "later" : "price";
+}
+
+/** What became of the security that a tender of an opened lot came with: held, returned or forfeited; `unknown` where it isn't told yet whether the tender was
+ * withdrawn late. */
+export function securityOf(tender, shown, lotState, isForfeited) {
+  const found = shown?.tenders.get(tender.receipt);
+  if (found?.standing === "failed") {
+    return "forfeited";
+  }
+  // (Of a tender without a price nobody is told whether it was withdrawn late.)
+  if (isForfeited && tender.reading !== "priced") {
+    return "unknown";
+  }
+  return lotState !== "active" ? "returned" : shown || !isForfeited ? "held" : "unknown";
+}
+
+/** The arithmetic of a tender's points: of the price, of quality, and both; null where it has none. */
+export function pointsOf({ points, quality }) {
+  return points === null ? null : { price: (points - 1000 * quality) / 1000, quality, sum: points / 1000 };
+}
+
+/** The lowest price of the tenders that can win, to which all prices are compared; null where there is none. */
+export function lowestOf(shown) {
+  const prices = [...(shown?.tenders.values() ?? [])].filter(({ standing }) => standing === "admissible").map(({ price }) => price);
+  return prices.length === 0 ? null : Math.min(...prices);
 }

@@ -1,5 +1,8 @@
 // A process as a list of what happened, one entry for each release.
-import { change, count, element, given, moment, money } from "./draw.js";
+import { money, moment } from "./common/money.js";
+import { say, sayParts } from "./common/texts.js";
+import { changeOf, reason } from "./contract.js";
+import { element, given } from "./draw.js";
 
 const TOLD = [
   ["tenderCancellation", cancelled],
@@ -14,72 +17,73 @@ const TOLD = [
   ["tender", published],
 ];
 
-/** Lots by their identifiers and titles, as the beginning of a sentence. */
-function names(lots, ids) {
-  const told = ids.map((id, at) => {
-    const title = lots.find((lot) => lot.id === id)?.title;
-    return [at > 0 ? ", " : "", id, title ? [" (", given(title), ")"] : ""];
-  });
-  return [ids.length === 1 ? "Lot " : "Lots ", told];
+function amountOf({ amount, currency }) {
+  return money(amount, currency);
 }
 
-function reason(rationale) {
-  return [" Reason: “", given(rationale), "”"];
+/** Lots by their identifiers and titles. */
+function names(lots, ids) {
+  return element("span", {}, say("see.lots", { count: ids.length }), " ", ids.map((id, at) => {
+    const title = lots.find((lot) => lot.id === id)?.title;
+    return [at > 0 ? ", " : "", id, title ? [" (", given(title), ")"] : ""];
+  }));
 }
 
 function published({ tender }) {
-  return ["Published", [`${count(tender.lots.length, "lot")}, estimated at ${money(tender.value)}. Tenders are taken until `, moment(tender.tenderPeriod.endDate), "."]];
+  const lots = element("span", {}, say("see.count.lots", { count: tender.lots.length }));
+  return ["published", sayParts("see.told.published", { lots, amount: amountOf(tender.value), deadline: moment(tender.tenderPeriod.endDate) })];
 }
 
 function amended({ tender }) {
-  return ["Amended", ["The deadline was moved to ", moment(tender.tenderPeriod.endDate), ".", reason(tender.amendments[0].rationale)]];
+  return ["amended", [sayParts("see.told.amended", { deadline: moment(tender.tenderPeriod.endDate) }), reason(tender.amendments[0].rationale)]];
 }
 
 function updated({ tender }, lots) {
   if (tender.numberOfTenderers === undefined) {
-    return ["Not awarded", [names(lots, tender.lots.map(({ id }) => id)), " went to nobody: there was no tender that could win."]];
+    return ["nobody", sayParts("see.told.nobody", { lots: names(lots, tender.lots.map(({ id }) => id)) })];
   }
-  const who = count(tender.numberOfTenderers, "tenderer");
-  return ["Opened", [tender.numberOfTenderers === 0 ? "Nobody tendered." : `The sealed tenders of ${who} were opened and read.`]];
+  return ["opened", tender.numberOfTenderers === 0 ? [say("see.told.none")] : [say("see.told.opened", { count: tender.numberOfTenderers })]];
 }
 
 function awarded({ awards: [award] }, lots) {
-  return ["Awarded", [names(lots, award.relatedLots), " went to ", given(award.suppliers[0].name), ` for ${money(award.value)}.`]];
+  const to = given(award.suppliers[0].name);
+  return ["awarded", sayParts("see.told.awarded", { lots: names(lots, award.relatedLots), name: to, amount: amountOf(award.value) })];
 }
 
 function failed({ awards }, lots, compiled) {
   const award = compiled.awards.find(({ id }) => id === awards[0].id);
-  return ["Passed over", [given(award.suppliers[0].name), " didn't sign, so the award ended. ", names(lots, award.relatedLots), " is decided again."]];
+  return ["passed", sayParts("see.told.passed", { name: given(award.suppliers[0].name), lots: names(lots, award.relatedLots) })];
 }
 
 function cancelled({ tender }, lots) {
-  const ids = tender.lots.map(({ id }) => id);
-  return ["Cancelled", [names(lots, ids), ids.length === 1 ? " was cancelled." : " were cancelled.", reason(tender.amendments[0].rationale)]];
+  return ["cancelled", [sayParts("see.told.cancelled", { lots: names(lots, tender.lots.map(({ id }) => id)) }), reason(tender.amendments[0].rationale)]];
 }
 
 function signed({ contracts: [contract] }) {
-  return ["Signed", [`Contract ${contract.id}, for ${money(contract.value)}.`]];
+  return ["signed", [say("see.told.signed", { contract: contract.id, amount: amountOf(contract.value) })]];
 }
 
 function changed({ contracts: [contract] }) {
   const [amendment] = contract.amendments;
-  return ["Changed", [`Contract ${contract.id}: `, change(amendment, contract.value.currency), `, to ${money(contract.value)}.`, reason(amendment.rationale)]];
+  const change = element("span", {}, changeOf(amendment, contract.value.currency));
+  return ["changed", [sayParts("see.told.changed", { contract: contract.id, change, amount: amountOf(contract.value) }), reason(amendment.rationale)]];
 }
 
 function paid({ contracts: [contract] }) {
   const { value, payee } = contract.implementation.transactions[0];
-  return ["Paid", [`${money(value)} to `, given(payee.name), `, of contract ${contract.id}.`]];
+  return ["paid", sayParts("see.told.paid", { amount: amountOf(value), name: given(payee.name), contract: contract.id })];
 }
 
 function ended({ contracts: [contract] }) {
-  return ["Ended", [`Contract ${contract.id} ended. What wasn't paid of it is free again.`]];
+  return ["ended", [say("see.told.ended", { contract: contract.id })]];
 }
 
 /** One release as an entry; one whose tag isn't known is shown by its tag. */
 function entry(release, lots, compiled) {
-  const [, tell] = TOLD.find(([tag]) => release.tag.includes(tag)) ?? [null, () => [release.tag.join(", "), []]];
-  const [head, sentence] = tell(release, lots, compiled);
-  return element("li", {}, element("h3", {}, head), element("p", { class: "quiet" }, moment(release.date)), element("p", {}, sentence));
+  const [, tell] = TOLD.find(([tag]) => release.tag.includes(tag)) ?? [null, null];
+  const [head, sentence] = tell ? tell(release, lots, compiled) : [null, []];
+  return element("li", {}, element("h3", {}, head ? say(`see.head.${head}`) : release.tag.join(", ")), element("p", { class: "quiet" }, moment(release.date)),
+    element("p", {}, sentence));
 }
 
 /** The list of all entries, the first one first. */

@@ -186,7 +186,6 @@ export default {
   "paste.number": "Zeile {line}, {name}: „{value}“ ist keine ganze Zahl",
   "preview.none": "Noch gibt es nichts, was veröffentlicht werden könnte.", "preview.back": "Zurück zur Bekanntmachung",
   "preview.note": "So wird die Öffentlichkeit sie sehen, sobald sie veröffentlicht ist.",
-  "preview.sealed": "Die Angebote wurden noch nicht geöffnet, also gibt es keine Niederschrift.",
   "preview.hidden": "Haushaltstitel, Sicherheiten, Bindefrist, Stillhaltefrist und Gewicht stehen in keiner Veröffentlichung: Nennen Sie sie in den"
     + " Vergabeunterlagen.",
   "preview.buyer": "(der Auftraggeber der Einstellungen)", "preview.currency": "(Währung)",

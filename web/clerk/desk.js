@@ -1,7 +1,8 @@
 // Which screen is shown: by the address, in the language that is spoken; and the bar that says whether the tab holds the key.
 import { element } from "../draw.js";
 import { sentenceOf } from "../common/office.js";
-import { addTexts, chooseLanguage, language, languages, say } from "../common/texts.js";
+import { drawLanguages } from "../common/frame.js";
+import { addTexts, say } from "../common/texts.js";
 import { linkTo } from "./address.js";
 import { drawBudget } from "./budgets.js";
 import { button, note } from "./forms.js";
@@ -9,7 +10,7 @@ import { drawJournal } from "./journals.js";
 import { drawKey } from "./key.js";
 import { drawLetter } from "./letters.js";
 import { drawMinutes } from "./minutes.js";
-import { drawEditor, drawPreview } from "./editor.js";
+import { drawEditor } from "./editor.js";
 import { drawProcurement } from "./procurement.js";
 import { caller, forgetKey, who } from "./session.js";
 import { drawTenderers } from "./tenderers.js";
@@ -20,6 +21,8 @@ await addTexts({ en: () => import("./en.js"), de: () => import("./de.js") });
 const byId = (id) => document.getElementById(id);
 const main = byId("content");
 const PAGES = ["today", "budget", "tenderers", "new", "journal"];
+// (The public page's modules are loaded where it is drawn.)
+const drawPreview = async () => (await import("./preview.js")).drawPreview();
 // The screens by the first word of the address; what stands behind it is given to them.
 const SCREENS = { today: drawToday, budget: drawBudget, tenderers: drawTenderers, new: drawEditor, preview: drawPreview, journal: drawJournal, key: drawKey,
   notice: drawProcurement, minutes: drawMinutes, letter: drawLetter };
@@ -37,23 +40,12 @@ function words() {
 
 /** What stands around the screens, in the language that is spoken. */
 function drawFrame(page) {
-  document.documentElement.lang = language();
+  drawLanguages(byId("languages"), () => show(false));
   byId("skip").textContent = say("skip");
   byId("site").textContent = say("site");
   byId("foot").textContent = say("foot");
   byId("pages").replaceChildren(...PAGES.map((name) => element("a", { href: `#${name}`, ...(name === page ? { "aria-current": "page" } : {}) },
     say(`page.${name}`))));
-  byId("languages").setAttribute("aria-label", say("language.choose"));
-  byId("languages").replaceChildren(...languages().map(([tag, name]) => {
-    const made = button(name, async () => {
-      await chooseLanguage(tag);
-      await show(false);
-      byId("languages").querySelector("[aria-pressed='true']").focus();
-    });
-    made.setAttribute("lang", tag);
-    made.setAttribute("aria-pressed", String(tag === language()));
-    return made;
-  }));
   drawWho();
 }
 

@@ -14,8 +14,6 @@ import { sendThen } from "./send.js";
 import { draft as kept, journal, keepDraft } from "./session.js";
 import { MOST, localMilliseconds, localText, momentText } from "./values.js";
 
-export { drawPreview } from "./preview.js";
-
 export async function drawEditor(again) {
   const lines = new Map((await ledger()).map((one) => [one.line, one]));
   const draft = kept() ?? newDraft();

@@ -163,7 +163,7 @@ export default {
   "paste.differs": "line {line}: of lot {value}, “{name}” is “{told}” here, and something else above",
   "paste.number": "line {line}, {name}: “{value}” is no whole number",
   "preview.none": "There is nothing yet that could be published.", "preview.back": "Back to the notice",
-  "preview.note": "So the public will see it, once it is published.", "preview.sealed": "The tenders haven't been opened, so there are no minutes.",
+  "preview.note": "So the public will see it, once it is published.",
   "preview.hidden": "Budget lines, securities, validity, standstill and weight are published by no release: tell them in the tender documents.",
   "preview.buyer": "(the buyer of the office's settings)", "preview.currency": "(currency)",
   "journal.intro": "What was sent from this tab: when, by whom, where, the SHA-256 of the body, and the answer. The office keeps no names, and shows nobody"

@@ -1,5 +1,6 @@
 // Fields, forms and tables of the desk.
 import { element } from "../draw.js";
+import { save, table as drawTable } from "../common/forms.js";
 import { say } from "../common/texts.js";
 import { lineFault } from "./values.js";
 
@@ -76,18 +77,9 @@ export function note(kind, head, ...content) {
     (part instanceof Node ? part : element("p", {}, part))));
 }
 
-/** A table: heads, each `[text, isFigure]`, and rows of cells; the first cell heads its row. A narrow window shows rows as blocks, so roles are said, and each
- * cell has the name of its column. */
+/** A table: heads, each `[text, isFigure]`, and rows of cells; the first cell heads its row. */
 export function table(caption, heads, rows) {
-  const head = heads.map(([text, isFigure]) => element("th", { scope: "col", role: "columnheader", ...(isFigure ? { class: "figure" } : {}) }, text));
-  const cell = (content, at) => {
-    const [name, isFigure] = heads[at];
-    const shared = { "data-name": name, ...(isFigure ? { class: "figure" } : {}) };
-    return at === 0 ? element("th", { scope: "row", role: "rowheader", ...shared }, content) : element("td", { role: "cell", ...shared }, content);
-  };
-  return element("table", { class: "figures", role: "table" }, caption ? element("caption", {}, caption) : null,
-    element("thead", { role: "rowgroup" }, element("tr", { role: "row" }, head)),
-    element("tbody", { role: "rowgroup" }, rows.map((cells) => element("tr", { role: "row" }, cells.map(cell)))));
+  return drawTable(caption, heads.map(([text]) => text), rows, { figures: heads.flatMap(([, isFigure], at) => (isFigure ? [at] : [])) });
 }
 
 /** A place where a file is dropped, or chosen. */
@@ -114,14 +106,7 @@ export function dropped(label, hint, accept, take) {
 }
 
 /** Gives a text as a file to keep. */
-export function download(name, text, type) {
-  const address = URL.createObjectURL(new Blob([text], { type }));
-  const link = element("a", { href: address, download: name });
-  document.body.append(link);
-  link.click();
-  link.remove();
-  setTimeout(() => URL.revokeObjectURL(address), 60_000);
-}
+export const download = save;
 
 /** A sheet that is printed alone, with a button for it above. */
 export function sheet(...content) {

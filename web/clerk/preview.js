@@ -1,6 +1,6 @@
 // A notice as the public will see it: drawn by the public's own page, from the release that the publication makes.
 import { ledger, officeNow } from "../common/office.js";
-import { say } from "../common/texts.js";
+import { addTexts, say } from "../common/texts.js";
 import { element } from "../draw.js";
 import { drawProcess } from "../process.js";
 import { linkTo } from "./address.js";
@@ -21,6 +21,11 @@ function compiledOf(body, name) {
   return { buyer: { name: buyer }, language: document.documentElement.lang, tender };
 }
 
+/** The terms as the office will tell them. */
+function termsOf(body) {
+  return { performance: 0, price_weight: null, late_withdrawal: "refused", ...body };
+}
+
 export async function drawPreview() {
   const written = draft();
   const lines = new Map((await ledger()).map((one) => [one.line, one]));
@@ -30,7 +35,9 @@ export async function drawPreview() {
   }
   const compiled = compiledOf(bodyOf(written), written.name);
   const release = { tag: ["planning", "tender"], date: momentText(officeNow()), tender: compiled.tender };
-  const drawn = drawProcess(written.name, compiled, [release], { lots: new Map(), refused: { message: say("preview.sealed") } });
+  // (the public page's texts are its own)
+  await addTexts({ en: () => import("../en.js"), de: () => import("../de.js") });
+  const drawn = drawProcess(written.name, compiled, [release], { terms: termsOf(bodyOf(written)), tenders: null, evaluation: null, isPreview: true });
   // (the last part links to what isn't there before it is published)
   return { title: say("editor.preview"), content: [note("look", say("preview.note"), say("preview.hidden")),
     element("p", {}, linkTo(say("preview.back"), "new")), ...drawn.slice(0, -1)] };

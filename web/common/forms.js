@@ -102,7 +102,7 @@ export function table(caption, heads, rows, { figures = [], foot = null, kind = 
   const rowOf = (cells, name) => element("tr", { role: "row" }, cells.map((cell, at) => (at === 0
     ? element("th", { scope: "row", role: "rowheader", "data-name": heads[at], ...kindOf(at) }, cell)
     : element("td", { role: "cell", ...(name ? { "data-name": heads[at] } : {}), ...kindOf(at) }, cell))));
-  return element("table", { role: "table", class: kind }, element("caption", {}, caption),
+  return element("table", { role: "table", class: kind }, caption ? element("caption", {}, caption) : null,
     element("thead", { role: "rowgroup" }, element("tr", { role: "row" },
       heads.map((text, at) => element("th", { scope: "col", role: "columnheader", ...kindOf(at) }, text)))),
     element("tbody", { role: "rowgroup" }, rows.map((cells) => rowOf(cells, true))),

@@ -2,9 +2,21 @@
 import { element } from "../draw.js";
 import { language, say } from "./texts.js";
 
+// Each form of numbers and moments, made once: making one takes longer than a hundred uses of it.
+const forms = new Map();
+
+function form(kind, parts) {
+  const tag = language() === "en" ? "en-GB" : language();
+  const name = `${tag} ${kind.name} ${JSON.stringify(parts)}`;
+  if (!forms.has(name)) {
+    forms.set(name, new kind(tag, parts));
+  }
+  return forms.get(name);
+}
+
 /** Whole units with groups of three, in the way of the language. */
 export function number(amount) {
-  return new Intl.NumberFormat(language()).format(amount);
+  return form(Intl.NumberFormat, {}).format(amount);
 }
 
 /** An amount with its currency, which may be unknown. */
@@ -26,20 +38,28 @@ export function typed(text, most) {
   return trimmed.length > 16 || Number(trimmed) > most ? { fault: "above" } : { value: Number(trimmed) };
 }
 
-const PARTS = { day: "numeric", month: "long", year: "numeric", hour: "2-digit", minute: "2-digit", second: "2-digit", hourCycle: "h23" };
+const DAY = { day: "numeric", month: "long", year: "numeric" };
+const TIME = { hour: "2-digit", minute: "2-digit", second: "2-digit", hourCycle: "h23" };
 
-function formatted(date, more) {
-  return new Intl.DateTimeFormat(language() === "en" ? "en-GB" : language(), { ...PARTS, ...more }).format(date);
+function formatted(date, parts) {
+  return form(Intl.DateTimeFormat, parts).format(date);
 }
 
-/** A moment of the office: in UTC, as it counts, and where the reader is. */
+/** The day of a moment, in UTC. */
+export function day(text) {
+  const date = new Date(text);
+  return element("time", { datetime: text }, Number.isNaN(date.getTime()) ? text : formatted(date, { ...DAY, timeZone: "UTC" }));
+}
+
+/** A moment of the office: in UTC, as it counts, and where the reader is, there without the day where that is the same. */
 export function moment(text) {
   const date = new Date(text);
   if (Number.isNaN(date.getTime())) {
     return element("span", {}, text);
   }
-  const here = formatted(date, { timeZoneName: "short" });
-  const utc = `${formatted(date, { timeZone: "UTC" })} UTC`;
+  const isSameDay = formatted(date, DAY) === formatted(date, { ...DAY, timeZone: "UTC" });
+  const here = formatted(date, { ...(isSameDay ? {} : DAY), ...TIME, timeZoneName: "short" });
+  const utc = `${formatted(date, { ...DAY, ...TIME, timeZone: "UTC" })} UTC`;
   return element("time", { datetime: text }, date.getTimezoneOffset() === 0 ? utc : say("moment.both", { utc, here }));
 }
 

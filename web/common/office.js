@@ -60,11 +60,11 @@ function refusalOf(answer, text) {
 }
 
 /** The text of an answer. A caller is `{ caller, key }`, or nothing for the public. */
-async function send(path, { method = "GET", caller = null, body = undefined } = {}) {
+async function send(path, { method = "GET", caller = null, body = undefined, cache = "no-store" } = {}) {
   const headers = caller ? { "Office-Caller": caller.caller, "Office-Key": caller.key } : {};
   let answer, text;
   try {
-    answer = await fetch(path, { method, headers, body, credentials: "omit", cache: "no-store", redirect: "error", signal: AbortSignal.timeout(LONGEST) });
+    answer = await fetch(path, { method, headers, body, credentials: "omit", cache, redirect: "error", signal: AbortSignal.timeout(LONGEST) });
     text = await answer.text();
   } catch {
     throw new Refused({ kind: "away" });
@@ -144,6 +144,52 @@ export async function record(notice) {
   return compiled;
 }
 
+/** All notices, as the office lists them: a page of a hundred after another. */
+export async function notices() {
+  const found = [];
+  let next = "";
+  do {
+    const page = await lookJson(`/notices${next && `?after=${next}`}`);
+    found.push(...page.notices);
+    next = page.next;
+  } while (next);
+  return found;
+}
+
+/** What the office's program may not have yet: its answer, or null where there is no such route. */
+async function perhaps(asked) {
+  try {
+    return await asked;
+  } catch (fault) {
+    if (fault.status === 404 && fault.name !== "NoSuch") {
+      return null;
+    }
+    throw fault;
+  }
+}
+
+/** On which terms a notice takes tenders, as the office tells them. */
+export function noticeTerms(notice) {
+  return perhaps(lookJson(`/notices/${part(notice)}/terms`));
+}
+
+/** The evaluation of a notice as the office wrote it; null where nothing was opened. */
+export function evaluationText(notice) {
+  return perhaps(ifOpened(`/notices/${part(notice)}/evaluation`));
+}
+
+/** A file that stands beside the office, as those of its mirror: its text, or null where it isn't there. A browser keeps it, and asks whether it changed. */
+export async function file(path) {
+  try {
+    return await send(path, { cache: "no-cache" });
+  } catch (fault) {
+    if (fault.status === 404) {
+      return null;
+    }
+    throw fault;
+  }
+}
+
 /** A notice's releases, in order. */
 export async function releases(notice) {
   return (await lookJson(`/notices/${part(notice)}/releases`)).releases ?? [];
@@ -166,9 +212,13 @@ function stateOf(tender) {
 }
 
 /** The minutes of an opening as the office wrote them; null where nothing was opened. */
-export async function minutesText(notice) {
+export function minutesText(notice) {
+  return ifOpened(`/notices/${part(notice)}/minutes`);
+}
+
+async function ifOpened(path) {
   try {
-    return await look(`/notices/${part(notice)}/minutes`);
+    return await look(path);
   } catch (fault) {
     if (fault.name === "NotOpened") {
       return null;

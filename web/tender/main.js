@@ -1,8 +1,9 @@
 // Which view is shown, by the address; the language; and whose key is in this tab.
 import { element } from "../draw.js";
 import { told } from "../common/forms.js";
+import { decoded, drawLanguages } from "../common/frame.js";
 import { sentenceOf } from "../common/office.js";
-import { addTexts, chooseLanguage, language, languages, say } from "../common/texts.js";
+import { addTexts, say } from "../common/texts.js";
 import { drawHome } from "./home.js";
 import { drawKey } from "./key.js";
 import { drawOffer } from "./offer.js";
@@ -19,19 +20,13 @@ let asked = 0;
 
 /** The page and the names behind it in the address. */
 function place() {
-  const [page, ...names] = location.hash.slice(1).split("/").map((text) => {
-    try {
-      return decodeURIComponent(text);
-    } catch {
-      return text;
-    }
-  });
+  const [page, ...names] = location.hash.slice(1).split("/").map(decoded);
   return Object.hasOwn(PAGES, page) ? [page, ...names] : [""];
 }
 
 /** What stands around the views: the page's own words, the way to each view, and the languages. */
 function drawFrame(page) {
-  document.documentElement.lang = language();
+  drawLanguages(document.getElementById("languages"), show);
   for (const at of document.querySelectorAll("[data-text]")) {
     at.textContent = say(at.dataset.text);
   }
@@ -46,15 +41,6 @@ function drawFrame(page) {
     }
   }
   document.getElementById("who").textContent = session.caller ? say("who.key", { name: session.caller.caller }) : say("who.none");
-  document.getElementById("languages").replaceChildren(...languages().map(([tag, name]) => {
-    const one = element("button", { type: "button", lang: tag, "aria-pressed": String(tag === language()) }, name);
-    one.addEventListener("click", async () => {
-      await chooseLanguage(tag).catch((fault) => console.warn(fault));
-      await show();
-      document.querySelector(`#languages [lang=${language()}]`).focus();
-    });
-    return one;
-  }));
 }
 
 async function viewOf([page, ...names]) {
