@@ -2,15 +2,14 @@
 import base64
 import json
 import os
-import shutil
-import sqlite3
 import tempfile
+import time
 from typing import Any
 
+import client
 from browser import Page
-from common import CONFIG, check, free_port
-from front import Front
-from looks_stand_in import Server, StandIn
+from common import check, connect, free_port, running, serve_words
+from front import PATIENCE, Front
 from mirror_tables import table
 from page_checks import NARROWEST, VIEWS, has_contrast, is_quiet, is_within, page_of
 from scene import Scene
@@ -18,6 +17,9 @@ from scene import Scene
 WIDEST = 1920
 # How many notices an office has that is there for some years, and within how many seconds of the page's own work they are shown.
 MANY, LONGEST = 500, 1.0
+NAMES = [f"M{number:04}" for number in range(MANY)]
+# Seconds until a deadline, and how many connections an office takes before it ends.
+DAY, SOON, CONNECTIONS = 86_400, 2, 100_000
 FOUND = "[...document.querySelectorAll('.entry-of-list h3')].map((at) => at.textContent)"
 # What is asked of the mirror's files: the type of each.
 FILES = {"": "text/html; charset=utf-8", "notices.csv": "text/csv; charset=utf-8", "releases.jsonl": "application/jsonl; charset=utf-8",
@@ -100,21 +102,33 @@ def search(scene: Scene) -> None:
     is_quiet(page)
 
 
-def with_many(file: str, data: str) -> None:
-    """Puts many notices into a copy of an office's file, and into the tables of a mirror, for the list alone."""
-    office = sqlite3.connect(file)
-    names = [f"M{number:04}" for number in range(MANY)]
-    office.execute("DELETE FROM notices_2")
-    office.executemany("INSERT INTO notices_2 VALUES (?, ?, ?, ?, 90, 10, 0, 'receiving', NULL, 0, 1, 0)",
-                       [(name, f"Purchase {name} of the city", 1_700_000_000 + 60 * at, 4_000_000_000 if at % 10 == 0 else 1_750_000_000)
-                        for at, name in enumerate(names)])
-    office.commit()
-    office.close()
+def publish_many(port: int) -> list[str]:
+    """Publishes many notices, of which one in ten takes tenders for a day and the others for a moment; gives the titles in the order in which they are to be
+    shown."""
+    office = client.Client(client.Port(port))
+    office.import_budget("B1", client.budget(f"1100,add,{MANY * 1000},Roads"))
+    for name in NAMES:
+        deadline = time.time() + (DAY if name.endswith("0") else SOON)
+        office.publish(name, client.notice(client.text_of(deadline), client.lot("L1", "1100", 1000), title=f"Purchase {name} of the city"))
+    client.wait_until(deadline + 1.05)
+    rows: list[dict[str, str]] = []
+    while not rows or page["next"]:
+        page = office.notices(rows[-1]["notice"] if rows else None)
+        rows += page["notices"]
+    # (of a second in which several were published, by their names)
+    rows.sort(key=lambda row: row["published"], reverse=True)
+    rows.sort(key=lambda row: not row["notice"].endswith("0"))
+    return [row["title"] for row in rows]
+
+
+def with_tables(data: str) -> None:
+    """The tables of a mirror that knows of many notices, three lots of each and five firms."""
     shape = {"state": "receiving", "status": "active", "releases": 1, "running": 0, "currency": "EUR", "buyer": "City", "published": "2026-01-01T00:00:00Z"}
-    tables: dict[str, list[dict[str, Any]]] = {"notices": [{**shape, "notice": name, "title": name, "estimate": 1000 + at} for at, name in enumerate(names)],
-              "lots": [{"notice": name, "lot": f"L{lot}", "title": "A lot", "line": "1100", "estimate": 500} for name in names for lot in range(3)],
-              "tenders": [{"notice": name, "lot": "L1", "tenderer": f"T{firm}", "name": f"Firm {firm}"} for name in names for firm in range(5)],
-              "budget": [{"line": "1100", "title": "Roads"}]}
+    tables: dict[str, list[dict[str, Any]]] = {
+        "notices": [{**shape, "notice": name, "title": name, "estimate": 1000 + at} for at, name in enumerate(NAMES)],
+        "lots": [{"notice": name, "lot": f"L{lot}", "title": "A lot", "line": "1100", "estimate": 500} for name in NAMES for lot in range(3)],
+        "tenders": [{"notice": name, "lot": "L1", "tenderer": f"T{firm}", "name": f"Firm {firm}"} for name in NAMES for firm in range(5)],
+        "budget": [{"line": "1100", "title": "Roads"}]}
     os.makedirs(data)
     for name, rows in tables.items():
         with open(os.path.join(data, f"{name}.csv"), "w", newline="") as out:
@@ -122,22 +136,20 @@ def with_many(file: str, data: str) -> None:
 
 
 def many(scene: Scene) -> None:
-    """Five hundred notices are shown within a second of the page's work, newest first, and searched as one types."""
+    """Five hundred notices are shown within a second of the page's work, newest first and those that take tenders above, and searched as one types."""
     with tempfile.TemporaryDirectory() as folder:
-        file, port = os.path.join(folder, "office.db"), free_port()
-        for end in ("", "-wal"):
-            source = os.path.join(scene.front.folder, "office.db") + end
-            if os.path.exists(source):
-                shutil.copyfile(source, file + end)
-        with_many(file, os.path.join(folder, "mirror", "data"))
-        with Server(port, StandIn(file, CONFIG, scene.front.office)), Front(folder, port) as front:
+        port = free_port()
+        with_tables(os.path.join(folder, "mirror", "data"))
+        with (running(serve_words(scene.program, os.path.join(folder, "office.db"), port, CONNECTIONS)), Front(folder, port) as front):
+            connect(port, PATIENCE).close()
+            titles = publish_many(port)
             page = Page(scene.browser, 1280)
             page.ask("Performance.enable", timeDomain="threadTicks")
             page.go(front.address())
             took = {it["name"]: it["value"] for it in page.ask("Performance.getMetrics")["metrics"]}["TaskDuration"]
             check(f"{MANY} notices take {took:.2f} s", took < LONGEST)
             check("all are told of", page.run("document.querySelector('.count').textContent") == f"{MANY} procurements")
-            check("open ones come first, and newest first", page.run(FOUND)[:2] == ["Purchase M0490 of the city", "Purchase M0480 of the city"])
+            check("open ones come first, and newest first", page.run(FOUND)[:MANY // 10] == titles[:MANY // 10])
             type_words(page, "m012")
             check("ten are found", page.run(f"{FOUND}.length") == 10)
             page.picture(os.path.join(scene.pictures, "many.png"))
