@@ -58,7 +58,7 @@ def tenderers_part(desk: Desk) -> None:
         desk.says("The file was read into the fields below.")
         desk.press("Register a tenderer")
         desk.confirm("Register", f"{name} is registered.")
-        desk.says("Tenderers of this journal")
+        desk.page.wait(f"document.querySelector('main table')?.innerText.includes({json.dumps(address)})")
     desk.picture("tenderers")
 
 
@@ -116,7 +116,8 @@ def tenders_part(desk: Desk, scene: Scene) -> None:
     desk.go("today")
     desk.go("notice/N1")
     desk.says("In time, by lots: L1: 2, L2: 1.")
-    desk.press("Look")
+    desk.says("2 securities")
+    check(f"whose they are is told: {desk.told()}", "G1" in desk.told() and "told from the opening on" in desk.told() and "Beta" not in desk.told())
     desk.picture("receiving")
 
 
@@ -125,7 +126,7 @@ def opening_part(desk: Desk, deadline: float) -> None:
     wait_until(deadline + 1.1)
     desk.press("Open the tenders \u2026")
     desk.confirm("Open them", "3 tenders of notice N1 were opened.")
-    desk.says("Evaluation")
+    desk.says("2 tenders to examine")
     desk.go("minutes/N1")
     desk.says("3 tenders were opened.")
     check(f"the minutes are shown: {desk.told()}", all(word in desk.told() for word in ("Alpha & S\u00f6hne", "unreadable", "In the presence of", "540 EUR")))
@@ -138,11 +139,18 @@ def award_part(desk: Desk) -> None:
     desk.says("2 tenders to examine")
     desk.picture("evaluation")
     check("before the examination the award is off", desk.page.run("hands.button('Award \u2026', hands.part('Lot L1')).disabled"))
+    other = Desk(desk.scene)
+    other.give_key()
+    other.settle("today")
+    other.says("Lot L1: 2 tenders wait for their examination")
+    other.says("Tenders bind until")
+    other.go("notice/N1")
+    other.says("2 tenders to examine")
     for name, receipt in (("Alpha & S\u00f6hne", 1), ("Beta Ltd", 2)):
         desk.press("Responsive \u2026", place=f"Examination of {name}, receipt {receipt}")
         desk.confirm("That is what was found", f"The tender of {name} is examined.")
     desk.says("Lot L1 goes to Beta Ltd for 540 EUR.")
-    examined_elsewhere(desk.scene)
+    examined_elsewhere(other)
     desk.press("Award \u2026", place="Lot L1")
     desk.confirm("Award it", "Lot L1 is decided. Price: 540; receipt: 2.")
     desk.press("Award \u2026", place="Lot L2")
@@ -156,7 +164,7 @@ def award_part(desk: Desk) -> None:
     desk.picture("awarded")
     desk.press("Pass over \u2026")
     desk.confirm("Pass over", "The winner of award 1 was passed over.")
-    desk.says("Beta Ltd, for 540 EUR, was passed over.")
+    desk.says("It won; then the winner didn't sign.")
     desk.press("Award \u2026", place="Lot L1")
     desk.confirm("Award it", "Lot L1 is decided. Price: 570; receipt: 1.")
     desk.field("Reference of the performance security", "P1")
@@ -168,22 +176,15 @@ def award_part(desk: Desk) -> None:
     desk.confirm("Sign", "Contract 2 is signed.")
 
 
-def examined_elsewhere(scene: Scene) -> None:
-    """Another tab, which doesn't know of the examinations, is told so by the office, and may ask for the award anyway."""
-    other = Desk(scene)
-    other.give_key()
-    other.settle("today")
-    other.go("notice/N1")
+def examined_elsewhere(other: Desk) -> None:
+    """A tab whose screen is older than the examinations is told of them by the office, and shows what was found then."""
     other.press("Responsive \u2026", place="Examination of Alpha & S\u00f6hne, receipt 1")
     other.page.wait("document.querySelector('dialog[open] .steps button')")
     other.page.run("hands.sure()")
     other.press("That is what was found")
     other.says("It was examined elsewhere, or withdrawn late, and that stays.")
     other.press("Close")
-    other.says("1 tender waits for its examination first.")
-    check("what the office said of the other stands there", "examined elsewhere, or withdrawn late" in other.told())
-    other.press("Were they examined elsewhere?")
-    other.page.wait("hands.button('Ask the office \u2026') && !hands.button('Ask the office \u2026').disabled")
+    other.says("Lot L1 goes to Beta Ltd for 540 EUR.")
     other.leave()
 
 
@@ -209,11 +210,12 @@ def contract_part(desk: Desk) -> None:
     desk.press("End the contract")
     desk.press("End regularly \u2026")
     desk.confirm("End it", "Contract 2 has ended.")
-    desk.says("Performance security P1, 70 EUR: given back")
+    desk.says("P1: Given back")
+    check(f"how it ended is told: {desk.told()}", "Ended as agreed" in desk.told())
 
 
 def journal_part(desk: Desk) -> None:
-    """The journal has an entry for each that was sent, comes back from its file, and knows then what no look shows."""
+    """The journal has an entry for each that was sent, and comes back from its file."""
     desk.go("journal")
     desk.picture("journal")
     entries = desk.page.run("import('/clerk/session.js').then(({ journal }) => journal().entries.map(({ path, status, who }) => [path, status, who]))")
@@ -221,15 +223,13 @@ def journal_part(desk: Desk) -> None:
     text = desk.page.run("Promise.all([import('/clerk/session.js'), import('/clerk/journal.js')]).then(([{ journal }, { fileOf }]) => fileOf(journal()))")
     check("the key is in the journal", '"abc"' not in text and "Office-Key" not in text)
     other = Desk(desk.scene, place="#notice/N1")
-    check("without the journal the terms aren't known", "This tab doesn't know" in other.told())
+    check(f"without the key it tells how a contract ended: {other.told()}", "Whether it ended as agreed or by default is not published." in other.told())
     other.go("journal")
     other.drop(text.replace("More kerbs", "Less kerbs"), "journal.jsonl")
     other.says("What was sent doesn't match its SHA-256")
     other.drop(text, "journal.jsonl")
     other.says("Entries, the last one first")
     other.page.wait("document.querySelectorAll('.entries > li').length === 16")
-    other.go("notice/N1")
-    check(f"with the journal they are: {other.told()}", "Terms that no record tells" in other.told() and "responsive" in other.told())
 
 
 def life(scene: Scene) -> None:
@@ -312,12 +312,18 @@ def stops(scene: Scene) -> None:
     for label, value in (("Identifier", "T9"), ("Name", "Gamma"), ("Address", "Mill Lane 3"), ("SHA-256 of the key", "ab " * 32)):
         desk.field(label, value)
     desk.press("Register a tenderer")
-    desk.page.answer_for({"/tenderers/T9": (504, b'{"front":"no answer"}')})
+    lists = {name: (200, json.dumps({"next": None, "tenderers": [{"address": "Mill Lane 3", "name": name, "tenderer": "T9"}]}).encode())
+             for name in ("Other", "Gamma")}
+    no_answer, exists = (504, b'{"front":"no answer"}'), (409, b'{"name":"Exists","refusal":10}')
+    desk.page.answer_for({"/tenderers/T9": no_answer, "/tenderers": no_answer})
     desk.page.wait("document.querySelector('dialog[open] .steps button')")
     desk.page.run("hands.sure()")
     desk.press("Register")
     desk.says("What became of it can't be told by a look.")
-    desk.page.answer_for({"/tenderers/T9": (409, b'{"name":"Exists","refusal":10}')})
+    desk.page.answer_for({"/tenderers/T9": no_answer, "/tenderers": lists["Other"]})
+    desk.press("Ask again what became of it")
+    desk.says("It isn't done: the office shows nothing of it.")
+    desk.page.answer_for({"/tenderers/T9": exists, "/tenderers": lists["Gamma"]})
     desk.press("Send the same again")
     desk.says("It is done.")
     found = desk.page.run("import('/clerk/session.js').then(({ journal }) => journal().entries.map(({ status, found }) => [status, found]))")

@@ -238,7 +238,7 @@ PLANTS: list[tuple[str, str, str, str, Callable[[Scene, Desk], None]]] = [
     ("tenders", "press.disabled = true;", "press.disabled = false;", "T2", wants_tick),
     ("convert", "quantity !== null && quantity !== item.quantity", "false", "T1", cannot_send),
     ("session", "export const session = {", "localStorage.setItem('key', 'x');\nexport const session = {", "T1", stores_nothing),
-    ("main", "let asked = 0;", "let asked = 0;\nfetch('https://127.0.0.2/').catch(() => 0);", "T1", stores_nothing),
+    ("main", "const MENU = {", "fetch('https://127.0.0.2/').catch(() => 0);\nconst MENU = {", "T1", stores_nothing),
 ]
 
 

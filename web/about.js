@@ -1,7 +1,7 @@
 // The city's own words: its name, imprint, contact, privacy and accessibility, from the file that it fills in; and what this page is made of.
 import { file } from "./common/office.js";
 import { language, say } from "./common/texts.js";
-import { element, given } from "./draw.js";
+import { element, given, link, section, title } from "./common/draw.js";
 
 const PARTS = ["imprint", "contact", "privacy", "accessibility"];
 let city = null;
@@ -34,7 +34,7 @@ const ADDRESS = /(https?:\/\/[^\s<>"]+[^\s<>".,;)]|[^\s<>"@]+@[^\s<>"@]+\.[a-z]{
 
 function paragraph(text) {
   return element("p", {}, text.split(ADDRESS).map((part, at) => (at % 2 === 0 ? given(part)
-    : element("a", { href: part.includes("://") ? part : `mailto:${part}` }, part))));
+    : link(part, part.includes("://") ? part : `mailto:${part}`))));
 }
 
 /** The view of all of it. */
@@ -42,11 +42,10 @@ export async function drawAbout() {
   const words = await cityFile();
   const parts = PARTS.map((name) => {
     const [tag, told] = wordsOf(words[name]);
-    return element("section", { "aria-labelledby": name }, element("h2", { id: name }, say(`see.about.${name}`)),
+    return section(say(`see.about.${name}`),
       element("div", { lang: tag }, told.length > 0 ? told.map(paragraph) : element("p", { lang: language(), class: "quiet" }, say("see.about.nothing"))));
   });
-  const data = element("a", { href: "/data/" }, say("see.about.data"));
-  return { title: say("see.about"), told: say("see.about"), content: [element("h1", { tabindex: "-1" }, say("see.about")), parts,
-    element("section", { "aria-labelledby": "made" }, element("h2", { id: "made" }, say("see.about.made")), element("p", {}, say("see.about.drawn")),
-      element("p", {}, say("see.about.kept")), element("p", {}, data, " · ", element("a", { href: "/openapi.yaml" }, "openapi.yaml")))] };
+  return { title: say("see.about"), told: say("see.about"), content: [title(say("see.about")), parts,
+    section(say("see.about.made"), element("p", {}, say("see.about.drawn")), element("p", {}, say("see.about.kept")),
+      element("p", {}, link(say("see.about.data"), "/data/"), " · ", link("openapi.yaml", "/openapi.yaml")))] };
 }

@@ -1,5 +1,5 @@
 // Charts: bars of SVG between their names and their figures, so that words stay as large as all others, on a phone too. Kinds are told apart by patterns.
-import { element } from "./draw.js";
+import { element } from "./common/draw.js";
 
 const SPACE = "http://www.w3.org/2000/svg";
 

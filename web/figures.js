@@ -1,27 +1,28 @@
 // Figures of all procurements: money by line, tenders a lot, and how long it took from the notice to the contract.
-import { number } from "./common/money.js";
-import { choice } from "./common/forms.js";
-import { say } from "./common/texts.js";
 import { bars } from "./chart.js";
-import { sum, tables } from "./data.js";
-import { element, given, key } from "./draw.js";
+import { sum, tables } from "./common/data.js";
+import { element, given, key, link, placeOf, section, title } from "./common/draw.js";
+import { field } from "./common/forms.js";
+import { number } from "./common/money.js";
+import { pots } from "./common/pots.js";
+import { say } from "./common/texts.js";
 
 const DAY = 86_400_000;
-const POTS = ["paid", "contracted", "reserved", "free"];
 // Up to how many days each bar of the third chart tells.
 const DAYS = [30, 60, 90, 120, 180, Infinity];
 const MOST = 5;
 
-function section(id, heading, ...content) {
-  return element("section", { class: "card", "aria-labelledby": id }, element("h2", { id }, heading), ...content);
+function card(...content) {
+  const made = section(...content);
+  made.classList.add("card");
+  return made;
 }
 
 function byLine(budget, currency) {
   const rows = budget.filter(({ appropriation }) => appropriation > 0).map((line) => ({
-    name: element("a", { href: `#line/${encodeURIComponent(line.line)}` }, `${line.line} `, given(line.title)),
-    parts: POTS.map((kind) => ({ kind, amount: line[kind] })), told: number(line.appropriation) }));
-  const all = POTS.map((kind) => ({ kind, name: say(`see.pot.${kind}`), amount: sum(budget.map((line) => line[kind])) }));
-  return section("by-line", say("see.chart.lines"), element("p", {}, say("see.chart.lines.what", { currency })), key(all, ` ${currency}`),
+    name: link([`${line.line} `, given(line.title)], placeOf("line", line.line)), parts: pots((kind) => line[kind]), told: number(line.appropriation) }));
+  const all = pots((kind) => sum(budget.map((line) => line[kind])));
+  return card(say("see.chart.lines"), element("p", {}, say("see.chart.lines.what", { currency })), key(all, ` ${currency}`),
     bars(say("see.chart.lines"), rows));
 }
 
@@ -31,7 +32,7 @@ function tendersALot(lots) {
   const rows = counted.map((count, at) => ({ name: say(at === MOST ? "see.chart.tenders.more" : "see.chart.tenders.count", { count: at }),
     parts: [{ kind: "paid", amount: count }], told: number(count) }));
   const told = say("see.chart.tenders.what", { count: opened.length, one: counted[1], none: counted[0] });
-  return section("a-lot", say("see.chart.tenders"), element("p", {}, told), bars(say("see.chart.tenders"), rows));
+  return card(say("see.chart.tenders"), element("p", {}, told), bars(say("see.chart.tenders"), rows));
 }
 
 /** The days from the publication of a notice to the signing of each of its contracts. */
@@ -49,7 +50,7 @@ function timeToContract(days) {
     return { name, parts: [{ kind: "paid", amount: count }], told: number(count) };
   });
   const middle = days.length === 0 ? "–" : say("span.days", { count: days[Math.floor((days.length - 1) / 2)] });
-  return section("how-long", say("see.chart.days"), element("p", {}, say("see.chart.days.what", { count: days.length, middle })),
+  return card(say("see.chart.days"), element("p", {}, say("see.chart.days.what", { count: days.length, middle })),
     bars(say("see.chart.days"), rows));
 }
 
@@ -63,14 +64,14 @@ function charts(data, year) {
 /** The view of all charts; the year, of which the notices are, stands in the address. */
 export async function drawFigures(text) {
   const data = await tables("notices", "lots", "contracts", "budget");
-  const heading = element("h1", { tabindex: "-1" }, say("see.figures"));
+  const heading = title(say("see.figures"));
   if (data === null) {
     return { title: say("see.figures"), told: say("see.nodata"), content: [heading, element("p", { class: "note" }, say("see.nodata"))] };
   }
   const years = [...new Set(data.notices.map(({ published }) => published.slice(0, 4)))].sort().reverse();
   const asked = new URLSearchParams(text).get("year") ?? "";
   const choices = [["", say("see.any")], ...years.map((year) => [year, year])];
-  const { made, input } = choice("of-year", say("see.figures.year"), choices, { value: years.includes(asked) ? asked : "" });
+  const { made, input } = field(say("see.figures.year"), { id: "of-year", kind: "choice", options: choices, value: years.includes(asked) ? asked : "" });
   const shown = element("div", {}, charts(data, input.value));
   input.addEventListener("change", () => {
     history.replaceState(history.state, "", input.value ? `#figures?year=${input.value}` : "#figures");

@@ -1,12 +1,12 @@
 // Firms: what each tendered for, what it won, and what it was paid; by the tables of the mirror.
+import { grouped, sum, tables } from "./common/data.js";
+import { badge, below, element, facts, given, link, placeOf, title } from "./common/draw.js";
+import { plain } from "./common/filters.js";
+import { kindOfSigned } from "./common/findings.js";
 import { field, table } from "./common/forms.js";
 import { day, number } from "./common/money.js";
 import { Refused } from "./common/office.js";
 import { say } from "./common/texts.js";
-import { grouped, sum, tables } from "./data.js";
-import { badge, element, facts, given } from "./draw.js";
-import { plain } from "./filters.js";
-import { kindOfSigned } from "./findings.js";
 
 function amount(value) {
   return value === null ? "–" : number(value);
@@ -24,15 +24,14 @@ function firmsOf({ tenders, contracts, payments }) {
 }
 
 function firmTable(firms, currency) {
-  const cells = firms.map((firm) => [[element("a", { href: `#firm/${encodeURIComponent(firm.tenderer)}` }, given(firm.name)),
-    element("span", { class: "quiet below" }, given(firm.address))], number(firm.tenders), number(firm.won), number(firm.worth), number(firm.paid)]);
+  const cells = firms.map((firm) => [[link(given(firm.name), placeOf("firm", firm.tenderer)), below(given(firm.address))], number(firm.tenders), number(firm.won), number(firm.worth), number(firm.paid)]);
   const heads = [say("see.firm"), say("see.tenders"), say("see.contracts"), say("see.worth"), say("see.paid")];
   return table(say("see.firms.table", { count: firms.length, currency }), heads, cells, { figures: [1, 2, 3, 4] });
 }
 
 function without() {
   return { title: say("see.firms"), told: say("see.nodata"),
-    content: [element("h1", { tabindex: "-1" }, say("see.firms")), element("p", { class: "note" }, say("see.nodata"))] };
+    content: [title(say("see.firms")), element("p", { class: "note" }, say("see.nodata"))] };
 }
 
 /** All firms that tendered. */
@@ -43,17 +42,16 @@ export async function drawFirms() {
   }
   const firms = firmsOf(data);
   const currency = data.contracts[0]?.currency ?? "";
-  const { made, input } = field("by-name", say("see.firms.search"), { type: "search" });
+  const { made, input } = field(say("see.firms.search"), { id: "by-name", kind: "search" });
   const found = element("div", {}, firmTable(firms, currency));
   input.addEventListener("input", () => {
     const asked = plain(input.value.trim());
     found.replaceChildren(firmTable(firms.filter(({ name, tenderer }) => plain(`${name} ${tenderer}`).includes(asked)), currency));
   });
   return { title: say("see.firms"), told: say("see.firms.count", { count: firms.length }),
-    content: [element("h1", { tabindex: "-1" }, say("see.firms")), element("p", { class: "intro" }, say("see.firms.intro")),
+    content: [title(say("see.firms")), element("p", { class: "intro" }, say("see.firms.intro")),
       firms.length === 0 ? element("p", {}, say("see.firms.none")) : [made, found]] };
 }
-
 
 /** What became of a tender, by the tables alone: by its award where it had one, else by what was found of it. */
 function outcome(tender, lot, award, contract) {
@@ -88,18 +86,17 @@ export async function drawFirm(tenderer) {
   const own = data.tenders.filter((row) => row.tenderer === tenderer).sort((one, other) => other.receipt - one.receipt);
   const cells = own.map((tender) => {
     const contract = ofTender(data.contracts, tender);
-    const { title, opened } = notices.get(tender.notice);
+    const { title: text, opened } = notices.get(tender.notice);
     const found = outcome(tender, lots.get(`${tender.notice}/${tender.lot}`), ofTender(data.awards, tender), contract);
-    return [[element("a", { href: `#notice/${encodeURIComponent(tender.notice)}` }, given(title)),
-      element("span", { class: "quiet below" }, say("see.lot", { lot: tender.lot }), " ", day(opened))],
+    return [[link(given(text), placeOf("notice", tender.notice)), below(say("see.lot", { lot: tender.lot }), " ", day(opened))],
     amount(tender.corrected), found, amount(contract?.worth ?? null), amount(contract?.paid ?? null)];
   });
   const currency = data.notices[0].currency;
   const heads = [say("see.procurement"), say("see.price"), say("see.found"), say("see.worth"), say("see.paid")];
-  return { title: firm.name, told: firm.name, content: [element("h1", { tabindex: "-1" }, given(firm.name)),
+  return { title: firm.name, told: firm.name, content: [title(given(firm.name)),
     element("p", { class: "quiet" }, given(firm.address)),
     facts([[say("see.tenders"), number(firm.tenders)], [say("see.contracts"), number(firm.won)], [say("see.worth"), `${number(firm.worth)} ${currency}`],
       [say("see.paid"), `${number(firm.paid)} ${currency}`]]),
     table(say("see.firm.table", { count: own.length, currency }), heads, cells, { figures: [1, 3, 4] }),
-    element("p", {}, element("a", { href: "#firms" }, say("see.firms.back")))] };
+    element("p", {}, link(say("see.firms.back"), "#firms"))] };
 }

@@ -1,47 +1,40 @@
 // The minutes of an opening as a sheet to print, with lines for signatures.
-import { element, given } from "../draw.js";
 import { bytesOf, inGroups, sha256 } from "../common/digest.js";
+import { below, element, given, link, placeOf, title } from "../common/draw.js";
+import { note, printButton, sheet, signs, steps, table } from "../common/forms.js";
 import { money, moment, number } from "../common/money.js";
 import { minutesText, record, tendersOf } from "../common/office.js";
 import { say } from "../common/texts.js";
-import { linkTo } from "./address.js";
-import { note, sheet, table } from "./forms.js";
 
 export async function drawMinutes(again, name) {
   const [compiled, text] = await Promise.all([record(name), minutesText(name)]);
-  const back = element("p", { class: "noprint" }, linkTo(say("back", { notice: name }), "notice", name));
+  const back = element("p", { class: "noprint" }, link(say("back", { notice: name }), placeOf("notice", name)));
   if (text === null) {
-    return { title: say("minutes.title"), content: [element("h1", { tabindex: "-1" }, say("minutes.title")), note("look", say("minutes.none")), back] };
+    return { title: say("minutes.title"), content: [title(say("minutes.title")), note("look", say("minutes.none")), back] };
   }
   const lines = text.split("\n").map((line) => line.split("\t"));
   const told = (word) => lines.find(([first]) => first === word)?.[1] ?? "";
   const tenders = tendersOf(text);
-  const currency = compiled.tender.lots[0].value.currency;
-  const lots = lines.filter(([first]) => first === "lot").map(([, id, title]) => lotPart(id, title, tenders.filter(({ lot }) => lot === id), currency));
-  const signs = ["minutes.opener", "minutes.witness", "minutes.witness"].map((who) => element("div", {}, say(who)));
-  const title = say("minutes.of", { notice: name });
+  const lots = lines.filter(([first]) => first === "lot")
+    .map(([, id, head]) => lotPart(id, head, tenders.filter(({ lot }) => lot === id), compiled.tender.value.currency));
+  const head = say("minutes.of", { notice: name });
   const from = say("minutes.from", { address: `${location.origin}/notices/${name}/minutes` });
   const digest = element("span", { class: "code" }, inGroups(await sha256(bytesOf(text))));
-  return { title, isSheet: true, content: [back, ...sheet(element("h1", { tabindex: "-1" }, title),
+  return { title: head, isSheet: true, content: [back, steps(printButton()), sheet(title(head),
     element("p", {}, given(compiled.buyer.name)), element("p", {}, given(lines[0][2] ?? "")),
     element("p", {}, say("minutes.deadline"), " ", moment(told("deadline"))), element("p", {}, say("minutes.opened"), " ", moment(told("opened"))),
-    element("p", {}, say("minutes.count", { count: tenders.length })), ...lots, element("p", { class: "quiet" }, say("minutes.prices")),
+    element("p", {}, say("minutes.count", { count: tenders.length })), lots, element("p", { class: "quiet" }, say("minutes.prices")),
     element("p", { class: "quiet" }, from, " ", say("order.digest"), " ", digest), element("p", { class: "below" }, say("minutes.place")),
-    element("div", { class: "signs shown" }, signs))] };
+    signs(say("minutes.opener"), say("minutes.witness"), say("minutes.witness")))] };
 }
 
-function lotPart(id, title, tenders, currency) {
-  const head = element("h2", {}, say("lot", { lot: id }), " ", given(title));
+function lotPart(id, text, tenders, currency) {
+  const head = element("h2", {}, say("see.lot", { lot: id }), " ", given(text));
   if (tenders.length === 0) {
-    return [head, element("p", {}, say("minutes.nobody"))];
+    return [head, element("p", {}, say("see.notenders"))];
   }
-  const heads = [[say("receipt"), true], [say("tenderer"), false], [say("minutes.stated"), true], [say("minutes.price"), true],
-    [say("minutes.corrections"), true]];
-  const rows = tenders.map((one) => {
-    const who = [given(one.name), element("span", { class: "quiet below" }, `${one.tenderer} · `, given(one.address))];
-    const read = one.reading === "priced" ? [number(one.stated), money(one.corrected, currency), number(one.corrections)]
-      : ["–", say(`reading.${one.reading}`), "–"];
-    return [String(one.receipt), who, ...read];
-  });
-  return [head, table("", heads, rows)];
+  const heads = [say("receipt"), say("see.tenderer"), say("minutes.stated"), say("see.price"), say("minutes.corrections")];
+  const rows = tenders.map((one) => [String(one.receipt), [given(one.name), below(`${one.tenderer} · `, given(one.address))],
+    ...(one.reading === "priced" ? [number(one.stated), money(one.corrected, currency), number(one.corrections)] : ["–", say(`reading.${one.reading}`), "–"])]);
+  return [head, table("", heads, rows, { figures: [0, 2, 3, 4] })];
 }

@@ -1,7 +1,7 @@
 // A notice before it is published: its body as it is sent, what the office would refuse of it, and what one should think of. Pure: runs in node too.
-import { isId } from "../common/csv.js";
+import { isId, lineFault } from "../common/csv.js";
 import { bytesOf } from "../common/digest.js";
-import { DAY, MOST, isAskable, lineFault, millisecondsOf, momentText, wholeNumber } from "./values.js";
+import { DAY, MOST, isAskable, momentText, wholeNumber } from "./values.js";
 
 /** What the editor begins with: all values are texts, as they are typed. */
 export function newDraft() {
@@ -185,12 +185,9 @@ function itemWarnings(draft) {
     ...(size > MOST.body * 0.9 && size <= MOST.body ? [{ code: "size", value: size }] : [])];
 }
 
-/** The draft of a body that was published before, to begin a new notice with. */
-export function draftOf(body) {
-  const text = (value, none) => String(value ?? none);
-  return { name: "", title: body.title, deadline: millisecondsOf(body.deadline), validity: text(body.validity_days, "90"),
-    standstill: text(body.standstill_days, "10"), criteria: body.criteria, weight: text(body.price_weight, "60"), late: body.late_withdrawal ?? "refused",
-    performance: text(body.performance, "0"),
-    lots: body.lots.map((lot) => ({ ...lot, estimate: text(lot.estimate, ""), security: text(lot.security, "0"),
-      items: lot.items.map((item) => ({ ...item, quantity: text(item.quantity, "") })) })) };
+/** The draft of a notice that was published before, by its terms, to begin a new one with. */
+export function draftOf({ title, validity_days: validity, standstill_days: standstill, criteria, price_weight: weight, late_withdrawal: late, performance, lots }) {
+  return { name: "", title, deadline: null, validity: String(validity), standstill: String(standstill), criteria, weight: String(weight ?? 60), late,
+    performance: String(performance), lots: lots.map(({ id, title: text, line, estimate, security, items }) => ({ id, title: text, line,
+      estimate: String(estimate), security: String(security), items: items.map((item) => ({ ...item, quantity: String(item.quantity) })) })) };
 }

@@ -1,10 +1,10 @@
 // A command of the clerk: shown as it is sent, asked for once more, sent once, and kept in the journal with what came back. Where no answer comes, what became
 // of it is asked by looks.
-import { element } from "../draw.js";
 import { bytesOf, inGroups, sha256 } from "../common/digest.js";
+import { element } from "../common/draw.js";
+import { ID, button, field, note, steps, tick } from "../common/forms.js";
 import { Refused, command, officeNow, sentenceOf } from "../common/office.js";
 import { hasText, say } from "../common/texts.js";
-import { button, field, note, tick } from "./forms.js";
 import { addEntry } from "./journal.js";
 import { caller, journal, who } from "./session.js";
 import { momentText, textOf } from "./values.js";
@@ -42,11 +42,11 @@ export async function sendThen(order, behind) {
   }
 }
 
-function draw(state, content, steps) {
+function draw(state, content, buttons) {
   const { kind, values = {} } = state.order;
   const status = element("div", { role: "status" }, content);
   state.dialog.replaceChildren(element("h2", { id: "order-title", tabindex: "-1" }, say(`order.${kind}.title`, values)), status,
-    element("div", { class: "steps" }, steps));
+    steps(buttons));
 }
 
 function closing(state, text = say("order.close")) {
@@ -63,18 +63,18 @@ async function drawAsked(state) {
   sending.disabled = sure !== null;
   sure?.input.addEventListener("input", () => { sending.disabled = !sure.isGiven(); });
   const says = element("ul", {}, order.says.map((part) => element("li", {}, part)));
-  draw(state, [says, requestShown(order, bytes, digest), sure?.element ?? ""], [sending, closing(state, say("order.back"))]);
+  draw(state, [says, requestShown(order, bytes, digest), sure?.made ?? null], [sending, closing(state, say("order.back"))]);
   (sure?.input ?? sending).focus();
 }
 
 /** By what one says once more that it is meant: a tick, or a word; null where it can be undone. */
 function confirmation(order) {
   if (order.word) {
-    const typed = field({ label: say("order.word", { word: order.word }), more: { autocapitalize: "none", spellcheck: "false" } });
-    return { element: typed.element, input: typed.input, isGiven: () => typed.value().trim() === order.word };
+    const typed = field(say("order.word", { word: order.word }), ID);
+    return { ...typed, isGiven: () => typed.value() === order.word };
   }
   if (order.isFinal) {
-    const ticked = tick(say("order.final"));
+    const ticked = tick(say("order.final"), () => {});
     return { ...ticked, isGiven: () => ticked.input.checked };
   }
   return null;
@@ -117,10 +117,16 @@ async function outcomeOf({ path, body }) {
   }
 }
 
-/** The entry of a command. One that is sent again has an entry of its own, and where it is refused since it was done, both are done. */
+/** What a look says of an order; null where none does. */
+function foundOf({ find }) {
+  return Promise.resolve(find?.() ?? null).catch(() => null);
+}
+
+/** The entry of a command. One that is sent again has an entry of its own, and where it is refused since it was done, both are done. (What a look shows to be
+ * another's wasn't done by this.) */
 async function keep(state, { answer, fault }) {
   const { path, body, kind, values = {}, again } = state.order;
-  const isDone = state.isOpen && fault instanceof Refused && fault.name === again;
+  const isDone = state.isOpen && fault instanceof Refused && fault.name === again && (await foundOf(state.order)) !== false;
   if (state.isOpen && (isDone || answer?.status === 200)) {
     state.entry.found = isDone ? "done" : "not done";
   }
@@ -166,7 +172,7 @@ function drawRefused(state, fault) {
 async function drawOpen(state, fault) {
   const { order, entry } = state;
   draw(state, note("look", say("order.open"), sentenceOf(fault), say("order.asking")), []);
-  const found = await Promise.resolve(order.find?.() ?? null).catch(() => null);
+  const found = await foundOf(order);
   entry.found = found === true ? "done" : found === false ? "not done" : "unknown";
   const asks = button(say("order.askagain"), () => drawOpen(state, fault), "second");
   if (found === true) {

@@ -1,5 +1,5 @@
 // Amounts and moments as they are shown, and amounts as they are typed.
-import { element } from "../draw.js";
+import { element } from "./draw.js";
 import { language, say } from "./texts.js";
 
 // Each form of numbers and moments, made once: making one takes longer than a hundred uses of it.

@@ -1,6 +1,6 @@
 // A process as a list of what happened, one entry for each release.
-import { money, moment } from "./common/money.js";
-import { say, sayParts } from "./common/texts.js";
+import { money, moment } from "./money.js";
+import { say, sayParts } from "./texts.js";
 import { changeOf, reason } from "./contract.js";
 import { element, given } from "./draw.js";
 

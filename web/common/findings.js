@@ -69,8 +69,8 @@ export function stateOfLot(compiled, lot) {
 }
 
 /** The lots of an evaluation, each with its state, the tenders that are shown of it and its awards: lines of words with tabs between them. A lot of which
- * nothing is shown yet isn't there. */
-export function evaluationOf(text) {
+ * nothing is shown yet isn't there; the clerk is shown the whole of each. */
+export function evaluationOf(text, isWhole = false) {
   const lots = new Map();
   let lot = null;
   for (const words of (text ?? "").split("\n").map((line) => line.split("\t"))) {
@@ -85,7 +85,7 @@ export function evaluationOf(text) {
       lot.awards.push({ award: Number(award), receipt: Number(receipt), price: Number(price), state });
     }
   }
-  return new Map([...lots].filter(([, { state, awards }]) => state !== "undecided" || awards.length > 0));
+  return new Map([...lots].filter(([, { state, awards }]) => isWhole || state !== "undecided" || awards.length > 0));
 }
 
 function figureOf(word) {
@@ -105,8 +105,13 @@ export function outcomeOf(tender, shown, byPoints) {
   if (award) {
     return { active: ["running", "won"], signed: ["done", "signed"], failed: ["stopped", "passed"], cancelled: ["stopped", "awardended"] }[award.state];
   }
-  return found.standing === "failed" ? ["stopped", "late"] : found.answer === "unresponsive" ? ["stopped", "unresponsive"]
-    : found.answer === "-" ? ["stopped", "unexamined"] : shown.state === "undecided" ? ["running", "again"] : ["open", notChosen(tender, shown, byPoints)];
+  if (found.standing === "failed" || found.answer === "unresponsive") {
+    return ["stopped", found.standing === "failed" ? "late" : "unresponsive"];
+  }
+  if (shown.state === "undecided") {
+    return ["running", found.answer === "-" ? "examined" : shown.awards.length > 0 ? "again" : "admissible"];
+  }
+  return found.answer === "-" ? ["stopped", "unexamined"] : ["open", notChosen(tender, shown, byPoints)];
 }
 
 /** The kind of badge of a contract that was signed: green for as long as it runs, since it may have ended by default. */

@@ -1,6 +1,6 @@
 // Of all procurements at once: the tables that the mirror of the office leaves beside it, asked for where a view needs them.
-import { recordsOf } from "./common/csv.js";
-import { file } from "./common/office.js";
+import { recordsOf } from "./csv.js";
+import { file } from "./office.js";
 
 const FIGURES = new Set(["amount", "appropriation", "amendments", "changes", "contracted", "corrected", "corrections", "estimate", "free", "lots", "paid",
   "performance", "points", "price", "price_weight", "quality", "releases", "reserved", "security", "standstill_days", "stated", "tenderers", "tenders",

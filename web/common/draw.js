@@ -1,5 +1,5 @@
 // Elements and texts. Texts become text nodes and never markup, whatever stands in them.
-import { number } from "./common/money.js";
+import { number } from "./money.js";
 
 /** An element with attributes and with children: elements, texts, lists of them, or nothing. */
 export function element(name, attributes, ...children) {
@@ -9,6 +9,40 @@ export function element(name, attributes, ...children) {
   }
   made.append(...children.flat(Infinity).filter((child) => child !== null && child !== undefined));
   return made;
+}
+
+let count = 0;
+
+/** An identifier that no other element of the page has. */
+export function fresh(word) {
+  count += 1;
+  return `${word}-${count}`;
+}
+
+/** The heading of a view, to which the focus goes. */
+export function title(...content) {
+  return element("h1", { tabindex: "-1" }, ...content);
+}
+
+/** A section with a heading that names it. */
+export function section(heading, ...content) {
+  const id = fresh("part");
+  return element("section", { "aria-labelledby": id }, element("h2", { id }, heading), ...content);
+}
+
+/** What is less, in a line of its own. */
+export function below(...content) {
+  return element("span", { class: "quiet below" }, ...content);
+}
+
+/** A way to a view, or to another page. */
+export function link(content, href, kind = "") {
+  return element("a", kind ? { href, class: kind } : { href }, content);
+}
+
+/** The address of a view, and of what it is about. */
+export function placeOf(page, ...rest) {
+  return `#${[page, ...rest].map(encodeURIComponent).join("/")}`;
 }
 
 /** A text that somebody gave, as a title or a name: whatever its direction, what stands beside it keeps its own. */

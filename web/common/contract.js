@@ -1,8 +1,8 @@
 // A contract: its price against the estimate, what changes added, what was paid, and the security for its performance.
-import { money, moment } from "./common/money.js";
-import { language, say, sayParts } from "./common/texts.js";
-import { badge, bar, element, facts, given, key, listed } from "./draw.js";
+import { badge, bar, below, element, facts, given, key, listed } from "./draw.js";
 import { addedTo, paidOf } from "./findings.js";
+import { money, moment } from "./money.js";
+import { language, say, sayParts } from "./texts.js";
 
 /** A part of an amount, as ` (2.5%)`; nothing where there is none. */
 function share(part, whole) {
@@ -26,34 +26,46 @@ export function changeOf({ description }, currency) {
   return kind ? say(kind === "Raised" ? "see.raised" : "see.cut", { amount: money(Number(amount), currency) }) : given(description);
 }
 
-/** The contract of an award for a lot. */
-export function contractPart(one, award, lot, terms) {
+/** How a contract stands: how it ended is known to whom it concerns alone, and a default is red. */
+function standing(ended, seen) {
+  return !ended ? badge("running", say("see.runs")) : !seen ? badge("ended", say("see.ended"))
+    : seen.how === "default" ? badge("stopped", say("see.ended.default")) : badge("ended", say("see.ended.regular"));
+}
+
+/** The performance security: as whom it concerns is told of it (`held`, or null where there is none), else as everybody is. */
+function performance({ performance: asked }, held, ended, currency) {
+  if (held !== undefined) {
+    return held === null ? say("see.noneasked")
+      : [money(held.amount, currency), below(given(held.reference), ": ", say(`security.${held.state}`))];
+  }
+  return asked > 0 ? [money(asked, currency), below(say(ended ? "see.performance.ended" : "see.performance.held"))] : null;
+}
+
+/** The contract of an award for a lot. Whom it concerns sees what the office tells of it to them too (`seen`), its performance security (`held`), and `more`. */
+export function contractPart(one, award, lot, terms, { seen = null, held = undefined, more = null } = {}) {
   const { currency } = one.value;
   const paid = paidOf(one);
   const left = Math.max(one.value.amount - paid, 0);
   const ended = one.status === "terminated";
   const parts = [{ kind: "paid", name: say("see.paid"), amount: paid },
     ended ? { kind: "free", name: say("see.unpaid"), amount: left } : { kind: "contracted", name: say("see.topay"), amount: left }];
-  const changes = (one.amendments ?? []).map((it) => [moment(it.date), ": ", changeOf(it, currency), ". ", given(it.rationale)]);
+  const changes = (one.amendments ?? []).map((it) => [moment(it.date), ": ", changeOf(it, currency), " (", given(it.id), "). ", given(it.rationale)]);
   const payments = (one.implementation?.transactions ?? []).map(({ id, date, value }) =>
     [moment(date), ": ", money(value.amount, currency), " (", given(id), ")"]);
-  const name = say("see.contract", { contract: one.id });
-  const below = (text) => element("span", { class: "quiet below" }, text);
+  const secured = performance(terms, held, ended, currency);
   const told = [[say("see.worth"), money(one.value.amount, currency)],
     [say("see.price"), [money(award.value.amount, currency), below(against(award.value, lot.value))]],
     [say("see.added"), changes.length === 0 ? say("see.nothing") : addedText(addedTo(one, award), award.value)],
-    [say("see.signed"), moment(one.dateSigned)]];
-  if (terms?.performance > 0) {
-    told.push([say("see.performance"), [money(terms.performance, currency), below(say(ended ? "see.performance.ended" : "see.performance.held"))]]);
-  }
-  return element("section", { class: "contract", "aria-label": name },
-    element("h4", {}, name, " ", ended ? badge("ended", say("see.ended")) : badge("running", say("see.runs"))),
-    facts(told), bar(name, parts), key(parts, ` ${currency}`), ended ? element("p", { class: "quiet" }, say("see.ended.how")) : null,
-    listed(5, say("see.changes"), changes), listed(5, say("see.payments"), payments));
+    [say("see.signed"), moment(one.dateSigned)],
+    seen ? [say("see.outstanding"), money(seen.outstanding, currency)] : null, secured ? [say("see.performance"), secured] : null].filter(Boolean);
+  const name = say("see.contract", { contract: one.id });
+  return element("section", { class: "contract", "aria-label": name }, element("h4", {}, name, " ", standing(ended, seen)),
+    facts(told), bar(name, parts), key(parts, ` ${currency}`),
+    ended && !seen ? element("p", { class: "quiet" }, say("see.ended.how")) : null,
+    listed(5, say("see.changes"), changes), listed(5, say("see.payments"), payments), more);
 }
 
 /** A reason that somebody gave, behind a sentence. */
 export function reason(rationale) {
   return [" ", sayParts("see.reason", { text: given(rationale) })];
 }
-
