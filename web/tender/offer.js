@@ -90,8 +90,10 @@ export function securityFaults({ security: { reference, amount }, lot, changes }
 }
 
 /** The offer's security as it is sent, or null. */
-export function securityOf({ security, lot, changes }) {
-  return changes !== null || !lot.security ? null : { security: security.reference, amount: typed(security.amount, MOST_PRICE).value };
+export function securityOf(offer) {
+  const { security, lot, changes } = offer;
+  return changes !== null || !lot.security || Object.keys(securityFaults(offer)).length > 0 ? null
+    : { security: security.reference, amount: typed(security.amount, MOST_PRICE).value };
 }
 
 function sources(offer, redraw) {
