@@ -133,8 +133,8 @@ def pay(clerk: clerk_desk.Desk) -> None:
 
 
 def life(scene: Scene) -> None:
-    """A procurement from the budget to the last payment, by the desks alone: a budget, three firms and their keys, a notice, tenders in time and a late one, the
-    opening, awards, contracts and payments; and what the firms and the public see of it then."""
+    """A procurement from the budget to the last payment, by the desks alone: a budget, three firms and their keys, a notice, tenders in time and a late one,
+    the opening, awards, contracts and payments; and what the firms and the public see of it then."""
     clerk = clerk_desk.Desk(scene)
     clerk.give_key()
     clerk.settle("today")
@@ -167,7 +167,8 @@ def life(scene: Scene) -> None:
 
 
 def lost_key(scene: Scene) -> None:
-    """A key that is lost can't be had again: the firm reads what to do, makes another one, and is registered anew; what it handed in before is another's then."""
+    """A key that is lost can't be had again: the firm reads what to do, makes another one, and is registered anew; what it handed in before is another's
+    then."""
     clerk = clerk_desk.Desk(scene)
     clerk.give_key()
     clerk.settle("today")

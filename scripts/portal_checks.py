@@ -214,4 +214,26 @@ def without_mirror(scene: Scene) -> None:
     is_quiet(page)
 
 
-CHECKS = [german, open_data, search, many, city, on_paper, without_mirror]
+# Of each page the module that begins, and one that it imports.
+MODULES = {"": ("/page.js", "/common/draw.js"), "tender/": ("/tender/main.js", "/tender/key.js"), "clerk/": ("/clerk/desk.js", "/clerk/award.js")}
+
+
+def failing_scripts(scene: Scene) -> None:
+    """Where a module doesn't come, or is none, each page says that its scripts didn't come; a fault of a script that runs is told where one looks."""
+    for place, modules in MODULES.items():
+        for module, answer in ((modules[0], None), (modules[1], None), (modules[1], (200, b"export const nothing = 1;"))):
+            page = Page(scene.browser, 1280)
+            page.answer_for({module: answer}, "Script")
+            page.ask("Page.navigate", url=scene.front.address(place))
+            page.wait("document.readyState === 'complete' && document.querySelector('main')")
+            said = page.text()
+            check(f"without {module} {place or 'the portal'} says {said!r}", "scripts didn't come" in said and "Skripte nicht" in said)
+        page = Page(scene.browser, 375)
+        page.go(scene.front.address(place))
+        page.run("setTimeout(() => { throw new Error('planted'); })")
+        page.wait("document.querySelector('main .fault')")
+        check(f"a fault is told as {page.text()!r}", page.text().startswith("Something went wrong in this page."))
+        is_within("a fault", 375, page)
+
+
+CHECKS = [german, open_data, search, many, city, on_paper, failing_scripts, without_mirror]

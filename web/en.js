@@ -9,8 +9,8 @@ export default {
   "see.list.title": "Procurements", "see.list.intro": "What is bought, from whom, and for how much: each procurement from its notice to the last payment.",
   "see.list.open": ["Open for tenders ({count})", "Open for tenders ({count})"], "see.list.rest": ["Closed ({count})", "Closed ({count})"],
   "see.list.all": ["One procurement", "{count} procurements"], "see.list.some": ["{some} of one procurement", "{some} of {count} procurements"],
-  "see.list.none": "No procurement is like that. Take a filter away.", "see.list.published": "published", "see.list.to": "went to",
-  "see.by.words": "Words, a firm or a number", "see.by.state": "State", "see.by.year": "Year", "see.by.line": "Budget line",
+  "see.list.none": "No procurement is like that. Take a filter away.", "see.list.published": "published", "see.list.feed": "New procurements as a feed",
+  "see.list.to": "went to", "see.by.words": "Words, a firm or a number", "see.by.state": "State", "see.by.year": "Year", "see.by.line": "Budget line",
   "see.by.firm": "Firm that tendered", "see.by.from": "Estimate from", "see.by.to": "Estimate up to", "see.contracts": "Contracts", "see.from": "Drawn from",
   "see.budget": "Budget",
   "see.budget.intro": "What a line may spend, its appropriation, is paid already, contracted and still to pay, reserved for lots that have no contract yet, "

@@ -24,7 +24,8 @@ function firmsOf({ tenders, contracts, payments }) {
 }
 
 function firmTable(firms, currency) {
-  const cells = firms.map((firm) => [[link(given(firm.name), placeOf("firm", firm.tenderer)), below(given(firm.address))], number(firm.tenders), number(firm.won), number(firm.worth), number(firm.paid)]);
+  const cells = firms.map((firm) => [[link(given(firm.name), placeOf("firm", firm.tenderer)), below(given(firm.address))],
+    number(firm.tenders), number(firm.won), number(firm.worth), number(firm.paid)]);
   const heads = [say("see.firm"), say("see.tenders"), say("see.contracts"), say("see.worth"), say("see.paid")];
   return table(say("see.firms.table", { count: firms.length, currency }), heads, cells, { figures: [1, 2, 3, 4] });
 }

@@ -84,7 +84,8 @@ export async function drawList(text) {
   const entries = entriesOf(list, data, officeNow());
   return { title: "", told: say("see.list.all", { count: list.length }), content: [title(say("see.list.title")),
     element("p", { class: "intro" }, say("see.list.intro")), data ? null : element("p", { class: "note" }, say("see.nodata")),
-    list.length === 0 ? element("p", {}, say("see.list.empty")) : search(filtersOf(text), entries, data)] };
+    list.length === 0 ? element("p", {}, say("see.list.empty")) : search(filtersOf(text), entries, data),
+    data ? element("p", {}, link(say("see.list.feed"), "/data/feed.atom"), " · ", link(say("see.about.data"), "/data/")) : null] };
 }
 
 /** The notice that is meant by a number whose letters are otherwise, or null. */

@@ -186,8 +186,9 @@ function itemWarnings(draft) {
 }
 
 /** The draft of a notice that was published before, by its terms, to begin a new one with. */
-export function draftOf({ title, validity_days: validity, standstill_days: standstill, criteria, price_weight: weight, late_withdrawal: late, performance, lots }) {
+export function draftOf({ title, validity_days: validity, standstill_days: standstill, criteria, price_weight: weight, late_withdrawal: late, ...more }) {
+  const lots = more.lots.map(({ id, title: text, line, estimate, security, items }) => ({ id, title: text, line, estimate: String(estimate),
+    security: String(security), items: items.map((item) => ({ ...item, quantity: String(item.quantity) })) }));
   return { name: "", title, deadline: null, validity: String(validity), standstill: String(standstill), criteria, weight: String(weight ?? 60), late,
-    performance: String(performance), lots: lots.map(({ id, title: text, line, estimate, security, items }) => ({ id, title: text, line,
-      estimate: String(estimate), security: String(security), items: items.map((item) => ({ ...item, quantity: String(item.quantity) })) })) };
+    performance: String(more.performance), lots };
 }

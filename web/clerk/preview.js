@@ -30,5 +30,6 @@ export async function drawPreview() {
   const compiled = compiledOf(body, written.name, list.length > 0 ? await record(list[0].notice) : null);
   const release = { tag: ["planning", "tender"], date: momentText(officeNow()), tender: compiled.tender };
   return { title: say("editor.preview"), content: [note("look", say("preview.note")), back,
-    drawProcess({ name: written.name, compiled, releases: [release], terms: { price_weight: null, ...body }, tenders: null, evaluation: null, isPreview: true })] };
+    drawProcess({ name: written.name, compiled, releases: [release], terms: { price_weight: null, ...body }, tenders: null, evaluation: null,
+      isPreview: true })] };
 }

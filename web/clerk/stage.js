@@ -3,15 +3,16 @@ import { awardsOf, contractOf } from "../common/findings.js";
 import { ranked } from "../common/tenders.js";
 import { DAY } from "./values.js";
 
-/** The whole: `kind` (`receiving` up to the deadline, `due` behind it, `opened`, or `cancelled`, which it is before its opening alone), until when tenders bind,
- * and the lots. */
+/** The whole: `kind` (`receiving` up to the deadline, `due` behind it, `opened`, or `cancelled`, which it is before its opening alone), until when tenders
+ * bind, and the lots. */
 export function stageOf({ compiled, terms, tenders, evaluation }, now) {
   const deadline = Date.parse(terms.deadline);
   const bindsUntil = deadline + terms.validity_days * DAY;
   const kind = terms.state === "receiving" ? (now < deadline ? "receiving" : "due") : terms.state;
   const byPoints = terms.criteria === "points";
   const lots = terms.lots.map((lot) => lotOf(lot, { compiled, terms, tenders: tenders ?? [], shown: evaluation?.get(lot.id) ?? null, byPoints }));
-  return { kind, deadline, bindsUntil, isExpired: now >= bindsUntil, byPoints, lots, canCancel: lots.some(({ state }) => ["undecided", "awarded"].includes(state)) };
+  const canCancel = lots.some(({ state }) => ["undecided", "awarded"].includes(state));
+  return { kind, deadline, bindsUntil, isExpired: now >= bindsUntil, byPoints, lots, canCancel };
 }
 
 function lotOf(lot, { compiled, terms, tenders, shown, byPoints }) {

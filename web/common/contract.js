@@ -41,7 +41,8 @@ function performance({ performance: asked }, held, ended, currency) {
   return asked > 0 ? [money(asked, currency), below(say(ended ? "see.performance.ended" : "see.performance.held"))] : null;
 }
 
-/** The contract of an award for a lot. Whom it concerns sees what the office tells of it to them too (`seen`), its performance security (`held`), and `more`. */
+/** The contract of an award for a lot. Whom it concerns sees what the office tells of it to them too (`seen`), its performance security (`held`), and `more`.
+ */
 export function contractPart(one, award, lot, terms, { seen = null, held = undefined, more = null } = {}) {
   const { currency } = one.value;
   const paid = paidOf(one);

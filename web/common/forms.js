@@ -1,5 +1,5 @@
-// What pages are filled in by: fields with a label and what is wrong beside them, files that are dropped or chosen, buttons; tables, lists that grow; and what is
-// saved or printed.
+// What pages are filled in by: fields with a label and what is wrong beside them, files that are dropped or chosen, buttons; tables, lists that grow; and what
+// is saved or printed.
 import { element, fresh } from "./draw.js";
 import { lineFault } from "./csv.js";
 import { say } from "./texts.js";

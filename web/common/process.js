@@ -91,8 +91,8 @@ function sources({ name, tenders }) {
   return section(say("see.raw"), element("ul", {}, paths.map((path) => element("li", {}, link(path, path)))));
 }
 
-/** The whole of a notice, which has what `seenOf` gives. Beside it: whether it is but a preview, whether lines and firms are views of this page (`linked`), what
- * stands `above` its lots, and what is added to each lot and contract (`ofLot`, `ofContract`). */
+/** The whole of a notice, which has what `seenOf` gives. Beside it: whether it is but a preview, whether lines and firms are views of this page (`linked`),
+ * what stands `above` its lots, and what is added to each lot and contract (`ofLot`, `ofContract`). */
 export function drawProcess(notice) {
   const { compiled, releases: all } = notice;
   const { tender } = compiled;

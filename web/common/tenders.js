@@ -6,7 +6,8 @@ import { money, number } from "./money.js";
 import { language, say } from "./texts.js";
 
 function who({ name, address, receipt, tenderer }, linked) {
-  return [linked ? link(given(name), placeOf("firm", tenderer)) : given(name), below(given(address)), below(say("see.tender.receipt", { receipt: String(receipt) }))];
+  return [linked ? link(given(name), placeOf("firm", tenderer)) : given(name), below(given(address)),
+    below(say("see.tender.receipt", { receipt: String(receipt) }))];
 }
 
 function priceOf({ reading, stated, corrected, corrections }, currency) {
@@ -59,7 +60,8 @@ export function tenderTable(notice, lot, tenders, shown) {
   const isSecured = terms.lots.find(({ id }) => id === lot.id)?.security > 0;
   const weight = terms.price_weight;
   const hasPoints = byPoints && shown;
-  const heads = [say("see.tenderer"), say("see.price"), ...(hasPoints ? [say("see.points")] : []), say("see.found"), ...(isSecured ? [say("see.security")] : [])];
+  const heads = [say("see.tenderer"), say("see.price"), ...(hasPoints ? [say("see.points")] : []), say("see.found"),
+    ...(isSecured ? [say("see.security")] : [])];
   const rows = ranked(tenders, byPoints, shown).map((tender) => [who(tender, linked), priceOf(tender, lot.value.currency),
     ...(hasPoints ? [pointsShown(shown.tenders.get(tender.receipt), weight, lowest)] : []), found(tender, shown, byPoints, contract),
     ...(isSecured ? [securityShown(notice, lot, tender, shown)] : [])]);

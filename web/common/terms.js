@@ -9,7 +9,7 @@ export function asked(amount, currency) {
 }
 
 /** What wins. */
-export function criteria({ criteria: kind, price_weight: weight }) {
+function criteria({ criteria: kind, price_weight: weight }) {
   return kind === "price" ? say("see.criteria.price") : say("see.criteria.points", { weight, rest: 100 - weight });
 }
 

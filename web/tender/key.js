@@ -70,7 +70,8 @@ async function make(fields, context) {
 function ofMaking(context) {
   const { registration } = session;
   const made = (name, more) => {
-    const one = field(say(`key.${name}`), { id: `key-${name}`, hint: say(`key.${name}.hint`), value: registration.typed?.[name] ?? registration[name], ...more });
+    const value = registration.typed?.[name] ?? registration[name];
+    const one = field(say(`key.${name}`), { id: `key-${name}`, hint: say(`key.${name}.hint`), value, ...more });
     one.input.addEventListener("input", () => { registration.typed = { ...registration.typed, [name]: one.input.value }; });
     return one;
   };
