@@ -120,22 +120,3 @@ function take(line, amount, kind) {
   line.free = after(line.free);
   line.isThere = true;
 }
-
-/** What the office would answer to this file, where its name wasn't used: `{ rows }` where it takes it in, else `{ name, what }`. */
-export function answerOf(reading, lines) {
-  if (reading.bytes > MOST.body) {
-    return { name: "TooLong" };
-  }
-  if (reading.faults.length > 0) {
-    return { name: "BadBody", what: `row ${Math.min(...reading.faults.map(({ record }) => record))}` };
-  }
-  const { faults } = changesOf(reading.rows, lines);
-  const has = (code) => faults.some((fault) => fault.code === code);
-  if (has("unknown")) {
-    return { name: "NoSuch", what: "line" };
-  }
-  if (has("short")) {
-    return { name: "InsufficientFunds" };
-  }
-  return has("past") || reading.rows.length > MOST.rows ? { name: "LimitReached" } : { rows: reading.rows.length };
-}

@@ -53,28 +53,6 @@ export function faultsOf(draft, lines, now) {
   return found;
 }
 
-/** What the office would answer to the body: `{ name, what }`, or null where it takes it. */
-export function refusalOf(draft, lines, now, isUsed) {
-  const faults = faultsOf(draft, lines, now);
-  if (faults.some(({ code }) => code === "size")) {
-    return { name: "TooLong" };
-  }
-  const of = (code) => faults.find((fault) => fault.code === code);
-  const wrong = faults.find(({ code }) => !["size", "line.unknown", "deadline.passed", "money", "lots.many", "items.many"].includes(code) && code !== "name");
-  if (wrong) {
-    return { name: "BadBody", what: WHAT[wrong.field] ?? "lots" };
-  }
-  if (of("line.unknown")) {
-    return { name: "NoSuch", what: "line" };
-  }
-  const name = isUsed ? "Exists" : of("deadline.passed") ? "DeadlinePassed" : of("money") ? "InsufficientFunds" : of("lots.many") || of("items.many")
-    ? "LimitReached" : null;
-  return name ? { name } : null;
-}
-
-const WHAT = { title: "title", deadline: "deadline", validity: "validity_days", standstill: "standstill_days", criteria: "criteria", weight: "price_weight",
-  performance: "performance" };
-
 function headFaults(draft) {
   const range = (field, least, most) => (wholeNumber(draft[field], least, most) === null ? [{ field, code: "number", least, most, value: draft[field] }] : []);
   return [
