@@ -11,15 +11,16 @@ import { ofRelease, own } from "./fate.js";
 import { jsonBody, sendThen } from "./send.js";
 import { MOST, wholeNumber } from "./values.js";
 
-/** What can be done with a contract that runs. */
-export function contractPart(notice, contract, again) {
+/** What can be done with a contract that runs; `behind` gives what is done then, of its lot. */
+export function contractPart(notice, contract, behind) {
   if (contract.status === "terminated") {
     return null;
   }
   const worth = contract.value.amount;
   const lot = notice.stage.lots.find((one) => one.contract?.id === contract.id);
   // What stands in the texts of this contract, and in its orders.
-  const contracted = { notice, lot, contract, worth, outstanding: worth - paidOf(contract), again, amount: (units) => money(units, notice.currency) };
+  const contracted = { notice, lot, contract, worth, outstanding: worth - paidOf(contract), again: behind(lot),
+    amount: (units) => money(units, notice.currency) };
   return [payPart(contracted), changePart(contracted), endPart(contracted)];
 }
 

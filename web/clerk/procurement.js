@@ -15,9 +15,12 @@ export async function drawProcurement(again, name) {
   const notice = await loadNotice(name);
   const { compiled, stage } = notice;
   const lotOf = ({ id }) => stage.lots.find((lot) => lot.id === id);
-  const ofLot = (lot) => (stage.kind === "opened" ? [examinations(notice, lotOf(lot), again), awardPart(notice, lotOf(lot), again)] : null);
-  const ofContract = (one) => ({ ...notice.contracts.get(one.id), more: contractPart(notice, one, again) });
-  const content = drawProcess({ ...notice, above: [path(stage), doing(stage), parts(notice, again)], ofLot, ofContract });
+  // (behind what is done with a lot the focus goes there)
+  const behind = ({ id }) => () => again("", false, `lot-${id}`);
+  const ofLot = (lot) => (stage.kind === "opened" ? [examinations, awardPart].map((part) => part(notice, lotOf(lot), behind(lot))) : null);
+  const ofContract = (one) => ({ ...notice.contracts.get(one.id), more: contractPart(notice, one, behind) });
+  const isPressing = (lot) => stage.kind === "opened" && ["undecided", "awarded"].includes(lotOf(lot).state);
+  const content = drawProcess({ ...notice, above: [path(stage), doing(stage), parts(notice, again)], ofLot, ofContract, isPressing });
   return { title: `${name}: ${compiled.tender.title}`, content: [content, stage.canCancel ? cancelPart(notice, again) : null] };
 }
 

@@ -11,8 +11,9 @@ import { tenderTable } from "./tenders.js";
 import { asked, termList } from "./terms.js";
 import { timeline } from "./timeline.js";
 
-// More lots than these are folded.
+// More lots than these are folded, but for those that somebody unfolded before, or of which something is to be done.
 const FEW = 3;
+const unfolded = new Set();
 
 function stateBadge([kind, name]) {
   return badge(kind, say(`see.is.${name}`));
@@ -54,8 +55,15 @@ function lotPart(notice, lot, folds) {
     items(notice, lot), listed(4, say("see.awards", { count: made.length }), made.map((award) => awardPart(notice, lot, award)), { class: "awards" }),
     element("h4", {}, say("see.tenders")), tenderPart(notice, lot), notice.ofLot?.(lot),
     contracts.map(([one, award]) => contractPart(one, award, lot, notice.terms, notice.ofContract?.(one)))];
-  return element("article", { class: "card", "aria-label": say("see.lot", { lot: lot.id }) },
-    folds ? element("details", {}, element("summary", {}, element("h3", {}, head)), content) : [element("h3", {}, head), content]);
+  return element("article", { id: `lot-${lot.id}`, tabindex: "-1", class: "card", "aria-label": say("see.lot", { lot: lot.id }) },
+    folds ? folded(`${notice.name}/${lot.id}`, notice.isPressing?.(lot), head, content) : [element("h3", {}, head), content]);
+}
+
+/** A lot that is folded, and stays as it is where the view is drawn anew. */
+function folded(name, isPressing, head, content) {
+  const made = element("details", isPressing || unfolded.has(name) ? { open: "" } : {}, element("summary", {}, element("h3", {}, head)), content);
+  made.addEventListener("toggle", () => (made.open ? unfolded.add(name) : unfolded.delete(name)));
+  return made;
 }
 
 /** What each lot was estimated at, was bought for, came to and was paid, once something was awarded. */
@@ -92,7 +100,7 @@ function sources({ name, tenders }) {
 }
 
 /** The whole of a notice, which has what `seenOf` gives. Beside it: whether it is but a preview, whether lines and firms are views of this page (`linked`),
- * what stands `above` its lots, and what is added to each lot and contract (`ofLot`, `ofContract`). */
+ * what stands `above` its lots, what is added to each lot and contract (`ofLot`, `ofContract`), and of which lots something is to be done (`isPressing`). */
 export function drawProcess(notice) {
   const { compiled, releases: all } = notice;
   const { tender } = compiled;
