@@ -112,9 +112,10 @@ def publish_many(port: int) -> list[str]:
         office.publish(name, client.notice(client.text_of(deadline), client.lot("L1", "1100", 1000), title=f"Purchase {name} of the city"))
     client.wait_until(deadline + 1.05)
     rows: list[dict[str, str]] = []
-    while not rows or page["next"]:
-        page = office.notices(rows[-1]["notice"] if rows else None)
-        rows += page["notices"]
+    after = None
+    while after is not None or not rows:
+        told = office.notices(after)
+        rows, after = rows + told["notices"], told["next"]
     # (of a second in which several were published, by their names)
     rows.sort(key=lambda row: row["published"], reverse=True)
     rows.sort(key=lambda row: not row["notice"].endswith("0"))
