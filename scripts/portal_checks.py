@@ -97,6 +97,8 @@ def search(scene: Scene) -> None:
     page.go(scene.front.address())
     before = page.run("document.querySelector('.clock').textContent")
     page.wait(f"document.querySelector('.clock').textContent !== '{before}'")
+    page.go(scene.front.address("#firms?name=gamma"))
+    check("a firm is found by the address", page.run("[...document.querySelectorAll('tbody th a')].map((at) => at.textContent)") == ["Gamma O'Neill"])
     page.go(scene.front.address("#notice/n6"))
     check("n6 is N6", page.run("location.hash") == "#notice/N6" and page.text().startswith("Street lamps\n"))
     is_quiet(page)

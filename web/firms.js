@@ -35,19 +35,20 @@ function without() {
     content: [title(say("see.firms")), element("p", { class: "note" }, say("see.nodata"))] };
 }
 
-/** All firms that tendered. */
-export async function drawFirms() {
+/** All firms that tendered; what is looked for stands in the address. */
+export async function drawFirms(text) {
   const data = await tables("tenders", "contracts", "payments");
   if (data === null) {
     return without();
   }
   const firms = firmsOf(data);
   const currency = data.contracts[0]?.currency ?? "";
-  const { made, input } = field(say("see.firms.search"), { id: "by-name", kind: "search" });
-  const found = element("div", {}, firmTable(firms, currency));
+  const { made, input, value } = field(say("see.firms.search"), { id: "by-name", kind: "search", value: new URLSearchParams(text).get("name") ?? "" });
+  const chosen = () => firmTable(firms.filter(({ name, tenderer }) => plain(`${name} ${tenderer}`).includes(plain(value()))), currency);
+  const found = element("div", {}, chosen());
   input.addEventListener("input", () => {
-    const asked = plain(input.value.trim());
-    found.replaceChildren(firmTable(firms.filter(({ name, tenderer }) => plain(`${name} ${tenderer}`).includes(asked)), currency));
+    history.replaceState(history.state, "", value() ? `#firms?${new URLSearchParams({ name: value() })}` : "#firms");
+    found.replaceChildren(chosen());
   });
   return { title: say("see.firms"), told: say("see.firms.count", { count: firms.length }),
     content: [title(say("see.firms")), element("p", { class: "intro" }, say("see.firms.intro")),
