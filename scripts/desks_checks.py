@@ -162,8 +162,8 @@ def life(scene: Scene) -> None:
     page = page_checks.page_of(scene, "#notice/N1")
     for text in ("Its price wasn't the lowest.", "540 EUR", "All contracts ended", "Given back"):
         check(f"the public sees {page.text()}", text in page.text())
-    for desk in (clerk, *desks.values()):
-        page_checks.keeps_nothing(scene, desk.page)
+    for one in (clerk.page, *(desk.page for desk in desks.values())):
+        page_checks.keeps_nothing(scene, one)
 
 
 def lost_key(scene: Scene) -> None:
