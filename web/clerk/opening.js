@@ -15,6 +15,6 @@ export function openingPart({ name, stage, terms }, again) {
   const open = button(say("open.send"), () => sendThen(order, again));
   open.disabled = !isDue;
   // (a second later the office's own clock has come there too)
-  const told = isDue ? [say("open.now"), " ", ...momentAndSpan(stage.deadline)] : clock(terms.deadline, () => setTimeout(again, 1000));
+  const told = isDue ? [say("open.now"), " ", ...momentAndSpan(stage.deadline)] : [say("see.deadline"), ": ", clock(terms.deadline, () => setTimeout(again, 1000))];
   return section(say("open.title"), element("p", {}, say("open.what")), element("p", {}, told), steps(open));
 }

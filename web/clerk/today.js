@@ -42,7 +42,7 @@ function tasksOfEntry({ state, deadline, stage, fault }) {
 function noticeTable(entries) {
   return table(say("today.table"), [say("see.notice"), say("see.state"), say("today.next")], entries.map((entry) => [
     [link(entry.notice, placeOf("notice", entry.notice)), below(given(entry.title))], entry.stage ? stageBadge(entry.stage) : stateBadge(entry.state),
-    tasksOfEntry(entry)]));
+    tasksOfEntry(entry)]), { kind: "figures tasks" });
 }
 
 export async function drawToday(again) {

@@ -47,7 +47,7 @@ function found(tender, shown, byPoints, contract) {
 function securityShown({ terms, securities }, lot, tender, shown) {
   const own = securities?.findLast((one) => one.lot === lot.id && one.tenderer === tender.tenderer);
   return own ? [say(`security.${own.state}`), below(given(own.reference), ", ", money(own.amount, lot.value.currency))]
-    : securities ? say("see.noneasked") : say(`security.${securityOf(tender, shown, lot.status, terms.late_withdrawal === "forfeits")}`);
+    : securities ? "–" : say(`security.${securityOf(tender, shown, lot.status, terms.late_withdrawal === "forfeits")}`);
 }
 
 /** The table. `notice` has what the releases compile to, the terms, and the securities of its tenders for whom they are shown; firms are links in the public's

@@ -16,8 +16,8 @@ function readPart({ reading, corrected, stated, corrections }, [kind, name], cur
     return note("bad", say(`results.${reading}`), say("results.lost"));
   }
   const values = { price: money(corrected, currency), stated: money(stated, currency), count: corrections };
-  return [note("look", say("results.priced", values), corrections > 0 ? say("results.corrected", values) : null),
-    element("p", {}, badge(kind, say(`see.outcome.${name}`)), " ", say(`see.why.${name}`))];
+  return note(corrections > 0 ? "look" : "good", say("results.priced", values), corrections > 0 ? say("results.corrected", values) : null,
+    element("p", {}, badge(kind, say(`see.outcome.${name}`)), " ", say(`see.why.${name}`)));
 }
 
 /** A contract of the caller's, as the office tells it to its tenderer. */
