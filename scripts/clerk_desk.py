@@ -15,7 +15,7 @@ HANDS = """(() => {
   const dialog = () => document.querySelector("dialog[open]");
   const all = (selector, place) => [...(place ?? dialog() ?? document).querySelectorAll(selector)];
   const nameOf = (at) => at.getAttribute("aria-label") ?? text(at.querySelector("h2, h3"));
-  const text = (at) => at.textContent.replace(/\\s+/g, " ").trim();
+  const text = (at) => (at?.textContent ?? "").replace(/\\s+/g, " ").trim();
   window.hands = {
     field(label, place) {
       const labels = all("label", place).filter((at) => text(at) === label);

@@ -109,7 +109,7 @@ export function drop(label, hint, take, { id = fresh("file"), ...attributes } = 
 /** What is good, to be looked at, or wrong (`good`, `look`, `bad`), said below a heading. */
 export function note(kind, head, ...content) {
   const parts = content.flat(Infinity).filter(Boolean).map((part) => (part instanceof Node ? part : element("p", {}, part)));
-  return element("div", { class: kind, role: kind === "bad" ? "alert" : "group" }, element("p", {}, head), parts);
+  return element("div", kind === "bad" ? { class: kind, role: "alert" } : { class: kind }, element("p", {}, head), parts);
 }
 
 /** A table. On a phone each row is a block, and browsers drop the roles of such a table, so they are written out. `figures` are the columns of figures. */
