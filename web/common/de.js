@@ -74,7 +74,7 @@ export default {
   "see.criteria.price": "Der niedrigste Preis unter den Angeboten, die das Verlangte erfüllen; bei gleichem Preis das frühere.",
   "see.criteria.points": "Die meisten Punkte: bis zu {weight} für den Preis, bis zu {rest} für die Qualität; bei gleichen Punkten der niedrigere Preis.",
   "see.validity": "Angebote binden", "see.standstill": "Zeit für Einwände nach dem Zuschlag", "see.late": "Rückzug nach der Frist",
-  "see.late.refused": "Nicht möglich", "see.late.forfeits": "Kostet die Sicherheit", "see.performance": "Vertragserfüllungssicherheit",
+  "see.late.refused": "Nicht möglich", "see.late.forfeits": "Kostet die Sicherheit", "see.performance": "Vertragserfüllungs\u00adsicherheit",
   "see.noneasked": "Keine verlangt", "see.money": "Von der Schätzung bis zur letzten Zahlung", "see.money.what": "Beträge in {currency}",
   "see.together": "Alle Lose", "see.lots.title": "Lose, Zuschläge und Verträge", "see.lot": "Los {lot}", "see.lot.short": "Los", "see.lots": ["Los", "Lose"],
   "see.count.lots": ["{count} Los", "{count} Lose"], "see.items": "Was gekauft wird", "see.line": "Haushaltstitel",

@@ -46,8 +46,9 @@ function found(tender, shown, byPoints, contract) {
 /** What became of a tender's security: as `securities` has it, for whom they are shown, else as it follows from what is published. */
 function securityShown({ terms, securities }, lot, tender, shown) {
   const own = securities?.findLast((one) => one.lot === lot.id && one.tenderer === tender.tenderer);
-  return own ? [say(`security.${own.state}`), below(given(own.reference), ", ", money(own.amount, lot.value.currency))]
+  const told = own ? [say(`security.${own.state}`), below(given(own.reference), ", ", money(own.amount, lot.value.currency))]
     : securities ? "–" : say(`security.${securityOf(tender, shown, lot.status, terms.late_withdrawal === "forfeits")}`);
+  return element("span", { class: "word" }, told);
 }
 
 /** The table. `notice` has what the releases compile to, the terms, and the securities of its tenders for whom they are shown; firms are links in the public's
