@@ -8,14 +8,15 @@ import time
 from collections.abc import Callable, Mapping
 from typing import Any
 
+from client import AHEAD
 from common import fail
 
 Event = dict[str, Any]
 # What a page is answered in the server's place: a status and a body, or nothing.
 Answers = Mapping[str, tuple[int, bytes] | None]
 
-# Seconds until an answer, or what is waited for, must be there.
-PATIENCE = 60
+# Seconds until an answer, or what is waited for, must be there: more by AHEAD, as for deadlines.
+PATIENCE = max(60, 15 * AHEAD)
 KEYS = {"Tab": (9, ""), "Enter": (13, "\r")}
 DOMAINS = ("Page", "Runtime", "Log", "Network", "Audits")
 # Without a sandbox, since that isn't to be had by root in a container; the one page that it shows is that of this repository.
