@@ -2,11 +2,14 @@
 #![tactic(auto)]
 
 use office_commands::queries::Query;
+use office_values::id::Id;
+use office_values::settings::Settings;
 use procure_config::fault::{ProgramFault, exit_code};
 use procure_config::job::{Job, job_of};
 use procure_config::notice::notice_named;
 use procure_programs::config::{no_memory, settings_at};
 use procure_programs::desk::run_desk;
+use procure_programs::showing::Printout;
 use procure_programs::store::{print_file, serve_file};
 use std::io::ErrorKind;
 use std::process::ExitCode;
@@ -34,6 +37,28 @@ fn words_of(rt: &HostRuntime) -> Result<Vec<String>, ProgramFault> {
     }
 }
 
+// The settings, and the notice that is named.
+fn settings_and_notice(
+    rt: &HostRuntime,
+    config: &str,
+    notice: &str,
+) -> Result<(Settings, Id), ProgramFault> {
+    let settings = settings_at(rt, config)?;
+    let notice = notice_named(notice)?;
+    Ok((settings, notice))
+}
+
+// Prints what is of a whole office.
+fn print(
+    rt: &HostRuntime,
+    config: &str,
+    store: &str,
+    printout: Printout,
+) -> Result<(), ProgramFault> {
+    let settings = settings_at(rt, config)?;
+    print_file(rt, settings, store, printout)
+}
+
 // Faults are looked for in this order: the words, the settings, a notice that is no identifier, the office's file, and then the work.
 fn work(rt: &HostRuntime) -> Result<(), ProgramFault> {
     let words = words_of(rt)?;
@@ -48,27 +73,34 @@ fn work(rt: &HostRuntime) -> Result<(), ProgramFault> {
             let settings = settings_at(rt, config)?;
             serve_file(rt, settings, store, port, count)
         }
-        Job::Ledger { config, store } => {
-            let settings = settings_at(rt, config)?;
-            print_file(rt, settings, store, Query::Ledger)
-        }
+        Job::Ledger { config, store } => print(rt, config, store, Printout::Seen(Query::Ledger)),
+        Job::Notices { config, store } => print(rt, config, store, Printout::Notices),
         Job::Minutes {
             config,
             store,
             notice,
         } => {
-            let settings = settings_at(rt, config)?;
-            let notice = notice_named(notice)?;
-            print_file(rt, settings, store, Query::Minutes { notice })
+            let (settings, notice) = settings_and_notice(rt, config, notice)?;
+            let query = Query::Minutes { notice };
+            print_file(rt, settings, store, Printout::Seen(query))
         }
         Job::Record {
             config,
             store,
             notice,
         } => {
-            let settings = settings_at(rt, config)?;
-            let notice = notice_named(notice)?;
-            print_file(rt, settings, store, Query::Record { notice })
+            let (settings, notice) = settings_and_notice(rt, config, notice)?;
+            let query = Query::Record { notice };
+            print_file(rt, settings, store, Printout::Seen(query))
+        }
+        Job::Evaluation {
+            config,
+            store,
+            notice,
+        } => {
+            let (settings, notice) = settings_and_notice(rt, config, notice)?;
+            let query = Query::Evaluation { notice };
+            print_file(rt, settings, store, Printout::Seen(query))
         }
     }
 }

@@ -4,8 +4,9 @@ ghost use Rattle.office_base.specs.Shelves.{Keeps};
 ghost use Rattle.procure_programs.specs.Serving.{TakesTurns, WasServed};
 
 use crate::config::no_memory;
+use crate::listing::list_notices;
 use crate::serving::serve;
-use crate::showing::show;
+use crate::showing::{Printout, show};
 use office_base::shelf::{Lookups, Shelf};
 use office_base::stored::StoredShelf;
 use office_commands::queries::Query;
@@ -52,7 +53,7 @@ pub(crate) fn serve_office<H: StoredShelf + Drop>(
 }
 
 // Prints what the public sees at a desk.
-fn print<H: Shelf + Drop>(
+fn print_seen<H: Shelf + Drop>(
     rt: &HostRuntime,
     desk: &mut Desk<H>,
     query: Query,
@@ -67,16 +68,37 @@ fn print<H: Shelf + Drop>(
     Ok(())
 }
 
+// Prints a line for each notice. What was buffered is handed on in the end.
+fn print_notices<H: Lookups>(rt: &HostRuntime, shelf: &mut H) -> Result<(), ProgramFault>
+    ensures { Keeps H.meaning shelf.old shelf.new }
+{
+    let mut output = rt.stdout();
+    list_notices(rt.alloc(), shelf, &mut output)?;
+    if output.flush().is_err() {
+        return Err(ProgramFault::Output);
+    }
+    Ok(())
+}
+
 /// Prints what the public sees of an office on this shelf. Gives the shelf back, where nothing changes, and what printing came to.
 pub(crate) fn print_office<H: Shelf + Drop>(
     rt: &HostRuntime,
     settings: Settings,
     shelf: H,
-    query: Query,
+    printout: Printout,
 ) -> (H, Result<(), ProgramFault>)
     ensures { Keeps H.meaning shelf result.0 }
 {
     let mut desk = Desk::new(rt.alloc(), settings, shelf);
-    let printed = print(rt, &mut desk, query);
-    (desk.into_shelf(), printed)
+    match printout {
+        Printout::Seen(query) => {
+            let printed = print_seen(rt, &mut desk, query);
+            (desk.into_shelf(), printed)
+        }
+        Printout::Notices => {
+            let mut shelf = desk.into_shelf();
+            let printed = print_notices(rt, &mut shelf);
+            (shelf, printed)
+        }
+    }
 }

@@ -7,6 +7,7 @@ pub mod config;
 pub mod desk;
 mod kept;
 pub mod laws;
+pub mod listing;
 pub mod placing;
 pub mod room;
 pub mod serving;

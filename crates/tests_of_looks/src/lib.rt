@@ -1,5 +1,5 @@
 //! What is read of an office where a transcript can't say it: merges that aren't kept or that other hands wrote, releases that are missing or can't be read, the
-//! ledger's rows one at a time, and what the programs show the public.
+//! ledger's rows one at a time, looks at more than a request can bring, and what the programs show the public.
 #![tactic(auto)]
 
 #[cfg(test)]
@@ -7,7 +7,11 @@ mod copies;
 #[cfg(test)]
 mod kept_merges;
 #[cfg(test)]
+mod large_looks;
+#[cfg(test)]
 mod ledger_rows;
+#[cfg(test)]
+mod listed_notices;
 #[cfg(test)]
 mod looked_at_rows;
 #[cfg(test)]
