@@ -165,6 +165,7 @@ def award_part(desk: Desk) -> None:
     desk.press("Pass over \u2026")
     desk.confirm("Pass over", "The winner of award 1 was passed over.")
     desk.says("It won; then the winner didn't sign.")
+    short_of_money(desk)
     desk.press("Award \u2026", place="Lot L1")
     desk.confirm("Award it", "Lot L1 is decided. Price: 570; receipt: 1.")
     desk.field("Reference of the performance security", "P1")
@@ -174,6 +175,18 @@ def award_part(desk: Desk) -> None:
     desk.field("Its amount", "70")
     desk.press("Sign \u2026")
     desk.confirm("Sign", "Contract 2 is signed.")
+
+
+def short_of_money(desk: Desk) -> None:
+    """Where the line has less free than a price is above what the lot has reserved, the award can't be asked for."""
+    desk.page.answer_for({"/lines/1000": (200, b'{"free":29,"line":"1000","title":"Roads"}')})
+    desk.go("today")
+    desk.go("notice/N1")
+    desk.says("The price is 30 EUR above what the lot has reserved, and line 1000 has 29 EUR free")
+    check("an award that the office would refuse can be asked for", desk.page.run("hands.button('Award \u2026', hands.part('Lot L1')).disabled"))
+    desk.page.ask("Fetch.disable")
+    desk.go("today")
+    desk.go("notice/N1")
 
 
 def examined_elsewhere(other: Desk) -> None:

@@ -121,6 +121,9 @@ def pay(clerk: clerk_desk.Desk) -> None:
         clerk.field("Amount", amount, place="Lot L1")
         clerk.press("Pay …", place="Lot L1")
         clerk.confirm("Pay", f"Paid. Outstanding: {left}.")
+    clerk.says("Lot L1: contract 1 is paid in full, and is to be ended")
+    clerk.field("Number of the invoice or the change", "I-1", place="Lot L2")
+    clerk.says("Careful: the number I-1 was used in contract 1 too.")
     clerk.press("End the contract", place="Lot L1")
     clerk.press("End regularly …", place="Lot L1")
     clerk.confirm("End it", "Contract 1 has ended.")
@@ -159,6 +162,7 @@ def life(scene: Scene) -> None:
     desks["T1"].says("P2: Forfeited")
     red = desks["T1"].page.run("document.querySelector('.contract .badge.stopped')?.innerText")
     check(f"a default isn't red: {red}", str(red).endswith("Ended by default"))
+    check("a default is green", not desks["T1"].page.run("document.querySelector('main .badge.done')"))
     page = page_checks.page_of(scene, "#notice/N1")
     for text in ("Its price wasn't the lowest.", "540 EUR", "All contracts ended", "Given back"):
         check(f"the public sees {page.text()}", text in page.text())

@@ -45,6 +45,11 @@ def german(scene: Scene) -> None:
     page.wait("document.documentElement.lang === 'en' && document.querySelector('h1').textContent === 'Procurements'")
     check("the address keeps the language", page.run("new URLSearchParams(location.search).get('language')") == "en")
     check("the button that was pressed has the focus", page.run("document.activeElement.lang") == "en")
+    page.run("[...document.querySelectorAll('nav a')].at(-1).click()")
+    page.wait("location.pathname === '/tender/' && document.querySelector('main')?.getAttribute('aria-busy') === 'false'")
+    check("the next page speaks it too", page.run("document.documentElement.lang") == "en")
+    page.run("document.querySelector('footer a').click()")
+    page.wait("location.pathname === '/' && document.querySelector('h1')?.textContent === 'About this page'")
     is_quiet(page)
 
 
@@ -218,7 +223,7 @@ def without_mirror(scene: Scene) -> None:
 
 
 # Of each page the module that begins, and one that it imports.
-MODULES = {"": ("/page.js", "/common/draw.js"), "tender/": ("/tender/main.js", "/tender/key.js"), "clerk/": ("/clerk/desk.js", "/clerk/award.js")}
+MODULES = {"": ("/page.js", "/common/draw.js"), "tender/": ("/tender/main.js", "/tender/key.js"), "clerk/": ("/clerk/desk.js", "/clerk/today.js")}
 
 
 def failing_scripts(scene: Scene) -> None:
@@ -237,6 +242,12 @@ def failing_scripts(scene: Scene) -> None:
         page.wait("document.querySelector('main .fault')")
         check(f"a fault is told as {page.text()!r}", page.text().startswith("Something went wrong in this page."))
         is_within("a fault", 375, page)
+    page = Page(scene.browser, 1280)
+    page.answer_for({"/clerk/award.js": None}, "Script")
+    page.go(scene.front.address("clerk/#notice/N1"))
+    check(f"without a module of a screen it says {page.text()!r}", page.text().startswith("Not shown\nSomething went wrong in this page."))
+    page.run("location.hash = '#today'")
+    page.wait("document.querySelector('main h1').textContent === 'Today'")
 
 
 CHECKS = [german, open_data, search, many, city, on_paper, failing_scripts, without_mirror]

@@ -1,6 +1,7 @@
 """What `tests/tender_desk` asks of the tenderer's desk, in a browser: a tender's life by the desk alone, what can't be sent, and answers that are lost."""
 import json
 import os
+import signal
 import time
 from collections.abc import Callable
 from typing import Any
@@ -55,9 +56,9 @@ def offer(scene: Scene) -> None:
     desk.fill("offer-notice", "N 1")
     desk.press("Show")
     desk.says("That is no number of the office.")
-    desk.fill("offer-notice", "N1")
+    desk.fill("offer-notice", "n1")
     desk.press("Show")
-    desk.shows("Road repair")
+    desk.shows("Road repair", "offer/N1")
     desk.press("Offer for lot L1")
     desk.shows("Offer for lot L1")
     for unit, text in (("12.5", "no point"), ("1000000001", "too much"), ("x", "Digits alone")):
@@ -158,6 +159,12 @@ def changes(scene: Scene) -> None:
     check(f"the price of a withdrawal is told so: {desk.page.text()}", desk.has("look", "Nothing: the security of 55 EUR (G5) goes back."))
     check("it can be withdrawn without a tick", not desk.can_press("Withdraw the tender"))
     desk.tick("withdraw-sure")
+    # (as where the deadline comes while the view stands there)
+    desk.page.run("void (Date.now = ((now) => () => now() + 172_800_000)(Date.now.bind(Date)))")
+    desk.press("Withdraw the tender")
+    desk.says("what it costs may be something else by now")
+    check("it is withdrawn at a price that wasn't told", scene.client.tender("T2", new)["state"] == "sealed")
+    desk.tick("withdraw-sure")
     desk.press("Withdraw the tender")
     desk.says("The tender was withdrawn.")
     told = scene.client.tender("T2", new)["state"], scene.client.security("T2", old)["state"]
@@ -203,13 +210,15 @@ def lost(scene: Scene) -> None:
 
 
 def stopped(scene: Scene) -> None:
-    """The office is stopped in the middle of a sending: that is told, and once it serves again it is asked, and the tender sent."""
+    """The office is killed in the middle of a sending: that is told, and once it serves again it is asked, and the tender sent."""
     desk = Desk(scene, "T1")
     desk.prices("N4", "L4", 150, 12)
     desk.press("Look at it")
     desk.shows("Before it is sent")
-    scene.stop()
+    scene.office.send_signal(signal.SIGSTOP)
     desk.press("Send the tender")
+    desk.page.expect("the tender is on its way", lambda: not desk.can_press("Send the tender"))
+    scene.stop()
     desk.says("Whether it was done isn't known yet.")
     desk.press("Ask the office")
     desk.says("The office can't be asked now.")

@@ -3,7 +3,7 @@ import { isId } from "../common/csv.js";
 import { element, given, link, placeOf } from "../common/draw.js";
 import { DIGITS, ID, areRight, button, field, form, note, steps } from "../common/forms.js";
 import { money, number } from "../common/money.js";
-import { officeNow } from "../common/office.js";
+import { line, officeNow } from "../common/office.js";
 import { say, sayParts } from "../common/texts.js";
 import { ofRelease, own } from "./fate.js";
 import { momentAndSpan } from "./load.js";
@@ -32,8 +32,21 @@ function undecided(notice, lot, again) {
   const isOver = stage.isExpired && outlook.code !== "nobody";
   const award = button(say("award.send"), () => sendThen(awardOrder(notice, lot, outlook), again));
   award.disabled = outlook.code === "waits" || isOver;
+  const lacking = element("p", { class: "wrong", role: "status" });
+  if (outlook.code === "best" && outlook.tender.corrected > lot.reserved) {
+    tellLacking(lot, outlook.tender.corrected - lot.reserved, currency, award, lacking).catch(() => {});
+  }
   return element("div", { class: "award" }, element("h4", {}, say("award.title")), element("p", {}, outlookText(lot, outlook, currency)),
-    isOver ? element("p", { class: "wrong" }, say("award.expired")) : null, steps(award));
+    isOver ? element("p", { class: "wrong" }, say("award.expired")) : null, lacking, steps(award));
+}
+
+/** What a price is above what the lot has reserved, its line must have free: else the office takes no award. */
+async function tellLacking(lot, more, currency, award, place) {
+  const { free } = await line(lot.line);
+  if (free < more) {
+    award.disabled = true;
+    place.textContent = say("award.short", { more: money(more, currency), line: lot.line, free: money(free, currency) });
+  }
 }
 
 /** What an award would do. */
@@ -51,7 +64,7 @@ function awardOrder(notice, lot, outlook) {
 }
 
 function moneyText(lot, tender, currency) {
-  const difference = lot.estimate - tender.corrected;
+  const difference = lot.reserved - tender.corrected;
   const values = { price: money(tender.corrected, currency), difference: money(Math.abs(difference), currency) };
   return say(difference >= 0 ? "award.less" : "award.more", values);
 }

@@ -41,6 +41,7 @@ export default {
   "task.examine": ["Los {lot}: 1 Angebot wartet auf die Prüfung", "Los {lot}: {count} Angebote warten auf die Prüfung"],
   "task.award": "Für Los {lot} ist der Zuschlag zu erteilen", "task.standstill": "Los {lot}: Die Stillhaltefrist läuft bis {until}",
   "task.sign": "Los {lot}: Der Vertrag ist zu unterzeichnen; die Stillhaltefrist endete {until}", "task.contract": "Los {lot}: Vertrag {contract} läuft",
+  "task.end": "Los {lot}: Vertrag {contract} ist ganz bezahlt und zu beenden",
   "task.binds": "Die Angebote binden bis {until}",
   "task.expired": "Die Angebote binden nicht mehr, seit {until}: Es kann weder zugeschlagen noch unterzeichnet werden",
   "budget.intro": "Eine Haushaltsdatei gibt Titeln etwas hinzu und legt neue an, oder sie kürzt, was auf ihnen frei ist: alles oder nichts davon. Hier wird "

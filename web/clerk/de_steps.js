@@ -42,8 +42,10 @@ export default {
   "award.nobody": "Kein Angebot kann gewinnen: Das Los endet, sein Geld ist wieder frei, und seine Sicherheiten gehen zurück.",
   "award.unknown": "Was die Prüfung ergab, sieht nur die Vergabestelle, bis über das Los entschieden ist: Geben Sie erst den Schlüssel.",
   "award.waits": ["1 Angebot wartet erst noch auf die Prüfung.", "{count} Angebote warten erst noch auf die Prüfung."],
-  "award.less": "{price} werden statt der Schätzung vorgemerkt; {difference} sind wieder frei.",
-  "award.more": "{price} werden vorgemerkt; {difference} mehr als geschätzt kommen aus dem, was auf dem Titel frei ist.",
+  "award.less": "{price} bleiben vorgemerkt; {difference} von dem, was für das Los vorgemerkt war, sind wieder frei.",
+  "award.more": "{price} sind dann vorgemerkt: {difference} mehr als jetzt, aus dem, was auf dem Titel frei ist.",
+  "award.short": "Der Preis liegt {more} über dem, was für das Los vorgemerkt ist, und auf dem Titel {line} sind {free} frei: So würde der Zuschlag nicht "
+    + "angenommen. Geben Sie dem Titel durch eine Haushaltsdatei etwas hinzu, oder heben Sie die Bekanntmachung auf.",
   "award.standstill": "Die Stillhaltefrist beginnt.", "award.send": "Zuschlag erteilen …",
   "award.expired": "Die Bindefrist ist abgelaufen: Es kann weder zugeschlagen noch unterzeichnet noch übergangen werden. Heben Sie die Bekanntmachung auf.",
   "award.made": "Zuschlag erteilt", "award.to": "An {name} für {price} (Zuschlag {award}).",

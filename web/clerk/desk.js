@@ -3,23 +3,22 @@ import { element, link } from "../common/draw.js";
 import { button } from "../common/forms.js";
 import { drawAround, showViews, words } from "../common/frame.js";
 import { addTexts, say } from "../common/texts.js";
-import { drawBudget } from "./budgets.js";
-import { drawEditor } from "./editor.js";
-import { drawJournal } from "./journals.js";
 import { drawKey } from "./key.js";
-import { drawLetter } from "./letters.js";
-import { drawMinutes } from "./minutes.js";
-import { drawPreview } from "./preview.js";
-import { drawProcurement } from "./procurement.js";
 import { caller, forgetKey, who } from "./session.js";
-import { drawTenderers } from "./tenderers.js";
 import { drawToday } from "./today.js";
 
 await addTexts({ en: () => import("./en.js"), de: () => import("./de.js") });
 const MENU = ["today", "budget", "tenderers", "new", "journal"];
+// The screens that are loaded where they are wanted, each with what draws it there.
+const LATER = { budget: [() => import("./budgets.js"), "drawBudget"], tenderers: [() => import("./tenderers.js"), "drawTenderers"],
+  new: [() => import("./editor.js"), "drawEditor"], preview: [() => import("./preview.js"), "drawPreview"],
+  journal: [() => import("./journals.js"), "drawJournal"], notice: [() => import("./procurement.js"), "drawProcurement"],
+  minutes: [() => import("./minutes.js"), "drawMinutes"], letter: [() => import("./letters.js"), "drawLetter"] };
 // The screens by the first word of the address; what stands behind it is given to them.
-const SCREENS = { today: drawToday, budget: drawBudget, tenderers: drawTenderers, new: drawEditor, preview: drawPreview, journal: drawJournal, key: drawKey,
-  notice: drawProcurement, minutes: drawMinutes, letter: drawLetter };
+const SCREENS = { today: drawToday, key: drawKey,
+  ...Object.fromEntries(Object.entries(LATER).map(([page, [load, name]]) => [page, async (...asked) => (await load())[name](...asked)])) };
+// Seconds until all others are loaded too: the first screen is there then, and a line that breaks later takes none away in the middle of the work.
+const BEHIND = 1;
 let redraw = () => {};
 
 function place() {
@@ -47,3 +46,4 @@ function view([page, ...rest], again) {
 }
 
 showViews({ place, around, view, site: () => say("site") });
+setTimeout(() => Promise.allSettled(Object.values(LATER).map(([load]) => load())), BEHIND * 1000);

@@ -35,6 +35,7 @@ export default {
   "task.examine": ["Lot {lot}: 1 tender waits for its examination", "Lot {lot}: {count} tenders wait for their examination"],
   "task.award": "Lot {lot} is to be awarded", "task.standstill": "Lot {lot}: the standstill lasts until {until}",
   "task.sign": "Lot {lot}: the award is to be signed; the standstill ended {until}", "task.contract": "Lot {lot}: contract {contract} runs",
+  "task.end": "Lot {lot}: contract {contract} is paid in full, and is to be ended",
   "task.binds": "Tenders bind until {until}", "task.expired": "Tenders don't bind any more, since {until}: nothing can be awarded or signed",
   "budget.intro": "A budget file adds to lines, and makes new ones, or cuts what is free of them: all of it or nothing. It is checked here before it is sent.",
   "budget.file": "A budget file", "budget.drop": "Choose a file, or drop it here",

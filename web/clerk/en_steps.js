@@ -36,8 +36,11 @@ export default {
   "award.nobody": "No tender can win: the lot ends, its money is free again, and its securities go back.",
   "award.unknown": "What the examination found is shown to the clerk alone until the lot is decided: give the key first.",
   "award.waits": ["1 tender waits for its examination first.", "{count} tenders wait for their examination first."],
-  "award.less": "{price} are reserved in place of the estimate; {difference} are free again.",
-  "award.more": "{price} are reserved; {difference} more than the estimate is taken from what the line has free.", "award.standstill": "The standstill begins.",
+  "award.less": "{price} stay reserved; {difference} of what the lot had reserved are free again.",
+  "award.more": "{price} are reserved then: {difference} more than now, from what the line has free.",
+  "award.short": "The price is {more} above what the lot has reserved, and line {line} has {free} free: the office wouldn't take the award. Add to the line by "
+    + "a budget file, or cancel.",
+  "award.standstill": "The standstill begins.",
   "award.send": "Award …", "award.expired": "The days of validity are over: nothing can be awarded, signed or passed over. Cancel the notice.",
   "award.made": "Awarded", "award.to": "To {name} for {price} (award {award}).",
   "standstill.until": "The standstill lasts until {until}", "standstill.over": "The standstill ended {since}",

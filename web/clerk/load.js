@@ -2,7 +2,7 @@
 import { badge, element, given } from "../common/draw.js";
 import { moment, span } from "../common/money.js";
 import { contract, officeNow, performance, securities } from "../common/office.js";
-import { seenOf } from "../common/process.js";
+import { seenOf } from "../common/seen.js";
 import { say, sayParts } from "../common/texts.js";
 import { caller } from "./session.js";
 import { stageOf, stepOf, tasksOf } from "./stage.js";

@@ -1,5 +1,5 @@
 // Where a procurement stands, and what can be done with it now: from its terms, its record, its minutes and its evaluation. Pure: runs in node too.
-import { awardsOf, contractOf } from "../common/findings.js";
+import { awardsOf, contractOf, paidOf } from "../common/findings.js";
 import { ranked } from "../common/tenders.js";
 import { DAY } from "./values.js";
 
@@ -18,7 +18,9 @@ export function stageOf({ compiled, terms, tenders, evaluation }, now) {
 function lotOf(lot, { compiled, terms, tenders, shown, byPoints }) {
   const own = tenders.filter((one) => one.lot === lot.id).map((one) => ({ ...one, found: shown?.tenders.get(one.receipt) ?? null }));
   const active = awardsOf(compiled, lot).find(({ status }) => status === "active") ?? null;
+  // (what a winner had who was passed over stays reserved)
   return { ...lot, shown, active, contract: active ? contractOf(compiled, active) ?? null : null, tenders: ranked(own, byPoints, shown),
+    reserved: awardsOf(compiled, lot).at(-1)?.value.amount ?? lot.estimate,
     standstillUntil: active ? Date.parse(active.date) + terms.standstill_days * DAY : null };
 }
 
@@ -79,5 +81,8 @@ function tasksOfLot({ id, state, tenders, contract, standstillUntil }, now) {
   if (state === "awarded") {
     return [{ code: now >= standstillUntil ? "sign" : "standstill", lot: id, until: standstillUntil }];
   }
-  return state === "contracted" && contract?.status !== "terminated" ? [{ code: "contract", lot: id, contract: contract?.id }] : [];
+  if (state !== "contracted" || !contract || contract.status === "terminated") {
+    return [];
+  }
+  return [{ code: paidOf(contract) < contract.value.amount ? "contract" : "end", lot: id, contract: contract.id }];
 }

@@ -54,6 +54,7 @@ export default {
   "typed.empty": "Hier fehlt eine ganze Zahl.", "typed.point": "Nur ganze Einheiten: kein Punkt und kein Komma.", "typed.digits": "Nur Ziffern.",
   "typed.above": "Das ist zu viel.",
   "frame.skip": "Zum Inhalt", "frame.pages": "Seiten", "frame.asking": "Die Vergabestelle wird gefragt …", "frame.refused": "Nicht gezeigt",
+  "frame.imprint": "Impressum, Kontakt, Datenschutz",
   "list.more": ["Noch einen Eintrag zeigen", "Mehr zeigen (noch {count})"],
   "clock.left": "endet in {span}", "clock.over": "die Frist ist abgelaufen",
   "security.held": "Liegt bei der Stadt", "security.returned": "Zurückgegeben", "security.forfeited": "Verfallen",

@@ -35,9 +35,10 @@ export function below(...content) {
   return element("span", { class: "quiet below" }, ...content);
 }
 
-/** A way to a view, or to another page. */
+/** A way to a view, or to another page, where the language is spoken on that was chosen by hand: it stands in the address alone. */
 export function link(content, href, kind = "") {
-  return element("a", kind ? { href, class: kind } : { href }, content);
+  const to = href.replace(/^\/(tender\/|clerk\/)?(?=#|$)/, (page) => page + location.search);
+  return element("a", kind ? { href: to, class: kind } : { href: to }, content);
 }
 
 /** The address of a view, and of what it is about. */

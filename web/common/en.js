@@ -48,6 +48,7 @@ export default {
   "typed.empty": "A whole number is wanted.", "typed.point": "Whole units alone: no point and no comma.", "typed.digits": "Digits alone.",
   "typed.above": "That is too much.",
   "frame.skip": "To the content", "frame.pages": "Pages", "frame.asking": "The office is asked …", "frame.refused": "Not shown",
+  "frame.imprint": "Imprint, contact, privacy",
   "list.more": ["Show the last one", "Show more ({count} left)"],
   "clock.left": "closes in {span}", "clock.over": "the deadline has passed",
   "security.held": "Held", "security.returned": "Given back", "security.forfeited": "Forfeited",

@@ -1,5 +1,5 @@
 // What stands around the views of every page, which view is shown, by the address, and what is put on paper.
-import { element, title } from "./draw.js";
+import { element, link, title } from "./draw.js";
 import { note } from "./forms.js";
 import { sentenceOf } from "./office.js";
 import { chooseLanguage, language, languages, say } from "./texts.js";
@@ -24,13 +24,17 @@ function drawLanguages(redraw) {
   }));
 }
 
-/** The menu: pairs of a page's address and its name, of which one is the present one; and what else stands around the views. */
+/** The menu: pairs of a page's address and its name, of which one is the present one; and what else stands around the views, with the way to the imprint. */
 export function drawAround({ site, foot, pages, current }) {
   byId("skip").textContent = say("frame.skip");
   byId("site").textContent = site;
-  byId("foot").textContent = foot;
+  byId("foot").replaceChildren(foot, " ", link(say("frame.imprint"), "/#about"));
   byId("pages").setAttribute("aria-label", say("frame.pages"));
-  byId("pages").replaceChildren(...pages.map(([href, name]) => element("a", { href, ...(href === current ? { "aria-current": "page" } : {}) }, name)));
+  byId("pages").replaceChildren(...pages.map(([href, name]) => {
+    const made = link(name, href);
+    href === current && made.setAttribute("aria-current", "page");
+    return made;
+  }));
 }
 
 /** A part of an address as it was meant; one that is written wrong stays as it is. */

@@ -2,10 +2,11 @@
 import { clock } from "./clock.js";
 import { against, contractPart } from "./contract.js";
 import { badge, below, element, facts, given, link, listed, placeOf, section, title } from "./draw.js";
-import { addedTo, awardsOf, contractOf, evaluationOf, kindOfSigned, paidOf, passedOver, stateOf, stateOfLot } from "./findings.js";
+import { addedTo, awardsOf, contractOf, kindOfSigned, paidOf, passedOver, stateOf, stateOfLot } from "./findings.js";
 import { table } from "./forms.js";
 import { money, moment, number } from "./money.js";
-import { evaluationText, minutesText, officeNow, record, releases, tendersOf, terms } from "./office.js";
+import { officeNow } from "./office.js";
+import { seenOf } from "./seen.js";
 import { say } from "./texts.js";
 import { tenderTable } from "./tenders.js";
 import { asked, termList } from "./terms.js";
@@ -115,14 +116,6 @@ export function drawProcess(notice) {
     text.lang = compiled.language;
   }
   return drawn;
-}
-
-/** What there is to see of a notice; where nothing was opened, its tenders and its evaluation are null. The clerk sees the whole of that. */
-export async function seenOf(name, clerk = null) {
-  const [compiled, all, own, minutes, evaluation] = await Promise.all(
-    [record(name), releases(name), terms(name), minutesText(name), evaluationText(name, clerk)]);
-  return { name, compiled, releases: all, terms: own, tenders: minutes === null ? null : tendersOf(minutes),
-    evaluation: evaluation === null ? null : evaluationOf(evaluation, clerk !== null) };
 }
 
 /** The public's view of a notice. */

@@ -197,9 +197,10 @@ export default {
     + "an seiner Stelle abgegeben werden.",
   "withdraw.late.none": "Die Frist ist abgelaufen: Das Angebot kann nicht mehr gewinnen, und nichts anderes kann an seiner Stelle abgegeben werden. Eine "
     + "Sicherheit gehört nicht dazu.",
+  "withdraw.anew": "Nichts wurde gesendet: Was es kostet, kann inzwischen etwas anderes sein. Sehen Sie es sich noch einmal an.",
   "withdraw.sure": "Ich habe es gelesen und will dieses Angebot zurückziehen.", "withdraw.press": "Angebot mit der Quittung {receipt} zurückziehen",
   "withdraw.done": "Das Angebot ist zurückgezogen.",
-  "withdraw.late.done": "Das Angebot ist spät zurückgezogen: Es kann nicht mehr gewinnen, und seine Sicherheit ist verfallen.",
+  "withdraw.late.done": "Das Angebot ist spät zurückgezogen: Es kann nicht mehr gewinnen, und eine Sicherheit, die es hatte, ist verfallen.",
   "withdraw.help.DeadlinePassed": "Diese Bekanntmachung lässt nach Ablauf der Frist niemanden zurückziehen. Das Angebot gilt und bindet Sie.",
   "withdraw.help.AlreadyDecided": "Es wurde so schon zurückgezogen oder übergangen, oder über sein Los ist entschieden.",
   "withdraw.became.not": "Bis jetzt ist es nicht zurückgezogen. Sie dürfen noch einmal darum bitten.",

@@ -162,8 +162,10 @@ export default {
   "withdraw.late.security": "The deadline has passed: the security of {amount} is forfeited, the tender can't win any more, and nothing can be handed in in "
     + "its place.",
   "withdraw.late.none": "The deadline has passed: the tender can't win any more, and nothing can be handed in in its place. No security is with it.",
+  "withdraw.anew": "Nothing was sent: what it costs may be something else by now. Look at it again.",
   "withdraw.sure": "I have read it, and want to withdraw this tender.", "withdraw.press": "Withdraw the tender with receipt {receipt}",
-  "withdraw.done": "The tender was withdrawn.", "withdraw.late.done": "The tender was withdrawn late: it can't win any more, and its security is forfeited.",
+  "withdraw.done": "The tender was withdrawn.",
+  "withdraw.late.done": "The tender was withdrawn late: it can't win any more, and a security that it came with is forfeited.",
   "withdraw.help.DeadlinePassed": "This notice lets nobody withdraw from the deadline on. The tender stands and binds you.",
   "withdraw.help.AlreadyDecided": "It was withdrawn so before, was passed over, or its lot is decided.",
   "withdraw.became.not": "It wasn't withdrawn up to now. You may ask for it again.",

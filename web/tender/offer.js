@@ -2,6 +2,7 @@
 import { clock } from "../common/clock.js";
 import { isId } from "../common/csv.js";
 import { badge, element, facts, given, link, placeOf, section, title } from "../common/draw.js";
+import { noticeOf as meant } from "../common/filters.js";
 import { DIGITS, ID, areRight, button, field, form, growing, note, save, steps } from "../common/forms.js";
 import { money, moment, number, typed } from "../common/money.js";
 import { notices, officeNow } from "../common/office.js";
@@ -28,11 +29,12 @@ function isTaking({ state, deadline }) {
   return state === "receiving" && Date.parse(deadline) >= officeNow();
 }
 
-function ask() {
+/** A notice by its number, whatever letters are capital, of these or of any. */
+function ask(list = []) {
   const notice = field(say("offer.number"), { id: "offer-notice", hint: say("offer.number.hint"), ...ID });
   return form(say("offer.number"), [notice.made], say("offer.show"), () => {
     if (areRight([[notice, isId(notice.value()) ? "" : say("kind.id")]])) {
-      location.hash = placeOf("offer", notice.value());
+      location.hash = placeOf("offer", meant(list, notice.value()) ?? notice.value());
     }
   });
 }
@@ -145,9 +147,10 @@ function entry(one) {
 
 /** The notices that take tenders, those first whose deadline is nearest. */
 async function drawOpen() {
-  const open = (await notices()).filter(isTaking).sort((one, other) => (one.deadline < other.deadline ? -1 : 1));
+  const all = await notices();
+  const open = all.filter(isTaking).sort((one, other) => (one.deadline < other.deadline ? -1 : 1));
   return { title: say("offer.title"), content: [title(say("offer.title")), element("p", {}, say("offer.why", { count: open.length })),
-    growing(element("ul", { class: "lines" }), open, entry, AT_ONCE), ask()] };
+    growing(element("ul", { class: "lines" }), open, entry, AT_ONCE), ask(all)] };
 }
 
 /** The view at `#offer`, `#offer/NOTICE` and `#offer/NOTICE/LOT`. */

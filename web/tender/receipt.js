@@ -39,6 +39,7 @@ function fileOf(receipt) {
 export function drawReceipt(sent) {
   const { receipt } = sent;
   const isLate = receipt.state === "returned";
+  const isSame = sent.digest === receipt.digest;
   const offered = [say("see.price"), money(sent.price, sent.currency)];
   const head = say("receipt.title", { receipt: String(receipt.receipt) });
   const keep = button(say("receipt.save"), () => {
@@ -46,7 +47,8 @@ export function drawReceipt(sent) {
     sent.isKept = true;
   });
   return { title: head, isSheet: true, content: [title(head),
-    isLate ? note("bad", say("receipt.late"), say("receipt.late.what")) : note("good", say("receipt.sealed"), say("receipt.sealed.what")),
+    isLate ? note("bad", say("receipt.late"), say("receipt.late.what"))
+      : note(isSame ? "good" : "look", say("receipt.sealed"), isSame ? say("receipt.sealed.what") : null),
     compared(sent.digest, receipt.digest),
     sheet(element("h2", {}, say("receipt.sheet")), factsOf({ ...receipt, tenderer: session.caller?.caller }, offered), element("p", {}, say("receipt.digest")),
       element("p", { class: "code" }, receipt.digest), element("p", { class: "quiet" }, say("receipt.secret")), element("p", { class: "quiet" }, sourceOf())),

@@ -1,23 +1,23 @@
 // What became of a tender that was opened: what was read of it, and why it won or didn't; the contracts of its tenderer for its lot, and what is outstanding.
 import { contractPart } from "../common/contract.js";
 import { badge, element, given, link } from "../common/draw.js";
-import { awardsOf, contractOf, outcomeOf } from "../common/findings.js";
+import { awardsOf, contractOf, kindOfSigned, outcomeOf } from "../common/findings.js";
 import { note } from "../common/forms.js";
 import { money } from "../common/money.js";
 import { contract, performance } from "../common/office.js";
-import { seenOf } from "../common/process.js";
+import { seenOf } from "../common/seen.js";
 import { tenderTable } from "../common/tenders.js";
 import { say } from "../common/texts.js";
 import { session } from "./session.js";
 
-/** What was read of the tender, by the minutes, and what became of it. */
-function readPart({ reading, corrected, stated, corrections }, [kind, name], currency) {
+/** What was read of the tender, by the minutes, and what became of it. A contract that ended isn't green: it may have ended by default. */
+function readPart({ reading, corrected, stated, corrections }, [kind, name], contract, currency) {
   if (reading !== "priced") {
     return note("bad", say(`results.${reading}`), say("results.lost"));
   }
   const values = { price: money(corrected, currency), stated: money(stated, currency), count: corrections };
   return note(corrections > 0 ? "look" : "good", say("results.priced", values), corrections > 0 ? say("results.corrected", values) : null,
-    element("p", {}, badge(kind, say(`see.outcome.${name}`)), " ", say(`see.why.${name}`)));
+    element("p", {}, badge(name === "signed" ? kindOfSigned(contract) : kind, say(`see.outcome.${name}`)), " ", say(`see.why.${name}`)));
 }
 
 /** A contract of the caller's, as the office tells it to its tenderer. */
@@ -41,7 +41,8 @@ export async function drawResults(found) {
   const read = tenders.find(({ receipt }) => receipt === found.receipt);
   const awards = awardsOf(compiled, lot).filter(({ suppliers }) => suppliers[0].id === `T-${session.caller.caller}`);
   const contracts = awards.map((award) => [contractOf(compiled, award), award]).filter(([one]) => one);
-  return [element("h2", {}, say("results.title")), read ? readPart(read, outcomeOf(read, shown, terms.criteria === "points"), lot.value.currency) : null,
+  const outcome = read ? outcomeOf(read, shown, terms.criteria === "points") : null;
+  return [element("h2", {}, say("results.title")), read ? readPart(read, outcome, contracts.at(-1)?.[0], lot.value.currency) : null,
     element("h3", {}, say("see.lot", { lot: lot.id }), " ", given(lot.title)), tenders.length > 0 ? tenderTable(notice, lot, tenders, shown) : null,
     await Promise.all(contracts.map(([one, award]) => ownContract(one, award, lot, terms))),
     element("p", {}, link(say("offer.public"), `/#notice/${found.notice}`))];

@@ -107,13 +107,18 @@ async function take(sent, where, redraw) {
   }
 }
 
-/** The part that withdraws a tender: the price is said before the button, and the button wants a tick. */
+// The server's clock is told in whole seconds, and what is sent takes its time: so many milliseconds before the deadline a withdrawal may come late already.
+const WAY = 3000;
+
+/** The part that withdraws a tender: the price is said before the button, and the button wants a tick. Where the deadline has come since, it is said anew. */
 function withdrawPart(found, one, held, redraw) {
-  const isLate = Date.parse(one.deadline) <= officeNow();
+  const isPast = () => Date.parse(one.deadline) <= officeNow() + WAY;
+  const isLate = isPast();
   const { kind, sentence, isRefused } = costOf(one, held, isLate);
   const where = element("div", { "aria-live": "polite" });
   const sent = { kind: "withdraw", notice: found.notice, receipt: found.receipt, isLate };
-  const press = button(say("withdraw.press", { receipt: String(found.receipt) }), () => take(sent, where, redraw), "harm");
+  const press = button(say("withdraw.press", { receipt: String(found.receipt) }),
+    () => (isPast() === isLate ? take(sent, where, redraw) : redraw(say("withdraw.anew"), true)), "harm");
   press.disabled = true;
   const sure = tick(say("withdraw.sure"), (isTicked) => { press.disabled = !isTicked; }, "withdraw-sure");
   return section(say("withdraw.title"), note(kind, say("withdraw.price"), sentence), isRefused ? null : [sure.made, steps(press)], where);
