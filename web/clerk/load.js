@@ -1,7 +1,8 @@
 // A notice as the desk sees it: what the looks show of it, to the clerk where the key is held, and where it stands.
 import { badge, element, given } from "../common/draw.js";
+import { evaluationOf } from "../common/findings.js";
 import { moment, span } from "../common/money.js";
-import { contract, officeNow, performance, securities } from "../common/office.js";
+import { contract, evaluationText, officeNow, performance, record, securities, terms } from "../common/office.js";
 import { seenOf } from "../common/seen.js";
 import { say, sayParts } from "../common/texts.js";
 import { caller } from "./session.js";
@@ -12,6 +13,15 @@ import { DAY, momentText } from "./values.js";
 export async function stagedOf(name) {
   const seen = await seenOf(name, caller());
   return { ...seen, currency: seen.compiled.tender.value.currency, stage: stageOf(seen, officeNow()) };
+}
+
+/** Where an opened notice stands, by as few looks as tell it: the front takes only so many at a time. */
+export async function stageOfOpened(name) {
+  const [compiled, own, text] = await Promise.all([record(name), terms(name), evaluationText(name, caller())]);
+  const evaluation = evaluationOf(text, caller() !== null);
+  const tenders = [...evaluation].flatMap(([lot, shown]) => [...shown.tenders].map(([receipt, { reading, price }]) =>
+    ({ lot, receipt, reading, corrected: price })));
+  return stageOf({ compiled, terms: own, tenders, evaluation }, officeNow());
 }
 
 /** The performance security of a contract, or null. */

@@ -6,17 +6,17 @@ import { ID, areRight, button, field, form, note, steps, table } from "../common
 import { notices, officeNow, sentenceOf } from "../common/office.js";
 import { stateBadge } from "../common/states.js";
 import { say } from "../common/texts.js";
-import { stageBadge, stagedOf, tasks } from "./load.js";
+import { stageBadge, stageOfOpened, tasks } from "./load.js";
 import { stepOf } from "./stage.js";
 
 const OVER = ["complete", "unsuccessful", "cancelled"];
 // Of so many opened notices it is asked at once where they stand.
-const AT_ONCE = 40;
+const AT_ONCE = 30;
 const asked = { count: AT_ONCE };
 
 /** An opened notice with its stage, or with why it can't be had. */
 function staged(entry) {
-  return stagedOf(entry.notice).then(({ stage }) => ({ ...entry, stage }), (fault) => ({ ...entry, fault }));
+  return stageOfOpened(entry.notice).then((stage) => ({ ...entry, stage }), (fault) => ({ ...entry, fault }));
 }
 
 /** What presses most comes first: what waits for its opening, then what was opened, by when its tenders cease to bind, then what takes tenders. */
