@@ -91,6 +91,13 @@ def notice_part(desk: Desk) -> None:
     desk.says("The office would take this notice.")
     check("the free money stands beside the estimate", "Line 1000 has 5,000 free; this notice wants 1,900; 3,100 are left." in desk.told())
     check("what a sheet wrote is told", "\u201c1.600,00\u201d as 1600" in desk.told())
+    check("what is seldom meant is told", "Without a standstill the losers can't object" in desk.told())
+    for field, value in (("Days of validity", "10"), ("Days of standstill", "10"), ("Deadline", local(desk, time.time() + 86_400 * 3 - 60))):
+        desk.field(field, value)
+    for text in ("nothing could ever be signed", "The deadline is 2 days away."):
+        desk.says(text)
+    for field, value in (("Days of validity", "90"), ("Days of standstill", "0"), ("Deadline", local(desk, time.time() + 86_400 * 40))):
+        desk.field(field, value)
     check("the size is told", re.search(r"The notice has \d+ of at most 65,536 bytes", desk.told()) is not None)
     desk.picture("notice-right")
     desk.press("See it as the public will")

@@ -90,13 +90,15 @@ class Desk:
     def drop(self, text: str, name: str, at: int = 0) -> None:
         self.page.run(f"hands.drop({json.dumps(text)}, {json.dumps(name)}, {at})")
 
-    def confirm(self, send: str, done: str) -> str:
-        """Says once more that it is meant, sends, and gives what the desk tells then."""
+    def confirm(self, send: str, done: str, kind: str = "good") -> str:
+        """Says once more that it is meant, sends, and gives what the desk tells then, as something of a kind."""
         self.page.wait("document.querySelector('dialog[open] .steps button')")
         self.page.run("hands.sure()")
         self.press(send)
         self.says(done)
         told = self.told()
+        shown = self.page.run("document.querySelector('dialog[open] [role=status] > *').className")
+        check(f"{done} is told as {shown}", shown == kind)
         self.press("Close")
         # The screen is drawn anew then.
         self.page.wait("!document.querySelector('dialog') && document.querySelector('main').getAttribute('aria-busy') === 'false'")

@@ -129,8 +129,9 @@ def pay(clerk: clerk_desk.Desk) -> None:
     clerk.confirm("End it", "Contract 1 has ended.")
     clerk.press("End the contract", place="Lot L2")
     clerk.press("End by the contractor's default …", place="Lot L2")
-    clerk.confirm("End it", "Contract 2 has ended.")
+    clerk.confirm("End it", "Contract 2 has ended.", "look")
     clerk.says("Ended by default")
+    check("a default is green", not clerk.page.run("document.querySelector('main :is(.good, .badge.done)')"))
     shown = clerk.page.run("[...document.querySelectorAll('.contract h4 .badge')].map((at) => [at.className, at.innerText])")
     check(f"the contracts are {shown}", [it[0] for it in shown] == ["badge ended", "badge stopped"])
 

@@ -199,6 +199,8 @@ def on_paper(scene: Scene) -> None:
     shown = page.run("['header', 'nav', 'button', '.source', '#foot'].map((at) => Boolean(document.querySelector(at)?.checkVisibility()))")
     check(f"on paper are shown {shown}", shown == [False, False, False, True, False])
     check("what is folded is unfolded", page.run("[...document.querySelectorAll('details')].every((at) => at.open)"))
+    broken = page.run("[...document.querySelectorAll('main tr, .timeline li')].filter((at) => getComputedStyle(at).breakInside !== 'avoid').length")
+    check(f"rows may be broken: {broken}", broken == 0)
     told = page.run("document.querySelector('.source').textContent")
     check(f"it says {told}", scene.front.address("#notice/N1") in told and "Z" in told)
     page.run("dispatchEvent(new Event('afterprint'))")

@@ -137,7 +137,7 @@ function endPart(contracted) {
 function endOrder(contracted, how) {
   const { contract, outstanding, amount } = contracted;
   const freed = outstanding > 0 ? [say("end.frees", { amount: amount(outstanding) })] : [];
-  const sure = how === "default" ? { word: say("end.word") } : { isFinal: true };
+  const sure = how === "default" ? { word: say("end.word"), isSad: true } : { isFinal: true };
   const says = [say(`end.does.${how}`), ...freed, say("end.stays")];
   return orderOf(contracted, "end", "end", { how }, own.end(contract.id), { says, ...sure, again: "ContractEnded" });
 }

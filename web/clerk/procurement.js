@@ -34,7 +34,7 @@ function path(stage) {
 /** What is to be done next. */
 function doing(stage) {
   const list = tasks(stage);
-  return list.length === 0 ? note("good", say("task.none")) : note("look", say("task.title"), element("ul", {}, list));
+  return list.length === 0 ? element("p", { class: "note" }, say("task.none")) : note("look", say("task.title"), element("ul", {}, list));
 }
 
 function parts(notice, again) {
