@@ -102,10 +102,15 @@ function sentPart(sent, redraw) {
   return [told, where];
 }
 
+/** The button that sends. A tender may still come in the second of the deadline, and a change before it alone; a late tender is sent where one wants that. */
 function sendButton(offer, ready, digest, redraw) {
-  const isPast = () => Date.parse(offer.terms.deadline) < officeNow();
+  const isChange = offer.changes !== null;
+  const isPast = () => Date.parse(offer.terms.deadline) < officeNow() + (isChange ? 1 : 0);
   const isLate = isPast();
-  const press = button(offer.changes === null ? say("send.send") : say("send.change", { receipt: String(offer.changes) }), async () => {
+  if (isLate && isChange) {
+    return note("bad", say("refusal.DeadlinePassed"), say("help.DeadlinePassed"), link(say("tenders.title"), "#tenders"));
+  }
+  const press = button(isChange ? say("send.change", { receipt: String(offer.changes) }) : say("send.send"), async () => {
     if (!isLate && isPast()) {
       // It came while the view stood there.
       redraw();

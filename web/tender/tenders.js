@@ -146,7 +146,7 @@ export async function drawTender({ redraw }, receipt) {
   const found = await tender(receipt, session.caller);
   const [one, held] = await Promise.all([noticeOf(found.notice), found.security === null ? null : security(found.security, session.caller)]);
   const lot = one.lots.find(({ id }) => id === found.lot);
-  const isOut = found.state === "withdrawn" || found.state === "returned" || held?.state === "forfeited" || !["undecided", "awarded"].includes(lot.state);
+  const isOut = found.state === "withdrawn" || found.state === "returned" || held?.state === "forfeited" || lot.state !== "undecided";
   const isBefore = Date.parse(one.deadline) > officeNow();
   const head = say("tenders.one", { receipt: String(receipt) });
   return { title: head, content: [title(head), element("p", {}, stateBadge(found.state)), element("p", {}, given(one.title), " – ", given(lot.title)),
