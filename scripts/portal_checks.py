@@ -2,13 +2,14 @@
 import base64
 import json
 import os
+import subprocess
 import tempfile
 import time
 from typing import Any
 
 import client
 from browser import Page
-from common import check, connect, free_port, running, serve_words
+from common import ROOT, check, connect, free_port, running, serve_words
 from front import PATIENCE, Front
 from mirror_tables import table
 from page_checks import NARROWEST, VIEWS, has_contrast, is_quiet, is_within, page_of
@@ -54,7 +55,8 @@ def german(scene: Scene) -> None:
 
 
 def open_data(scene: Scene) -> None:
-    """The mirror's files have their types, come by gzip to who takes it, are told to be unchanged, and may be read by any site's page."""
+    """The mirror's files have their types, come by gzip to who takes it, are told to be unchanged, and may be read by any site's page; a mirror elsewhere, that
+    asks by the net, has the same releases."""
     for name, media in FILES.items():
         answer = scene.front.ask("GET", f"/data/{name}")
         told = (answer.status, answer.head["Content-Type"], answer.head["Cache-Control"], answer.head["Access-Control-Allow-Origin"])
@@ -64,6 +66,11 @@ def open_data(scene: Scene) -> None:
     zipped = scene.front.ask("GET", "/data/releases.jsonl", Accept_Encoding="gzip")
     with open(os.path.join(scene.front.folder, "mirror", "data", "releases.jsonl.gz"), "rb") as file:
         check("what comes by gzip is the file that the mirror left", zipped.head["Content-Encoding"] == "gzip" and zipped.body == file.read())
+    words = [f"{ROOT}/tools/mirror", scene.front.address().rstrip("/"), f"{scene.front.folder}/elsewhere"]
+    ran = subprocess.run(words, env={**os.environ, "SSL_CERT_FILE": scene.front.certificate}, capture_output=True, text=True)
+    check(f"a mirror elsewhere ends with {ran.returncode}: {ran.stderr}", ran.returncode == 0)
+    with open(f"{scene.front.folder}/elsewhere/releases.jsonl", "rb") as own, open(f"{scene.front.folder}/mirror/data/releases.jsonl", "rb") as other:
+        check("a mirror elsewhere has other releases", own.read() == other.read())
     for path in ("/data/../data.lock", "/data/x/y", "/data/.lock/x", "/data/records/", "/data/earlier/../mirror.json"):
         check(f"GET {path}", scene.front.ask("GET", path).status == 404)
     page = Page(scene.browser, 1280)
