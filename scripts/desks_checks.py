@@ -131,7 +131,7 @@ def pay(clerk: clerk_desk.Desk) -> None:
     clerk.press("End by the contractor's default …", place="Lot L2")
     clerk.confirm("End it", "Contract 2 has ended.", "look")
     clerk.says("Ended by default")
-    check("a default is green", not clerk.page.run("document.querySelector('main :is(.good, .badge.done)')"))
+    check("a default is green", not clerk.page.run("document.querySelector('main :is(.good, .badge.done)') !== null"))
     shown = clerk.page.run("[...document.querySelectorAll('.contract h4 .badge')].map((at) => [at.className, at.innerText])")
     check(f"the contracts are {shown}", [it[0] for it in shown] == ["badge ended", "badge stopped"])
 
@@ -163,7 +163,7 @@ def life(scene: Scene) -> None:
     desks["T1"].says("P2: Forfeited")
     red = desks["T1"].page.run("document.querySelector('.contract .badge.stopped')?.innerText")
     check(f"a default isn't red: {red}", str(red).endswith("Ended by default"))
-    check("a default is green", not desks["T1"].page.run("document.querySelector('main .badge.done')"))
+    check("a default is green", not desks["T1"].page.run("document.querySelector('main .badge.done') !== null"))
     page = page_checks.page_of(scene, "#notice/N1")
     for text in ("Its price wasn't the lowest.", "540 EUR", "All contracts ended", "Given back"):
         check(f"the public sees {page.text()}", text in page.text())

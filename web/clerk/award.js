@@ -58,7 +58,8 @@ function outlookText(lot, { code, count = 0, tender }, currency) {
 function awardOrder(notice, lot, outlook) {
   const { name, releases, currency } = notice;
   const told = element("span", {}, outlookText(lot, outlook, currency));
-  const more = outlook.code === "best" ? [moneyText(lot, outlook.tender, currency), say("award.standstill")] : [];
+  const standstill = notice.terms.standstill_days > 0 ? [say("award.standstill")] : [];
+  const more = outlook.code === "best" ? [moneyText(lot, outlook.tender, currency), ...standstill] : [];
   return { kind: "award", values: { lot: lot.id, notice: name }, path: `/notices/${name}/lots/${lot.id}/award`, body: null, isFinal: true,
     says: [told, ...more], again: "AlreadyDecided", find: () => ofRelease(name, releases.length, own.award(lot.id)) };
 }
