@@ -6,7 +6,7 @@ import time
 from collections.abc import Callable
 from typing import Any
 
-from client import wait_until
+from client import text_of, wait_until
 from common import check
 from page_checks import is_quiet, keeps_nothing, refusals
 from tender_office import Scene
@@ -158,6 +158,7 @@ def changes(scene: Scene) -> None:
     desk.at(f"tender/{new}", f"Tender with receipt {new}")
     check(f"the price of a withdrawal is told so: {desk.page.text()}", desk.has("look", "Nothing: the security of 55 EUR (G5) goes back."))
     check("it can be withdrawn without a tick", not desk.can_press("Withdraw the tender"))
+    is_close(scene, desk, new)
     desk.tick("withdraw-sure")
     # (as where the deadline comes while the view stands there)
     desk.page.run("void (Date.now = ((now) => () => now() + 172_800_000)(Date.now.bind(Date)))")
@@ -173,6 +174,18 @@ def changes(scene: Scene) -> None:
     check("own tenders aren't found", desk.page.run("document.querySelectorAll('tbody tr').length") >= 4)
     check("a notice wasn't looked into", not desk.can_press("Look into all"))
     is_quiet(desk.page)
+
+
+def is_close(scene: Scene, desk: Desk, receipt: int) -> None:
+    """Shortly before the deadline it is told what a withdrawal that comes late would cost."""
+    terms = {**json.loads(scene.front.ask("GET", "/notices/N1/terms").body), "late_withdrawal": "forfeits", "deadline": text_of(time.time() + 40)}
+    desk.page.answer_for({"/notices/N1/terms": (200, json.dumps(terms).encode())})
+    for place, head in (("check", "Do a file"), (f"tender/{receipt}", "Tender with")):
+        desk.at(place, head)
+    check(f"what it costs late isn't told: {desk.page.text()}", desk.has("bad", "where it comes late, the security of 55 EUR (G5) is forfeited"))
+    desk.page.ask("Fetch.disable")
+    for place, head in (("check", "Do a file"), (f"tender/{receipt}", "Tender with")):
+        desk.at(place, head)
 
 
 def lost(scene: Scene) -> None:

@@ -190,8 +190,12 @@ export default {
   "security.returned.why": "Dabei bleibt es.",
   "security.forfeited.why": "Sie haben nach Ablauf der Frist zurückgezogen, oder den Zuschlag bekommen und nicht unterschrieben. Dabei bleibt es.",
   "withdraw.title": "Zurückziehen", "withdraw.price": "Was es kostet",
-  "withdraw.free": "Nichts. Bis zum Ablauf der Frist kann ein anderes Angebot abgegeben werden.",
+  "withdraw.free.none": "Nichts. Bis zum Ablauf der Frist kann ein anderes Angebot abgegeben werden.",
   "withdraw.free.security": "Nichts: Die Sicherheit von {amount} geht zurück. Bis zum Ablauf der Frist kann ein anderes Angebot abgegeben werden.",
+  "withdraw.close.security": "Bis zum Ende der Frist ist es weniger als eine Minute. Bis dahin kostet es nichts; kommt es zu spät, verfällt die Sicherheit von "
+    + "{amount}, das Angebot kann nicht mehr gewinnen, und an seiner Stelle kann nichts mehr abgegeben werden.",
+  "withdraw.close.none": "Bis zum Ende der Frist ist es weniger als eine Minute. Kommt es zu spät, kann das Angebot nicht mehr gewinnen, und an seiner Stelle "
+    + "kann nichts mehr abgegeben werden.",
   "withdraw.refused": "Nach Ablauf der Frist lässt diese Bekanntmachung niemanden zurückziehen. Das Angebot gilt und bindet Sie.",
   "withdraw.late.security": "Die Frist ist abgelaufen: Die Sicherheit von {amount} verfällt, das Angebot kann nicht mehr gewinnen, und nichts anderes kann "
     + "an seiner Stelle abgegeben werden.",

@@ -156,8 +156,12 @@ export default {
   "security.held.why": "It goes back when the lot's contract is signed, when the lot is cancelled or goes to nobody, or when you withdraw before the "
     + "deadline.",
   "security.returned.why": "It stays so.", "security.forfeited.why": "You withdrew from the deadline on, or won and didn't sign. It stays so.",
-  "withdraw.title": "Withdraw it", "withdraw.price": "What it costs", "withdraw.free": "Nothing. Another tender may be handed in until the deadline.",
+  "withdraw.title": "Withdraw it", "withdraw.price": "What it costs", "withdraw.free.none": "Nothing. Another tender may be handed in until the deadline.",
   "withdraw.free.security": "Nothing: the security of {amount} goes back. Another tender may be handed in until the deadline.",
+  "withdraw.close.security": "The deadline is less than a minute away. Until then it costs nothing; where it comes late, the security of {amount} is forfeited, "
+    + "the tender can't win any more, and nothing can be handed in in its place.",
+  "withdraw.close.none": "The deadline is less than a minute away. Where it comes late, the tender can't win any more, and nothing can be handed in in its "
+    + "place.",
   "withdraw.refused": "After the deadline this notice lets nobody withdraw. The tender stands and binds you.",
   "withdraw.late.security": "The deadline has passed: the security of {amount} is forfeited, the tender can't win any more, and nothing can be handed in in "
     + "its place.",

@@ -75,14 +75,22 @@ export async function drawTenders({ redraw }) {
       steps(button(say("tenders.search"), () => lookThrough(others, where, redraw)))]] };
 }
 
-/** What a withdrawal costs, by the terms and the security; and whether it is to be had at all. */
-function costOf(one, held, isLate) {
+// So many milliseconds before the deadline what is sent may come late: the server's clock is told in whole seconds, and the office takes one after another.
+const CLOSE = 60_000;
+
+/** When a withdrawal would come: `free` before the deadline, `close` to it, where coming late costs something, or `late`. */
+function timeOf({ deadline, late_withdrawal: rule }) {
+  const left = Date.parse(deadline) - officeNow();
+  return left <= 0 ? "late" : left < CLOSE && rule === "forfeits" ? "close" : "free";
+}
+
+/** What a withdrawal costs then, by the terms and the security; and whether it is to be had at all. */
+function costOf(one, held, time) {
   const amount = held ? `${money(held.amount, one.currency)} (${held.reference})` : "";
-  if (isLate && one.late_withdrawal === "refused") {
+  if (time === "late" && one.late_withdrawal === "refused") {
     return { kind: "bad", sentence: say("withdraw.refused"), isRefused: true };
   }
-  const name = isLate ? held ? "withdraw.late.security" : "withdraw.late.none" : held ? "withdraw.free.security" : "withdraw.free";
-  return { kind: isLate ? "bad" : "look", sentence: say(name, { amount }) };
+  return { kind: time === "free" ? "look" : "bad", sentence: say(`withdraw.${time}.${held ? "security" : "none"}`, { amount }) };
 }
 
 async function take(sent, where, redraw) {
@@ -107,18 +115,14 @@ async function take(sent, where, redraw) {
   }
 }
 
-// The server's clock is told in whole seconds, and what is sent takes its time: so many milliseconds before the deadline a withdrawal may come late already.
-const WAY = 3000;
-
-/** The part that withdraws a tender: the price is said before the button, and the button wants a tick. Where the deadline has come since, it is said anew. */
+/** The part that withdraws a tender: the price is said before the button, and the button wants a tick. Where it is another by then, it is said anew. */
 function withdrawPart(found, one, held, redraw) {
-  const isPast = () => Date.parse(one.deadline) <= officeNow() + WAY;
-  const isLate = isPast();
-  const { kind, sentence, isRefused } = costOf(one, held, isLate);
+  const time = timeOf(one);
+  const { kind, sentence, isRefused } = costOf(one, held, time);
   const where = element("div", { "aria-live": "polite" });
-  const sent = { kind: "withdraw", notice: found.notice, receipt: found.receipt, isLate };
+  const sent = { kind: "withdraw", notice: found.notice, receipt: found.receipt, isLate: time !== "free" };
   const press = button(say("withdraw.press", { receipt: String(found.receipt) }),
-    () => (isPast() === isLate ? take(sent, where, redraw) : redraw(say("withdraw.anew"), true)), "harm");
+    () => (timeOf(one) === time ? take(sent, where, redraw) : redraw(say("withdraw.anew"), true)), "harm");
   press.disabled = true;
   const sure = tick(say("withdraw.sure"), (isTicked) => { press.disabled = !isTicked; }, "withdraw-sure");
   return section(say("withdraw.title"), note(kind, say("withdraw.price"), sentence), isRefused ? null : [sure.made, steps(press)], where);
