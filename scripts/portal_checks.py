@@ -257,6 +257,10 @@ def failing_scripts(scene: Scene) -> None:
     check(f"without a module of a screen it says {page.text()!r}", page.text().startswith("Not shown\nSomething went wrong in this page."))
     page.run("location.hash = '#today'")
     page.wait("document.querySelector('main h1').textContent === 'Today'")
+    # (what the page goes on to load is nobody's to answer then)
+    page.ask("Fetch.disable")
+    page.ask("Page.navigate", url="about:blank")
+    page.browser.paused.clear()
 
 
 CHECKS = [german, open_data, search, many, city, on_paper, failing_scripts, without_mirror]
