@@ -250,19 +250,18 @@ fn block_of(alloc: Global, command: &Command, answer: &str) -> Result<String, Al
 }
 
 // Whether, where this is lost, all rows are kept once the command is answered so; none where an office in memory and one in SQL differ.
-fn kept(
-    alloc: Global,
-    command: &Command,
-    lost: Lost,
-    answer: &str,
-) -> Result<Option<bool>, Wrong> {
+fn kept(alloc: Global, command: &Command, lost: Lost, answer: &str) -> Result<Option<bool>, Wrong> {
     let block = block_of(alloc, command, answer)?;
     let rows = left_of(alloc, command.count, lost)?;
     let in_memory = keeps_all(alloc, MemoryShelf::new(alloc), rows, block.as_str())?;
     let rows = left_of(alloc, command.count, lost)?;
     let office = in_sql(alloc).ok_or(Wrong::Unopened)?;
     let in_sql = keeps_all(alloc, office, rows, block.as_str())?;
-    Ok(if in_memory == in_sql { Some(in_memory) } else { None })
+    Ok(if in_memory == in_sql {
+        Some(in_memory)
+    } else {
+        None
+    })
 }
 
 fn are_kept(found: Result<Option<bool>, Wrong>) -> bool {
