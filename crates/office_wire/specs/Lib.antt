@@ -7,4 +7,5 @@ pub mod Request
 pub mod Responders
 pub mod Runs
 pub mod Sending
+pub mod AnyReader
 pub mod Inside
