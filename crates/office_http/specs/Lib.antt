@@ -4,5 +4,6 @@ pub mod Meaning
 pub mod Answering
 pub mod Joined
 pub mod Stops
+pub mod AnyReader
 pub mod Sealed
 pub mod Inside
