@@ -1,16 +1,14 @@
 //! `procure`: a public procurement office at the command line.
 #![tactic(auto)]
 
-use office_commands::queries::Query;
-use procure_config::fault::{ProgramFault, exit_code};
-use procure_config::job::{Job, job_of};
-use procure_config::notice::notice_named;
-use procure_programs::config::{no_memory, settings_at};
-use procure_programs::desk::run_desk;
-use procure_programs::store::{print_file, serve_file};
+use procure_config::fault::ProgramFault;
+use procure_config::job::job_of;
+use procure_config::telling::tell;
+use procure_programs::faults::no_memory;
+use procure_programs::jobs::run_job;
+use std::env;
 use std::io::ErrorKind;
 use std::process::ExitCode;
-use std::{env, io};
 
 // The product's version: here and in CHANGELOG.md, of whose entries the first has it. `make release` and the manual page take it from what the program tells.
 const VERSION: &str = "0.4.0";
@@ -34,51 +32,11 @@ fn words_of(rt: &HostRuntime) -> Result<Vec<String>, ProgramFault> {
     }
 }
 
-// Faults are looked for in this order: the words, the settings, a notice that is no identifier, the office's file, and then the work.
+// The words are looked at first, and then the work that they ask for.
 fn work(rt: &HostRuntime) -> Result<(), ProgramFault> {
     let words = words_of(rt)?;
-    match job_of(rt.alloc(), VERSION, words.as_slice())? {
-        Job::Desk { config } => run_desk(rt, config),
-        Job::Serve {
-            config,
-            store,
-            port,
-            count,
-        } => {
-            let settings = settings_at(rt, config)?;
-            serve_file(rt, settings, store, port, count)
-        }
-        Job::Ledger { config, store } => {
-            let settings = settings_at(rt, config)?;
-            print_file(rt, settings, store, Query::Ledger)
-        }
-        Job::Minutes {
-            config,
-            store,
-            notice,
-        } => {
-            let settings = settings_at(rt, config)?;
-            let notice = notice_named(notice)?;
-            print_file(rt, settings, store, Query::Minutes { notice })
-        }
-        Job::Record {
-            config,
-            store,
-            notice,
-        } => {
-            let settings = settings_at(rt, config)?;
-            let notice = notice_named(notice)?;
-            print_file(rt, settings, store, Query::Record { notice })
-        }
-    }
-}
-
-// The text by clap has its own ends of lines.
-fn tell(rt: &HostRuntime, fault: &ProgramFault) -> io::Result<()> {
-    match fault {
-        ProgramFault::Arguments(_) => eprint!(rt; "{fault}"),
-        _ => eprintln!(rt; "{fault}"),
-    }
+    let job = job_of(rt.alloc(), VERSION, words.as_slice())?;
+    run_job(rt, &job)
 }
 
 fn main(rt: HostRuntime) -> ExitCode {
@@ -86,8 +44,8 @@ fn main(rt: HostRuntime) -> ExitCode {
         Ok(()) => ExitCode::SUCCESS,
         Err(fault) => {
             // Where the standard error is closed, the status alone tells.
-            let _ = tell(&rt, &fault);
-            ExitCode::from(exit_code(&fault))
+            let (status, _is_told) = tell(&mut rt.stderr(), &fault);
+            ExitCode::from(status)
         }
     }
 }

@@ -4,3 +4,4 @@ mod EmptyOpened
 mod OpenedFiles
 mod StoppedFiles
 mod Turns
+mod ConnectionSteps

@@ -1,3 +1,5 @@
+pub mod Hosts
+pub mod FaultsTold
 pub mod Turns
 pub mod Showing
 pub mod Serving

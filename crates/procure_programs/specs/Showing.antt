@@ -1,12 +1,20 @@
--- What a program shows of an office.
-use Rattle.std.specs.Prelude.{ℕ, Result, Ok, Err, Vec}
+-- What a program shows of an office, and prints.
+use Rattle.std.specs.Prelude.{◌≡◌, ℕ, List, Option, Some, None, Result, Ok, Err, Vec}
+use Rattle.std.specs.Io.KnownBytes.{Appends}
 use Rattle.std.specs.declared.alloc.Global.{Global}
 use Rattle.office_commands.specs.declared.command.Caller.TheVariants.{Public}
 use Rattle.office_commands.specs.declared.queries.Query.{Query}
+use Rattle.office_commands.specs.declared.queries.Query.TheVariants as queries
+use Rattle.office_values.specs.Ids.{IsId}
+use Rattle.office_values.specs.declared.refusal.Refusal.TheVariants.{Unavailable}
 use Rattle.office_values.specs.declared.settings.Settings.{Settings}
 use Rattle.office_base.specs.Tables.{Tables}
 use Rattle.office_desk.specs.Steps.{IsSeen}
+use Rattle.office_wire.specs.Sending.{AppendsPart}
+use Rattle.procure_config.specs.Faults.{no_route}
+use Rattle.procure_config.specs.Jobs.{Asked, Desk, Ledger, Minutes, Record, Serve}
 use Rattle.procure_config.specs.declared.fault.ProgramFault.{ProgramFault}
+use Rattle.procure_config.specs.declared.fault.ProgramFault.TheVariants as fault
 use Rattle.procure_config.specs.declared.fault.ProgramFault.TheVariants.{Refused}
 
 -- what the public sees by a query, its refusal as the program's fault; there is no other fault
@@ -14,3 +22,30 @@ abbrev pub IsShown : Settings → Query → Tables → Result (Vec ℕ Global) P
 IsShown settings query s (Ok text) = IsSeen settings Public query s (Ok text.items)
 IsShown settings query s (Err (Refused why)) = IsSeen settings Public query s (Err why)
 IsShown settings query s (Err _) = ⊥
+
+-- what the public sees by a query is printed, all of it, behind what the output held before; a front of it where the output failed; and nothing where it is
+-- refused. There is no other fault.
+abbrev pub IsPrinted : Settings → Query → Tables → Option (List ℕ) → Option (List ℕ) → Result (Unit {0}) ProgramFault → Type 0
+IsPrinted settings query s before after (Ok done) = (text : List ℕ) × IsSeen settings Public query s (Ok text) × Appends before after text
+IsPrinted settings query s before after (Err fault.Output) = (text : List ℕ) × IsSeen settings Public query s (Ok text) × AppendsPart before after text
+IsPrinted settings query s before after (Err (Refused why)) = IsSeen settings Public query s (Err why) × (after ≡ before)
+IsPrinted settings query s before after (Err _) = ⊥
+
+-- the query of a notice that is named; NoRoute where the name can be no notice's
+abbrev pub AsksOfNotice : (List ℕ → Query) → List ℕ → Result (Option Query) ProgramFault → Type 0
+AsksOfNotice query notice (Ok asked) = IsId notice × (asked ≡ Some (query notice))
+AsksOfNotice query notice (Err told) = (¬ (IsId notice)) × (told ≡ no_route)
+
+-- what the words ask to be printed; nothing by those that ask for something else
+abbrev pub AsksQuery : Asked → Result (Option Query) ProgramFault → Type 0
+AsksQuery (Desk config) result = result ≡ Ok None
+AsksQuery (Serve config store port count) result = result ≡ Ok None
+AsksQuery (Ledger config store) result = result ≡ Ok (Some queries.Ledger)
+AsksQuery (Minutes config store notice) result = AsksOfNotice queries.Minutes notice result
+AsksQuery (Record config store notice) result = AsksOfNotice queries.Record notice result
+
+-- a fault of settings: want of memory, a faulty member, or none that can be read
+abbrev pub IsOfSettings : ProgramFault → Type 0
+IsOfSettings (Refused why) = why ≡ Unavailable
+IsOfSettings (fault.Settings member) = Unit {0}
+IsOfSettings _ = ⊥

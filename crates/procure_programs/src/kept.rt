@@ -1,36 +1,20 @@
 //! What the programs do with an office that is kept, whatever keeps it.
 ghost use Rattle.std.specs.Prelude.{IfOk};
 ghost use Rattle.office_base.specs.Shelves.{Keeps};
-ghost use Rattle.procure_programs.specs.Serving.{TakesTurns, WasServed};
+ghost use Rattle.procure_programs.specs.Serving.{WasServed};
 
-use crate::config::no_memory;
-use crate::serving::serve;
-use crate::showing::show;
+use crate::faults::no_memory;
+use crate::host::Computer;
+use crate::printing::print;
+use crate::serving::serve_at;
 use office_base::shelf::{Lookups, Shelf};
 use office_base::stored::StoredShelf;
 use office_commands::queries::Query;
 use office_desk::desk::Desk;
 use office_http::office::Office;
 use office_values::settings::Settings;
+use office_wire::watched::WatchedWriter;
 use procure_config::fault::ProgramFault;
-use std::io::Write;
-use std::net::{Ipv4Addr, TcpListener};
-
-// Serves so many connections on 127.0.0.1 and this port. `Input` also where the port can't be had.
-fn serve_at<H: StoredShelf + Drop>(
-    rt: &HostRuntime,
-    office: &mut Office<H>,
-    port: u16,
-    count: u32,
-) -> Result<(), ProgramFault>
-    ensures before { H.meaning.honest office.new.shelf → H.meaning.honest office.old.shelf }
-    ensures serves { TakesTurns H.meaning count office.old office.new }
-{
-    let Ok(listener) = TcpListener::bind(rt, (Ipv4Addr::LOCALHOST, port)) else {
-        return Err(ProgramFault::Input);
-    };
-    serve(rt, rt.alloc(), &listener, office, count)
-}
 
 /// Serves so many connections on 127.0.0.1 and this port, from an office on this shelf. Gives the shelf back, and what serving came to.
 /// Only for want of memory it doesn't begin; the shelf is let go then, and its store isn't closed, which loses nothing.
@@ -47,24 +31,8 @@ pub(crate) fn serve_office<H: StoredShelf + Drop>(
     let Ok(mut office) = Office::new(alloc, Desk::new(alloc, settings, shelf)) else {
         return Err(no_memory());
     };
-    let served = serve_at(rt, &mut office, port, count);
+    let served = serve_at(alloc, &Computer { network: rt }, &mut office, port, count);
     Ok((office.into_desk().into_shelf(), served))
-}
-
-// Prints what the public sees at a desk.
-fn print<H: Shelf + Drop>(
-    rt: &HostRuntime,
-    desk: &mut Desk<H>,
-    query: Query,
-) -> Result<(), ProgramFault>
-    ensures { Keeps H.meaning desk.old.shelf desk.new.shelf }
-{
-    let text = show(desk, query)?;
-    let mut output = rt.stdout();
-    if output.write_all(&text).is_err() || output.flush().is_err() {
-        return Err(ProgramFault::Output);
-    }
-    Ok(())
 }
 
 /// Prints what the public sees of an office on this shelf. Gives the shelf back, where nothing changes, and what printing came to.
@@ -77,6 +45,7 @@ pub(crate) fn print_office<H: Shelf + Drop>(
     ensures { Keeps H.meaning shelf result.0 }
 {
     let mut desk = Desk::new(rt.alloc(), settings, shelf);
-    let printed = print(rt, &mut desk, query);
+    let mut output = WatchedWriter::new(rt.stdout());
+    let printed = print(&mut desk, query, &mut output);
     (desk.into_shelf(), printed)
 }

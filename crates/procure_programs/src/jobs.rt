@@ -1,0 +1,62 @@
+//! The work that the words ask for.
+ghost use Rattle.procure_config.specs.Jobs.{asked_by};
+ghost use Rattle.procure_programs.specs.Showing.{AsksQuery};
+
+use crate::config::settings_at;
+use crate::desk::run_desk;
+use crate::store::{print_file, serve_file};
+use office_commands::queries::Query;
+use procure_config::fault::ProgramFault;
+use procure_config::job::Job;
+use procure_config::notice::notice_named;
+
+/// The query whose answer a job prints; none of a job that prints nothing. `Refused(NoRoute)` where it names a notice that can be none.
+pub fn query_of(job: &Job<'_>) -> Result<Option<Query>, ProgramFault>
+    ensures { AsksQuery (asked_by job.now) result }
+{
+    match job {
+        Job::Desk { .. } | Job::Serve { .. } => Ok(None),
+        Job::Ledger { .. } => Ok(Some(Query::Ledger)),
+        Job::Minutes { notice, .. } => match notice_named(notice) {
+            Ok(notice) => Ok(Some(Query::Minutes { notice })),
+            Err(fault) => Err(fault),
+        },
+        Job::Record { notice, .. } => match notice_named(notice) {
+            Ok(notice) => Ok(Some(Query::Record { notice })),
+            Err(fault) => Err(fault),
+        },
+    }
+}
+
+// Prints what a job asks of the office in a file.
+fn print_job(
+    rt: &HostRuntime,
+    job: &Job<'_>,
+    config: &str,
+    store: &str,
+) -> Result<(), ProgramFault> {
+    let settings = settings_at(rt, config)?;
+    match query_of(job)? {
+        Some(query) => print_file(rt, settings, store, query),
+        None => Ok(()),
+    }
+}
+
+/// Does what the words ask for. Faults are looked for in this order: the settings, a notice that is no identifier, the office's file, and then the work.
+pub fn run_job(rt: &HostRuntime, job: &Job<'_>) -> Result<(), ProgramFault> {
+    match job {
+        Job::Desk { config } => run_desk(rt, config),
+        Job::Serve {
+            config,
+            store,
+            port,
+            count,
+        } => {
+            let settings = settings_at(rt, config)?;
+            serve_file(rt, settings, store, *port, *count)
+        }
+        Job::Ledger { config, store }
+        | Job::Minutes { config, store, .. }
+        | Job::Record { config, store, .. } => print_job(rt, job, config, store),
+    }
+}
