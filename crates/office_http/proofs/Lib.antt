@@ -1,4 +1,6 @@
 pub mod Joining
+pub mod ShortTexts
+pub mod ShortRefusals
 pub mod ToldSteps
 pub mod LeftSteps
 pub mod AnswerSteps

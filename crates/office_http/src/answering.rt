@@ -4,7 +4,7 @@ ghost use Rattle.office_values.specs.declared.refusal.Refusal.TheVariants.{Unava
 ghost use Rattle.office_base.specs.Shelves.{Looks};
 ghost use Rattle.office_http.specs.Credentials.{credentials_of};
 ghost use Rattle.office_http.specs.Meaning.{Gives, Sees, meant, meant_asked, who};
-ghost use Rattle.office_http.specs.Answering.{AnswersRequest, ChangesOnlyAccepting, IsAnswered, RefusesBytes, ShowsOnlyWhole, fault_text, unavailable_text};
+ghost use Rattle.office_http.specs.Answering.{AnswersRequest, ChangesOnlyAccepting, IsAnswered, RefusesBytes, ShowsOnlyWhole, fault_text};
 ghost use Rattle.office_http.specs.Inside.Meant.{AnswersMeant};
 ghost use Rattle.office_http.specs.Joined.{IsKeptAnswering, KeepsAnswering, KeepsRefusing};
 ghost use Rattle.office_http.specs.Response.{response_of};
@@ -12,8 +12,9 @@ ghost use Rattle.office_http.specs.declared.reply.Reply.TheVariants.{Refused};
 
 use crate::credentials::credentials_of;
 use crate::laws;
+use crate::refusing::refusal_text;
 use crate::response::{
-    accepted_response, bad_head, coding, refusal_response, seen_response, too_long, unavailable,
+    accepted_response, bad_head, coding, seen_response, too_long, unavailable,
 };
 use office_base::shelf::{Lookups, Shelf};
 use office_commands::command::Caller;
@@ -32,14 +33,11 @@ use office_wire::fault::ReadFault;
 use office_wire::request::{Request, read_request};
 use std::alloc::Global;
 
-// The response to a refusal, or Unavailable where no memory is left for it.
-fn refuse(alloc: Global, refusal: Refusal, method: Option<Allow>) -> Answer
-    ensures { (result ≡ response_of (Refused refusal method)) ⊎ (result ≡ unavailable_text) }
+// The response to a refusal. Takes no memory.
+fn refuse(refusal: Refusal, method: Option<Allow>) -> Answer
+    ensures { result ≡ response_of (Refused refusal method) }
 {
-    match refusal_response(alloc, refusal, method) {
-        Ok(response) => Answer::built(response),
-        Err(_) => Answer::constant(unavailable()),
-    }
+    Answer::short(refusal_text(refusal, method))
 }
 
 // Answers a command. The response is built whole before anything changes.
@@ -59,7 +57,7 @@ fn answer_command<H: Shelf + Drop>(
     keeping();
     let planned = match desk.plan(moment, caller, command) {
         Ok(planned) => planned,
-        Err(refusal) => return refuse(alloc, refusal, None),
+        Err(refusal) => return refuse(refusal, None),
     };
     let Ok(response) = accepted_response(alloc, planned.reply()) else {
         return Answer::constant(unavailable());
@@ -87,7 +85,7 @@ fn answer_query<H: Shelf + Drop>(
 {
     let text = match desk.look(caller, query) {
         Ok(text) => text,
-        Err(refusal) => return refuse(alloc, refusal, None),
+        Err(refusal) => return refuse(refusal, None),
     };
     match seen_response(alloc, query.kind(), text) {
         Ok(response) => Answer::built(response),
@@ -123,7 +121,7 @@ fn answer_asked<H: Shelf + Drop>(
     match asked {
         Ok(Asked::Does(command)) => answer_command(alloc, desk, moment, caller, command),
         Ok(Asked::Looks(query)) => answer_query(alloc, desk, moment, caller, query),
-        Err(refusal) => refuse(alloc, refusal, None),
+        Err(refusal) => refuse(refusal, None),
     }
 }
 
@@ -144,11 +142,11 @@ fn answer_read<H: Shelf + Drop>(
 {
     let route = match routes.route_of(request) {
         Ok(route) => route,
-        Err((refusal, method)) => return refuse(alloc, refusal, method),
+        Err((refusal, method)) => return refuse(refusal, method),
     };
     let caller = match caller_of(desk, request) {
         Ok(caller) => caller,
-        Err(refusal) => return refuse(alloc, refusal, None),
+        Err(refusal) => return refuse(refusal, None),
     };
     let asked = command_of(alloc, &caller, &route, request);
     answer_asked(alloc, desk, moment, &caller, asked)

@@ -1,4 +1,4 @@
-use Rattle.std.proofs.Common.{rules, ◌≡◌, None, Result, Ok, Err, refl, subst}
+use Rattle.std.proofs.Common.{rules, ◌≡◌, None, Result, Ok, Err, refl, subst, inl}
 use Rattle.office_values.specs.declared.refusal.Refusal.{Refusal}
 use Rattle.office_requests.specs.declared.asked.Asked.{Asked}
 use Rattle.office_requests.specs.declared.asked.Asked.TheVariants.{Does}
@@ -22,7 +22,7 @@ returns-in-Err-clause-answered g c =
     (λ s. meant_asked c.args.caller.now a) c.refuse.result) is
     (λ honest s held stands can.
     is_refused g.H.Lookups.meaning c.args.desk.now.settings c.args.desk.now.shelf c.args.desk.now.shelf s c.args.moment c.refuse.result (Refuses c.in-Err.refusal None)
-    c.in-Err.refusal None refl refl refl c.refuse.ensures (held, stands) (λ u left. left))
+    c.in-Err.refusal None refl refl refl (inl c.refuse.ensures) (held, stands) (λ u left. left))
 
 pub returns-in-Ok-Does-clause-shown : goal.returns-in-Ok-Does-clause-shown
 returns-in-Ok-Does-clause-shown g c honest s held =
@@ -32,4 +32,4 @@ returns-in-Ok-Does-clause-shown g c honest s held =
 pub returns-in-Err-clause-shown : goal.returns-in-Err-clause-shown
 returns-in-Err-clause-shown g c honest s held =
     let is : Err c.in-Err.refusal ≡ c.args.asked = search rules in
-    subst (λ (a : Result Asked Refusal). ShowsMeant (meant_asked c.args.caller.now a) s c.refuse.result) is (tells_some c.in-Err.refusal None c.refuse.result c.refuse.ensures)
+    subst (λ (a : Result Asked Refusal). ShowsMeant (meant_asked c.args.caller.now a) s c.refuse.result) is (tells_some c.in-Err.refusal None c.refuse.result (inl c.refuse.ensures))

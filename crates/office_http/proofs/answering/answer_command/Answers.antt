@@ -7,7 +7,7 @@ use Rattle.office_http.proofs.answering.answer_command.Goals as goal
 pub returns-in-Err-clause-answered : goal.returns-in-Err-clause-answered
 returns-in-Err-clause-answered g c honest s held stands can =
     command_refused g.H.Lookups.meaning c.args.desk.now.settings c.args.desk.now.shelf c.plan.new.self.shelf s c.args.moment c.refuse.result c.args.caller.now c.args.command
-    c.in-Err.refusal (c.in-Err.ensures.looks.1 honest s held) c.refuse.ensures (c.plan.ensures.looks.0.same honest s held, stands) (c.plan.ensures.looks.0.stop honest)
+    c.in-Err.refusal (c.in-Err.ensures.looks.1 honest s held) (inl c.refuse.ensures) (c.plan.ensures.looks.0.same honest s held, stands) (c.plan.ensures.looks.0.stop honest)
 
 pub returns-in-Ok-commit-clause-answered : goal.returns-in-Ok-commit-clause-answered
 returns-in-Ok-commit-clause-answered g c honest s held stands can =

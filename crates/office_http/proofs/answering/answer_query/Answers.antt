@@ -1,4 +1,4 @@
-use Rattle.std.proofs.Common.{None, inr}
+use Rattle.std.proofs.Common.{None, inr, inl}
 use Rattle.office_http.proofs.AnswerSteps.{query_refused}
 use Rattle.office_http.proofs.RequestSteps.{tells_some}
 use Rattle.office_http.proofs.answering.answer_query.Goals as goal
@@ -6,7 +6,7 @@ use Rattle.office_http.proofs.answering.answer_query.Goals as goal
 pub returns-in-Err-clause-answered : goal.returns-in-Err-clause-answered
 returns-in-Err-clause-answered g c honest s held stands can =
     query_refused g.H.Lookups.meaning c.args.desk.now.settings c.args.desk.now.shelf c.look.new.self.shelf s c.args.moment c.refuse.result c.args.caller.now c.args.query
-    c.in-Err.refusal (c.in-Err.ensures.looks.1 honest s held) c.refuse.ensures (c.look.ensures.looks.0.same honest s held, stands) (c.look.ensures.looks.0.stop honest)
+    c.in-Err.refusal (c.in-Err.ensures.looks.1 honest s held) (inl c.refuse.ensures) (c.look.ensures.looks.0.same honest s held, stands) (c.look.ensures.looks.0.stop honest)
 
 pub returns-in-Err-clause-shown : goal.returns-in-Err-clause-shown
-returns-in-Err-clause-shown g c honest s held = inr (tells_some c.in-Err.refusal None c.refuse.result c.refuse.ensures)
+returns-in-Err-clause-shown g c honest s held = inr (tells_some c.in-Err.refusal None c.refuse.result (inl c.refuse.ensures))

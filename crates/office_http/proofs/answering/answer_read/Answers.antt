@@ -1,4 +1,4 @@
-use Rattle.std.proofs.Common.{None, sym, subst}
+use Rattle.std.proofs.Common.{None, sym, subst, inl}
 use Rattle.office_values.specs.declared.settings.Settings.{Settings}
 use Rattle.office_publications.specs.Standing.{IsReached}
 use Rattle.office_http.specs.Inside.Meant.{Answered, CanBeMeant}
@@ -10,13 +10,13 @@ use Rattle.office_http.proofs.answering.answer_read.Goals as goal
 pub returns-in-Err-clause-answered : goal.returns-in-Err-clause-answered
 returns-in-Err-clause-answered g c honest s held stands =
     let a = route_refused g.H.Lookups.meaning c.args.desk.now.settings c.args.desk.now.shelf c.args.desk.now.shelf s c.args.moment c.refuse.result c.args.request.now
-    c.in-Err.refusal c.in-Err.method (sym c.in-Err.ensures) c.refuse.ensures (held, stands) (λ u left. left) in
+    c.in-Err.refusal c.in-Err.method (sym c.in-Err.ensures) (inl c.refuse.ensures) (held, stands) (λ u left. left) in
     (a.0, a.1, a.2.0, a.2.1, a.3)
 
 pub returns-in-Err-caller_of-clause-answered : goal.returns-in-Err-caller_of-clause-answered
 returns-in-Err-caller_of-clause-answered g c honest s held stands =
     let a = caller_refused g.H.Lookups.meaning c.args.desk.now.settings c.args.desk.now.shelf c.caller_of.new.desk.shelf s c.args.moment c.refuse-in-Err-caller_of.result c.args.request.now
-    c.in-Ok.route c.in-Err-caller_of.refusal (sym c.in-Ok.ensures) (c.in-Err-caller_of.ensures.looks.1 honest s held) c.refuse-in-Err-caller_of.ensures
+    c.in-Ok.route c.in-Err-caller_of.refusal (sym c.in-Ok.ensures) (c.in-Err-caller_of.ensures.looks.1 honest s held) (inl c.refuse-in-Err-caller_of.ensures)
     (c.caller_of.ensures.looks.0.same honest s held, stands) (c.caller_of.ensures.looks.0.stop honest) in
     (a.0, a.1, a.2.0, a.2.1, a.3)
 
@@ -40,12 +40,12 @@ returns-clause-answered g c honest s held stands =
 
 pub returns-in-Err-clause-shown : goal.returns-in-Err-clause-shown
 returns-in-Err-clause-shown g c honest s held =
-    refused_shows (meant c.args.desk.now.settings c.args.request.now s) s c.refuse.result (tells_some c.in-Err.refusal c.in-Err.method c.refuse.result c.refuse.ensures)
+    refused_shows (meant c.args.desk.now.settings c.args.request.now s) s c.refuse.result (tells_some c.in-Err.refusal c.in-Err.method c.refuse.result (inl c.refuse.ensures))
 
 pub returns-in-Err-caller_of-clause-shown : goal.returns-in-Err-caller_of-clause-shown
 returns-in-Err-caller_of-clause-shown g c honest s held =
     refused_shows (meant c.args.desk.now.settings c.args.request.now s) s c.refuse-in-Err-caller_of.result
-    (tells_some c.in-Err-caller_of.refusal None c.refuse-in-Err-caller_of.result c.refuse-in-Err-caller_of.ensures)
+    (tells_some c.in-Err-caller_of.refusal None c.refuse-in-Err-caller_of.result (inl c.refuse-in-Err-caller_of.ensures))
 
 pub returns-clause-shown : goal.returns-clause-shown
 returns-clause-shown g c honest s held =
