@@ -85,7 +85,7 @@ impl<H: Shelf + Drop> Desk<H> {
     }
 
     /// Who asks, by the name and the key of a request, each perhaps absent: the public with neither, the clerk with the clerk's key, a
-    /// registered tenderer with that tenderer's key, and else `BadKey`. Only a look-up of a tenderer can be answered `Unavailable`.
+    /// registered tenderer with that tenderer's key, and else `BadKey`. Only a look-up of a tenderer, by an identifier, can be answered `Unavailable`.
     pub fn caller(&mut self, name: Option<&[u8]>, key: Option<&[u8]>) -> Result<Caller, Refusal>
         ensures looks { Looks H.meaning self.old.shelf self.new.shelf (λ s.
             (result ≡ caller_of self.old.settings s (option_map (λ x. x.now) name.entry) (option_map (λ x. x.now) key.entry)) ⊎ (result ≡ Err Refusal.Unavailable)) }

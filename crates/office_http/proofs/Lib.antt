@@ -5,6 +5,7 @@ pub mod ToldSteps
 pub mod LeftSteps
 pub mod AnswerSteps
 pub mod RequestSteps
+pub mod SightSteps
 pub mod WorkedRequests
 pub mod AskedCommands
 pub mod MeantSteps

@@ -141,10 +141,16 @@ IsAnswered M settings old new moment m text =
     → (busy : Bool) × (text ≡ answer_bytes settings busy s moment (m s)) × M.holds new (tables_left settings busy s moment (m s))
     × IsReached settings (tables_left settings busy s moment (m s)) × StopsAfter M settings old new busy s moment (m s)
 
--- whatever the shelf held, it holds it still, or the answer is a 200 in JSON, as that to an accepted command and to most queries; what it holds then isn't said here
-abbrev pub ChangesOnlyAccepting : {S : Type 0} → Meaning S → S → S → List ℕ → Type 0
-ChangesOnlyAccepting M old new text =
-    M.honest new → (s : Tables) → M.holds old s → M.holds new s ⊎ ((reply : List ℕ) × (text ≡ response_of (Json reply)))
+-- a command is given
+abbrev pub GivesCommand : Meant → Type 0
+GivesCommand (Refuses why method) = ⊥
+GivesCommand (Gives caller command) = Unit {0}
+GivesCommand (Sees caller query) = ⊥
+
+-- whatever the shelf held, it holds it still, or a command is given and the answer is a 200 in JSON, as that to an accepted command; what it holds then isn't said here
+abbrev pub ChangesOnlyAccepting : {S : Type 0} → Meaning S → S → S → (Tables → Meant) → List ℕ → Type 0
+ChangesOnlyAccepting M old new m text =
+    M.honest new → (s : Tables) → M.holds old s → M.holds new s ⊎ (GivesCommand (m s) × ((reply : List ℕ) × (text ≡ response_of (Json reply))))
 
 -- the response to a refusal
 abbrev pub IsRefusedText : List ℕ → Type 0
@@ -166,7 +172,7 @@ pub record AnswersRequest {S : Type 0} (M : Meaning S) (settings : Settings) (ol
   pub rest : List ℕ
   pub stands : IsRequest input request rest
   pub answered : IsAnswered M settings old new moment (meant settings request) text
-  pub changes : ChangesOnlyAccepting M old new text
+  pub changes : ChangesOnlyAccepting M old new (meant settings request) text
   pub shown : ShowsOnlyWhole M old new (meant settings request) text
 
 -- the bytes were refused, perhaps for want of memory, which may be so of any bytes; and nothing changed

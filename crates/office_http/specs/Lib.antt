@@ -1,6 +1,7 @@
 pub mod Response
 pub mod Credentials
 pub mod Meaning
+pub mod AtSight
 pub mod Answering
 pub mod Joined
 pub mod Stops

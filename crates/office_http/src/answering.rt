@@ -1,7 +1,10 @@
 //! Requests answered in bytes.
-ghost use Rattle.std.specs.Prelude.{◌≡◌, ◌⊎◌, None, Ok, Err};
+ghost use Rattle.std.specs.Prelude.{◌≡◌, ◌⊎◌, None, Ok, Err, true};
+ghost use Rattle.office_values.specs.declared.refusal.Refusal.{Refusal};
 ghost use Rattle.office_values.specs.declared.refusal.Refusal.TheVariants.{Unavailable};
+ghost use Rattle.office_base.specs.Tables.{Tables};
 ghost use Rattle.office_base.specs.Shelves.{Looks};
+ghost use Rattle.office_http.specs.AtSight.{TellsAtSight, is_known_at_sight};
 ghost use Rattle.office_http.specs.Credentials.{credentials_of};
 ghost use Rattle.office_http.specs.Meaning.{Gives, Sees, meant, meant_asked, who};
 ghost use Rattle.office_http.specs.Answering.{AnswersRequest, ChangesOnlyAccepting, IsAnswered, RefusesBytes, ShowsOnlyWhole, fault_text};
@@ -52,7 +55,7 @@ fn answer_command<H: Shelf + Drop>(
     ensures sound { H.meaning.honest desk.new.shelf → H.meaning.leaves_sound desk.old.shelf → H.meaning.leaves_sound desk.new.shelf }
     ensures settings { desk.new.settings ≡ desk.old.settings }
     ensures answered { AnswersMeant H.meaning desk.old.settings desk.old.shelf desk.new.shelf moment (λ s. Gives caller.now command.entry) result }
-    ensures changes { ChangesOnlyAccepting H.meaning desk.old.shelf desk.new.shelf result }
+    ensures changes { ChangesOnlyAccepting H.meaning desk.old.shelf desk.new.shelf (λ s. Gives caller.now command.entry) result }
 {
     keeping();
     let planned = match desk.plan(moment, caller, command) {
@@ -80,7 +83,7 @@ fn answer_query<H: Shelf + Drop>(
     ensures sound { H.meaning.honest desk.new.shelf → H.meaning.leaves_sound desk.old.shelf → H.meaning.leaves_sound desk.new.shelf }
     ensures settings { desk.new.settings ≡ desk.old.settings }
     ensures answered { AnswersMeant H.meaning desk.old.settings desk.old.shelf desk.new.shelf moment (λ s. Sees caller.now query) result }
-    ensures changes { ChangesOnlyAccepting H.meaning desk.old.shelf desk.new.shelf result }
+    ensures changes { ChangesOnlyAccepting H.meaning desk.old.shelf desk.new.shelf (λ s. Sees caller.now query) result }
     ensures shown { ShowsOnlyWhole H.meaning desk.old.shelf desk.new.shelf (λ s. Sees caller.now query) result }
 {
     let text = match desk.look(caller, query) {
@@ -97,6 +100,8 @@ fn answer_query<H: Shelf + Drop>(
 fn caller_of<H: Shelf + Drop>(desk: &mut Desk<H>, request: &Request) -> Result<Caller, Refusal>
     ensures looks { Looks H.meaning desk.old.shelf desk.new.shelf (λ s.
         (result ≡ who desk.old.settings s (credentials_of request.now.head.fields)) ⊎ (result ≡ Err Unavailable)) }
+    ensures sight { is_known_at_sight (credentials_of request.now.head.fields) ≡ true → (s : Tables)
+        → result ≡ who desk.old.settings s (credentials_of request.now.head.fields) }
     ensures settings { desk.new.settings ≡ desk.old.settings }
 {
     let credentials = credentials_of(request)?;
@@ -115,7 +120,8 @@ fn answer_asked<H: Shelf + Drop>(
     ensures sound { H.meaning.honest desk.new.shelf → H.meaning.leaves_sound desk.old.shelf → H.meaning.leaves_sound desk.new.shelf }
     ensures settings { desk.new.settings ≡ desk.old.settings }
     ensures answered { AnswersMeant H.meaning desk.old.settings desk.old.shelf desk.new.shelf moment (λ s. meant_asked caller.now asked.entry) result }
-    ensures changes { ChangesOnlyAccepting H.meaning desk.old.shelf desk.new.shelf result }
+    ensures changes { ChangesOnlyAccepting H.meaning desk.old.shelf desk.new.shelf (λ s. meant_asked caller.now asked.entry) result }
+    ensures refused { (why : Refusal) → asked.entry ≡ Err why → result ≡ response_of (Refused why None) }
     ensures shown { ShowsOnlyWhole H.meaning desk.old.shelf desk.new.shelf (λ s. meant_asked caller.now asked.entry) result }
 {
     match asked {
@@ -137,7 +143,8 @@ fn answer_read<H: Shelf + Drop>(
     ensures sound { H.meaning.honest desk.new.shelf → H.meaning.leaves_sound desk.old.shelf → H.meaning.leaves_sound desk.new.shelf }
     ensures settings { desk.new.settings ≡ desk.old.settings }
     ensures answered { IsAnswered H.meaning desk.old.settings desk.old.shelf desk.new.shelf moment (meant desk.old.settings request.now) result }
-    ensures changes { ChangesOnlyAccepting H.meaning desk.old.shelf desk.new.shelf result }
+    ensures changes { ChangesOnlyAccepting H.meaning desk.old.shelf desk.new.shelf (meant desk.old.settings request.now) result }
+    ensures sight { TellsAtSight desk.old.settings request.now result }
     ensures shown { ShowsOnlyWhole H.meaning desk.old.shelf desk.new.shelf (meant desk.old.settings request.now) result }
 {
     let route = match routes.route_of(request) {
@@ -154,8 +161,8 @@ fn answer_read<H: Shelf + Drop>(
 
 /// Answers a request that was read. The response is built whole before anything changes; where memory or the store is wanting, it
 /// is the constant response to `Unavailable`, and the tables stay as they are; a stop right then may leave an accepted command whole. An office
-/// that stands as its commands left it stands so again; whatever the shelf holds, it holds it still unless the answer is a 200 in JSON, and a package is
-/// shown only where each release that its notice's row counts is there.
+/// that stands as its commands left it stands so again; whatever the shelf holds, it holds it still unless a command is given and the answer is a 200, and a
+/// package is shown only where each release that its notice's row counts is there. What is refused at sight is told so, whatever memory there is.
 pub fn answer_request<H: Shelf + Drop>(
     alloc: Global,
     routes: &Routes,
@@ -167,7 +174,8 @@ pub fn answer_request<H: Shelf + Drop>(
     ensures sound { H.meaning.honest desk.new.shelf → H.meaning.leaves_sound desk.old.shelf → H.meaning.leaves_sound desk.new.shelf }
     ensures settings { desk.new.settings ≡ desk.old.settings }
     ensures answered { IsAnswered H.meaning desk.old.settings desk.old.shelf desk.new.shelf moment (meant desk.old.settings request.now) result }
-    ensures changes { ChangesOnlyAccepting H.meaning desk.old.shelf desk.new.shelf result }
+    ensures changes { ChangesOnlyAccepting H.meaning desk.old.shelf desk.new.shelf (meant desk.old.settings request.now) result }
+    ensures sight { TellsAtSight desk.old.settings request.now result }
     ensures shown { ShowsOnlyWhole H.meaning desk.old.shelf desk.new.shelf (meant desk.old.settings request.now) result }
     ensures kept { IsKeptAnswering H.meaning desk.old.settings desk.old.shelf desk.new.shelf moment (meant desk.old.settings request.now) result }
 {

@@ -1,10 +1,11 @@
-use Rattle.std.proofs.Common.{None, sym, subst, inl}
+use Rattle.std.proofs.Common.{None, sym, subst, inl, inr}
 use Rattle.office_values.specs.declared.settings.Settings.{Settings}
 use Rattle.office_publications.specs.Standing.{IsReached}
 use Rattle.office_http.specs.Inside.Meant.{Answered, CanBeMeant}
 use Rattle.office_http.specs.Meaning.{meant, meant_asked}
 use Rattle.office_http.proofs.LeftSteps.{stops_then}
-use Rattle.office_http.proofs.RequestSteps.{asked_answered, asked_shown, caller_refused, refused_shows, route_refused, tells_some}
+use Rattle.office_http.proofs.SightSteps.{sight_of_asker, sight_of_nobody, sight_of_route}
+use Rattle.office_http.proofs.RequestSteps.{asked_answered, asked_gives, asked_shown, caller_refused, refused_shows, route_refused, tells_some}
 use Rattle.office_http.proofs.answering.answer_read.Goals as goal
 
 pub returns-in-Err-clause-answered : goal.returns-in-Err-clause-answered
@@ -53,3 +54,27 @@ returns-clause-shown g c honest s held =
     asked_shown c.args.desk.now.settings s c.answer_asked.result c.args.request.now c.in-Ok.route c.in-Ok-caller_of.caller c.command_of-asked.result (sym c.in-Ok.ensures)
     (c.in-Ok-caller_of.ensures.looks.1 before s held) c.command_of-asked.ensures.asked
     (c.answer_asked.ensures.shown honest s (c.caller_of.ensures.looks.0.same before s held))
+
+pub returns-clause-changes : goal.returns-clause-changes
+returns-clause-changes g c honest s held =
+    let before = c.answer_asked.ensures.before honest in
+    elim (c.answer_asked.ensures.changes honest s (c.caller_of.ensures.looks.0.same before s held)) [
+      | inl same ↦ inl same
+      | inr (gives, reply, is) ↦
+          inr (asked_gives c.args.desk.now.settings s c.answer_asked.result c.args.request.now c.in-Ok.route c.in-Ok-caller_of.caller c.command_of-asked.result (sym c.in-Ok.ensures)
+          (c.in-Ok-caller_of.ensures.looks.1 before s held) c.command_of-asked.ensures.asked gives, reply, is)
+    ]
+
+pub returns-in-Err-clause-sight : goal.returns-in-Err-clause-sight
+returns-in-Err-clause-sight g c why at_sight =
+    sight_of_route c.args.desk.now.settings c.args.request.now c.refuse.result why at_sight c.in-Err.refusal c.in-Err.method (sym c.in-Err.ensures) c.refuse.ensures
+
+pub returns-in-Err-caller_of-clause-sight : goal.returns-in-Err-caller_of-clause-sight
+returns-in-Err-caller_of-clause-sight g c why at_sight =
+    sight_of_nobody c.args.desk.now.settings c.args.request.now c.refuse-in-Err-caller_of.result why at_sight c.in-Ok.route c.in-Err-caller_of.refusal (sym c.in-Ok.ensures)
+    c.in-Err-caller_of.ensures.sight c.refuse-in-Err-caller_of.ensures
+
+pub returns-clause-sight : goal.returns-clause-sight
+returns-clause-sight g c why at_sight =
+    sight_of_asker c.args.desk.now.settings c.args.request.now c.answer_asked.result why at_sight c.in-Ok.route c.in-Ok-caller_of.caller c.command_of-asked.result (sym c.in-Ok.ensures)
+    c.in-Ok-caller_of.ensures.sight c.command_of-asked.ensures.forbidden c.answer_asked.ensures.refused
