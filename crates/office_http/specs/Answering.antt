@@ -24,6 +24,7 @@ use Rattle.office_wire.specs.Request.{RequestView, IsRequest, IsRefused}
 use Rattle.office_wire.specs.Runs.{Answers}
 use Rattle.office_wire.specs.declared.fault.ReadFault.{ReadFault}
 use Rattle.office_wire.specs.declared.fault.ReadFault.TheVariants as fault
+use Rattle.office_http.specs.AtSight.{TellsAtSight}
 use Rattle.office_http.specs.Meaning.{Meant, Refuses, Gives, Sees, meant}
 use Rattle.office_http.specs.Response.{response_of}
 use Rattle.office_http.specs.declared.reply.Reply.{Reply}
@@ -174,6 +175,7 @@ pub record AnswersRequest {S : Type 0} (M : Meaning S) (settings : Settings) (ol
   pub answered : IsAnswered M settings old new moment (meant settings request) text
   pub changes : ChangesOnlyAccepting M old new (meant settings request) text
   pub shown : ShowsOnlyWhole M old new (meant settings request) text
+  pub sight : TellsAtSight settings request text
 
 -- the bytes were refused, perhaps for want of memory, which may be so of any bytes; and nothing changed
 pub record RefusesBytes {S : Type 0} (M : Meaning S) (old new : S) (input text : List ℕ) : Type 0 where
