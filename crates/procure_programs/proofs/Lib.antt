@@ -5,3 +5,4 @@ mod OpenedFiles
 mod StoppedFiles
 mod Turns
 mod ConnectionSteps
+pub mod FaultSteps

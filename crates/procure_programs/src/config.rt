@@ -9,11 +9,15 @@ use procure_config::settings::read_settings;
 use std::fs;
 
 /// The settings in a file. A file that can't be read has no settings. The fault is of the settings, or of memory.
+#[tactic(auto, using(crate::proofs::FaultSteps::settings_are))]
 pub fn settings_at(rt: &HostRuntime, path: &str) -> Result<Settings, ProgramFault>
     ensures fault { IfErr result IsOfSettings }
 {
     match fs::read(rt, path) {
-        Ok(text) => Ok(read_settings(rt.alloc(), &text)?),
+        Ok(text) => match read_settings(rt.alloc(), &text) {
+            Ok(settings) => Ok(settings),
+            Err(fault) => Err(ProgramFault::from(fault)),
+        },
         Err(error) => Err(of_unread_settings(error)),
     }
 }

@@ -14,7 +14,7 @@ use procure_config::notice::notice_named;
 pub fn query_of(job: &Job<'_>) -> Result<Option<Query>, ProgramFault>
     ensures { AsksQuery (asked_by job.now) result }
 {
-    match job {
+    match *job {
         Job::Desk { .. } | Job::Serve { .. } => Ok(None),
         Job::Ledger { .. } => Ok(Some(Query::Ledger)),
         Job::Minutes { notice, .. } => match notice_named(notice) {
@@ -44,7 +44,7 @@ fn print_job(
 
 /// Does what the words ask for. Faults are looked for in this order: the settings, a notice that is no identifier, the office's file, and then the work.
 pub fn run_job(rt: &HostRuntime, job: &Job<'_>) -> Result<(), ProgramFault> {
-    match job {
+    match *job {
         Job::Desk { config } => run_desk(rt, config),
         Job::Serve {
             config,
@@ -53,7 +53,7 @@ pub fn run_job(rt: &HostRuntime, job: &Job<'_>) -> Result<(), ProgramFault> {
             count,
         } => {
             let settings = settings_at(rt, config)?;
-            serve_file(rt, settings, store, *port, *count)
+            serve_file(rt, settings, store, port, count)
         }
         Job::Ledger { config, store }
         | Job::Minutes { config, store, .. }

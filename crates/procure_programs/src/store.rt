@@ -26,6 +26,7 @@ use sqlite::{Alter, FileFrom, FileStore, Files, Start, Unknown};
 use sqlite_disk::Disk;
 
 // The office in a file, or a new one where nothing of an office stands there: in a new file, whose pages are small, where there is none.
+#[tactic(auto, using(crate::proofs::FaultSteps::opening_is))]
 fn open_office<S: Start>(
     rt: &HostRuntime,
     path: &str,
