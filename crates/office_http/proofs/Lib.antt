@@ -6,6 +6,7 @@ pub mod LeftSteps
 pub mod AnswerSteps
 pub mod RequestSteps
 pub mod SightSteps
+pub mod AlwaysTold
 pub mod WorkedRequests
 pub mod AskedCommands
 pub mod MeantSteps

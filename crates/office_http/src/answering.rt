@@ -7,7 +7,7 @@ ghost use Rattle.office_base.specs.Shelves.{Looks};
 ghost use Rattle.office_http.specs.AtSight.{TellsAtSight, is_known_at_sight};
 ghost use Rattle.office_http.specs.Credentials.{credentials_of};
 ghost use Rattle.office_http.specs.Meaning.{Gives, Sees, meant, meant_asked, who};
-ghost use Rattle.office_http.specs.Answering.{AnswersRequest, ChangesOnlyAccepting, IsAnswered, RefusesBytes, ShowsOnlyWhole, fault_text};
+ghost use Rattle.office_http.specs.Answering.{AnswersRequest, ChangesOnlyAccepting, IsAnswered, IsTold, RefusesBytes, ShowsOnlyWhole, fault_text};
 ghost use Rattle.office_http.specs.Inside.Meant.{AnswersMeant};
 ghost use Rattle.office_http.specs.Joined.{IsKeptAnswering, KeepsAnswering, KeepsRefusing};
 ghost use Rattle.office_http.specs.Response.{response_of};
@@ -56,6 +56,7 @@ fn answer_command<H: Shelf + Drop>(
     ensures settings { desk.new.settings ≡ desk.old.settings }
     ensures answered { AnswersMeant H.meaning desk.old.settings desk.old.shelf desk.new.shelf moment (λ s. Gives caller.now command.entry) result }
     ensures changes { ChangesOnlyAccepting H.meaning desk.old.shelf desk.new.shelf (λ s. Gives caller.now command.entry) result }
+    ensures told { IsTold H.meaning desk.old.settings desk.old.shelf desk.new.shelf moment (λ s. Gives caller.now command.entry) result }
 {
     keeping();
     let planned = match desk.plan(moment, caller, command) {
@@ -84,6 +85,7 @@ fn answer_query<H: Shelf + Drop>(
     ensures settings { desk.new.settings ≡ desk.old.settings }
     ensures answered { AnswersMeant H.meaning desk.old.settings desk.old.shelf desk.new.shelf moment (λ s. Sees caller.now query) result }
     ensures changes { ChangesOnlyAccepting H.meaning desk.old.shelf desk.new.shelf (λ s. Sees caller.now query) result }
+    ensures told { IsTold H.meaning desk.old.settings desk.old.shelf desk.new.shelf moment (λ s. Sees caller.now query) result }
     ensures shown { ShowsOnlyWhole H.meaning desk.old.shelf desk.new.shelf (λ s. Sees caller.now query) result }
 {
     let text = match desk.look(caller, query) {
@@ -121,6 +123,7 @@ fn answer_asked<H: Shelf + Drop>(
     ensures settings { desk.new.settings ≡ desk.old.settings }
     ensures answered { AnswersMeant H.meaning desk.old.settings desk.old.shelf desk.new.shelf moment (λ s. meant_asked caller.now asked.entry) result }
     ensures changes { ChangesOnlyAccepting H.meaning desk.old.shelf desk.new.shelf (λ s. meant_asked caller.now asked.entry) result }
+    ensures told { IsTold H.meaning desk.old.settings desk.old.shelf desk.new.shelf moment (λ s. meant_asked caller.now asked.entry) result }
     ensures refused { (why : Refusal) → asked.entry ≡ Err why → result ≡ response_of (Refused why None) }
     ensures shown { ShowsOnlyWhole H.meaning desk.old.shelf desk.new.shelf (λ s. meant_asked caller.now asked.entry) result }
 {
@@ -144,6 +147,7 @@ fn answer_read<H: Shelf + Drop>(
     ensures settings { desk.new.settings ≡ desk.old.settings }
     ensures answered { IsAnswered H.meaning desk.old.settings desk.old.shelf desk.new.shelf moment (meant desk.old.settings request.now) result }
     ensures changes { ChangesOnlyAccepting H.meaning desk.old.shelf desk.new.shelf (meant desk.old.settings request.now) result }
+    ensures told { IsTold H.meaning desk.old.settings desk.old.shelf desk.new.shelf moment (meant desk.old.settings request.now) result }
     ensures sight { TellsAtSight desk.old.settings request.now result }
     ensures shown { ShowsOnlyWhole H.meaning desk.old.shelf desk.new.shelf (meant desk.old.settings request.now) result }
 {
@@ -175,6 +179,7 @@ pub fn answer_request<H: Shelf + Drop>(
     ensures settings { desk.new.settings ≡ desk.old.settings }
     ensures answered { IsAnswered H.meaning desk.old.settings desk.old.shelf desk.new.shelf moment (meant desk.old.settings request.now) result }
     ensures changes { ChangesOnlyAccepting H.meaning desk.old.shelf desk.new.shelf (meant desk.old.settings request.now) result }
+    ensures told { IsTold H.meaning desk.old.settings desk.old.shelf desk.new.shelf moment (meant desk.old.settings request.now) result }
     ensures sight { TellsAtSight desk.old.settings request.now result }
     ensures shown { ShowsOnlyWhole H.meaning desk.old.shelf desk.new.shelf (meant desk.old.settings request.now) result }
     ensures kept { IsKeptAnswering H.meaning desk.old.settings desk.old.shelf desk.new.shelf moment (meant desk.old.settings request.now) result }

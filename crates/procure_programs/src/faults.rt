@@ -3,7 +3,8 @@ ghost use Rattle.std.specs.Prelude.{◌≡◌, ◌≢◌, None};
 ghost use Rattle.std.specs.IoError.{error_kind};
 ghost use Rattle.procure_config.specs.Faults.{no_memory};
 ghost use Rattle.procure_config.specs.declared.fault.ProgramFault.TheVariants.{Settings};
-ghost use Rattle.procure_programs.specs.FaultsTold.{of_opening, of_run, of_shelf};
+ghost use Rattle.procure_programs.specs.FaultsTold.{IsOfStore, of_opening, of_run, of_shelf};
+ghost use Rattle.procure_programs.specs.Showing.{IsOfSettings};
 
 use office_base::shelf::ShelfFault;
 use office_store::found::OpenFault;
@@ -53,6 +54,7 @@ pub fn of_shelf(fault: ShelfFault) -> ProgramFault
 pub fn of_unread_settings(error: Error) -> ProgramFault
     ensures memory { error_kind error ≡ ErrorKind.OutOfMemory → result ≡ no_memory }
     ensures other { error_kind error ≢ ErrorKind.OutOfMemory → result ≡ Settings None }
+    ensures fault { IsOfSettings result }
 {
     match error.kind() {
         ErrorKind::OutOfMemory => no_memory(),
@@ -64,6 +66,7 @@ pub fn of_unread_settings(error: Error) -> ProgramFault
 pub fn of_unplaced_file(error: Error) -> ProgramFault
     ensures memory { error_kind error ≡ ErrorKind.OutOfMemory → result ≡ no_memory }
     ensures other { error_kind error ≢ ErrorKind.OutOfMemory → result ≡ ProgramFault.Store }
+    ensures fault { IsOfStore result }
 {
     match error.kind() {
         ErrorKind::OutOfMemory => no_memory(),

@@ -1,7 +1,8 @@
 //! How the faults of the program are told.
 use office_values::refusal::Refusal;
-use procure_config::fault::{ProgramFault, exit_code};
+use procure_config::fault::ProgramFault;
 use procure_config::settings::{SettingName, SettingsFault};
+use procure_config::telling::tell;
 use std::alloc::Global;
 
 // Faults of settings, and their lines.
@@ -16,10 +17,9 @@ const SETTINGS_FAULTS: &[(SettingsFault, &str)] = &[
 
 /// Whether a fault is told in this line, with status 1.
 pub(crate) fn is_told(alloc: Global, fault: &ProgramFault, line: &str) -> bool {
-    match format!(in alloc; "{fault}") {
-        Ok(text) => text.as_str() == line && exit_code(fault) == 1,
-        Err(_) => false,
-    }
+    let mut text = Vec::new(alloc);
+    let (status, is_whole) = tell(&mut text, fault);
+    is_whole && status == 1 && text.starts_with(line.as_bytes()) && &text[line.len()..] == b"\n"
 }
 
 #[test]

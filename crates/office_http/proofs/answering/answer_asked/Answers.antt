@@ -1,9 +1,9 @@
-use Rattle.std.proofs.Common.{rules, ◌≡◌, None, Result, Ok, Err, refl, subst, inl, ◌∙◌}
+use Rattle.std.proofs.Common.{rules, ◌≡◌, false, None, Result, Ok, Err, refl, subst, inl, ◌∙◌}
 use Rattle.office_values.specs.declared.refusal.Refusal.{Refusal}
 use Rattle.office_requests.specs.declared.asked.Asked.{Asked}
 use Rattle.office_requests.specs.declared.asked.Asked.TheVariants.{Does, Looks}
 use Rattle.office_http.specs.Inside.Meant.{AnswersMeant}
-use Rattle.office_http.specs.Answering.{ChangesOnlyAccepting, ShowsMeant}
+use Rattle.office_http.specs.Answering.{ChangesOnlyAccepting, IsTold, ShowsMeant}
 use Rattle.office_http.specs.Meaning.{Refuses, meant_asked}
 use Rattle.office_http.specs.Response.{response_of}
 use Rattle.office_http.specs.declared.reply.Reply.TheVariants.{Refused}
@@ -53,3 +53,22 @@ returns-in-Err-clause-refused g c why given =
     let is : Err c.in-Err.refusal ≡ c.args.asked = search rules in
     let same : c.in-Err.refusal ≡ why = cc (is ∙ given) in
     subst (λ (w : Refusal). c.refuse.result ≡ response_of (Refused w None)) same c.refuse.ensures
+
+pub returns-in-Ok-Does-clause-told : goal.returns-in-Ok-Does-clause-told
+returns-in-Ok-Does-clause-told g c =
+    let is : Ok (Does c.in-Ok-Does.command) ≡ c.args.asked = search rules in
+    subst (λ (a : Result Asked Refusal). IsTold g.H.Lookups.meaning c.args.desk.now.settings c.args.desk.now.shelf c.answer_command.new.desk.shelf c.args.moment
+    (λ s. meant_asked c.args.caller.now a) c.answer_command.result) is c.answer_command.ensures.told
+
+pub returns-in-Ok-Looks-clause-told : goal.returns-in-Ok-Looks-clause-told
+returns-in-Ok-Looks-clause-told g c =
+    let is : Ok (Looks c.in-Ok-Looks.query) ≡ c.args.asked = search rules in
+    subst (λ (a : Result Asked Refusal). IsTold g.H.Lookups.meaning c.args.desk.now.settings c.args.desk.now.shelf c.answer_query.new.desk.shelf c.args.moment
+    (λ s. meant_asked c.args.caller.now a) c.answer_query.result) is c.answer_query.ensures.told
+
+pub returns-in-Err-clause-told : goal.returns-in-Err-clause-told
+returns-in-Err-clause-told g c =
+    let is : Err c.in-Err.refusal ≡ c.args.asked = search rules in
+    subst (λ (a : Result Asked Refusal). IsTold g.H.Lookups.meaning c.args.desk.now.settings c.args.desk.now.shelf c.args.desk.now.shelf c.args.moment
+    (λ s. meant_asked c.args.caller.now a) c.refuse.result) is
+    (λ honest s held needs. (false, c.refuse.ensures, λ none. held))

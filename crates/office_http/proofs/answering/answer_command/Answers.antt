@@ -1,6 +1,8 @@
 use Rattle.std.proofs.Common.{◌∙◌, ap, ℕ, List, inl, inr}
 use Rattle.office_http.specs.Response.{response_of}
 use Rattle.office_http.specs.declared.reply.Reply.TheVariants.{Json}
+use Rattle.office_http.proofs.AlwaysTold.{tells_done_command, tells_refused_command, tells_unavailable}
+use Rattle.office_http.specs.Meaning.{Gives}
 use Rattle.office_http.proofs.AnswerSteps.{command_done, command_refused, command_undone}
 use Rattle.office_http.proofs.answering.answer_command.Goals as goal
 
@@ -31,3 +33,20 @@ returns-in-Err-commit-clause-answered g c honest s held stands can =
     c.keeping.ensures.reaches c.keeping.ensures.stays c.args.caller.now c.args.command c.in-Ok.planned (looks.1 before s held) can.1
     (c.constant-in-Err-commit.ensures ∙ c.unavailable-in-Err-commit.ensures) (c.in-Err-commit.ensures.alters.none honest s here, stands)
     (λ u left. elim (c.in-Err-commit.ensures.alters.stop_none honest u left) [ inl was ↦ inl (looks.0.stop before u was) | inr done ↦ inr (done s here) ])
+
+pub returns-in-Err-clause-told : goal.returns-in-Err-clause-told
+returns-in-Err-clause-told g c honest s held needs =
+    tells_refused_command c.args.desk.now.settings s c.args.moment c.refuse.result _ c.args.caller.now c.args.command c.in-Err.refusal
+    (c.in-Err.ensures.looks.1 honest s held) c.refuse.ensures (c.plan.ensures.looks.0.same honest s held)
+
+pub returns-in-Ok-commit-clause-told : goal.returns-in-Ok-commit-clause-told
+returns-in-Ok-commit-clause-told g c honest s held needs =
+    let before = c.in-Ok-commit.ensures.alters.before honest in
+    tells_done_command c.args.desk.now.settings s c.args.moment c.built.result _ c.args.caller.now c.args.command c.in-Ok.planned (c.in-Ok.ensures.looks.1 before s held)
+    (c.built.ensures ∙ c.in-Ok-accepted_response.ensures ∙ ap (λ (text : List ℕ). response_of (Json text)) c.reply.ensures)
+
+pub returns-in-Err-commit-clause-told : goal.returns-in-Err-commit-clause-told
+returns-in-Err-commit-clause-told g c honest s held needs =
+    let before = c.in-Err-commit.ensures.alters.before honest in
+    tells_unavailable c.args.desk.now.settings s c.args.moment c.constant-in-Err-commit.result _ (Gives c.args.caller.now c.args.command)
+    (c.constant-in-Err-commit.ensures ∙ c.unavailable-in-Err-commit.ensures) (c.in-Err-commit.ensures.alters.none honest s (c.in-Ok.ensures.looks.0.same before s held))

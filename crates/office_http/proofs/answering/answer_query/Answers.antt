@@ -1,4 +1,5 @@
 use Rattle.std.proofs.Common.{None, inr, inl}
+use Rattle.office_http.proofs.AlwaysTold.{tells_refused_query}
 use Rattle.office_http.proofs.AnswerSteps.{query_refused}
 use Rattle.office_http.proofs.RequestSteps.{tells_some}
 use Rattle.office_http.proofs.answering.answer_query.Goals as goal
@@ -10,3 +11,8 @@ returns-in-Err-clause-answered g c honest s held stands can =
 
 pub returns-in-Err-clause-shown : goal.returns-in-Err-clause-shown
 returns-in-Err-clause-shown g c honest s held = inr (tells_some c.in-Err.refusal None c.refuse.result (inl c.refuse.ensures))
+
+pub returns-in-Err-clause-told : goal.returns-in-Err-clause-told
+returns-in-Err-clause-told g c honest s held needs =
+    tells_refused_query c.args.desk.now.settings s c.args.moment c.refuse.result _ c.args.caller.now c.args.query c.in-Err.refusal
+    (c.in-Err.ensures.looks.1 honest s held) needs c.refuse.ensures (c.look.ensures.looks.0.same honest s held)

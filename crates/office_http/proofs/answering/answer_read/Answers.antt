@@ -1,9 +1,11 @@
-use Rattle.std.proofs.Common.{None, sym, subst, inl, inr}
+use Rattle.std.proofs.Common.{◌≡◌, Bool, false, None, sym, subst, inl, inr}
 use Rattle.office_values.specs.declared.settings.Settings.{Settings}
 use Rattle.office_publications.specs.Standing.{IsReached}
 use Rattle.office_http.specs.Inside.Meant.{Answered, CanBeMeant}
 use Rattle.office_http.specs.Meaning.{meant, meant_asked}
 use Rattle.office_http.proofs.LeftSteps.{stops_then}
+use Rattle.office_http.proofs.AlwaysTold.{tells_asked, tells_no_route, tells_nobody}
+use Rattle.office_http.specs.Answering.{NeedsMeant, answer_bytes, is_done}
 use Rattle.office_http.proofs.SightSteps.{sight_of_asker, sight_of_nobody, sight_of_route}
 use Rattle.office_http.proofs.RequestSteps.{asked_answered, asked_gives, asked_shown, caller_refused, refused_shows, route_refused, tells_some}
 use Rattle.office_http.proofs.answering.answer_read.Goals as goal
@@ -78,3 +80,22 @@ pub returns-clause-sight : goal.returns-clause-sight
 returns-clause-sight g c why at_sight =
     sight_of_asker c.args.desk.now.settings c.args.request.now c.answer_asked.result why at_sight c.in-Ok.route c.in-Ok-caller_of.caller c.command_of-asked.result (sym c.in-Ok.ensures)
     c.in-Ok-caller_of.ensures.sight c.command_of-asked.ensures.forbidden c.answer_asked.ensures.refused
+
+pub returns-in-Err-clause-told : goal.returns-in-Err-clause-told
+returns-in-Err-clause-told g c honest s held needs =
+    tells_no_route c.args.desk.now.settings s c.args.moment c.refuse.result _ c.args.request.now c.in-Err.refusal c.in-Err.method (sym c.in-Err.ensures) c.refuse.ensures held
+
+pub returns-in-Err-caller_of-clause-told : goal.returns-in-Err-caller_of-clause-told
+returns-in-Err-caller_of-clause-told g c honest s held needs =
+    tells_nobody c.args.desk.now.settings s c.args.moment c.refuse-in-Err-caller_of.result _ c.args.request.now c.in-Ok.route c.in-Err-caller_of.refusal (sym c.in-Ok.ensures)
+    (c.in-Err-caller_of.ensures.looks.1 honest s held) c.refuse-in-Err-caller_of.ensures (c.caller_of.ensures.looks.0.same honest s held)
+
+pub returns-clause-told : goal.returns-clause-told
+returns-clause-told g c honest s held needs =
+    let before = c.answer_asked.ensures.before honest in
+    let m = meant_asked c.in-Ok-caller_of.caller c.command_of-asked.result in
+    let family : Settings → Type 0 = λ u. NeedsMeant u s m
+    → (busy : Bool) × (c.answer_asked.result ≡ answer_bytes u busy s c.args.moment m) × (is_done busy s c.args.moment m ≡ false → g.H.Lookups.meaning.holds c.answer_asked.new.desk.shelf s) in
+    tells_asked c.args.desk.now.settings s c.args.moment c.answer_asked.result _ c.args.request.now c.in-Ok.route c.in-Ok-caller_of.caller c.command_of-asked.result (sym c.in-Ok.ensures)
+    (c.in-Ok-caller_of.ensures.looks.1 before s held) c.command_of-asked.ensures.asked needs
+    (subst family c.caller_of.ensures.settings (c.answer_asked.ensures.told honest s (c.caller_of.ensures.looks.0.same before s held)))
