@@ -1,16 +1,52 @@
 -- One connection after another.
-use Rattle.std.proofs.Common.{◌≡◌, ◌⊎◌, inl, inr, ℕ, zero, suc, ◌+◌, Bool, true, false, Option, None, Result, Ok, Err, refl, sym, subst, arith, ◌∙◌}
-use Rattle.std.specs.Prelude.{IfErr, IsTrue}
+use Rattle.std.proofs.Common.{◌≡◌, ◌⊎◌, inl, inr, ℕ, zero, suc, ◌+◌, Bool, true, false, List, Option, Some, Result, Ok, Err, refl, sym, subst, arith}
+use Rattle.std.specs.Prelude.{⊤, IfErr}
 use Rattle.office_base.specs.Shelves.{Meaning}
 use Rattle.office_base.specs.declared.shelf.ShelfFault.{ShelfFault}
 use Rattle.office_base.specs.Shutting.{Standing, TellsShut}
 use Rattle.office_desk.specs.Desks.{DeskOf}
+use Rattle.office_wire.specs.declared.fault.RunFault.{RunFault}
+use Rattle.office_http.specs.Stops.{StopsOnce}
 use Rattle.procure_config.specs.declared.fault.ProgramFault.{ProgramFault}
 use Rattle.procure_config.specs.declared.fault.ProgramFault.TheVariants.{Arguments, Settings, Store, Input, Output, Refused}
-use Rattle.procure_programs.specs.Hosts.{Hosting, clock_moment}
+use Rattle.procure_programs.specs.Hosts.{Hosting, TellsMoment, clock_moment}
 use Rattle.procure_programs.specs.Serving.{TakesTurns}
-use Rattle.procure_programs.specs.Turns.{EndsBy, GoesOnFor, IsOneTurn, ServesAndAsks, ServesConnection, ServesInTurn, TakesOne, is_known_shut}
+use Rattle.procure_programs.specs.Turns.{AnswersConnection, EndsBy, GoesOnFor, IsOneTurn, ServesAndAsks, ServesInTurn, TakesOne, is_known_shut}
 use Rattle.procure_programs.proofs.ServingSteps.{served_none, served_on, served_still, served_within}
+
+-- ---- one connection that was taken
+
+module _ {S T R W : Type 0} (N : Hosting T R W) (M : Meaning S) (before taken : T) (reader : R) (writer : W) (takes : N.events.takes before (Some (reader, writer)) taken) where
+  pub no_clock : (fault : ProgramFault) (after : T) (office : DeskOf S) → TellsMoment N.events taken after (Err fault) → TakesOne N M before after office office (Err fault)
+  no_clock Input after office it = (((reader, writer), taken, takes, it), refl)
+  no_clock Store after office it = absurd it
+  no_clock (Arguments e) after office it = absurd it
+  no_clock (Settings name) after office it = absurd it
+  no_clock Output after office it = absurd it
+  no_clock (Refused why) after office it = absurd it
+
+  pub served_one : (told after : T) (left : W) (old new : DeskOf S) (moment : ℕ) (ended : Result ⊤ RunFault) (begun over : Option (List ℕ)) → TellsMoment N.events taken told (Ok moment)
+      → begun ≡ N.contents writer → N.contents left ≡ over → AnswersConnection M moment (N.remaining reader) begun over old new ended → StopsOnce M moment old new
+      → (M.honest new.shelf → M.honest old.shelf) → N.events.closes told left after → TakesOne N M before after old new (Ok true)
+  served_one told after left old new moment ended begun over (nanos, tells, is) at_first at_last answers once honest closes = record {
+    reader = reader;
+    writer = writer;
+    taken = taken;
+    takes = takes;
+    nanos = nanos;
+    told = told;
+    tells = tells;
+    ended = ended;
+    left = left;
+    answers = subst (λ (m : ℕ). AnswersConnection M m (N.remaining reader) (N.contents writer) (N.contents left) old new ended) is
+        (subst (λ (b : Option (List ℕ)). AnswersConnection M moment (N.remaining reader) b (N.contents left) old new ended) at_first
+        (subst (λ (o : Option (List ℕ)). AnswersConnection M moment (N.remaining reader) begun o old new ended) (sym at_last) answers));
+    once = subst (λ (m : ℕ). StopsOnce M m old new) is once;
+    honest = honest;
+    closes = closes;
+  }
+
+-- ---- all of them
 
 module _ {S T R W : Type 0} (N : Hosting T R W) (M : Meaning S) (store : Standing S) where
   asked_before : (before after : T) (old new : DeskOf S) (answer : Result Bool ShelfFault) → ServesAndAsks N M store before after old new answer
