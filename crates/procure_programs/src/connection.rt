@@ -32,6 +32,7 @@ fn refuse<W: Write>(writer: &mut WatchedWriter<W>) -> Result<(), RunFault>
 
 /// Serves one connection: reads a request, and sends and flushes the response to it, at this moment. A fault of the reader or the writer ends the
 /// connection and nothing else. Where there is no memory for the reader's buffer, the response is `Unavailable`, and nothing is read.
+#[tactic(auto, using(crate::proofs::ServingSteps::once_none))]
 pub fn serve_connection<H: Shelf + Drop, R: Read + Drop, W: Write>(
     alloc: Global,
     office: &mut Office<H>,
