@@ -1,0 +1,8 @@
+use Rattle.std.proofs.Common.{Ok, Err, refl}
+use Rattle.procure_programs.proofs.desk.answer_streams.Goals as goal
+
+pub returns-in-Ok-clause-ran : goal.returns-in-Ok-clause-ran
+returns-in-Ok-clause-ran g c = (c.run.result, rw c.in-Ok.is refl, c.run.ensures.stepped)
+
+pub returns-in-Err-clause-ran : goal.returns-in-Err-clause-ran
+returns-in-Err-clause-ran g c = (c.run.result, rw c.in-Err.is refl, c.run.ensures.stepped)
