@@ -16,9 +16,7 @@ ghost use Rattle.office_http.specs.declared.reply.Reply.TheVariants.{Refused};
 use crate::credentials::credentials_of;
 use crate::laws;
 use crate::refusing::refusal_text;
-use crate::response::{
-    accepted_response, bad_head, coding, seen_response, too_long, unavailable,
-};
+use crate::response::{accepted_response, bad_head, coding, seen_response, too_long, unavailable};
 use office_base::shelf::{Lookups, Shelf};
 use office_commands::command::Caller;
 use office_commands::commands::Command;

@@ -98,6 +98,7 @@ pub struct ListeningHost<'a, N: Net + Clock> {
 
 impl<'a, N: Net + Clock> Host for ListeningHost<'a, N> {
     type Reader = N::Stream;
+
     type Writer = N::Stream;
 
     ghost events = { record { takes = λ _ _ _. Unit {0}; tells = λ _ _ _. Unit {0}; closes = λ _ _ _. Unit {0} } };

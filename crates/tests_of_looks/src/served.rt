@@ -25,6 +25,7 @@ struct Scripted {
 
 impl Host for Scripted {
     type Reader = &'static [u8];
+
     type Writer = Vec<u8>;
 
     ghost events = { record { takes = λ _ _ _. Unit {0}; tells = λ _ _ _. Unit {0}; closes = λ _ _ _. Unit {0} } };
@@ -60,7 +61,8 @@ fn host(alloc: Global, came: &'static [Option<&'static [u8]>], second: Option<u6
     }
 }
 
-static IMPORT: &[u8] = b"POST /budget/B1 HTTP/1.1\r\nOffice-Caller: clerk\r\nOffice-Key: abc\r\nContent-Length: 42\r\n\r\nline,kind,amount,title\n1000,add,700,Roads\n";
+static IMPORT: &[u8] =
+    b"POST /budget/B1 HTTP/1.1\r\nOffice-Caller: clerk\r\nOffice-Key: abc\r\nContent-Length: 42\r\n\r\nline,kind,amount,title\n1000,add,700,Roads\n";
 
 static LOOK: &[u8] = b"GET /lines/1000 HTTP/1.1\r\n\r\n";
 
@@ -71,10 +73,12 @@ static CAME: [Option<&[u8]>; 4] = [Some(IMPORT), None, Some(LOOK), Some(CUT)];
 static LATER: [Option<&[u8]>; 1] = [Some(LOOK)];
 
 // What is told over the three that can be taken.
-static TOLD: &[u8] = b"HTTP/1.1 200 OK\r\nContent-Type: application/json\r\nContent-Length: 55\r\nConnection: close\r\n\r\n{\"batch\":\"B1\",\"moment\":\"2026-01-05T09:00:00Z\",\"rows\":1}HTTP/1.1 200 OK\r\nContent-Type: application/json\r\nContent-Length: 99\r\nConnection: close\r\n\r\n{\"appropriation\":700,\"contracted\":0,\"free\":700,\"line\":\"1000\",\"paid\":0,\"reserved\":0,\"title\":\"Roads\"}HTTP/1.1 400 Bad Request\r\nContent-Type: application/json\r\nContent-Length: 30\r\nConnection: close\r\n\r\n{\"name\":\"BadHead\",\"refusal\":1}";
+static TOLD: &[u8] =
+    b"HTTP/1.1 200 OK\r\nContent-Type: application/json\r\nContent-Length: 55\r\nConnection: close\r\n\r\n{\"batch\":\"B1\",\"moment\":\"2026-01-05T09:00:00Z\",\"rows\":1}HTTP/1.1 200 OK\r\nContent-Type: application/json\r\nContent-Length: 99\r\nConnection: close\r\n\r\n{\"appropriation\":700,\"contracted\":0,\"free\":700,\"line\":\"1000\",\"paid\":0,\"reserved\":0,\"title\":\"Roads\"}HTTP/1.1 400 Bad Request\r\nContent-Type: application/json\r\nContent-Length: 30\r\nConnection: close\r\n\r\n{\"name\":\"BadHead\",\"refusal\":1}";
 
 // What is told over the third.
-static LOOKED: &[u8] = b"HTTP/1.1 200 OK\r\nContent-Type: application/json\r\nContent-Length: 99\r\nConnection: close\r\n\r\n{\"appropriation\":700,\"contracted\":0,\"free\":700,\"line\":\"1000\",\"paid\":0,\"reserved\":0,\"title\":\"Roads\"}";
+static LOOKED: &[u8] =
+    b"HTTP/1.1 200 OK\r\nContent-Type: application/json\r\nContent-Length: 99\r\nConnection: close\r\n\r\n{\"appropriation\":700,\"contracted\":0,\"free\":700,\"line\":\"1000\",\"paid\":0,\"reserved\":0,\"title\":\"Roads\"}";
 
 fn office<H: Shelf + Drop>(alloc: Global, shelf: H) -> Result<Office<H>, AllocError> {
     Ok(Office::new(alloc, desk_over(alloc, shelf)?)?)
@@ -111,13 +115,18 @@ fn needs_a_clock<H: Shelf + Drop>(alloc: Global, shelf: H) -> bool {
 fn connections_are_answered_in_turn(rt: HostRuntime) {
     let alloc = rt.alloc();
     // At a second try where the first isn't right: one allocation of a test may be refused.
-    assert!(rt; answers_each(alloc, MemoryShelf::new(alloc)) || answers_each(alloc, MemoryShelf::new(alloc)));
+    assert!(rt;
+        answers_each(alloc, MemoryShelf::new(alloc)) || answers_each(alloc, MemoryShelf::new(alloc))
+    );
 }
 
 #[test]
 fn a_clock_is_needed(rt: HostRuntime) {
     let alloc = rt.alloc();
-    assert!(rt; needs_a_clock(alloc, MemoryShelf::new(alloc)) || needs_a_clock(alloc, MemoryShelf::new(alloc)));
+    assert!(rt;
+        needs_a_clock(alloc, MemoryShelf::new(alloc))
+            || needs_a_clock(alloc, MemoryShelf::new(alloc))
+    );
 }
 
 /// Where one port is free.

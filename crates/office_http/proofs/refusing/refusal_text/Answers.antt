@@ -15,7 +15,7 @@ returns c =
     let digits : length (decimal (length body)) ≤ 3 = length-decimal-le 3 (length body) (omega arith) (omega (arith, few)) (omega (arith, few)) in
     let size : c.len.result ≡ length body = c.len.ensures ∙ ap length (c.bytes.ensures.bytes ∙ c.refusal_object-body.ensures.body) in
     let start = fits_as _ _ _ _ c.put_start.ensures
-        (ap (λ (st : ℕ). head_start st json c.len.result) c.status.ensures ∙ ap (λ (n : ℕ). head_start (status_of_refusal refusal) json n) size) in
+    (ap (λ (st : ℕ). head_start st json c.len.result) c.status.ensures ∙ ap (λ (n : ℕ). head_start (status_of_refusal refusal) json n) size) in
     let allow : c.as_bytes.result.now ≡ allow_field c.args.method = c.as_bytes.ensures.value ∙ c.allow_field.ensures in
     let challenge : c.as_bytes-2.result.now ≡ challenge_field (status_of_refusal refusal) = c.as_bytes-2.ensures.value ∙ c.challenge_field.ensures ∙ ap challenge_field c.status.ensures in
     fits_new _ _ _ c.new-out.ensures
