@@ -1,6 +1,6 @@
 //! Requests answered in bytes.
 ghost use Rattle.std.specs.Prelude.{◌≡◌, ◌⊎◌, None, Ok, Err, true};
-ghost use Rattle.office_values.specs.declared.refusal.Refusal.{Refusal};
+ghost use Rattle.office_values.specs.declared.refusal.Refusal.{Refusal as RefusalOf};
 ghost use Rattle.office_values.specs.declared.refusal.Refusal.TheVariants.{Unavailable};
 ghost use Rattle.office_base.specs.Tables.{Tables};
 ghost use Rattle.office_base.specs.Shelves.{Looks};
@@ -122,7 +122,7 @@ fn answer_asked<H: Shelf + Drop>(
     ensures answered { AnswersMeant H.meaning desk.old.settings desk.old.shelf desk.new.shelf moment (λ s. meant_asked caller.now asked.entry) result }
     ensures changes { ChangesOnlyAccepting H.meaning desk.old.shelf desk.new.shelf (λ s. meant_asked caller.now asked.entry) result }
     ensures told { IsTold H.meaning desk.old.settings desk.old.shelf desk.new.shelf moment (λ s. meant_asked caller.now asked.entry) result }
-    ensures refused { (why : Refusal) → asked.entry ≡ Err why → result ≡ response_of (Refused why None) }
+    ensures refused { (why : RefusalOf) → asked.entry ≡ Err why → result ≡ response_of (Refused why None) }
     ensures shown { ShowsOnlyWhole H.meaning desk.old.shelf desk.new.shelf (λ s. meant_asked caller.now asked.entry) result }
 {
     match asked {

@@ -2,7 +2,7 @@
 //! connection is served, and when; of sockets and of the computer's clock themselves no contract can say anything.
 ghost use Rattle.std.specs.Prelude.{Option, option_map};
 ghost use Rattle.std.specs.Duration.{as_nanos};
-ghost use Rattle.std.specs.declared.net.socket_addr.SocketAddrV4.{SocketAddrV4};
+ghost use Rattle.std.specs.declared.net.socket_addr.SocketAddrV4.{SocketAddrV4 as Address};
 ghost use Rattle.procure_programs.specs.Hosts.{HostEvents, IsLoopbackAt};
 
 use std::io;
@@ -35,12 +35,12 @@ pub trait Host {
 
 /// Where hosts are had.
 pub trait Network {
-    type Host: Host + Drop;
+    type Opened: Host + Drop;
 
-    ghost binds: { Self → SocketAddrV4 → Option Self.Host → Type 0 };
+    ghost binds: { Self → Address → Option Self.Opened → Type 0 };
 
     /// What takes the connections to this address; none where it can't be had, as where another program has it.
-    fn bind(&self, address: SocketAddrV4) -> Option<Self::Host>
+    fn bind(&self, address: SocketAddrV4) -> Option<Self::Opened>
         ensures { binds self.now address result };
 }
 
@@ -74,7 +74,7 @@ pub struct Computer<'a, N: Net + Clock> {
 }
 
 impl<'a, N: Net + Clock> Network for Computer<'a, N> {
-    type Host = ListeningHost<'a, N>;
+    type Opened = ListeningHost<'a, N>;
 
     ghost binds = { λ _ _ _. Unit {0} };
 

@@ -87,7 +87,7 @@ pub fn serve_at<N: Network, H: StoredShelf + Drop>(
 ) -> Result<(), ProgramFault>
     ensures before { H.meaning.honest office.new.shelf → H.meaning.honest office.old.shelf }
     ensures serves { TakesTurns H.meaning count office.old office.new }
-    ensures at { ServesAt N.binds (hosting N.Host.events N.Host.Reader.remaining N.Host.Writer.contents) H.meaning H.store network.now port count office.old office.new result }
+    ensures at { ServesAt N.binds (hosting N.Opened.events N.Opened.Reader.remaining N.Opened.Writer.contents) H.meaning H.store network.now port count office.old office.new result }
     ensures fault { IfErr result (λ fault. (fault ≡ ProgramFault.Store) ⊎ (fault ≡ ProgramFault.Input)) }
 {
     let Some(mut host) = network.bind(loopback(port)) else {

@@ -61,12 +61,12 @@ fn host(alloc: Global, came: &'static [Option<&'static [u8]>], second: Option<u6
     }
 }
 
-static IMPORT: &[u8] =
+const IMPORT: &[u8] =
     b"POST /budget/B1 HTTP/1.1\r\nOffice-Caller: clerk\r\nOffice-Key: abc\r\nContent-Length: 42\r\n\r\nline,kind,amount,title\n1000,add,700,Roads\n";
 
-static LOOK: &[u8] = b"GET /lines/1000 HTTP/1.1\r\n\r\n";
+const LOOK: &[u8] = b"GET /lines/1000 HTTP/1.1\r\n\r\n";
 
-static CUT: &[u8] = b"GET /li";
+const CUT: &[u8] = b"GET /li";
 
 static CAME: [Option<&[u8]>; 4] = [Some(IMPORT), None, Some(LOOK), Some(CUT)];
 
@@ -136,7 +136,7 @@ struct Ports {
 }
 
 impl Network for Ports {
-    type Host = Scripted;
+    type Opened = Scripted;
 
     ghost binds = { λ _ _ _. Unit {0} };
 
