@@ -3,7 +3,10 @@ use office_base::shelf::Shelf;
 use office_base::stored::StoredShelf;
 use office_http::office::Office;
 use office_memory::memory::MemoryShelf;
+use office_wire::counted::CountedReader;
+use office_wire::watched::WatchedWriter;
 use procure_config::fault::ProgramFault;
+use procure_programs::desk::answer_streams;
 use procure_programs::host::{Host, Network};
 use procure_programs::serving::{serve_at, take_one};
 use std::alloc::{AllocError, Global};
@@ -126,6 +129,46 @@ fn a_clock_is_needed(rt: HostRuntime) {
     assert!(rt;
         needs_a_clock(alloc, MemoryShelf::new(alloc))
             || needs_a_clock(alloc, MemoryShelf::new(alloc))
+    );
+}
+
+static BLOCKS: &[u8] = b"at 2026-01-05T09:00:00Z\nGET /lines/1000 HTTP/1.1\r\n\r\n";
+
+static NO_LINE: &[u8] =
+    b"HTTP/1.1 404 Not Found\r\nContent-Type: application/json\r\nContent-Length: 43\r\nConnection: close\r\n\r\n{\"name\":\"NoSuch\",\"refusal\":9,\"what\":\"line\"}";
+
+// Whether blocks are answered on an output, and a front of one is a fault of the input.
+fn answers_blocks<H: Shelf + Drop>(alloc: Global, shelf: H) -> bool {
+    let Ok(mut office) = office(alloc, shelf) else {
+        return false;
+    };
+    let mut output = WatchedWriter::new(Vec::new(alloc));
+    let is_done = answer_streams(
+        alloc,
+        &mut office,
+        &mut CountedReader::new(BLOCKS),
+        &mut output,
+    )
+    .is_ok();
+    let is_cut = matches!(
+        answer_streams(
+            alloc,
+            &mut office,
+            &mut CountedReader::new(&BLOCKS[..9]),
+            &mut output
+        ),
+        Err(ProgramFault::Input)
+    );
+    let told = output.into_inner();
+    is_done && is_cut && told.as_slice() == NO_LINE
+}
+
+#[test]
+fn blocks_are_answered(rt: HostRuntime) {
+    let alloc = rt.alloc();
+    assert!(rt;
+        answers_blocks(alloc, MemoryShelf::new(alloc))
+            || answers_blocks(alloc, MemoryShelf::new(alloc))
     );
 }
 
