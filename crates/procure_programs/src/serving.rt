@@ -88,6 +88,7 @@ pub fn serve<T: Host, H: StoredShelf + Drop>(
 }
 
 /// Serves so many connections to 127.0.0.1 and this port, as `serve` does. `Input` also where the port can't be had; nothing is served then.
+#[tactic(auto, using(crate::proofs::ServingSteps::served_none))]
 pub fn serve_at<N: Network, H: StoredShelf + Drop>(
     alloc: Global,
     network: &N,
