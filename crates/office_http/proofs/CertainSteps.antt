@@ -64,3 +64,43 @@ module _ (s : Tables) (moment : ℕ) (caller : Caller) (command : Command) where
   nothing_certain text Rises allowed why refused =
       let it = own (refusal_of (given s moment caller command)) why refused in
       absurd (cc (sym allowed ∙ it.0))
+
+-- ---- what a request means
+
+module _ (settings : Settings) (s : Tables) (moment : ℕ) (text : List ℕ) (Rises : Type 0) (request : RequestView) where
+  -- what is certain of what is meant
+  abbrev pub Certain : Meant → Type 0
+  Certain m = takes_none m ≡ true → (why : Reason) → refusal_meant s moment m ≡ Some why → (text ≡ response_of (Refused why.0 why.1)) ⊎ Rises
+
+  abbrev takes : Result Route Reason
+  takes = routed request.head.method request.head.target
+
+  abbrev asker : Result Caller Refusal
+  asker = who settings s (credentials_of request.head.fields)
+
+  abbrev no_caller : Result Caller Refusal
+  no_caller = Err Unavailable
+
+  pub certain_route : (refusal : Refusal) (method : Option Allow) → takes ≡ Err (refusal, method) → text ≡ response_of (Refused refusal method) → Certain (meant settings request s)
+  certain_route refusal method at is none =
+      certain_refusal text Rises s moment (meant settings request s) refusal method (ap (λ (r : Result Route Reason). meant_at settings request s r) at) is
+
+  means : (route : Route) (caller : Result Caller Refusal) → takes ≡ Ok route → asker ≡ caller → meant settings request s ≡ meant_by route request caller
+  means route caller at by =
+      ap (λ (r : Result Route Reason). meant_at settings request s r) at ∙ ap (λ (c : Result Caller Refusal). meant_by route request c) by
+
+  pub certain_nobody : (route : Route) (refusal : Refusal) → takes ≡ Ok route → (Err refusal ≡ asker) ⊎ (Err refusal ≡ no_caller) → (Err refusal ≡ no_caller → Rises)
+      → text ≡ response_of (Refused refusal None) → Certain (meant settings request s)
+  certain_nobody route refusal at (inl by) risen is none =
+      certain_refusal text Rises s moment (meant settings request s) refusal None (means route (Err refusal) at (sym by)) is
+  certain_nobody route refusal at (inr wanting) risen is none why refused = inr (risen wanting)
+
+  pub certain_asked : (route : Route) (caller : Caller) (read : Result Asked Refusal) → takes ≡ Ok route → (Ok caller ≡ asker) ⊎ (Ok caller ≡ no_caller)
+      → read ≡ asked_by_route caller route request → Certain (meant_asked caller read) → Certain (meant settings request s)
+  certain_asked route caller read at (inr never) is certain = absurd (cc never)
+  certain_asked route caller read at (inl by) is certain =
+      subst (λ (m : Meant). Certain m) (ap (λ (r : Result Asked Refusal). meant_asked caller r) is ∙ sym (means route (Ok caller) at (sym by))) certain
+
+  -- the path alone says what is asked by this route
+  pub by_path : (route : Route) → takes ≡ Ok route → is_path_told takes ≡ true → is_told_by_path route.endpoint ≡ true
+  by_path route at told = sym (ap (λ (r : Result Route Reason). is_path_told r) at) ∙ told
