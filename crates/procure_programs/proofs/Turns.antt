@@ -1,5 +1,5 @@
 -- One connection after another.
-use Rattle.std.proofs.Common.{◌≡◌, ◌⊎◌, inl, inr, ℕ, zero, suc, ◌+◌, Bool, true, false, List, Option, Some, Result, Ok, Err, refl, sym, subst, arith}
+use Rattle.std.proofs.Common.{◌≡◌, ◌⊎◌, inl, inr, ℕ, zero, suc, ◌+◌, Bool, true, false, not, List, Option, Some, Result, Ok, Err, refl, sym, subst, arith}
 use Rattle.std.specs.Prelude.{⊤, IfErr}
 use Rattle.office_base.specs.Shelves.{Meaning}
 use Rattle.office_base.specs.declared.shelf.ShelfFault.{ShelfFault}
@@ -11,7 +11,7 @@ use Rattle.procure_config.specs.declared.fault.ProgramFault.{ProgramFault}
 use Rattle.procure_config.specs.declared.fault.ProgramFault.TheVariants.{Arguments, Settings, Store, Input, Output, Refused}
 use Rattle.procure_programs.specs.Hosts.{Hosting, TellsMoment, clock_moment}
 use Rattle.procure_programs.specs.Serving.{TakesTurns}
-use Rattle.procure_programs.specs.Turns.{AnswersConnection, EndsBy, GoesOnFor, IsOneTurn, ServesAndAsks, ServesInTurn, TakesOne, is_known_shut}
+use Rattle.procure_programs.specs.Turns.{AnswersConnection, EndsBy, GoesOnFor, IsOneTurn, ServesAndAsks, ServesInTurn, TakesOne}
 use Rattle.procure_programs.proofs.ServingSteps.{served_none, served_on, served_still, served_within}
 
 -- ---- one connection that was taken
@@ -84,17 +84,16 @@ module _ {S T R W : Type 0} (N : Hosting T R W) (M : Meaning S) (store : Standin
       let next : suc n ≡ n + 1 = omega arith in subst (λ (k : ℕ). GoesOnFor N M store k before after first new) next (host, mid, so_far, last)
 
   -- a connection that couldn't be taken
-  pub none_taken : (before after : T) (old new : DeskOf S) → TakesOne N M before after old new (Ok false) → IsOneTurn N M store before after old new
-  none_taken before after old new it = inl it
+  pub none_taken : (before after : T) (old new : DeskOf S) (taken : Bool) → not taken ≡ true → TakesOne N M before after old new (Ok taken)
+      → IsOneTurn N M store before after old new
+  none_taken before after old new false is it = inl it
+  none_taken before after old new true is it = absurd (cc is)
 
-  pub asks : (before after : T) (old served new : DeskOf S) (answer : Result Bool ShelfFault) → TakesOne N M before after old served (Ok true)
-      → TellsShut M store served.shelf new.shelf answer → new.settings ≡ served.settings → ServesAndAsks N M store before after old new answer
-  asks before after old served new answer one asked settings = record { served = served; one = one; asked = asked; settings = settings }
-
-  -- one that was served, behind which the store isn't known to be shut
-  pub one_served : (before after : T) (old served new : DeskOf S) (answer : Result Bool ShelfFault) → TakesOne N M before after old served (Ok true)
-      → TellsShut M store served.shelf new.shelf answer → new.settings ≡ served.settings → is_known_shut answer ≡ false → IsOneTurn N M store before after old new
-  one_served before after old served new answer one asked settings is_open = inr (answer, asks before after old served new answer one asked settings, is_open)
+  pub asks : (before after : T) (old served new : DeskOf S) (answer : Result Bool ShelfFault) (taken : Bool) → not taken ≡ false
+      → TakesOne N M before after old served (Ok taken) → TellsShut M store served.shelf new.shelf answer → new.settings ≡ served.settings
+      → ServesAndAsks N M store before after old new answer
+  asks before after old served new answer true is one asked settings = record { served = served; one = one; asked = asked; settings = settings }
+  asks before after old served new answer false is one asked settings = absurd (cc is)
 
   -- a fault of the next connection
   pub ends_by : (fault : ProgramFault) (before after : T) (old new : DeskOf S) → TakesOne N M before after old new (Err fault) → EndsBy N M store fault before after old new

@@ -80,6 +80,11 @@ EndsBy N M store Store before after old new =
 EndsBy N M store Input before after old new = FindsNoClock N.events before after × (new ≡ old)
 EndsBy N M store _ before after old new = ⊥
 
+-- one connection, or what comes in its place
+abbrev pub TakesTurn : {S T R W : Type 0} → Hosting T R W → Meaning S → Standing S → T → T → DeskOf S → DeskOf S → Result (Unit {0}) ProgramFault → Type 0
+TakesTurn N M store before after old new (Ok done) = IsOneTurn N M store before after old new
+TakesTurn N M store before after old new (Err fault) = EndsBy N M store fault before after old new
+
 -- all connections were taken, or fewer and one of these faults
 abbrev pub ServesInTurn : {S T R W : Type 0} → Hosting T R W → Meaning S → Standing S → ℕ → T → T → DeskOf S → DeskOf S → Result (Unit {0}) ProgramFault → Type 0
 ServesInTurn N M store count before after old new (Ok done) = GoesOnFor N M store count before after old new

@@ -69,6 +69,7 @@ fn halves<S: OpenStream + Drop>(stream: S) -> io::Result<(S, S)> {
 }
 
 /// The sockets of a computer, and its clock.
+#[derive(Drop)]
 pub struct Computer<'a, N: Net + Clock> {
     pub network: &'a N,
 }

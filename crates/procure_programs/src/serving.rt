@@ -2,7 +2,7 @@
 ghost use Rattle.std.specs.Prelude.{◌≡◌, ◌⊎◌, IfErr};
 ghost use Rattle.procure_programs.specs.Hosts.{hosting};
 ghost use Rattle.procure_programs.specs.Serving.{TurnsKeepCommands, TakesTurns};
-ghost use Rattle.procure_programs.specs.Turns.{ServesAt, ServesInTurn, TakesOne};
+ghost use Rattle.procure_programs.specs.Turns.{ServesAt, ServesInTurn, TakesOne, TakesTurn};
 
 use crate::clock::moment_now;
 use crate::connection::serve_connection;
@@ -35,7 +35,25 @@ pub fn take_one<T: Host, H: Shelf + Drop>(
     Ok(true)
 }
 
-// Serves so many connections, and after each asks whether the store is shut. Where there is no memory to ask, that is asked behind the next.
+// Serves the next connection, and asks behind it whether the store is shut. Where there is no memory to ask, that is asked behind the next.
+fn take_turn<T: Host, H: StoredShelf + Drop>(
+    alloc: Global,
+    host: &mut T,
+    office: &mut Office<H>,
+) -> Result<(), ProgramFault>
+    ensures { TakesTurn (hosting T.events T.Reader.remaining T.Writer.contents) H.meaning H.store host.old host.new office.old office.new result }
+{
+    let is_taken = take_one(alloc, host, office)?;
+    if !is_taken {
+        return Ok(());
+    }
+    if office.is_shut().unwrap_or(false) {
+        return Err(ProgramFault::Store);
+    }
+    Ok(())
+}
+
+// Serves so many connections.
 fn take_turns<T: Host, H: StoredShelf + Drop>(
     alloc: Global,
     host: &mut T,
@@ -45,15 +63,7 @@ fn take_turns<T: Host, H: StoredShelf + Drop>(
     ensures { ServesInTurn (hosting T.events T.Reader.remaining T.Writer.contents) H.meaning H.store count host.old host.new office.old office.new result }
 {
     'connections: for taken in 0..count {
-        match take_one(alloc, host, office) {
-            Err(fault) => return Err(fault),
-            Ok(false) => {}
-            Ok(true) => {
-                if office.is_shut().unwrap_or(false) {
-                    return Err(ProgramFault::Store);
-                }
-            }
-        }
+        take_turn(alloc, host, office)?;
     }
     Ok(())
 }
@@ -78,6 +88,7 @@ pub fn serve<T: Host, H: StoredShelf + Drop>(
 }
 
 /// Serves so many connections to 127.0.0.1 and this port, as `serve` does. `Input` also where the port can't be had; nothing is served then.
+#[tactic(auto, using(crate::proofs::ServingSteps::served_none))]
 pub fn serve_at<N: Network, H: StoredShelf + Drop>(
     alloc: Global,
     network: &N,

@@ -173,6 +173,7 @@ fn blocks_are_answered(rt: HostRuntime) {
 }
 
 /// Where one port is free.
+#[derive(Drop)]
 struct Ports {
     alloc: Global,
     free: u16,

@@ -1,6 +1,5 @@
-use Rattle.std.proofs.Common.{◌≡◌, ◌≤◌, ◌∙◌, arith, length}
+use Rattle.std.proofs.Common.{◌≡◌, ◌≤◌, ℕ, List, ◌∙◌, length, subst}
 use Rattle.std.specs.Prelude.{decimal}
-use Rattle.std.proofs.lemmas.Fmt.{length-decimal-le}
 use Rattle.office_http.proofs.ShortTexts.{fits_as, fits_then}
 use Rattle.office_http.proofs.refusing.put_what.Goals as goal
 
@@ -12,3 +11,9 @@ pub returns-in-Some-Row-clause-put : goal.returns-in-Some-Row-clause-put
 returns-in-Some-Row-clause-put c =
     let number = c.as_bytes-in-Some-Row.ensures.value ∙ c.format.ensures.text in
     fits_then _ _ _ _ _ c.put-in-Some-Row.ensures (fits_then _ _ _ _ _ (fits_as _ _ _ _ c.put-in-Some-Row-2.ensures number) c.put-in-Some-Row-3.ensures)
+
+pub returns-in-Some-Row-clause-number : goal.returns-in-Some-Row-clause-number
+returns-in-Some-Row-clause-number c n is =
+    let same : c.in-Some-Row.number ≡ n = cc is in
+    let few = subst (λ (t : List ℕ). length t ≤ 10) c.format.ensures.text c.format.ensures.fits in
+    subst (λ (k : ℕ). length (decimal k) ≤ 10) same few

@@ -1,8 +1,9 @@
-use Rattle.std.proofs.Common.{Ok, Err, refl}
+use Rattle.std.proofs.Common.{Err, ap, refl}
+use Rattle.procure_config.specs.declared.fault.ProgramFault.{ProgramFault}
 use Rattle.procure_programs.proofs.desk.answer_streams.Goals as goal
 
 pub returns-in-Ok-clause-ran : goal.returns-in-Ok-clause-ran
 returns-in-Ok-clause-ran g c = (c.run.result, rw c.in-Ok.is refl, c.run.ensures.stepped)
 
 pub returns-in-Err-clause-ran : goal.returns-in-Err-clause-ran
-returns-in-Err-clause-ran g c = (c.run.result, rw c.in-Err.is refl, c.run.ensures.stepped)
+returns-in-Err-clause-ran g c = (c.run.result, rw c.in-Err.is (ap (λ (f : ProgramFault). Err f) c.of_run.ensures), c.run.ensures.stepped)
