@@ -1,5 +1,5 @@
 -- How a program's faults are told.
-use Rattle.core.specs.Fmt.{with_newline}
+use Rattle.std.specs.Fmt.{with_newline}
 use Rattle.std.specs.Prelude.{codes, ◌≡◌, ◌≢◌, ℕ, List, ◌++◌, Option, Some, None}
 use Rattle.clap.specs.Words.{kind_of}
 use Rattle.clap.specs.declared.error.Error.{Error}

@@ -3,6 +3,6 @@ mod EmptyFile
 mod EmptyOpened
 mod OpenedFiles
 mod StoppedFiles
-mod Turns
-mod ConnectionSteps
+pub mod Turns
+pub mod ConnectionSteps
 pub mod FaultSteps

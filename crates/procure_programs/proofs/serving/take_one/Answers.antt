@@ -17,6 +17,6 @@ pub returns : goal.returns
 returns g c =
     served_one (hosting g.T.Host.events g.T.Reader.Read.remaining g.T.Writer.Write.contents) g.H.Lookups.meaning c.args.host.now c.accept.new.self
     c.in-Some.reader c.in-Some.writer (rw c.in-Some.is at c.accept.ensures)
-    c.moment_now.new.host c.close.new.self c.into_inner.result c.args.office.now c.serve_connection.new.office c.in_ok-moment.moment c.serve_connection.result
-    c.new.result.contents c.serve_connection.new.writer.contents c.in_ok-moment.ensures c.new.ensures.contents c.into_inner.ensures
-    c.serve_connection.ensures.served c.serve_connection.ensures.stepped c.serve_connection.ensures.before c.close.ensures
+    c.moment_now.new.host c.close.new.self c.into_inner.result c.args.office.now c.serve_connection-_ended.new.office c.in_ok-moment.moment c.serve_connection-_ended.result
+    c.new-watched.result.contents c.serve_connection-_ended.new.writer.contents c.in_ok-moment.ensures c.new-watched.ensures.contents c.into_inner.ensures
+    c.serve_connection-_ended.ensures.served c.serve_connection-_ended.ensures.stepped c.serve_connection-_ended.ensures.before c.close.ensures
