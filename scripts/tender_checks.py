@@ -84,7 +84,7 @@ def offer(scene: Scene) -> None:
     check(f"the office has {found.body!r}", (found["digest"], found["security"], found["lot"]) == (digest_of(RIGHT), receipt, "L1"))
     desk.press("Save the receipt")
     desk.press("Save what was sent")
-    kept, sent = json.loads(desk.saved(f"receipt-{receipt}.json")), desk.saved("N1-L1.csv")
+    kept, sent = json.loads(desk.saved(f"receipt-{receipt}.json")), desk.saved(f"N1-L1-receipt-{receipt}.csv")
     check(f"the receipt's file has {kept}", sent == RIGHT and all(kept[name] == found[name] for name in ("digest", "receipt", "moment", "state", "notice")))
     belongs(scene, desk, receipt)
     is_quiet(desk.page)
@@ -93,7 +93,7 @@ def offer(scene: Scene) -> None:
 def belongs(scene: Scene, desk: Desk, receipt: int) -> None:
     """The file and its receipt belong together, another file doesn't, and the office has the same."""
     desk.at("check", "Do a file")
-    desk.page.choose("check-file", scene.path("N1-L1.csv"))
+    desk.page.choose("check-file", scene.path(f"N1-L1-receipt-{receipt}.csv"))
     desk.says("63 bytes")
     desk.page.choose("check-receipt", scene.path(f"receipt-{receipt}.json"))
     desk.says("They belong together.")

@@ -1,6 +1,6 @@
 // Receipts: shown beside the digest that was computed here, printed, saved; and whether a file and a receipt belong together.
 import { bytesOfFile, inGroups, sha256 } from "../common/digest.js";
-import { element, facts, given, link, title } from "../common/draw.js";
+import { element, facts, given, link, placeOf, title } from "../common/draw.js";
 import { button, drop, note, printButton, save, sheet, steps } from "../common/forms.js";
 import { sourceOf } from "../common/frame.js";
 import { money, moment } from "../common/money.js";
@@ -10,14 +10,19 @@ import { session } from "./session.js";
 
 const MOST_RECEIPT = 16384;
 
-/** What a receipt says, as facts. */
-export function factsOf(receipt, price = null) {
+/** A security: its reference and amount where they are known, and the office's number of it. */
+function securityOf(number, { named, currency }) {
+  return number === null || number === undefined ? say("send.noSecurity")
+    : [named ? [given(named.security), `, ${money(named.amount, currency)}`, element("br")] : null, say("receipt.security", { number: String(number) })];
+}
+
+/** What a receipt says, as facts; `known` is what else is known: `named`, the security, in a `currency`, and `more` facts. */
+export function factsOf(receipt, known = {}) {
   const { tenderer, notice, lot, state, security } = receipt;
-  const named = security === null || security === undefined ? say("send.noSecurity") : say("receipt.security", { number: String(security) });
   return facts([[say("receipt.number"), String(receipt.receipt)], tenderer ? [say("send.as"), given(String(tenderer))] : null,
     notice ? [say("see.notice"), given(String(notice))] : null, lot ? [say("see.lot.short"), given(String(lot))] : null,
     [say("receipt.moment"), moment(String(receipt.moment))], [say("receipt.state"), hasText(`state.${state}`) ? say(`state.${state}`) : String(state)],
-    [say("see.security"), named], price].filter(Boolean));
+    [say("see.security"), securityOf(security, known)], ...(known.more ?? [])].filter(Boolean));
 }
 
 /** Whether what the office received is what was sent: green only where the digests are equal. */
@@ -40,7 +45,9 @@ export function drawReceipt(sent) {
   const { receipt } = sent;
   const isLate = receipt.state === "returned";
   const isSame = sent.digest === receipt.digest;
-  const offered = [say("see.price"), money(sent.price, sent.currency)];
+  const old = sent.replaces === null ? null : String(sent.replaces);
+  const more = [[say("see.price"), money(sent.price, sent.currency)], old && [say("send.replaces"), old]];
+  const nameOf = `${receipt.notice}-${receipt.lot}-receipt-${receipt.receipt}.csv`;
   const head = say("receipt.title", { receipt: String(receipt.receipt) });
   const keep = button(say("receipt.save"), () => {
     save(`receipt-${receipt.receipt}.json`, fileOf(receipt), "application/json");
@@ -48,11 +55,14 @@ export function drawReceipt(sent) {
   });
   return { title: head, isSheet: true, content: [title(head),
     isLate ? note("bad", say("receipt.late"), say("receipt.late.what"))
-      : note(isSame ? "good" : "look", say("receipt.sealed"), isSame ? say("receipt.sealed.what") : null),
+      : note(isSame ? "good" : "look", say("receipt.sealed"), old && say("receipt.replaced", { receipt: old }),
+        isSame ? say("receipt.sealed.what") : null),
     compared(sent.digest, receipt.digest),
-    sheet(element("h2", {}, say("receipt.sheet")), factsOf({ ...receipt, tenderer: session.caller?.caller }, offered), element("p", {}, say("receipt.digest")),
-      element("p", { class: "code" }, receipt.digest), element("p", { class: "quiet" }, say("receipt.secret")), element("p", { class: "quiet" }, sourceOf())),
-    steps(keep, button(say("receipt.saveFile"), () => save(sent.name, sent.bytes, "text/csv")), printButton(),
+    sheet(element("h2", {}, say("receipt.sheet")), factsOf({ ...receipt, tenderer: session.caller?.caller }, { ...sent, more }),
+      element("p", {}, say("receipt.digest")), element("p", { class: "code" }, inGroups(receipt.digest)),
+      element("p", { class: "quiet" }, say("receipt.secret")), element("p", { class: "quiet" }, sourceOf())),
+    steps(keep, button(say("receipt.saveFile"), () => save(nameOf, sent.bytes, "text/csv")), printButton(),
+      sent.lots > 1 ? link(say("receipt.lots"), placeOf("offer", receipt.notice), "button second") : null,
       link(say("tenders.title"), "#tenders", "button second"))] };
 }
 

@@ -9,7 +9,7 @@ import { hasText, say } from "../common/texts.js";
 import { becameOf } from "./became.js";
 import { deadlineOf, securityFaults, securityOf } from "./offer.js";
 import { drawReceipt } from "./receipt.js";
-import { noticeOf, readyOf, session } from "./session.js";
+import { keep, keptOf, noticeOf, readyOf, session } from "./session.js";
 
 /** What will be read at the opening: each item's row, the price, and what is corrected. */
 function readingTable({ rows, price, stated, corrections }, { lot, terms }) {
@@ -43,14 +43,17 @@ async function lookAt({ notice, lot, length }, { receipt, digest, moment, securi
 async function taken(sent, answer, text) {
   const found = await lookAt(sent, answer);
   session.seen.delete(sent.notice);
+  keep(found.receipt, { units: sent.units, named: sent.named });
   Object.assign(session, { changing: null, offer: null, sent: { ...sent, receipt: found, text, isOpen: false, isGoing: false, fault: null } });
 }
 
 /** Sends an offer, once. What came of it stands in `session.sent` then. */
 async function send(offer, ready, digest) {
   const { notice, currency } = offer.terms;
-  const sent = { kind: offer.changes === null ? "present" : "modify", notice, lot: offer.lot.id, receipt: offer.changes, digest, currency,
-    price: ready.reading.price, length: ready.bytes.length, name: `${notice}-${offer.lot.id}.csv`, bytes: ready.bytes, known: offer.known };
+  const units = Object.fromEntries(ready.reading.rows.map(({ name, unit }) => [name, String(unit)]));
+  const named = offer.changes === null ? securityOf(offer) : keptOf(offer.changes).named;
+  const sent = { kind: offer.changes === null ? "present" : "modify", notice, lot: offer.lot.id, receipt: offer.changes, replaces: offer.changes, digest,
+    currency, price: ready.reading.price, length: ready.bytes.length, bytes: ready.bytes, known: offer.known, units, named, lots: offer.terms.lots.length };
   session.sent = { ...sent, isOpen: true, isGoing: true };
   try {
     const { value, text } = sent.kind === "present" ? await present(notice, sent.lot, ready.bytes, securityOf(offer), session.caller)

@@ -14,12 +14,24 @@ export const session = {
   // The tenders that were looked for and found, and the notices that were looked into.
   tenders: [],
   seen: new Set(),
+  // What this tab knows of a tender by its receipt: the unit prices that it sent, and its security.
+  kept: new Map(),
 };
 
 /** Puts the key away, and all that was learned by it. */
 export function putAway() {
   Object.assign(session, { caller: null, offer: null, sent: null, changing: null, tenders: [] });
   session.seen.clear();
+  session.kept.clear();
+}
+
+/** What this tab knows of the tender with a receipt: `units`, the prices that were sent for its items, and `named`, its security, where it has them. */
+export function keptOf(receipt) {
+  return session.kept.get(receipt) ?? {};
+}
+
+export function keep(receipt, more) {
+  session.kept.set(receipt, { ...keptOf(receipt), ...more });
 }
 
 /** The terms of a notice, with what its record tells beside them. */

@@ -10,7 +10,7 @@ import { becameOf } from "./became.js";
 import { factsOf } from "./receipt.js";
 import { drawResults } from "./results.js";
 import { openPart, refusedPart } from "./send.js";
-import { noticeOf, session } from "./session.js";
+import { keep, noticeOf, session } from "./session.js";
 
 const KINDS = { sealed: "open", opened: "ended", withdrawn: "stopped", returned: "stopped" };
 // How many notices are looked into by themselves, and how many at a time.
@@ -152,9 +152,12 @@ export async function drawTender({ redraw }, receipt) {
   const lot = one.lots.find(({ id }) => id === found.lot);
   const isOut = found.state === "withdrawn" || found.state === "returned" || held?.state === "forfeited" || lot.state !== "undecided";
   const isBefore = Date.parse(one.deadline) > officeNow();
+  const named = held ? { security: held.reference, amount: held.amount } : null;
+  keep(found.receipt, { named });
   const head = say("tenders.one", { receipt: String(receipt) });
   return { title: head, content: [title(head), element("p", {}, stateBadge(found.state)), element("p", {}, given(one.title), " – ", given(lot.title)),
-    factsOf(found), element("p", {}, say("tenders.digest", { count: found.length })), element("p", { class: "code" }, inGroups(found.digest)),
+    factsOf(found, { named, currency: one.currency }), element("p", {}, say("tenders.digest", { count: found.length })),
+    element("p", { class: "code" }, inGroups(found.digest)),
     found.state === "opened" ? await drawResults(found) : null, held ? securityPart(held, one.currency) : null,
     found.state === "sealed" && isBefore ? changePart(found, one) : null, isOut ? null : withdrawPart(found, one, held, redraw),
     element("p", {}, link(say("tenders.title"), "#tenders"))] };
