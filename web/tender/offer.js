@@ -9,7 +9,7 @@ import { notices, officeNow } from "../common/office.js";
 import { asked, termList } from "../common/terms.js";
 import { say } from "../common/texts.js";
 import { MOST_PRICE } from "./papers.js";
-import { beginOffer, noticeOf, readyOf, session } from "./session.js";
+import { beginOffer, keptOf, noticeOf, readyOf, session } from "./session.js";
 import { drawTable } from "./table.js";
 
 const AT_ONCE = 50;
@@ -117,6 +117,13 @@ async function filePart(offer, redraw) {
   return drawFile(offer, (sentence, isWrong) => redraw(sentence, isWrong, "offer-file"));
 }
 
+/** What a change is: of which tender, what becomes of its security, and where the prices of that one are. */
+function changeNote({ changes, lot, terms: one }) {
+  const receipt = String(changes);
+  return note("look", say("offer.changes", { receipt }), say("offer.changes.why"), lot.security ? say("change.security") : null,
+    keptOf(changes).units ? say("offer.changes.there") : say("offer.changes.file", { receipt, file: `${one.notice}-${lot.id}-receipt-${receipt}.csv` }));
+}
+
 /** The view of an offer for a lot. */
 async function drawLot(notice, name, { redraw }) {
   const one = await noticeOf(notice);
@@ -136,7 +143,7 @@ async function drawLot(notice, name, { redraw }) {
   update();
   const head = say("offer.for", { lot: name, notice });
   return { title: head, content: [title(head), element("p", {}, given(one.title), " – ", given(lot.title)), termsOf(one),
-    changes === null ? null : note("look", say("offer.changes", { receipt: String(changes) }), say("offer.changes.why")),
+    changes === null ? null : changeNote(offer),
     element("h2", {}, say("offer.prices")), sources(offer, redraw), prices, changes === null ? securityFields(offer) : null, steps(go, keep)] };
 }
 

@@ -45,7 +45,7 @@ export function beginOffer(one, lot, changes) {
   const old = session.offer;
   const isSame = old && old.terms.notice === one.notice && old.lot.id === lot.id && old.changes === changes;
   session.offer = isSame ? Object.assign(old, { terms: one, lot })
-    : { terms: one, lot, changes, units: {}, source: "table", file: null, security: { reference: "", amount: "" } };
+    : { terms: one, lot, changes, units: { ...keptOf(changes).units }, source: "table", file: null, security: { reference: "", amount: "" } };
   return session.offer;
 }
 

@@ -133,7 +133,8 @@ function changePart(found, one) {
     session.changing = { notice: found.notice, lot: found.lot, receipt: found.receipt };
     location.hash = placeOf("offer", found.notice, found.lot);
   });
-  return section(say("change.title"), element("p", {}, say("change.why"), " ", clock(one.deadline)), steps(press));
+  return section(say("change.title"), element("p", {}, say("change.why"),
+    found.security === null ? "" : ` ${say("change.security")}`, " ", clock(one.deadline)), steps(press));
 }
 
 /** A tender's security as it stands. */
