@@ -145,7 +145,7 @@ def changes(scene: Scene) -> None:
     old = scene.client.present("T2", "N1", "L1", RIGHT, "G5", 55)["receipt"]
     desk = Desk(scene, "T2")
     desk.at("tenders", "My tenders")
-    desk.page.wait(f"[...document.querySelectorAll('main tbody a')].some((at) => at.textContent === '{old}')")
+    desk.page.wait(f"[...document.querySelectorAll('main tbody a')].some((at) => at.textContent === 'Change or withdraw {old}')")
     desk.at(f"tender/{old}", f"Tender with receipt {old}")
     desk.says("G5")
     desk.press("Change the tender")

@@ -186,6 +186,7 @@ export default {
   "check.other": "Die Vergabestelle hat unter dieser Nummer etwas anderes. Sagen Sie es ihr, und zeigen Sie Quittung und Datei.",
   "tenders.title": "Meine Angebote", "tenders.one": "Angebot mit der Quittung {receipt}", "tenders.none": "Es wurde keines Ihrer Angebote gefunden.",
   "tenders.caption": ["{count} Angebot, das neueste zuerst", "{count} Angebote, das neueste zuerst"], "tenders.what": "Für",
+  "tenders.do": "Was Sie tun können", "tenders.do.change": "{receipt} ändern oder zurückziehen", "tenders.do.look": "{receipt} ansehen",
   "tenders.search": "In allen nachsehen", "tenders.looks": "In {at} von {count} Bekanntmachungen wurde nachgesehen …",
   "tenders.found": ["{count} Angebot ist Ihres.", "{count} Angebote sind Ihre."],
   "tenders.digest": ["SHA-256 des {count} Bytes, das angekommen ist:", "SHA-256 der {count} Byte, die angekommen sind:"],

@@ -153,6 +153,7 @@ export default {
   "check.stands": "The office has the same.", "check.other": "The office has something else under this number. Tell the clerk, and show receipt and file.",
   "tenders.title": "My tenders", "tenders.one": "Tender with receipt {receipt}", "tenders.none": "None of your tenders was found.",
   "tenders.caption": ["{count} tender, the newest first", "{count} tenders, the newest first"], "tenders.what": "For",
+  "tenders.do": "What you can do", "tenders.do.change": "Change or withdraw {receipt}", "tenders.do.look": "Look at {receipt}",
   "tenders.search": "Look into all of them", "tenders.looks": "{at} of {count} notices were looked into …",
   "tenders.found": ["{count} tender is yours.", "{count} tenders are yours."],
   "tenders.digest": ["SHA-256 of the {count} byte that the office holds:", "SHA-256 of the {count} bytes that were received:"],

@@ -1,7 +1,7 @@
 // The caller's tenders, looked for notice by notice, each with its state and security; changed or withdrawn.
 import { clock } from "../common/clock.js";
 import { inGroups } from "../common/digest.js";
-import { badge, element, facts, given, link, placeOf, section, title } from "../common/draw.js";
+import { badge, below, element, facts, given, link, placeOf, section, title } from "../common/draw.js";
 import { button, note, steps, table, tick } from "../common/forms.js";
 import { money, moment } from "../common/money.js";
 import { Refused, notices, officeNow, ownTenders, security, sentenceOf, tender, withdraw } from "../common/office.js";
@@ -24,15 +24,16 @@ function list() {
   if (session.tenders.length === 0) {
     return element("p", {}, say("tenders.none"));
   }
-  const heads = ["receipt.number", "tenders.what", "receipt.moment", "receipt.state"].map((name) => say(name));
-  return table(say("tenders.caption", { count: session.tenders.length }), heads, session.tenders.map(({ receipt, notice, lot, moment: came, state }) => [
-    link(String(receipt), placeOf("tender", String(receipt))), [given(notice), ", ", say("see.lot", { lot })], moment(came), stateBadge(state)]));
+  const heads = ["receipt.number", "tenders.what", "receipt.moment", "receipt.state", "tenders.do"].map((name) => say(name));
+  return table(say("tenders.caption", { count: session.tenders.length }), heads, session.tenders.map(({ receipt, moment: came, state, isOpen, ...one }) => [
+    String(receipt), [given(one.title), below(given(one.notice), ", ", say("see.lot", { lot: one.lot }))], moment(came), stateBadge(state),
+    link(say(state === "sealed" && isOpen ? "tenders.do.change" : "tenders.do.look", { receipt: String(receipt) }), placeOf("tender", String(receipt)))]));
 }
 
 /** Looks into these notices, and keeps what of their tenders is the caller's, the newest first. */
 async function lookInto(rows) {
-  const found = await Promise.all(rows.map(async ({ notice }) =>
-    (await ownTenders(notice, session.caller)).map((one) => ({ ...one, notice }))));
+  const found = await Promise.all(rows.map(async ({ notice, title: named, deadline }) =>
+    (await ownTenders(notice, session.caller)).map((one) => ({ ...one, notice, title: named, isOpen: Date.parse(deadline) > officeNow() }))));
   const names = rows.map(({ notice }) => notice);
   session.tenders = [...session.tenders.filter(({ notice }) => !names.includes(notice)), ...found.flat()].sort((one, other) => other.receipt - one.receipt);
   names.forEach((name) => session.seen.add(name));
