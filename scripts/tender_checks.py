@@ -157,6 +157,7 @@ def changes(scene: Scene) -> None:
     check(f"the tenders are {states}", states == ["withdrawn", "sealed"])
     desk.at(f"tender/{new}", f"Tender with receipt {new}")
     check(f"the price of a withdrawal is told so: {desk.page.text()}", desk.has("look", "Nothing: the security of 55 EUR (G5) goes back."))
+    check("what it costs late isn't told", desk.has("look", "After the deadline this notice lets nobody withdraw."))
     check("it can be withdrawn without a tick", not desk.can_press("Withdraw the tender"))
     is_close(scene, desk, new)
     desk.tick("withdraw-sure")

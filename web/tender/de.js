@@ -200,6 +200,9 @@ export default {
   "withdraw.title": "Zurückziehen", "withdraw.price": "Was es kostet",
   "withdraw.free.none": "Nichts. Bis zum Ablauf der Frist kann ein anderes Angebot abgegeben werden.",
   "withdraw.free.security": "Nichts: Die Sicherheit von {amount} geht zurück. Bis zum Ablauf der Frist kann ein anderes Angebot abgegeben werden.",
+  "withdraw.behind.security": "Nach Ablauf der Frist kostet es die Sicherheit von {amount}: Sie verfällt, und an seiner Stelle "
+    + "kann nichts mehr abgegeben werden.",
+  "withdraw.behind.none": "Nach Ablauf der Frist kann an seiner Stelle nichts mehr abgegeben werden.",
   "withdraw.close.security": "Bis zum Ende der Frist ist es weniger als eine Minute. Bis dahin kostet es nichts; kommt es zu spät, verfällt die Sicherheit von "
     + "{amount}, das Angebot kann nicht mehr gewinnen, und an seiner Stelle kann nichts mehr abgegeben werden.",
   "withdraw.close.none": "Bis zum Ende der Frist ist es weniger als eine Minute. Kommt es zu spät, kann das Angebot nicht mehr gewinnen, und an seiner Stelle "

@@ -165,6 +165,8 @@ export default {
   "security.returned.why": "It stays so.", "security.forfeited.why": "You withdrew from the deadline on, or won and didn't sign. It stays so.",
   "withdraw.title": "Withdraw it", "withdraw.price": "What it costs", "withdraw.free.none": "Nothing. Another tender may be handed in until the deadline.",
   "withdraw.free.security": "Nothing: the security of {amount} goes back. Another tender may be handed in until the deadline.",
+  "withdraw.behind.security": "From the deadline on it costs the security of {amount}: it is forfeited, and nothing can be handed in in the tender's place.",
+  "withdraw.behind.none": "From the deadline on nothing can be handed in in its place.",
   "withdraw.close.security": "The deadline is less than a minute away. Until then it costs nothing; where it comes late, the security of {amount} is forfeited, "
     + "the tender can't win any more, and nothing can be handed in in its place.",
   "withdraw.close.none": "The deadline is less than a minute away. Where it comes late, the tender can't win any more, and nothing can be handed in in its "

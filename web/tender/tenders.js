@@ -91,7 +91,9 @@ function costOf(one, held, time) {
   if (time === "late" && one.late_withdrawal === "refused") {
     return { kind: "bad", sentence: say("withdraw.refused"), isRefused: true };
   }
-  return { kind: time === "free" ? "look" : "bad", sentence: say(`withdraw.${time}.${held ? "security" : "none"}`, { amount }) };
+  const what = held ? "security" : "none";
+  const behind = time !== "free" ? null : say(one.late_withdrawal === "refused" ? "withdraw.refused" : `withdraw.behind.${what}`, { amount });
+  return { kind: time === "free" ? "look" : "bad", sentence: say(`withdraw.${time}.${what}`, { amount }), behind };
 }
 
 async function take(sent, where, redraw) {
@@ -119,14 +121,14 @@ async function take(sent, where, redraw) {
 /** The part that withdraws a tender: the price is said before the button, and the button wants a tick. Where it is another by then, it is said anew. */
 function withdrawPart(found, one, held, redraw) {
   const time = timeOf(one);
-  const { kind, sentence, isRefused } = costOf(one, held, time);
+  const { kind, sentence, behind, isRefused } = costOf(one, held, time);
   const where = element("div", { "aria-live": "polite" });
   const sent = { kind: "withdraw", notice: found.notice, receipt: found.receipt, isLate: time !== "free" };
   const press = button(say("withdraw.press", { receipt: String(found.receipt) }),
     () => (timeOf(one) === time ? take(sent, where, redraw) : redraw(say("withdraw.anew"), true)), "harm");
   press.disabled = true;
   const sure = tick(say("withdraw.sure"), (isTicked) => { press.disabled = !isTicked; }, "withdraw-sure");
-  return section(say("withdraw.title"), note(kind, say("withdraw.price"), sentence), isRefused ? null : [sure.made, steps(press)], where);
+  return section(say("withdraw.title"), note(kind, say("withdraw.price"), sentence, behind), isRefused ? null : [sure.made, steps(press)], where);
 }
 
 function changePart(found, one) {
