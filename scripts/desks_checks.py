@@ -26,7 +26,7 @@ def make_key(scene: Scene, name: str, firm: str, address: str) -> tender_page.De
         desk.fill(f"key-{field}", text)
     desk.press("Make the key")
     desk.saved(f"{name}.key")
-    desk.press("Save it as a file for the clerk")
+    desk.press("Save the sheet as a file for the clerk")
     desk.saved(f"registration-{name}.json")
     desk.page.choose("key-file", scene.path(f"{name}.key"))
     desk.says("its file was saved")

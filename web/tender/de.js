@@ -18,9 +18,9 @@ export default {
   "home.tenders.go": "Zu meinen Angeboten", "home.check": "Eine Quittung prüfen", "home.check.why": "Ob eine Datei und eine Quittung zusammengehören.",
   "home.check.go": "Quittung prüfen",
   "home.keeps": "Sie brauchen einen Browser und einen Ort für Dateien: Ihren Schlüssel, was Sie abgegeben haben, und die Quittung dazu.",
-  "key.title": "Schlüssel", "key.use": "Ihren Schlüssel verwenden", "key.drop": "Die Datei Ihres Schlüssels",
+  "key.title": "Schlüssel", "key.use": "Den Schlüssel verwenden, den Sie haben", "key.drop": "Die Datei Ihres Schlüssels",
   "key.drop.hint": "Ziehen Sie sie hierher oder wählen Sie sie aus. Sie endet auf .key",
-  "key.drop.why": "Sie wird in den Speicher dieses Tabs gelesen und geht mit Ihren Anfragen an die Vergabestelle, sonst nirgendwohin.",
+  "key.drop.why": "Die Datei wird in den Speicher dieses Tabs gelesen und geht mit Ihren Anfragen an die Vergabestelle, sonst nirgendwohin.",
   "key.taken": "Der Schlüssel von {name} wurde gelesen.",
   "key.noKey": "In dieser Datei ist kein Schlüssel. Sie hat zwei Zeilen, Office-Caller: und Office-Key:",
   "key.there": "Der Schlüssel von {name} ist allein in diesem Tab.",
@@ -42,7 +42,10 @@ export default {
   "key.sheet.why": "Für die Vergabestelle: Bitte tragen Sie diesen Bieter unter dieser Kennung ein. Der Schlüssel selbst ist das Geheimnis des Bieters und "
     + "steht nicht auf diesem Blatt.",
   "key.sheet.digest": "SHA-256 des Schlüssels, 64 hexadezimale Ziffern (Leerzeichen nur zum Lesen):", "key.another": "Einen anderen Schlüssel machen",
-  "key.sheet.save": "Als Datei für die Vergabestelle speichern", "key.sheet.sign.tenderer": "Datum, Unterschrift für den Bieter",
+  "key.next": "Wie es weitergeht",
+  "key.next.give": "Geben Sie das Blatt unten der Vergabestelle: ausgedruckt und unterschrieben, oder seine Datei per E-Mail.",
+  "key.next.ask": "Die Vergabestelle trägt Sie ein. Fragen Sie oben, ob es geschehen ist.", "key.next.offer": "Dann machen Sie ein Angebot.",
+  "key.sheet.save": "Das Blatt als Datei für die Vergabestelle speichern", "key.sheet.sign.tenderer": "Datum, Unterschrift für den Bieter",
   "key.sheet.sign.clerk": "Eingetragen am, Unterschrift der Vergabestelle", "key.lost": "Die Datei meines Schlüssels ist verloren",
   "key.lost.what": "Ein verlorener Schlüssel ist nicht wieder herzustellen, und niemand kann ihn Ihnen nennen. Machen Sie einen anderen und lassen Sie ihn "
     + "unter einer anderen Kennung eintragen. Was mit dem verlorenen abgegeben wurde, bleibt, wie es ist: Es kann nicht mehr geändert oder zurückgezogen "

@@ -16,8 +16,9 @@ export default {
   "home.tenders.why": "How they stand, and their securities. Change or withdraw one, and see what came of it.", "home.tenders.go": "To my tenders",
   "home.check": "Check a receipt", "home.check.why": "Whether a file and a receipt belong together.", "home.check.go": "Check a receipt",
   "home.keeps": "You need a browser, and a place to keep files: your key, what you handed in, and its receipt.",
-  "key.title": "Key", "key.use": "Use your key", "key.drop": "The file of your key", "key.drop.hint": "Drop it here, or choose it. It ends in .key",
-  "key.drop.why": "It is read into the memory of this tab and goes with what you ask of the office, and nowhere else.",
+  "key.title": "Key", "key.use": "Use the key that you have", "key.drop": "The file of your key",
+  "key.drop.hint": "Drop it here, or choose it. It ends in .key",
+  "key.drop.why": "The file is read into the memory of this tab and goes with what you ask of the office, and nowhere else.",
   "key.taken": "The key of {name} was read.", "key.noKey": "There is no key in this file. It has two lines, Office-Caller: and Office-Key:",
   "key.there": "The key of {name} is in this tab alone.",
   "key.there.why": "When you close the tab it is forgotten; the file stays where you have it. Who has the file can hand in, change and withdraw in your name.",
@@ -34,7 +35,10 @@ export default {
   "key.sheet.why": "For the clerk of the procurement office: please register this tenderer under this identifier. The key itself is the tenderer's secret "
     + "and isn't on this sheet.",
   "key.sheet.digest": "SHA-256 of the key, 64 hexadecimal digits (blanks are for reading alone):", "key.another": "Make another key",
-  "key.sheet.save": "Save it as a file for the clerk", "key.sheet.sign.tenderer": "Date, signature for the tenderer",
+  "key.next": "What comes next",
+  "key.next.give": "Give the sheet below to the clerk's office: printed and signed, or its file by mail.",
+  "key.next.ask": "The clerk registers you. Ask above whether it is done.", "key.next.offer": "Then make an offer.",
+  "key.sheet.save": "Save the sheet as a file for the clerk", "key.sheet.sign.tenderer": "Date, signature for the tenderer",
   "key.sheet.sign.clerk": "Registered on, signature of the clerk", "key.lost": "The file of my key is lost",
   "key.lost.what": "A lost key can't be made again, and nobody can tell it to you. Make another one, and let the clerk register it under another "
     + "identifier. What you handed in with the lost one stands as it is: it can't be changed or withdrawn any more, and its receipts still prove it.",

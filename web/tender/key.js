@@ -1,7 +1,7 @@
 // The key: read from its file, made anew, asked whether it is registered; and the sheet by which the clerk registers it.
 import { isId } from "../common/csv.js";
 import { bytesOf, bytesOfFile, inGroups, newKey, sha256 } from "../common/digest.js";
-import { element, facts, given, section, title } from "../common/draw.js";
+import { element, facts, given, link, section, title } from "../common/draw.js";
 import { ID, areRight, button, drop, field, form, lineText, note, printButton, save, sheet, signs, steps } from "../common/forms.js";
 import { sourceOf } from "../common/frame.js";
 import { sentenceOf, tender } from "../common/office.js";
@@ -40,7 +40,7 @@ async function ask(where) {
       return;
     }
   }
-  where.replaceChildren(note("good", say("key.registered", { name: session.caller.caller })));
+  where.replaceChildren(note("good", say("key.registered", { name: session.caller.caller }), link(say("offer.title"), "#offer", "button")));
 }
 
 function ofKey(context) {
@@ -89,7 +89,8 @@ function registrationSheet(context) {
     session.registration = { tenderer: "", name: "", address: "", digest: "" };
     context.redraw();
   }, "second");
-  return [steps(printButton(), keep, other), sheet(element("h2", {}, say("key.sheet")), element("p", {}, say("key.sheet.why")),
+  return [section(say("key.next"), element("ol", {}, ["give", "ask", "offer"].map((name) => element("li", {}, say(`key.next.${name}`))))),
+    steps(printButton(), keep, other), sheet(element("h2", {}, say("key.sheet")), element("p", {}, say("key.sheet.why")),
     facts([[say("key.tenderer"), given(tenderer)], [say("key.name"), given(name)], [say("key.address"), given(address)]]),
     element("p", {}, say("key.sheet.digest")), element("p", { class: "code" }, inGroups(digest)), element("p", { class: "quiet" }, sourceOf()),
     signs(say("key.sheet.sign.tenderer"), say("key.sheet.sign.clerk")))];
@@ -101,6 +102,6 @@ export function drawKey(context) {
   const isMade = registration.digest !== "";
   return { title: say("key.title"), isSheet: isMade, content: [title(say("key.title")),
     isMade && !registration.isSaved ? note("look", say("key.dropMade", { file: `${registration.tenderer}.key` }), say("key.dropMade.why")) : null,
-    section(say("key.use"), ofKey(context)), isMade ? registrationSheet(context) : null,
-    session.caller || isMade ? null : section(say("key.new"), ofMaking(context))] };
+    session.caller || isMade ? null : section(say("key.new"), ofMaking(context)), section(say("key.use"), ofKey(context)),
+    isMade ? registrationSheet(context) : null] };
 }
