@@ -99,7 +99,7 @@ def belongs(scene: Scene, desk: Desk, receipt: int) -> None:
     desk.page.choose("check-receipt", scene.path(f"receipt-{receipt}.json"))
     desk.says("They belong together.")
     desk.press("Ask the office")
-    desk.says("The office has the same.")
+    desk.says("The office has the same tender.")
     desk.page.choose("check-file", scene.put("other.csv", RIGHT + b"\n"))
     desk.says("They don't belong together.")
     check("a wrong file is green", not desk.has("good", "belong") and "another length" in desk.page.text())

@@ -12,7 +12,7 @@ export default {
   "refusal.Forbidden": "Das ist nicht für die Person, der der Schlüssel gehört.",
   "refusal.BadBody": "In dem, was gesendet wurde, fehlt etwas oder ist etwas falsch.",
   "refusal.BadBody.body": "Was gesendet wurde, ist leer, zu lang oder nicht in der Form, die die Vergabestelle liest.",
-  "refusal.BadBody.security": "Das Zeichen der Sicherheit fehlt oder ist keines: 1 bis 32 Buchstaben ohne Umlaute, Ziffern, _ . oder -",
+  "refusal.BadBody.security": "Die Nummer der Sicherheit fehlt oder ist keine: 1 bis 32 Buchstaben ohne Umlaute, Ziffern, _ . oder -",
   "refusal.BadBody.amount": "Der Betrag fehlt oder ist keiner: eine ganze Zahl von 1 bis 1.000.000.000.000.", "refusal.NoSuch": "Das gibt es nicht.",
   "refusal.NoSuch.line": "Diesen Haushaltstitel gibt es nicht.",
   "refusal.NoSuch.notice": "Eine Bekanntmachung mit dieser Nummer gibt es nicht. Achten Sie auf die Schreibweise: Groß- und Kleinbuchstaben sind verschieden.",
