@@ -154,6 +154,8 @@ def changes(scene: Scene) -> None:
     desk.press("Look at it")
     desk.press(f"Send it in the place of receipt {old}")
     new = desk.receipt()
+    check(f"what it took the place of isn't told: {desk.page.text()}", desk.has("good", f"the tender with receipt {old}, which no longer counts"))
+    check(f"the security isn't told: {desk.page.text()}", "G5, 55 EUR" in desk.page.text())
     states = [scene.client.tender("T2", receipt)["state"] for receipt in (old, new)]
     check(f"the tenders are {states}", states == ["withdrawn", "sealed"])
     desk.at(f"tender/{new}", f"Tender with receipt {new}")
@@ -173,6 +175,7 @@ def changes(scene: Scene) -> None:
     told = scene.client.tender("T2", new)["state"], scene.client.security("T2", old)["state"]
     check(f"the office has {told}", told == ("withdrawn", "returned"))
     desk.at("tenders", "My tenders")
+    desk.says(f"replaced by {new}")
     check("own tenders aren't found", desk.page.run("document.querySelectorAll('tbody tr').length") >= 4)
     check("a notice wasn't looked into", not desk.can_press("Look into all"))
     is_quiet(desk.page)

@@ -44,6 +44,9 @@ async function taken(sent, answer, text) {
   const found = await lookAt(sent, answer);
   session.seen.delete(sent.notice);
   keep(found.receipt, { units: sent.units, named: sent.named });
+  if (sent.replaces !== null) {
+    keep(sent.replaces, { successor: found.receipt });
+  }
   Object.assign(session, { changing: null, offer: null, sent: { ...sent, receipt: found, text, isOpen: false, isGoing: false, fault: null } });
 }
 

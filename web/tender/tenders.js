@@ -10,14 +10,23 @@ import { becameOf } from "./became.js";
 import { factsOf } from "./receipt.js";
 import { drawResults } from "./results.js";
 import { openPart, refusedPart } from "./send.js";
-import { keep, noticeOf, session } from "./session.js";
+import { keep, keptOf, noticeOf, session } from "./session.js";
 
 const KINDS = { sealed: "open", opened: "ended", withdrawn: "stopped", returned: "stopped" };
 // How many notices are looked into by themselves, and how many at a time.
 const AT_FIRST = 30, TOGETHER = 6;
 
-function stateBadge(state) {
-  return badge(KINDS[state] ?? "running", hasText(`state.${state}`) ? say(`state.${state}`) : state);
+/** The receipt of what took a tender's place, where that is known: it was sent from this tab, or took the security over. */
+function successorOf({ receipt, security: number }) {
+  const heirs = session.tenders.filter((one) => one.receipt > receipt && number !== null && one.security === number);
+  return keptOf(receipt).successor ?? heirs.at(-1)?.receipt;
+}
+
+function stateBadge(one) {
+  const { state } = one;
+  const successor = state === "withdrawn" ? successorOf(one) : undefined;
+  return successor ? badge("ended", say("tenders.replaced", { receipt: String(successor) }))
+    : badge(KINDS[state] ?? "running", hasText(`state.${state}`) ? say(`state.${state}`) : state);
 }
 
 function list() {
@@ -26,7 +35,7 @@ function list() {
   }
   const heads = ["receipt.number", "tenders.what", "receipt.moment", "receipt.state", "tenders.do"].map((name) => say(name));
   return table(say("tenders.caption", { count: session.tenders.length }), heads, session.tenders.map(({ receipt, moment: came, state, isOpen, ...one }) => [
-    String(receipt), [given(one.title), below(given(one.notice), ", ", say("see.lot", { lot: one.lot }))], moment(came), stateBadge(state),
+    String(receipt), [given(one.title), below(given(one.notice), ", ", say("see.lot", { lot: one.lot }))], moment(came), stateBadge({ ...one, receipt, state }),
     link(say(state === "sealed" && isOpen ? "tenders.do.change" : "tenders.do.look", { receipt: String(receipt) }), placeOf("tender", String(receipt)))]));
 }
 
@@ -159,7 +168,7 @@ export async function drawTender({ redraw }, receipt) {
   const named = held ? { security: held.reference, amount: held.amount } : null;
   keep(found.receipt, { named });
   const head = say("tenders.one", { receipt: String(receipt) });
-  return { title: head, content: [title(head), element("p", {}, stateBadge(found.state)), element("p", {}, given(one.title), " – ", given(lot.title)),
+  return { title: head, content: [title(head), element("p", {}, stateBadge(found)), element("p", {}, given(one.title), " – ", given(lot.title)),
     factsOf(found, { named, currency: one.currency }), element("p", {}, say("tenders.digest", { count: found.length })),
     element("p", { class: "code" }, inGroups(found.digest)),
     found.state === "opened" ? await drawResults(found) : null, held ? securityPart(held, one.currency) : null,
