@@ -150,6 +150,7 @@ def changes(scene: Scene) -> None:
     desk.at(f"tender/{old}", f"Tender with receipt {old}")
     desk.says("G5")
     desk.press("Change the tender")
+    desk.says(f"take the file that you saved with receipt {old}, as N1-L1-receipt-{old}.csv")
     desk.prices("N1", "L1", 140, 12)
     desk.press("Look at it")
     desk.press(f"Send it in the place of receipt {old}")
@@ -158,6 +159,11 @@ def changes(scene: Scene) -> None:
     check(f"the security isn't told: {desk.page.text()}", "G5, 55 EUR" in desk.page.text())
     states = [scene.client.tender("T2", receipt)["state"] for receipt in (old, new)]
     check(f"the tenders are {states}", states == ["withdrawn", "sealed"])
+    desk.at(f"tender/{new}", f"Tender with receipt {new}")
+    desk.press("Change the tender")
+    desk.says("The prices that you sent from this tab are filled in.")
+    prices = [desk.page.run(f"document.getElementById('unit-{at}').value") for at in (0, 1)]
+    check(f"the prices that are filled in are {prices}", prices == ["140", "12"])
     desk.at(f"tender/{new}", f"Tender with receipt {new}")
     check(f"the price of a withdrawal is told so: {desk.page.text()}", desk.has("look", "Nothing: the security of 55 EUR (G5) goes back."))
     check("what it costs late isn't told", desk.has("look", "After the deadline this notice lets nobody withdraw."))
