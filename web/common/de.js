@@ -58,7 +58,7 @@ export default {
   "list.more": ["Noch einen Eintrag zeigen", "Mehr zeigen (noch {count})"],
   "clock.left": "endet in {span}", "clock.over": "die Frist ist abgelaufen",
   "security.held": "Liegt bei der Stadt", "security.returned": "Zurückgegeben", "security.forfeited": "Verfallen",
-  "security.unknown": "Liegt bei der Stadt; verfallen, falls spät zurückgezogen",
+  "security.unknown": "Liegt bei der Stadt; verfällt, wenn spät zurückgezogen wurde",
   "text.empty": "Das fehlt.", "text.control": "Ein Zeilenumbruch, ein Tabulator oder ein anderes Steuerzeichen steht darin.",
   "text.coding": "Ein Zeichen darin lässt sich nicht schreiben.", "text.long": "Das ist zu lang: höchstens 200 Byte, wobei ein Umlaut für zwei zählt.",
   "see.state.open": "Offen für Angebote", "see.state.waiting": "Frist abgelaufen, noch nicht geöffnet", "see.state.opened": "Geöffnet, wird entschieden",
