@@ -43,6 +43,8 @@ def budget_part(desk: Desk) -> None:
     desk.says("The office would take this file in.")
     desk.picture("budget-right")
     desk.press("Take the file in")
+    check("the request isn't folded", "POST /budget/B1" not in desk.told())
+    desk.press("The request, as it is sent")
     desk.says("POST /budget/B1")
     desk.picture("order")
     told = desk.confirm("Take it in", "The budget file B1 was taken in.")

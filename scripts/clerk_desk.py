@@ -96,6 +96,7 @@ class Desk:
         self.page.run("hands.sure()")
         self.press(send)
         self.says(done)
+        self.page.run("document.querySelectorAll('dialog[open] details').forEach((at) => { at.open = true; })")
         told = self.told()
         shown = self.page.run("document.querySelector('dialog[open] [role=status] > *').className")
         check(f"{done} is told as {shown}", shown == kind)
