@@ -36,6 +36,7 @@ def budget_part(desk: Desk) -> None:
     desk.go("budget")
     desk.drop(BUDGET.replace(",", ";"), "budget.csv")
     desk.says("The fields are parted by semicolons")
+    check("rows that echo the semicolons are told", "1 thing is wrong in it" in desk.told())
     desk.drop("line,kind,amount,title\n1000,add,1.5,Roads\n2000,cut,5,Parks\n", "budget.csv")
     desk.says("has cents, or a part of a unit")
     desk.picture("budget-wrong")

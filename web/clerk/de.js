@@ -47,7 +47,8 @@ export default {
   "budget.intro": "Eine Haushaltsdatei gibt Titeln etwas hinzu und legt neue an, oder sie kürzt, was auf ihnen frei ist: alles oder nichts davon. Hier wird "
     + "sie geprüft, bevor sie gesendet wird.",
   "budget.file": "Eine Haushaltsdatei", "budget.drop": "Datei wählen oder hier ablegen",
-  "budget.drop.hint": "CSV mit Kommas, in UTF-8, als: line,kind,amount,title — und 1000,add,2500,Straßen in den Zeilen darunter.", "budget.lines": "Die Titel",
+  "budget.drop.hint": "CSV mit Kommas, in UTF-8. Ihre erste Zeile, und eine wie die, die folgen:",
+  "budget.drop.row": "1000,add,2500,Straßen", "budget.lines": "Die Titel",
   "budget.table": "Haushaltstitel der Vergabestelle", "budget.bar": "Wie er verwendet ist", "budget.sums": "Alle Titel zusammen:",
   "budget.more": "und {count} weitere", "budget.size": ["({bytes} Byte, 1 richtige Zeile)", "({bytes} Byte, {rows} richtige Zeilen)"],
   "budget.right": "Die Vergabestelle würde diese Datei aufnehmen.", "budget.right.more": "Sehen Sie nach, ob sie ändert, was sie soll.",
