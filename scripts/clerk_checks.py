@@ -101,6 +101,9 @@ def notice_part(desk: Desk) -> None:
         desk.says(text)
     for field, value in (("Days of validity", "90"), ("Days of standstill", "0"), ("Deadline", local(desk, time.time() + 86_400 * 40))):
         desk.field(field, value)
+    desk.field("Performance security", "1,000")
+    check("groups of three aren't taken", desk.page.run("hands.field('Performance security').value") == "1000")
+    desk.field("Performance security", "70")
     check("the size is told", re.search(r"The notice has \d+ of at most 65,536 bytes", desk.told()) is not None)
     desk.picture("notice-right")
     desk.press("See it as the public will")

@@ -9,7 +9,7 @@ import { line } from "../common/office.js";
 import { say } from "../common/texts.js";
 import { ofRelease, own } from "./fate.js";
 import { jsonBody, sendThen } from "./send.js";
-import { MOST, wholeNumber } from "./values.js";
+import { MOST, digitsOf, wholeNumber } from "./values.js";
 
 /** What can be done with a contract that runs; `behind` gives what is done then, of its lot. */
 export function contractPart(notice, contract, behind) {
@@ -33,7 +33,7 @@ function amountField(hint) {
 }
 
 function unitsOf(one) {
-  return wholeNumber(one.value().replace(/[\s\u00a0\u202f]/g, ""), 1, MOST.amount);
+  return wholeNumber(digitsOf(one.value()) ?? "", 1, MOST.amount);
 }
 
 /** Why an amount is none, or more than may be. */

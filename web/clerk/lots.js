@@ -5,18 +5,20 @@ import { number } from "../common/money.js";
 import { say } from "../common/texts.js";
 import { newLot, wantedOf } from "./notice.js";
 import { COLUMNS, lotsOf } from "./sheet.js";
-import { MOST } from "./values.js";
+import { MOST, digitsOf } from "./values.js";
 
 // So many lots are shown unfolded.
 const UNFOLDED = 3;
 
-/** A field of the draft: what is typed is in the draft at once. `path` is the field's name in the faults. */
+/** A field of the draft: what is typed is in the draft at once, a number by its digits alone, which the field shows once it is left. `path` is the field's name
+ * in the faults. */
 export function bound(editor, path, object, name, label, options) {
   const made = field(label, { ...options, value: object[name] });
   made.input.addEventListener("input", () => {
-    object[name] = made.input.value;
+    object[name] = (options.inputmode && digitsOf(made.input.value)) || made.input.value;
     editor.changed();
   });
+  made.input.addEventListener("change", () => { made.input.value = object[name]; });
   editor.inputs.set(path, made);
   return made;
 }
