@@ -268,7 +268,7 @@ def life(scene: Scene) -> None:
     desk.picture("key")
     time.sleep(2.2)
     desk.field("Key", "abc")
-    desk.press("Hold the key in this tab")
+    desk.press("Begin with this key")
     desk.settle("today")
     budget_part(desk)
     tenderers_part(desk)

@@ -109,7 +109,7 @@ class Desk:
         self.go("key")
         self.field("Your name", "Anna")
         self.field("Key", f"Office-Key: {key}")
-        self.press("Hold the key in this tab")
+        self.press("Begin with this key")
 
     def give_key_by(self, language: str) -> None:
         """The key, in a language that the hand doesn't read."""

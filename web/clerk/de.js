@@ -18,7 +18,7 @@ export default {
   "page.public": "Was alle sehen",
   "key.bar": "Schlüssel", "key.held": "{who} hat in diesem Reiter den Schlüssel der Vergabestelle.",
   "key.none": "Ohne Schlüssel: Sie sehen, was öffentlich ist, und können nichts senden.", "key.give": "Schlüssel eingeben", "key.forget": "Schlüssel vergessen",
-  "key.title": "Der Schlüssel der Vergabestelle", "key.hold": "Schlüssel in diesem Reiter behalten",
+  "key.title": "Der Schlüssel der Vergabestelle", "key.hold": "Mit diesem Schlüssel beginnen",
   "key.intro": "Die Vergabestelle erkennt ihre Leute an einem Schlüssel. Er wird bei ihr geprüft, nur im Speicher dieses Reiters behalten und mit dem "
     + "gesendet, was Sie senden.",
   "key.name": "Ihr Name", "key.name.hint": "Für das Journal: Wer von ihren Leuten gehandelt hat, weiß die Vergabestelle nicht.",

@@ -16,7 +16,7 @@ export default {
   "page.today": "Today", "page.budget": "Budget", "page.tenderers": "Tenderers", "page.new": "New notice", "page.journal": "Journal",
   "page.public": "What the public sees",
   "key.bar": "Key", "key.held": "{who} holds the clerk's key in this tab.", "key.none": "No key: you see what is public, and can send nothing.",
-  "key.give": "Give the key", "key.forget": "Forget the key", "key.title": "The clerk's key", "key.hold": "Hold the key in this tab",
+  "key.give": "Give the key", "key.forget": "Forget the key", "key.title": "The clerk's key", "key.hold": "Begin with this key",
   "key.intro": "The office knows the clerk by one key. It is tried at the office, held in the memory of this tab alone, and sent with what you send.",
   "key.name": "Your name", "key.name.hint": "For the journal: the office doesn't know which of its clerks acted.", "key.name.wrong": "Say who sits here.",
   "key.key": "Key", "key.key.hint": "The key, or the line Office-Key: … of the file that has it.",
