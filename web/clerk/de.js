@@ -8,6 +8,7 @@ export default {
     + "wird gefragt.",
   "in": "(in {span})",
   "ago": "(vor {span})",
+  "moment.both": "{local} ({second})",
   "receipt": "Quittung",
   "rationale": "Begründung", "rationale.hint": "Eine Zeile von höchstens 200 Byte. Sie wird veröffentlicht.",
   "published.reason": "Die Begründung wird veröffentlicht.",

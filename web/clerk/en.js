@@ -7,6 +7,7 @@ export default {
   "foot": "The key and the journal are held by this tab alone and are gone when it is closed. Nothing is stored, and no other server is asked.",
   "in": "(in {span})",
   "ago": "({span} ago)",
+  "moment.both": "{local} ({second})",
   "receipt": "Receipt",
   "rationale": "Reason", "rationale.hint": "One line of at most 200 bytes. It is published.",
   "published.reason": "The reason is published.",
