@@ -221,6 +221,7 @@ def contract_part(desk: Desk) -> None:
     for field, value in (("Number of the invoice or the change", "A1"), ("Amount", "60"), ("Reason", "More kerbs")):
         desk.field(field, value, place=form)
     desk.press("Change \u2026", place=form)
+    desk.says("Contract 2: lot L1, with Alpha & S\u00f6hne.")
     desk.confirm("Change it", "Contract 2 was changed. Outstanding: 630.")
     for number, amount, left in (("I-17", "400", "230"), ("I-18", "100", "130")):
         desk.field("Number of the invoice or the change", number, place="A payment")

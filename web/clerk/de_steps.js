@@ -75,6 +75,7 @@ export default {
   "letter.standstill": "Kein Vertrag wird unterzeichnet vor {until}.", "letter.look": "Was geboten und zugeschlagen wurde, steht unter {address}.",
   "letter.more": "Weitere Gründe", "letter.more.hint": "Das wird im Schreiben gedruckt und nirgends behalten.", "letter.sign": "Unterschrift",
   "letter.later": "Ihr Preis ist so niedrig wie der des Gewinners, Ihr Angebot kam aber später.",
+  "contract.with": "Vertrag {contract}: Los {lot}, mit {name}.",
   "contract.amount": "Betrag", "contract.raise": "Erhöhung", "contract.cut": "Kürzung", "contract.id": "Nummer der Rechnung oder der Änderung",
   "contract.id.hint": "Gilt einmal in einem Vertrag: So wird nichts zweimal gezahlt, wo keine Antwort kam.",
   "contract.used": "Diese Nummer gibt es in diesem Vertrag schon.",

@@ -67,6 +67,7 @@ export default {
   "letter.look": "What was tendered and awarded is shown at {address}.", "letter.more": "More reasons",
   "letter.more.hint": "It is printed in the letter, and kept nowhere.", "letter.sign": "Signature",
   "letter.later": "Your price is as low as the winner's, and your tender came later.",
+  "contract.with": "Contract {contract}: lot {lot}, with {name}.",
   "contract.amount": "Amount", "contract.raise": "Raise", "contract.cut": "Cut", "contract.id": "Number of the invoice or the change",
   "contract.id.hint": "Used once in a contract: so nothing is paid twice where no answer came.", "contract.used": "This number was used in this contract.",
   "pay.title": "A payment", "pay.most": "At most {amount} are outstanding.", "pay.send": "Pay …", "pay.does": "{amount} are booked as paid for {id}.",
