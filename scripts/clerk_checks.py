@@ -36,6 +36,7 @@ def budget_part(desk: Desk) -> None:
     desk.go("budget")
     desk.drop(BUDGET.replace(",", ";"), "budget.csv")
     desk.says("The fields are parted by semicolons")
+    check("rows that echo the semicolons are told", "1 thing is wrong in it" in desk.told())
     desk.drop("line,kind,amount,title\n1000,add,1.5,Roads\n2000,cut,5,Parks\n", "budget.csv")
     desk.says("has cents, or a part of a unit")
     desk.picture("budget-wrong")
@@ -43,6 +44,8 @@ def budget_part(desk: Desk) -> None:
     desk.says("The office would take this file in.")
     desk.picture("budget-right")
     desk.press("Take the file in")
+    check("the request isn't folded", "POST /budget/B1" not in desk.told())
+    desk.press("The request, as it is sent")
     desk.says("POST /budget/B1")
     desk.picture("order")
     told = desk.confirm("Take it in", "The budget file B1 was taken in.")
@@ -98,6 +101,9 @@ def notice_part(desk: Desk) -> None:
         desk.says(text)
     for field, value in (("Days of validity", "90"), ("Days of standstill", "0"), ("Deadline", local(desk, time.time() + 86_400 * 40))):
         desk.field(field, value)
+    desk.field("Performance security", "1,000")
+    check("groups of three aren't taken", desk.page.run("hands.field('Performance security').value") == "1000")
+    desk.field("Performance security", "70")
     check("the size is told", re.search(r"The notice has \d+ of at most 65,536 bytes", desk.told()) is not None)
     desk.picture("notice-right")
     desk.press("See it as the public will")
@@ -215,6 +221,7 @@ def contract_part(desk: Desk) -> None:
     for field, value in (("Number of the invoice or the change", "A1"), ("Amount", "60"), ("Reason", "More kerbs")):
         desk.field(field, value, place=form)
     desk.press("Change \u2026", place=form)
+    desk.says("Contract 2: lot L1, with Alpha & S\u00f6hne.")
     desk.confirm("Change it", "Contract 2 was changed. Outstanding: 630.")
     for number, amount, left in (("I-17", "400", "230"), ("I-18", "100", "130")):
         desk.field("Number of the invoice or the change", number, place="A payment")
@@ -262,7 +269,7 @@ def life(scene: Scene) -> None:
     desk.picture("key")
     time.sleep(2.2)
     desk.field("Key", "abc")
-    desk.press("Hold the key in this tab")
+    desk.press("Begin with this key")
     desk.settle("today")
     budget_part(desk)
     tenderers_part(desk)

@@ -96,6 +96,7 @@ class Desk:
         self.page.run("hands.sure()")
         self.press(send)
         self.says(done)
+        self.page.run("document.querySelectorAll('dialog[open] details').forEach((at) => { at.open = true; })")
         told = self.told()
         shown = self.page.run("document.querySelector('dialog[open] [role=status] > *').className")
         check(f"{done} is told as {shown}", shown == kind)
@@ -108,7 +109,7 @@ class Desk:
         self.go("key")
         self.field("Your name", "Anna")
         self.field("Key", f"Office-Key: {key}")
-        self.press("Hold the key in this tab")
+        self.press("Begin with this key")
 
     def give_key_by(self, language: str) -> None:
         """The key, in a language that the hand doesn't read."""

@@ -8,7 +8,8 @@ export default {
   "see.nodata": "Die offenen Daten der Vergabestelle sind zurzeit nicht da; was in ihnen steht, kann diese Seite nicht zeigen: Schätzungen, Firmen, "
     + "Haushaltstitel und Schaubilder.",
   "see.list.title": "Vergaben", "see.list.intro": "Was gekauft wird, von wem und für wie viel: jede Vergabe von der Bekanntmachung bis zur letzten Zahlung.",
-  "see.list.open": ["Offen für Angebote ({count})", "Offen für Angebote ({count})"], "see.list.rest": ["Geschlossen ({count})", "Geschlossen ({count})"],
+  "see.list.open": ["Offen für Angebote ({count})", "Offen für Angebote ({count})"],
+  "see.list.rest": ["Nicht mehr offen für Angebote ({count})", "Nicht mehr offen für Angebote ({count})"],
   "see.list.all": ["Eine Vergabe", "{count} Vergaben"], "see.list.some": ["{some} von einer Vergabe", "{some} von {count} Vergaben"],
   "see.list.none": "Eine solche Vergabe gibt es nicht. Nehmen Sie einen Filter weg.", "see.list.published": "bekannt gemacht am",
   "see.list.feed": "Neue Vergaben als Feed", "see.list.to": "ging an", "see.by.words": "Wörter, eine Firma oder eine Nummer", "see.by.state": "Stand",
@@ -21,7 +22,7 @@ export default {
   "see.line.procurements": ["{count} Vergabe", "{count} Vergaben"], "see.line.bought": "Was daraus gekauft wird",
   "see.line.nothing": "Aus diesem Titel wurde noch nichts gekauft.", "see.line.table": "Seine Lose, Beträge in {currency}",
   "see.line.list": "Seine Vergaben in der Liste", "see.procurement": "Vergabe", "see.firm": "Firma", "see.firms": "Firmen",
-  "see.firms.intro": "Wer geboten hat, was jede Firma gewann und was ihr bezahlt wurde. Angebote zählen von der Öffnung an.",
+  "see.firms.intro": "Wer geboten hat, was jede Firma gewann und was ihr bezahlt wurde, in allen Jahren zusammen. Angebote zählen von der Öffnung an.",
   "see.firms.search": "Name einer Firma", "see.firms.none": "Noch wurde kein Angebot geöffnet.", "see.firms.count": ["{count} Firma", "{count} Firmen"],
   "see.firms.back": "Alle Firmen",
   "see.firms.table": ["{count} Firma, Beträge in {currency}", "{count} Firmen, wem am meisten bezahlt wurde zuerst, Beträge in {currency}"],

@@ -14,7 +14,7 @@ const AT_ONCE = 100;
 function entry(one) {
   const { known } = one;
   const told = [
-    element("span", {}, one.notice), known ? element("span", {}, money(known.estimate, known.currency)) : null,
+    element("span", {}, one.notice), known ? element("span", {}, say("see.estimate"), " ", money(known.estimate, known.currency)) : null,
     element("span", {}, say("see.list.published"), " ", day(one.published)),
     one.winners.size > 0 ? element("span", {}, say("see.list.to"), " ", [...one.winners].map((name, at) => [at > 0 ? ", " : "", given(name)])) : null];
   return element("li", { class: "entry-of-list" }, element("h3", {}, link(given(one.title), placeOf("notice", one.notice))),

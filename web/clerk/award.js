@@ -9,7 +9,7 @@ import { ofRelease, own } from "./fate.js";
 import { momentAndSpan } from "./load.js";
 import { jsonBody, sendThen } from "./send.js";
 import { outlookOf } from "./stage.js";
-import { MOST, wholeNumber } from "./values.js";
+import { MOST, digitsOf, wholeNumber } from "./values.js";
 
 /** What a lot is waiting for. */
 export function awardPart(notice, lot, again) {
@@ -87,7 +87,7 @@ function signing(notice, lot, again, isRunning) {
   const security = field(say("sign.security"), { hint: say("sign.security.hint"), ...ID });
   const amount = field(say("sign.amount"), { hint: say("sign.asked", { amount: money(performance, notice.currency) }), ...DIGITS });
   const run = () => {
-    const named = { security: security.value(), amount: wholeNumber(amount.value().replace(/\s/g, ""), 1, MOST.amount) };
+    const named = { security: security.value(), amount: wholeNumber(digitsOf(amount.value()) ?? "", 1, MOST.amount) };
     if (performance === 0 || areRight([[security, isId(named.security) ? "" : say("id.wrong")], [amount, amountFault(named.amount, performance)]])) {
       return sendThen(signOrder(notice, lot, performance > 0 ? named : null), again);
     }

@@ -7,6 +7,8 @@ const SEPARATORS = { ";": "semicolons", "\t": "tabs", "|": "strokes" };
 // How files begin that are no text of this kind.
 const KINDS = [[[0x50, 0x4b, 3, 4], "workbook"], [[0xd0, 0xcf, 0x11, 0xe0], "workbook"], [[0x25, 0x50, 0x44, 0x46], "pdf"], [[0xff, 0xfe], "utf16"],
   [[0xfe, 0xff], "utf16"]];
+// What is wrong with a file as a whole: what its rows lack then is an echo of it.
+const WHOLE = [...Object.values(SEPARATORS), ...KINDS.map(([, kind]) => kind)];
 
 /** What stands in a budget file: `rows` in order, and `faults`, each with the number of its record (the head is 1), the line of the file, a code and what it is
  * about. The first fault is the one that the office names. */
@@ -14,6 +16,9 @@ export function readBudget(bytes) {
   const { records, isOpen } = recordsOf(contentOf(binaryOf(bytes)));
   const faults = headFaults(bytes, records);
   const rows = [];
+  if (faults.some(({ code }) => WHOLE.includes(code))) {
+    return { bytes: bytes.length, rows, faults };
+  }
   for (const [at, record] of records.slice(1).entries()) {
     const row = rowOf(record);
     const place = { record: at + 2, line: record.line };

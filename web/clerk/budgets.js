@@ -34,8 +34,14 @@ export async function drawBudget(again) {
     place.querySelector("h3")?.focus();
   };
   return { title: say("page.budget"), content: [title(say("page.budget")), element("p", { class: "intro" }, say("budget.intro")),
-    section(say("budget.file"), drop(say("budget.drop"), say("budget.drop.hint"), take, { accept: ".csv,text/csv" }), place),
+    section(say("budget.file"), drop(say("budget.drop"), formHint(), take, { accept: ".csv,text/csv" }), place),
     section(say("budget.lines"), lineTable(lines))] };
+}
+
+/** The form of a budget file, by two lines of one. */
+function formHint() {
+  const lines = ["line,kind,amount,title", say("budget.drop.row")].map((text) => element("span", { class: "code below" }, text));
+  return [say("budget.drop.hint"), lines];
 }
 
 /** The lines that are there, with a bar of their four pots. */

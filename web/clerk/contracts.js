@@ -9,7 +9,7 @@ import { line } from "../common/office.js";
 import { say } from "../common/texts.js";
 import { ofRelease, own } from "./fate.js";
 import { jsonBody, sendThen } from "./send.js";
-import { MOST, wholeNumber } from "./values.js";
+import { MOST, digitsOf, wholeNumber } from "./values.js";
 
 /** What can be done with a contract that runs; `behind` gives what is done then, of its lot. */
 export function contractPart(notice, contract, behind) {
@@ -33,7 +33,7 @@ function amountField(hint) {
 }
 
 function unitsOf(one) {
-  return wholeNumber(one.value().replace(/[\s\u00a0\u202f]/g, ""), 1, MOST.amount);
+  return wholeNumber(digitsOf(one.value()) ?? "", 1, MOST.amount);
 }
 
 /** Why an amount is none, or more than may be. */
@@ -81,9 +81,10 @@ function payPart(contracted) {
   return element("div", {}, element("h4", {}, say("pay.title")), form(say("pay.title"), [id.made, sum.made, warning], say("pay.send"), run));
 }
 
-/** What all orders of a contract share: its release is one behind those that were seen. */
-function orderOf({ notice, contract }, kind, path, body, isOwn, rest) {
-  return { kind, values: { contract: contract.id }, path: `/contracts/${contract.id}/${path}`, body: jsonBody(body),
+/** What all orders of a contract share: whose it is, and that its release is one behind those that were seen. */
+function orderOf({ notice, lot, contract }, kind, path, body, isOwn, { says, ...rest }) {
+  const whose = say("contract.with", { contract: contract.id, lot: lot.id, name: lot.active.suppliers[0].name });
+  return { kind, values: { contract: contract.id }, path: `/contracts/${contract.id}/${path}`, body: jsonBody(body), says: [whose, ...says],
     find: () => ofRelease(notice.name, notice.releases.length, isOwn), ...rest };
 }
 

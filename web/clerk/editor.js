@@ -96,9 +96,16 @@ function drawSummary(editor) {
     keepDraft(null);
     editor.again();
   }, "second");
-  const preview = faults.length === 0 ? link(say("editor.preview"), "#preview") : "";
+  const preview = faults.length === 0 ? link(say("editor.preview"), "#preview", "button second") : noPreview();
   summary.replaceChildren(sizePart(bodyBytes(draft).length), faultList(editor, faults), ...warnings(draft, now),
     steps(button(say("editor.publish"), () => publish(editor, faults)), preview, empty));
+}
+
+/** The way to the preview where there is none yet, and why. */
+function noPreview() {
+  const off = button(say("editor.preview"), () => {}, "second");
+  off.disabled = true;
+  return [off, element("span", { class: "quiet" }, say("editor.nopreview"))];
 }
 
 /** How large the notice is, in words and as a bar. */
@@ -113,6 +120,9 @@ const MOST_FAULTS = 12;
 function faultList(editor, faults) {
   if (faults.length === 0) {
     return element("div", { class: "good" }, element("p", {}, say("editor.right")));
+  }
+  if (!editor.isChecked && JSON.stringify(editor.draft) === JSON.stringify(newDraft())) {
+    return element("p", { class: "quiet" }, say("editor.begin"));
   }
   const go = (fault) => button(placeText(editor, fault.field), () => focusOn(editor, fault), "second small");
   const listed = faults.slice(0, MOST_FAULTS).map((fault) => element("li", {}, go(fault), " ", faultText(fault)));

@@ -5,18 +5,21 @@ import { number } from "../common/money.js";
 import { say } from "../common/texts.js";
 import { newLot, wantedOf } from "./notice.js";
 import { COLUMNS, lotsOf } from "./sheet.js";
-import { MOST } from "./values.js";
+import { MOST, digitsOf } from "./values.js";
 
-// So many lots are shown unfolded.
+// So many lots are shown unfolded, and so many budget lines to be chosen; of more one types the name, and is shown those that begin so.
 const UNFOLDED = 3;
+const MOST_CHOSEN = 100;
 
-/** A field of the draft: what is typed is in the draft at once. `path` is the field's name in the faults. */
+/** A field of the draft: what is typed is in the draft at once, a number by its digits alone, which the field shows once it is left. `path` is the field's name
+ * in the faults. */
 export function bound(editor, path, object, name, label, options) {
   const made = field(label, { ...options, value: object[name] });
   made.input.addEventListener("input", () => {
-    object[name] = made.input.value;
+    object[name] = (options.inputmode && digitsOf(made.input.value)) || made.input.value;
     editor.changed();
   });
+  made.input.addEventListener("change", () => { made.input.value = object[name]; });
   editor.inputs.set(path, made);
   return made;
 }
@@ -101,11 +104,20 @@ function lotPart(editor, lot, at) {
     editor.draft.lots.splice(at, 1);
     editor.redrawLots();
   }, "second");
-  const fields = [own("id", "lot", ID), own("title", "lotTitle"), own("line", "line", { ...ID, list: "lines" }),
-    element("div", {}, own("estimate", "estimate", DIGITS), money), own("security", "security", { hint: say("lots.security.hint"), ...DIGITS })];
+  const fields = [own("id", "lot", ID), own("title", "lotTitle"), element("div", {}, own("line", "line", lineOptions(editor, lot.line)), money),
+    own("estimate", "estimate", DIGITS), own("security", "security", { hint: say("lots.security.hint"), ...DIGITS })];
   const isOpen = editor.draft.lots.length <= UNFOLDED ? { open: "" } : {};
   return element("details", { class: "card", ...isOpen }, summary, element("div", { class: "fields" }, fields), itemTable(editor, lot, path),
     steps(addItem(editor, lot, path), editor.draft.lots.length > 1 ? away : ""));
+}
+
+/** The budget lines as what is chosen, each with its free money; one that isn't there stays, so that it can be told. */
+function lineOptions({ lines }, held) {
+  if (lines.size > MOST_CHOSEN) {
+    return { ...ID, list: "lines", hint: say("lots.noline") };
+  }
+  const known = [...lines.values()].map(({ line, free }) => [line, `${line} (${say("lots.free", { free })})`]);
+  return { kind: "choice", options: [["", say("lots.noline")], ...known, ...(held === "" || lines.has(held) ? [] : [[held, held]])] };
 }
 
 function addItem(editor, lot, path) {
@@ -131,7 +143,7 @@ function itemTable(editor, lot, path) {
   return element("div", { class: "items" }, element("p", { class: "quiet" }, say("lots.items.hint")), rows);
 }
 
-/** Beside each estimate: what its line has free, and what is left when the notice is published. */
+/** Below each budget line: what it has free, and what is left when the notice is published. */
 export function drawMoney(editor) {
   const wanted = wantedOf(editor.draft);
   for (const [at, place] of editor.money) {
@@ -139,7 +151,7 @@ export function drawMoney(editor) {
     const held = editor.lines.get(line);
     const left = held ? held.free - wanted.get(line) : 0;
     place.className = held && left < 0 ? "wrong" : "quiet";
-    place.textContent = !held ? (line === "" ? say("lots.noline") : say("lots.unknown", { line }))
+    place.textContent = !held ? (line === "" ? "" : say("lots.unknown", { line }))
       : say(left < 0 ? "lots.short" : "lots.left", { line, free: held.free, wanted: wanted.get(line), left: number(Math.abs(left)) });
   }
 }

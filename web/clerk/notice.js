@@ -74,7 +74,7 @@ function lotFaults(draft, lot, at) {
   const ids = draft.lots.map(({ id }) => id);
   return [
     ...idFaults(`${at}.id`, lot.id, ids), ...textFaults(`${at}.title`, lot.title),
-    ...(isId(lot.line) ? [] : [{ field: `${at}.line`, code: "id", value: lot.line }]),
+    ...(isId(lot.line) ? [] : [{ field: `${at}.line`, code: lot.line === "" ? "line.none" : "id", value: lot.line }]),
     ...range(`${at}.estimate`, lot.estimate, 1, MOST.amount), ...range(`${at}.security`, lot.security, 0, MOST.amount),
     ...(lot.items.length === 0 ? [{ field: `${at}.items`, code: "items.none" }] : []),
     ...lot.items.flatMap((item, each) => [

@@ -3,6 +3,7 @@
 import { bytesOf, inGroups, sha256 } from "../common/digest.js";
 import { element } from "../common/draw.js";
 import { ID, button, field, note, steps, tick } from "../common/forms.js";
+import { moment } from "../common/money.js";
 import { Refused, command, officeNow, sentenceOf } from "../common/office.js";
 import { hasText, say } from "../common/texts.js";
 import { addEntry } from "./journal.js";
@@ -63,7 +64,7 @@ async function drawAsked(state) {
   sending.disabled = sure !== null;
   sure?.input.addEventListener("input", () => { sending.disabled = !sure.isGiven(); });
   const says = element("ul", {}, order.says.map((part) => element("li", {}, part)));
-  draw(state, [says, requestShown(order, bytes, digest), sure?.made ?? null], [sending, closing(state, say("order.back"))]);
+  draw(state, [says, sure?.made ?? null, requestShown(order, bytes, digest)], [sending, closing(state, say("order.back"))]);
   (sure?.input ?? sending).focus();
 }
 
@@ -80,14 +81,13 @@ function confirmation(order) {
   return null;
 }
 
-/** The request as it is sent, but for the key. */
+/** The request as it is sent, but for the key: folded, since it says to few what the sentences above it say to all. */
 function requestShown(order, bytes, digest) {
   const text = textOf(bytes) ?? say("order.notext");
   const head = `POST ${order.path}\nOffice-Caller: clerk\nOffice-Key: ••••••\nContent-Length: ${bytes.length}`;
   const body = text.length > LONGEST_SHOWN ? `${text.slice(0, LONGEST_SHOWN)}\n${say("order.more", { count: text.length - LONGEST_SHOWN })}` : text;
   const whole = bytes.length > 0 ? `${head}\n\n${body}` : head;
-  return element("details", { open: "" }, element("summary", {}, say("order.request")), element("pre", { tabindex: "0" }, whole),
-    element("p", { class: "quiet" }, say("order.digest"), " ", element("span", { class: "code" }, inGroups(digest))));
+  return folded(say("order.request"), whole, element("p", { class: "quiet" }, say("order.digest"), " ", element("span", { class: "code" }, inGroups(digest))));
 }
 
 /** Sends the command, and keeps what came back. */
@@ -135,14 +135,25 @@ async function keep(state, { answer, fault }) {
     answer, found: isDone ? "done" : null });
 }
 
+/** A text to the letter, and what stands below it, unfolded by its name. */
+function folded(name, text, ...content) {
+  return element("details", {}, element("summary", {}, name), element("pre", { tabindex: "0" }, text), content);
+}
+
 function receipt(state, text) {
-  return [text ? element("pre", {}, text) : "", element("p", { class: "quiet" }, say("order.kept", { number: String(state.entry.number) }))];
+  return [element("p", { class: "quiet" }, say("order.kept", { number: String(state.entry.number) })), text ? folded(say("order.answer"), text) : ""];
+}
+
+/** When a command was taken in: as its answer says, or else by the clock of the server. */
+function takenIn({ entry }, value) {
+  return element("p", {}, say("order.at"), " ", moment(value.moment ?? entry.moment));
 }
 
 function drawDone(state, { value, answer }) {
   state.value = value;
   const { kind, values = {}, isSad = false } = state.order;
-  draw(state, note(isSad ? "look" : "good", say(`order.${kind}.done`, { ...values, ...flat(value), count: value.opened ?? 0 }), receipt(state, answer.text)), [closing(state)]);
+  draw(state, note(isSad ? "look" : "good", say(`order.${kind}.done`, { ...values, ...flat(value), count: value.opened ?? 0 }),
+    takenIn(state, value), receipt(state, answer.text)), [closing(state)]);
   focusFirst(state);
 }
 

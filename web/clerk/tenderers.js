@@ -34,6 +34,9 @@ export async function drawTenderers(again) {
     for (const [name, one] of Object.entries(fields)) {
       one.input.value = told?.[name] ?? one.value();
     }
+    if (told?.key) {
+      fields.key.input.value = inGroups(told.key);
+    }
     fields.tenderer.input.focus();
   };
   return { title: say("page.tenderers"), content: [title(say("page.tenderers")), element("p", { class: "intro" }, say("tenderer.intro")),

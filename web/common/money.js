@@ -51,16 +51,17 @@ export function day(text) {
   return element("time", { datetime: text }, Number.isNaN(date.getTime()) ? text : formatted(date, { ...DAY, timeZone: "UTC" }));
 }
 
-/** A moment of the office: in UTC, as it counts, and where the reader is, there without the day where that is the same. */
+/** A moment of the office: in UTC, as it counts, and where the reader is. What stands second, by the text, has no day where that is the same. */
 export function moment(text) {
   const date = new Date(text);
   if (Number.isNaN(date.getTime())) {
     return element("span", {}, text);
   }
   const isSameDay = formatted(date, DAY) === formatted(date, { ...DAY, timeZone: "UTC" });
-  const here = formatted(date, { ...(isSameDay ? {} : DAY), ...TIME, timeZoneName: "short" });
-  const utc = `${formatted(date, { ...DAY, ...TIME, timeZone: "UTC" })} UTC`;
-  return element("time", { datetime: text }, date.getTimezoneOffset() === 0 ? utc : say("moment.both", { utc, here }));
+  const [here, utc] = [{ timeZoneName: "short" }, { timeZone: "UTC" }].map((zone) => (isWhole) =>
+    formatted(date, { ...(isWhole || !isSameDay ? DAY : {}), ...TIME, ...zone }));
+  const both = () => say("moment.both", { utc: `${utc(true)} UTC`, here: here(false), local: here(true), second: `${utc(false)} UTC` });
+  return element("time", { datetime: text }, date.getTimezoneOffset() === 0 ? `${utc(true)} UTC` : both());
 }
 
 /** How long it is from one moment to another, in seconds, as `2 days, 3 hours` or `4 minutes`. */
