@@ -15,9 +15,9 @@ from collections.abc import Callable
 from audit_office import Json, Unreadable, json_object
 
 # The files of a folder, by the routes whose answers they are. Of a notice anybody may ask for all but the register, which is the clerk's; a receipt is what
-# presenting, changing or `GET /tenders/R` answers its tenderer; the securities are shown to the clerk and to their tenderer.
-OF_NOTICES = {"releases": ".json", "record": ".json", "minutes": ".txt", "register": ".txt"}
-HELD = ("receipt", "security", "performance")
+# presenting, changing or `GET /tenders/R` answers its tenderer; securities and contracts are shown to the clerk and to their tenderer.
+OF_NOTICES = {"releases": ".json", "record": ".json", "minutes": ".txt", "terms": ".json", "evaluation": ".txt", "register": ".txt"}
+HELD = ("receipt", "security", "performance", "contract")
 
 # Seconds that one answer is waited for in all, seconds of the longest wait that isn't asked for, and how often an office that can't answer is asked again.
 PATIENCE, LONGEST, AGAIN = 600, 30, 5
@@ -35,12 +35,23 @@ def seconds_of(retry_after: str | None, tried: int, now: Callable[[], float] = t
         return float(min(LONGEST, 1 << tried))
 
 
-class Answers:
-    """What an office answered: the files of a folder, or what an address is asked for, each once."""
+def fields_in(path: str) -> dict[str, str]:
+    """The fields of a head that a file has, a line each, as `curl -H @FILE` takes them."""
+    with open(path, encoding="utf-8") as file:
+        pairs = [line.split(":", 1) for line in file.read().splitlines() if line.strip()]
+    if not pairs or any(len(pair) != 2 for pair in pairs):
+        raise Unreadable(f"{path}: no lines as Office-Caller: clerk")
+    return {name.strip(): value.strip() for name, value in pairs}
 
-    def __init__(self, folder: str | None, base: str | None) -> None:
+
+class Answers:
+    """What an office answered: the files of a folder, or what an address is asked for, each once. With the clerk's fields it is asked for contracts too."""
+
+    def __init__(self, folder: str | None, base: str | None, key: str | None = None) -> None:
         self.folder, self.base, self.place = folder or "", base or "", folder or base or ""
+        self.fields = fields_in(key) if key else {}
         self.asked: dict[str, str | None] = {}
+        self.list: list[Json] | None = None
 
     def names(self, kind: str, end: str) -> list[str]:
         """What stands behind `kind-` in the names of the folder's files."""
@@ -49,7 +60,54 @@ class Answers:
 
     def notices(self) -> list[str]:
         """The notices of which the folder has anything."""
-        return sorted({notice for kind, end in OF_NOTICES.items() for notice in self.names(kind, end)})
+        return sorted({*(notice for kind, end in OF_NOTICES.items() for notice in self.names(kind, end)), *self.listed_names()})
+
+    def page(self, path: str, name: str) -> Json | None:
+        """A page of the list of notices, or None where there is none."""
+        text = self.perhaps(path, name)
+        page = json_object(text) if text is not None else None
+        if text is not None and not (page and isinstance(page.get("notices"), list) and all(isinstance(it, dict) for it in page["notices"])):
+            raise Unreadable(f"{self.place}: {path}: no page of the list of notices")
+        return page
+
+    def listed(self) -> list[Json] | None:
+        """The list of notices, page by page; None where there is none, as of the office of an earlier program."""
+        page, behind = self.page("/notices", "notices.json"), ""
+        found: list[Json] = []
+        while page is not None:
+            found += page["notices"]
+            if page.get("next") is None:
+                self.list = found
+                return found
+            if str(page["next"]) <= behind:
+                raise Unreadable(f"{self.place}: behind {behind} the list goes on at {page['next']}")
+            behind = str(page["next"])
+            page = self.page(f"/notices?after={behind}", f"notices-{behind}.json")
+        if behind:
+            raise Unreadable(f"{self.place}: there is no page of the list behind {behind}")
+        return None
+
+    def listed_before(self) -> list[Json] | None:
+        """The list, as it was when it was asked for; an address that wasn't asked for it isn't asked now."""
+        return self.list if self.base else self.listed()
+
+    def listed_names(self) -> list[str]:
+        """The notices of the list, where there is one."""
+        return [str(it.get("notice")) for it in self.listed() or []]
+
+    def has_looks(self) -> bool:
+        """Whether the address has the list of notices, and so the other looks that came with it."""
+        return bool(self.base) and self.list is not None
+
+    def terms(self, notice: str) -> Json | None:
+        """The terms of a notice that are answered, or None."""
+        return self.package(notice, "terms")
+
+    def contracts(self, numbers: list[int]) -> list[tuple[int, Json | None]]:
+        """The contracts of a folder, or, with the clerk's fields, what the address answers of these."""
+        if not self.base:
+            return [(int(shown.get("contract", 0)), shown) for _, shown in self.held("contract")]
+        return [(number, json_object(self.perhaps(f"/contracts/{number}", "") or "")) for number in numbers] if self.fields else []
 
     def held(self, kind: str) -> list[tuple[str, Json]]:
         """What was handed out under a number and that the folder has: the number, and the JSON object."""
@@ -105,9 +163,10 @@ class Answers:
             self.asked.pop(path, None)
 
     def ask(self, path: str) -> str | None:
-        """The body of the office's answer, or None where the office refuses it as not there or not yet there."""
+        """The body of the office's answer, or None where the office refuses it as not there or not yet there, or its front knows no such route."""
         status, body = self.patient(path)
-        refused = status in (404, 409) and "refusal" in (json_object(body) or {})
+        told = json_object(body) or {}
+        refused = status in (404, 409) and "refusal" in told or status == 404 and "front" in told
         if status != 200 and not refused:
             raise Unreadable(f"{self.base + path}: status {status}: {body[:100]}")
         return body if status == 200 else None
@@ -132,7 +191,7 @@ class Answers:
         kind = http.client.HTTPSConnection if parts.scheme == "https" else http.client.HTTPConnection
         try:
             connection = kind(str(parts.hostname), parts.port, timeout=60)
-            connection.request("GET", str(parts.path).rstrip("/") + path)
+            connection.request("GET", str(parts.path).rstrip("/") + path, headers=self.fields if path.startswith("/contracts/") else {})
             response = connection.getresponse()
             body = response.read().decode("utf-8")
             connection.close()

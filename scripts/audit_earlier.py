@@ -114,10 +114,11 @@ def appropriations_come_from_batches(later: Office, earlier: Office) -> Found:
 # ---- Answers that were saved.
 
 class Later:
-    """What is audited, by a notice: the releases and the minutes that the file has, or that were answered."""
+    """What is audited, by a notice: the releases, minutes, terms and evaluation that the file has, or that were answered."""
 
-    def __init__(self, notices: Collection[str], releases: Callable[[str], list[Json]], minutes: Callable[[str], str | None]) -> None:
-        self.notices, self.releases, self.minutes = notices, releases, minutes
+    def __init__(self, notices: Collection[str], releases: Callable[[str], list[Json]], minutes: Callable[[str], str | None],
+                 terms: Callable[[str], Json | None], evaluation: Callable[[str], str | None]) -> None:
+        self.notices, self.releases, self.minutes, self.terms, self.evaluation = notices, releases, minutes, terms, evaluation
 
 
 @rule("witness")

@@ -82,11 +82,12 @@ CREATE TEMP TABLE pots AS
 CREATE TEMP VIEW offers AS SELECT * FROM envelopes WHERE state = 'opened' AND reading = 'priced' AND responsive = 1;
 """
 
-# The rules, by what they are put to: the file; the releases of a notice; those that the file keeps; an office's answers on a notice; its minutes, and the
-# ledger, with the file; a notice of the file that isn't answered; all answers together, without the file; an earlier copy of the file; answers on a notice that
-# may be from earlier, and those that are; what was handed out under a number; an earlier ledger.
+# The rules, by what they are put to: the file; the releases of a notice; those that the file keeps; an office's answers on a notice; its minutes, its terms and
+# its evaluation, the list of notices, contracts, and the ledger, with the file; a notice of the file that isn't answered; all answers together, without the
+# file; an earlier copy of the file; answers on a notice that may be from earlier, and those that are; what was handed out under a number; an earlier ledger.
 RULES: dict[str, list[Check]] = {it: [] for it in (
-    "file", "releases", "kept", "answers", "minutes", "ledger", "lacking", "outside", "copies", "witness", "saved", "held", "ledgers")}
+    "file", "releases", "kept", "answers", "minutes", "looks", "list", "contracts", "ledger", "lacking", "outside", "copies", "witness", "saved", "held",
+    "ledgers")}
 
 
 class Unreadable(Exception):

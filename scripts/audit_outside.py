@@ -10,11 +10,15 @@ POTS = ("reserved", "contracted", "paid")
 
 
 class Seen:
-    """What was answered of some notices: of each its story and its minutes, or None; the ledgers from before and from behind these looks, or None; whether
-    these are all notices of the office."""
+    """What was answered of some notices: of each its releases, their story, its minutes, or None, and its terms and evaluation where there are any; the list of
+    notices, or None; the ledgers from before and from behind these looks, or None; whether these are all notices of the office."""
 
-    def __init__(self, stories: dict[str, Story], minutes: dict[str, str | None], ledgers: tuple[str | None, str | None], complete: bool) -> None:
-        self.stories, self.minutes, self.ledgers, self.complete = stories, minutes, ledgers, complete
+    def __init__(self, releases: dict[str, list[Json]], answers: Answers, ledgers: tuple[str | None, str | None], complete: bool) -> None:
+        self.releases, self.ledgers, self.complete, self.listed = releases, ledgers, complete, answers.listed_before()
+        self.stories = {notice: Story(notice, there) for notice, there in releases.items()}
+        self.minutes = {notice: answers.of_notice(notice, "minutes") for notice in releases}
+        self.terms = {notice: terms for notice in releases if (terms := answers.terms(notice)) is not None}
+        self.evaluations = {notice: text for notice in releases if (text := answers.of_notice(notice, "evaluation")) is not None}
 
 
 class Minutes:
@@ -157,12 +161,6 @@ def tenderers_are_known_alike(seen: Seen) -> Found:
             first, there = known.setdefault(tenderer, (notice, what))
             if there != what:
                 yield f"notices {notice}", f"{tenderer} is {what}, and {there} in {first}"
-
-
-def seen_of(notices: list[str], releases: dict[str, list[Json]], answers: Answers, ledgers: tuple[str | None, str | None], complete: bool) -> Seen:
-    """What was answered of these notices, with their releases."""
-    stories = {notice: Story(notice, releases[notice]) for notice in notices}
-    return Seen(stories, {notice: answers.of_notice(notice, "minutes") for notice in notices}, ledgers, complete)
 
 
 def lacks_minutes(answers: Answers, notice: str, releases: list[Json]) -> bool:

@@ -20,16 +20,17 @@ POLICY = ["default-src 'none'", "script-src 'self'", "style-src 'self'", "connec
 # What is asked for, its type, and whether it may be kept.
 KINDS = {"/": ("text/html", "no-cache"), "/page.css": ("text/css", "no-cache"), "/page.js": ("application/javascript", "no-cache"),
          "/icon.svg": ("image/svg+xml", "no-cache"), "/ledger": ("text/plain; charset=utf-8", "no-store"),
-         "/notices/N9/record": ("application/json", "no-store"),
+         "/notices/N9/record": ("application/json", "no-store"), "/notices": ("application/json", "no-store"),
+         "/notices/N9/terms": ("application/json", "no-store"), "/notices/N9/evaluation": ("application/json", "no-store"),
          "/tender/": ("text/html", "no-cache"), "/tender/main.js": ("application/javascript", "no-cache"),
          "/common/style.css": ("text/css", "no-cache"), "/clerk/": ("text/html", "no-cache"), "/clerk/desk.js": ("application/javascript", "no-cache"),
          "/openapi.yaml": ("application/yaml", "no-cache"), "/nothing": ("application/json", "no-store")}
-FOR_ALL_SITES = ("/ledger", "/notices/N9/record", "/openapi.yaml")
+FOR_ALL_SITES = ("/ledger", "/notices/N9/record", "/notices", "/notices/N9/terms", "/notices/N9/evaluation", "/openapi.yaml")
 # Ways to write a path that the office doesn't know, and that a location of the front might take for another.
 ODD_PATHS = ["/%6cedger", "//ledger", "/notices/N1%2frecord", "/notices/%4e1/record", "/notices/../ledger", "/notices/N1/../../ledger", "/./ledger",
              "/notices/%2e%2e/ledger", "/lines/x/%2e%2e/%2e%2e/notices/N1/register", "/lines//1100", "/notices/N1/record/.", "/notices/N1//open"]
-NOWHERE = ["/ledger/", "/Ledger", "/index.html", "/nginx.conf", "/web", "/notices/", "/notices/N1/record/x", "/favicon.ico", "/.git/config", "/page.css.map",
-           "/common/", "/tender/index.html", "/tender/style.css", "/clerk/index.html", "/clerk/none.js"]
+NOWHERE = ["/ledger/", "/Ledger", "/index.html", "/nginx.conf", "/web", "/notices/", "/tenderers/", "/notices/N1/record/x", "/favicon.ico", "/.git/config",
+           "/page.css.map", "/common/", "/tender/index.html", "/tender/style.css", "/clerk/index.html", "/clerk/none.js"]
 PLACES = {"notice": "N1", "lot": "L1", "line": "1100", "batch": "B1", "tenderer": "T1", "receipt": "1", "award": "1", "contract": "1", "security": "1"}
 MOST = 65_536
 
@@ -144,7 +145,8 @@ def slow_clients(scene: Scene) -> None:
 def names_and_keys(scene: Scene) -> None:
     """Public routes are told nothing of who asks, so a wrong key is no matter there; and no log has a key or a security."""
     # (The last one wasn't asked before, so the front has no answer of it.)
-    statuses = {"/ledger": 200, "/lines/1100": 200, "/notices/N1/record": 200, "/notices/N1/releases": 200, "/notices/N1/minutes": 409, "/lines/unseen": 404}
+    statuses = {"/ledger": 200, "/lines/1100": 200, "/notices/N1/record": 200, "/notices/N1/releases": 200, "/notices/N1/minutes": 409, "/notices": 200,
+                "/notices/N1/terms": 200, "/notices/N1/evaluation": 409, "/lines/unseen": 404}
     for path, wanted in statuses.items():
         status = scene.front.ask("GET", path, caller=(b"T1", b"wrong")).status
         check(f"{path} with a wrong key: {status}", status == wanted)

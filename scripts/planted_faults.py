@@ -161,6 +161,14 @@ FAULTS_OF_ANSWERS = [
     ("compiled_is_the_merge", "notices N1", ["record-N1.json"], take_over),
     ("packages_have_their_heads", "notices N1", ["record-N1.json"], lambda package, _: package.update(publishedDate="2026-01-01T00:00:00Z")),
     ("minutes_are_of_the_rows", "notices N1", ["minutes-N1.txt"], lambda text, _: text.replace("\t570\t", "\t571\t")),
+    ("terms_are_of_the_rows", "notices N1", ["terms-N1.json"], lambda terms, _: terms.update(standstill_days=7)),
+    ("terms_are_of_the_rows", "notices N1", ["terms-N1.json"], lambda terms, _: terms["lots"][1].update(line="1000")),
+    ("terms_are_of_the_rows", "notices N1", ["terms-N1.json"], lambda terms, _: terms["lots"][0]["items"].pop()),
+    ("evaluations_are_of_the_rows", "notices N1", ["evaluation-N1.txt"], lambda text, _: text.replace("\tresponsive\t", "\tunresponsive\t")),
+    ("evaluations_are_of_the_rows", "notices N2", ["evaluation-N2.txt"], lambda text, _: text.replace("\t40\t88000\t", "\t40\t88001\t")),
+    ("listed_notices_are_of_the_rows", "notices N3", ["notices.json"], lambda page, _: page["notices"][2].update(state="receiving")),
+    ("listed_notices_are_of_the_rows", "notices N8", ["notices.json"], lambda page, _: page["notices"].pop()),
+    ("listed_notices_are_of_the_rows", "office 1", ["notices.json"], lambda page, _: page["notices"].reverse()),
     ("ledger_is_of_the_rows", "office 1", ["ledger.txt"], lambda text, _: text.replace("3000\t7\t7\t0\t", "3000\t7\t6\t1\t")),
     ("ledger_is_of_the_rows", "lines 3000", ["ledger.txt"], lambda text, _: text.replace("3000\t7\t7\t", "3000\t7\t8\t")),
 ]
@@ -228,6 +236,15 @@ def faults_outside(life: AuditedLife) -> list[tuple[Any, ...]]:
         ("awards_are_told_in_turn", "notices N6", lambda folder: rewrite(folder, "N6", f'"id":"{life.active}"', f'"id":"{running}"')),
         ("receipts_are_told_in_turn", "notices N2", lambda folder: replace(folder, "minutes-N1.txt", f"\t{r['other']}\t", f"\t{r['low']}\t")),
         ("receipts_are_told_in_turn", "notices N2", lambda folder: rewrite(folder, "N1", '"startDate":"', f'"startDate":"{start}","is":"')),
+        ("listed_notices_are_of_the_releases", "notices N1", lambda folder: replace(folder, "notices.json", "Notice N1 ", "Notice N0 ")),
+        ("listed_notices_are_of_the_releases", "notices N3", lambda folder: replace(folder, "notices.json", '"cancelled"', '"receiving"')),
+        ("listed_notices_are_of_the_releases", "notices N5", lambda folder: replace(folder, "notices.json", '"notice":"N5"', '"notice":"N50"'), "--complete"),
+        ("listed_notices_are_of_the_releases", "notices N7", lambda folder: lose_notice(folder, "N7"), "--complete"),
+        ("terms_are_of_the_releases", "notices N1", lambda folder: replace(folder, "terms-N1.json", '"estimate":600', '"estimate":601')),
+        ("terms_are_of_the_releases", "notices N2", lambda folder: replace(folder, "terms-N2.json", '"points"', '"price"')),
+        ("evaluations_are_of_the_minutes", "notices N1", lambda folder: replace(folder, "evaluation-N1.txt", "\tpriced\t570\t", "\tpriced\t571\t")),
+        ("evaluations_are_of_the_minutes", "notices N4", lambda folder: replace(folder, "evaluation-N4.txt", "award\t", "award\t1")),
+        ("evaluations_are_of_the_minutes", "notices N6", lambda folder: write(os.path.join(folder, "evaluation-N6.txt"), "EVALUATION\tN6\n", "")),
         ("tenderers_are_known_alike", "notices N4", lambda folder: rewrite(folder, "N4", "Firm T1", "Firm T6")),
     ]
 
@@ -237,6 +254,7 @@ PUBLIC, HELD, COPY = "earlier answers", "what was handed out", "an earlier copy"
 
 
 STAY, DECIDED, RECEIPTS = "rows_of_an_earlier_copy_stay", "what_is_decided_stays", "receipts_are_of_the_rows"
+TERMS, SHOWN = "saved_terms_stay", "contracts_are_as_shown"
 # Takes the last end of a contract back, in all rows that hang together.
 UNENDED = ("UPDATE lines SET free = free - (SELECT released FROM contracts WHERE contract = {broken}) WHERE line = '1000'; "
            "UPDATE contracts SET ended = NULL, how = NULL, released = 0 WHERE contract = {broken}; "
@@ -263,9 +281,10 @@ FORGERIES: list[tuple[Any, ...]] = [
      "UPDATE contracts SET how = 'regular' WHERE contract = {broken}; UPDATE performance SET state = 'returned' WHERE contract = {broken}",
      (HELD, "securities_are_as_shown", "performance {broken}"), (COPY, DECIDED, "contracts {broken}"), (COPY, DECIDED, "performance {broken}")),
     ("less was paid", "UPDATE entries SET amount = 90 WHERE contract = {running}; " + said("N2", '"amount":100,', '"amount":90,'),
-     (PUBLIC, "saved_releases_stay", "notices N2"), (PUBLIC, "paid_never_falls", "lines 2000"), (COPY, STAY, "entries {running}/P1")),
+     (PUBLIC, "saved_releases_stay", "notices N2"), (PUBLIC, "paid_never_falls", "lines 2000"), (HELD, SHOWN, "contracts {running}"),
+     (COPY, STAY, "entries {running}/P1")),
     ("a contract was changed for another reason", "UPDATE entries SET rationale = 'Works' WHERE rationale = 'Kerbs'; " + said("N1", "Kerbs", "Works"),
-     (PUBLIC, "saved_releases_stay", "notices N1"), (COPY, STAY, "entries {contract}/A1")),
+     (PUBLIC, "saved_releases_stay", "notices N1"), (HELD, SHOWN, "contracts {contract}"), (COPY, STAY, "entries {contract}/A1")),
     ("a tender asked another price", other_bytes("{low}", offer(0, 21)) + "UPDATE envelopes SET stated = 210, corrected = 210 WHERE receipt = {low}",
      (PUBLIC, "saved_minutes_stay", "notices N2"), (HELD, RECEIPTS, "envelopes {low}"), (COPY, STAY, "seals {low}")),
     ("a sealed tender is another one", other_bytes("{sealed}", offer(9, 9)), (HELD, RECEIPTS, "envelopes {sealed}"), (COPY, STAY, "envelopes {sealed}")),
@@ -276,20 +295,23 @@ FORGERIES: list[tuple[Any, ...]] = [
     ("a tenderer has another key", "UPDATE tenderers SET key = zeroblob(32) WHERE tenderer = 'T1'", (COPY, STAY, "tenderers T1")),
     ("a security has another reference", "UPDATE securities SET reference = 'G0' WHERE security = {sealed}",
      (HELD, "securities_are_as_shown", "securities {sealed}"), (COPY, STAY, "securities {sealed}")),
-    ("the standstill is longer", "UPDATE notices_2 SET standstill = 5 WHERE notice = 'N5'", (COPY, STAY, "notices N5")),
-    ("a performance security is asked", "UPDATE notices_2 SET performance = 5 WHERE notice = 'N5'", (COPY, STAY, "notices N5")),
-    ("tenders may be withdrawn late", "INSERT INTO late_rules VALUES ('N5')", (COPY, "nothing_is_put_in_behind", "late_rules N5")),
+    ("the standstill is longer", "UPDATE notices_2 SET standstill = 5 WHERE notice = 'N5'", (PUBLIC, TERMS, "notices N5"), (COPY, STAY, "notices N5")),
+    ("a performance security is asked", "UPDATE notices_2 SET performance = 5 WHERE notice = 'N5'", (PUBLIC, TERMS, "notices N5"),
+     (COPY, STAY, "notices N5")),
+    ("tenders may be withdrawn late", "INSERT INTO late_rules VALUES ('N5')", (PUBLIC, TERMS, "notices N5"),
+     (COPY, "nothing_is_put_in_behind", "late_rules N5")),
     ("a withdrawn tender was another one", "UPDATE envelopes SET digest = zeroblob(32) WHERE receipt = {taken}",
      (HELD, RECEIPTS, "envelopes {taken}"), (COPY, STAY, "envelopes {taken}")),
-    ("a tender was found not responsive", "UPDATE envelopes SET responsive = 0, quality = NULL WHERE receipt = {low}", (COPY, DECIDED, "envelopes {low}")),
+    ("a tender was found not responsive", "UPDATE envelopes SET responsive = 0, quality = NULL WHERE receipt = {low}",
+     (PUBLIC, "saved_evaluations_stay", "notices N2"), (COPY, DECIDED, "envelopes {low}")),
     ("a budget file came in", "INSERT INTO batches VALUES ('B0', (SELECT max(moment) FROM batches), 9)", (COPY, "what_is_new_is_later", "batches B0")),
     ("a line has more money", "UPDATE lines SET appropriation = appropriation + 1, free = free + 1 WHERE line = '3000'",
      (COPY, "appropriations_come_from_batches", "lines 3000")),
     ("a line has another title", "UPDATE lines SET title = 'Woods' WHERE line = '3000'", (COPY, "appropriations_come_from_batches", "lines 3000")),
     ("a budget file came in at another time", "UPDATE batches SET moment = moment - 100", (COPY, STAY, "batches B1")),
-    ("a lot asks for another security", "UPDATE lots SET security = 15 WHERE notice = 'N5'", (COPY, STAY, "lots N5/L1")),
+    ("a lot asks for another security", "UPDATE lots SET security = 15 WHERE notice = 'N5'", (PUBLIC, TERMS, "notices N5"), (COPY, STAY, "lots N5/L1")),
     ("a lot is of another line", "UPDATE lots SET line = '2000' WHERE notice = 'N5'; UPDATE lines SET free = free + 900 WHERE line = '1000'; "
-     "UPDATE lines SET free = free - 900 WHERE line = '2000'", (COPY, STAY, "lots N5/L1")),
+     "UPDATE lines SET free = free - 900 WHERE line = '2000'", (PUBLIC, TERMS, "notices N5"), (COPY, STAY, "lots N5/L1")),
     ("a withdrawn tender was another tenderer's", "UPDATE envelopes SET tenderer = 'T5' WHERE receipt = {taken}; "
      "UPDATE securities SET tenderer = 'T5' WHERE security = {taken}",
      (HELD, "securities_are_as_shown", "securities {taken}"), (COPY, STAY, "envelopes {taken}")),

@@ -15,6 +15,7 @@ START: dict[str, list[str]] = {
 # The calls whose clauses are the other promises: an office in files, a store, a desk.
 BESIDES: dict[str, list[str]] = {
     "procure_programs/src/store.rt": ["serve_from", "print_from"], "procure_programs/src/serving.rt": ["serve", "serve_at"],
+    "procure_programs/src/listing.rt": ["list_notices"],
     "office_desk/src/desk.rt": ["caller", "plan", "commit", "ask", "look"], "office_base/src/shelf.rt": ["apply"], "office_store/src/path.rt": ["open_from"],
     "office_store/src/open.rt": ["create", "open_files", "close_files"], "office_changes/src/apply.rt": ["apply_all"],
 }

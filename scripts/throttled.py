@@ -7,6 +7,8 @@ import threading
 import time
 from collections.abc import Iterator
 
+# What there is of an opened notice alone.
+OF_OPENED = ("minutes", "evaluation")
 NOT_THERE = {404: b'{"name":"NoSuch","refusal":9,"what":"notice"}', 409: b'{"name":"NotOpened","refusal":22}'}
 
 
@@ -37,13 +39,13 @@ class Front:
 
     def body(self, path: str) -> bytes | None:
         """What is saved of a path, or None."""
-        if path == "/ledger":
-            return self.read("ledger.txt")
-        found = re.fullmatch(r"/notices/([0-9A-Za-z_.-]+)/(releases|record|minutes)", path)
+        if path in ("/ledger", "/notices"):
+            return self.read({"/ledger": "ledger.txt", "/notices": "notices.json"}[path])
+        found = re.fullmatch(r"/notices/([0-9A-Za-z_.-]+)/(releases|record|minutes|terms|evaluation)", path)
         if not found or found[1] == self.lacking:
             return None
         copy = re.fullmatch("K[0-9]+", found[1])
-        data = self.read(f"{found[2]}-{self.copied if copy else found[1]}.{'txt' if found[2] == 'minutes' else 'json'}")
+        data = self.read(f"{found[2]}-{self.copied if copy else found[1]}.{'txt' if found[2] in OF_OPENED else 'json'}")
         return data.replace(self.copied.encode(), found[1].encode()) if copy and data else data
 
     def read(self, name: str) -> bytes | None:
@@ -60,7 +62,7 @@ def handler_of(front: Front) -> type[http.server.BaseHTTPRequestHandler]:
         def do_GET(self) -> None:
             refused = front.turn()
             body = b'{"front":"wait a while"}' if refused else front.body(self.path)
-            status = refused[0] if refused else 200 if body is not None else 409 if self.path.endswith("/minutes") else 404
+            status = refused[0] if refused else 200 if body is not None else 409 if self.path.endswith(OF_OPENED) else 404
             self.send_response(status)
             if refused:
                 self.send_header("Retry-After", refused[1])

@@ -1,9 +1,8 @@
 //! What the entries of a contract come to.
-ghost use Rattle.std.specs.Prelude.{◌≡◌, ◌<◌, ◌+◌, ◌-◌, ◌^◌, ◌||◌};
+ghost use Rattle.std.specs.Prelude.{◌≡◌, ◌<◌, ◌+◌, ◌-◌, ◌^◌};
 ghost use Rattle.std.specs.List.{list_any};
-ghost use Rattle.office_base.specs.EntryKinds.{is_raise, is_payment, is_less};
+ghost use Rattle.office_base.specs.EntryKinds.{is_raise, is_less};
 ghost use Rattle.office_base.specs.Joined.{entry_sum, is_overdrawn, minus, outstanding, paid_under, plus};
-ghost use Rattle.office_base.specs.Transitions.{has_all_releases};
 ghost use Rattle.office_base.specs.Tables.{same_number};
 ghost use Rattle.award_core.specs.Rules.AmendContract.{is_beyond, is_taken, has_all_entries};
 

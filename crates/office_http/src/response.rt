@@ -141,7 +141,18 @@ pub(crate) fn seen_response(
         QueryKind::Ledger | QueryKind::Minutes | QueryKind::Register | QueryKind::Evaluation => {
             response_around(alloc, PLAIN_TEXT, text)
         }
-        _ => response_around(alloc, JSON, text),
+        QueryKind::Line
+        | QueryKind::Releases
+        | QueryKind::Record
+        | QueryKind::Tender
+        | QueryKind::Security
+        | QueryKind::Performance
+        | QueryKind::Notices
+        | QueryKind::Terms
+        | QueryKind::OwnTenders
+        | QueryKind::Securities
+        | QueryKind::Tenderers
+        | QueryKind::Contract => response_around(alloc, JSON, text),
     }
 }
 

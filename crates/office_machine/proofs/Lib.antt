@@ -2,6 +2,7 @@ pub mod Passed
 pub mod Reached
 pub mod Runs
 pub mod Accounts
+pub mod AwardsMade
 pub mod AwardsShown
 pub mod Commands
 pub mod FateLaws

@@ -1,5 +1,5 @@
 ghost use Rattle.office_machine.specs.Accounts.{AccountsAreKept, TablesAreInOrder};
-ghost use Rattle.office_machine.specs.AwardsShown.{AwardsAreShown};
+ghost use Rattle.office_machine.specs.AwardsShown.{AwardsWereShown, WinnersAreShown};
 ghost use Rattle.office_machine.specs.Clock.{ClockIsSet, ClockNeverRunsBack};
 ghost use Rattle.office_machine.specs.Fits.{SumsInRange};
 ghost use Rattle.office_machine.specs.Lacking.{NothingIsLacking};
@@ -68,10 +68,12 @@ pub fn lacking()
     ensures { NothingIsLacking }
 {}
 
-/// Each award goes to a tender that the evaluation shows as admissible just before it, and by the points, prices and receipts that it shows no
-/// other admissible one is better.
+/// The winner that the reply to an award names is shown by the evaluation, to the clerk just before it and to anybody just after it, as admissible,
+/// and by the points, prices and receipts that are shown no other admissible tender of the lot is better; where nobody wins, none is shown as
+/// admissible. Wherever accepted commands lead, each award that is there was made by one of them for a tender that was shown so.
 pub fn awards()
-    ensures { AwardsAreShown }
+    ensures winners { WinnersAreShown }
+    ensures made { AwardsWereShown }
 {}
 
 /// Wherever accepted commands lead, tenders of a notice may be withdrawn late exactly where its accepted publication said that this forfeits

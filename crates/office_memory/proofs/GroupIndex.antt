@@ -107,8 +107,8 @@ module _ {G K : Type 0} {S : G → G → Ordering} {R : K → K → Ordering} (s
     pub ready_for : {Y E : Type 0} (r : X) (index next : KeysOfGroups G K) (is_whole now_whole : Bool) (result : Result Y E)
         → OnOk result (has_key S R next (group r) (key r) ≡ true) → ((q : G) (k : K) → has_key S R index q k ≡ true → has_key S R next q k ≡ true) → now_whole ≡ is_whole
         → OnOk result ((rows : List X) → IsIndexed S R group key rows index is_whole → IsIndexed S R group key (row_put R key rows r) next now_whole)
-    ready_for r index next is_whole now_whole (Ok v) has more same rows h =
-        indexed-put r rows next is_whole now_whole (still_indexed rows index next is_whole h more) (λ whole. (sym same ∙ whole, has))
+    ready_for r index next is_whole now_whole (Ok v) has more same =
+        λ rows h. indexed-put r rows next is_whole now_whole (still_indexed rows index next is_whole h more) (λ whole. (sym same ∙ whole, has))
     ready_for r index next is_whole now_whole (Err e) has more same = tt
 
     -- a row that was replaced comes again: it stays whole where it has the row
@@ -127,5 +127,5 @@ module _ {G K : Type 0} {S : G → G → Ordering} {R : K → K → Ordering} (s
 -- what holds of rows with one put, and of those without, holds of them once it was put, or refused
 pub put_or_not : {K X Y E : Type 0} (R : K → K → Ordering) (key : X → K) (P : List X → Type 0) (r : X) (rows after : List X) (result : Result Y E)
     → OnOk result (after ≡ row_put R key rows r) → OnErr result (after ≡ rows) → P (row_put R key rows r) → P rows → P after
-put_or_not R key P r rows after (Ok v) put kept yes no = subst P (sym put) yes
-put_or_not R key P r rows after (Err e) put kept yes no = subst P (sym kept) no
+put_or_not R key P r rows after (Ok v) put kept with_it without = subst P (sym put) with_it
+put_or_not R key P r rows after (Err e) put kept with_it without = subst P (sym kept) without

@@ -3,7 +3,7 @@ ghost use Rattle.office_values.specs.Ids.{same_id};
 ghost use Rattle.office_base.specs.Tables.{same_number, of_notice};
 
 use crate::child::Child;
-use crate::grouped::Grouped;
+use crate::grouped::Grouping;
 use crate::id_bounds::{greatest_id, least_id};
 use office_base::records::{
     AwardRow, ContractRow, EntryRow, EnvelopeRow, LotRow, ReleaseRow, SecurityRow,
@@ -43,70 +43,94 @@ impl Child for ReleaseRow {
     }
 }
 
-// Lots are listed by their budget line.
-impl Grouped<Id> for LotRow {
+/// By the budget line.
+pub struct ByLine;
+
+impl Grouping<LotRow> for ByLine {
+    type Group = Id;
+
     ghost group_of = { λ r. r.line };
 
-    fn group(&self) -> Id {
-        self.line
+    fn group(row: &LotRow) -> Id {
+        row.line
     }
 }
 
-// Tenders are listed by their notice, by their lot, and by their lot and tenderer.
-impl Grouped<Id> for EnvelopeRow {
+/// By the notice.
+pub struct ByNotice;
+
+impl Grouping<EnvelopeRow> for ByNotice {
+    type Group = Id;
+
     ghost group_of = { λ r. r.notice };
 
-    fn group(&self) -> Id {
-        self.notice
+    fn group(row: &EnvelopeRow) -> Id {
+        row.notice
     }
 }
 
-impl Grouped<(Id, Id)> for EnvelopeRow {
+impl Grouping<SecurityRow> for ByNotice {
+    type Group = Id;
+
+    ghost group_of = { λ r. r.notice };
+
+    fn group(row: &SecurityRow) -> Id {
+        row.notice
+    }
+}
+
+impl Grouping<AwardRow> for ByNotice {
+    type Group = Id;
+
+    ghost group_of = { λ r. r.notice };
+
+    fn group(row: &AwardRow) -> Id {
+        row.notice
+    }
+}
+
+impl Grouping<ContractRow> for ByNotice {
+    type Group = Id;
+
+    ghost group_of = { λ r. r.notice };
+
+    fn group(row: &ContractRow) -> Id {
+        row.notice
+    }
+}
+
+/// By the lot of a notice.
+pub struct ByLot;
+
+impl Grouping<EnvelopeRow> for ByLot {
+    type Group = (Id, Id);
+
     ghost group_of = { λ r. (r.notice, r.lot) };
 
-    fn group(&self) -> (Id, Id) {
-        (self.notice, self.lot)
+    fn group(row: &EnvelopeRow) -> (Id, Id) {
+        (row.notice, row.lot)
     }
 }
 
-impl Grouped<(Id, Id, Id)> for EnvelopeRow {
+impl Grouping<SecurityRow> for ByLot {
+    type Group = (Id, Id);
+
+    ghost group_of = { λ r. (r.notice, r.lot) };
+
+    fn group(row: &SecurityRow) -> (Id, Id) {
+        (row.notice, row.lot)
+    }
+}
+
+/// By the lot and the tenderer.
+pub struct ByTenderer;
+
+impl Grouping<EnvelopeRow> for ByTenderer {
+    type Group = (Id, Id, Id);
+
     ghost group_of = { λ r. (r.notice, r.lot, r.tenderer) };
 
-    fn group(&self) -> (Id, Id, Id) {
-        (self.notice, self.lot, self.tenderer)
-    }
-}
-
-// Securities are listed by their notice, and by their lot.
-impl Grouped<Id> for SecurityRow {
-    ghost group_of = { λ r. r.notice };
-
-    fn group(&self) -> Id {
-        self.notice
-    }
-}
-
-impl Grouped<(Id, Id)> for SecurityRow {
-    ghost group_of = { λ r. (r.notice, r.lot) };
-
-    fn group(&self) -> (Id, Id) {
-        (self.notice, self.lot)
-    }
-}
-
-// Awards and contracts are listed by their notice.
-impl Grouped<Id> for AwardRow {
-    ghost group_of = { λ r. r.notice };
-
-    fn group(&self) -> Id {
-        self.notice
-    }
-}
-
-impl Grouped<Id> for ContractRow {
-    ghost group_of = { λ r. r.notice };
-
-    fn group(&self) -> Id {
-        self.notice
+    fn group(row: &EnvelopeRow) -> (Id, Id, Id) {
+        (row.notice, row.lot, row.tenderer)
     }
 }

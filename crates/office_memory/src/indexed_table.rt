@@ -4,23 +4,24 @@ ghost use Rattle.keyed_table.specs.Replacing.{taken_back, CanTakeBack};
 ghost use Rattle.office_base.specs.Rows.{row_put};
 
 use crate::group_index::GroupIndex;
-use crate::grouped::{self, Grouped};
+use crate::grouped::{self, Grouping};
 use keyed_table::known::Known;
 use keyed_table::table::{Replaced, Table};
+use office_base::row::Row;
 use std::alloc::{AllocError, Global};
 use std::marker::Model;
 
 /// A table, and an index of its rows by their groups. A row that was of a group stays in the index with that group.
 #[derive(Drop)]
-pub struct IndexedTable<R: Grouped<G> + Drop, G: Ord + Copy>
+pub struct IndexedTable<R: Row + Drop, N: Grouping<R>>
 where
     R::Key: Known,
 {
     rows: Table<R>,
-    index: GroupIndex<G, R::Key>,
+    index: GroupIndex<N::Group, R::Key>,
 }
 
-impl<R: Grouped<G> + Drop, G: Ord + Copy> Model for IndexedTable<R, G>
+impl<R: Row + Drop, N: Grouping<R>> Model for IndexedTable<R, N>
 where
     R::Key: Known,
 {
@@ -31,15 +32,15 @@ where
 
     ghost view = { λ t. t.rows };
 
-    ghost invariant = { λ t. IsIndexed G.cmp R.Key.cmp R.group_of R.key_of t.rows t.index.keys t.index.is_whole };
+    ghost invariant = { λ t. IsIndexed N.Group.cmp R.Key.cmp N.group_of R.key_of t.rows t.index.keys t.index.is_whole };
 }
 
-impl<R: Grouped<G> + Drop, G: Ord + Copy> IndexedTable<R, G>
+impl<R: Row + Drop, N: Grouping<R>> IndexedTable<R, N>
 where
     R::Key: Known,
 {
     /// A table without rows. Takes no memory.
-    pub fn new(alloc: Global) -> IndexedTable<R, G>
+    pub fn new(alloc: Global) -> IndexedTable<R, N>
         ensures { result ≡ [] }
     {
         IndexedTable {
@@ -57,17 +58,17 @@ where
 
     /// The rows of a group, in the order of their keys. Costs a look-up for each row that is or was of the group; a look at each row of
     /// the table, once a row was taken back that had never been put.
-    pub fn rows_of_group(&self, alloc: Global, group: &G) -> Result<Vec<&R>, AllocError>
-        ensures { IfOk result (λ found. map (λ row. row.now) found.items ≡ filter (λ r. G.eq (R.group_of r) group.now) self.now) }
+    pub fn rows_of_group(&self, alloc: Global, group: &N::Group) -> Result<Vec<&R>, AllocError>
+        ensures { IfOk result (λ found. map (λ row. row.now) found.items ≡ filter (λ r. N.Group.eq (N.group_of r) group.now) self.now) }
     {
-        grouped::rows_of_group(alloc, &self.rows, &self.index, group)
+        grouped::rows_of_group::<R, N>(alloc, &self.rows, &self.index, group)
     }
 
     /// The rows of a group, copied, in the order of their keys. Costs as `rows_of_group`, and the copies.
-    pub fn copy_of_group(&self, alloc: Global, group: &G) -> Result<Vec<R>, AllocError>
-        ensures { IfOk result (λ copied. copied.items ≡ filter (λ r. G.eq (R.group_of r) group.now) self.now) }
+    pub fn copy_of_group(&self, alloc: Global, group: &N::Group) -> Result<Vec<R>, AllocError>
+        ensures { IfOk result (λ copied. copied.items ≡ filter (λ r. N.Group.eq (N.group_of r) group.now) self.now) }
     {
-        grouped::copy_of_group(alloc, &self.rows, &self.index, group)
+        grouped::copy_of_group::<R, N>(alloc, &self.rows, &self.index, group)
     }
 
     /// Adds the row, or replaces the one with its key, and tells how to take that back.
@@ -77,7 +78,7 @@ where
         ensures can { IfOk result (λ replaced. CanTakeBack R.Key.cmp R.key_of replaced self.new) }
         ensures kept { OnErr result (self.new ≡ self.old) }
     {
-        grouped::add_row(&mut self.index, &row)?;
+        grouped::add_row::<R, N>(&mut self.index, &row)?;
         self.rows.put(row)
     }
 
@@ -86,10 +87,7 @@ where
         requires { CanTakeBack R.Key.cmp R.key_of replaced self.old }
         ensures { self.new ≡ taken_back R.Key.cmp R.key_of replaced self.old }
     {
-        grouped::rows_may_leave::<R, G>();
-        if let Some(boxed) = &replaced.old {
-            grouped::row_comes_again(&mut self.index, boxed.get());
-        }
+        grouped::go_back::<R, N>(&mut self.index, &replaced);
         self.rows.take_back(replaced);
     }
 }

@@ -4,24 +4,25 @@ ghost use Rattle.keyed_table.specs.Replacing.{taken_back, CanTakeBack};
 ghost use Rattle.office_base.specs.Rows.{row_put};
 
 use crate::group_index::GroupIndex;
-use crate::grouped::{self, Grouped};
+use crate::grouped::{self, Grouping};
 use crate::indexed_table::IndexedTable;
 use keyed_table::known::Known;
 use keyed_table::table::Replaced;
+use office_base::row::Row;
 use std::alloc::{AllocError, Global};
 use std::marker::Model;
 
 /// A table with an index of its rows by their groups, and one by their lots. A row that was of a lot stays in the index with that lot.
 #[derive(Drop)]
-pub struct LotTable<R: Grouped<G> + Grouped<L> + Drop, G: Ord + Copy, L: Ord + Copy>
+pub struct LotTable<R: Row + Drop, N: Grouping<R>, L: Grouping<R>>
 where
     R::Key: Known,
 {
-    by_group: IndexedTable<R, G>,
-    index: GroupIndex<L, R::Key>,
+    by_group: IndexedTable<R, N>,
+    index: GroupIndex<L::Group, R::Key>,
 }
 
-impl<R: Grouped<G> + Grouped<L> + Drop, G: Ord + Copy, L: Ord + Copy> Model for LotTable<R, G, L>
+impl<R: Row + Drop, N: Grouping<R>, L: Grouping<R>> Model for LotTable<R, N, L>
 where
     R::Key: Known,
 {
@@ -32,15 +33,15 @@ where
 
     ghost view = { λ t. t.by_group };
 
-    ghost invariant = { λ t. IsIndexed L.cmp R.Key.cmp R.Grouped-2.group_of R.key_of t.by_group t.index.keys t.index.is_whole };
+    ghost invariant = { λ t. IsIndexed L.Group.cmp R.Key.cmp L.group_of R.key_of t.by_group t.index.keys t.index.is_whole };
 }
 
-impl<R: Grouped<G> + Grouped<L> + Drop, G: Ord + Copy, L: Ord + Copy> LotTable<R, G, L>
+impl<R: Row + Drop, N: Grouping<R>, L: Grouping<R>> LotTable<R, N, L>
 where
     R::Key: Known,
 {
     /// A table without rows. Takes no memory.
-    pub fn new(alloc: Global) -> LotTable<R, G, L>
+    pub fn new(alloc: Global) -> LotTable<R, N, L>
         ensures { result ≡ [] }
     {
         LotTable {
@@ -50,7 +51,7 @@ where
     }
 
     /// Its rows by their keys and by their groups.
-    pub fn by_group(&self) -> &IndexedTable<R, G>
+    pub fn by_group(&self) -> &IndexedTable<R, N>
         ensures { result.now ≡ self.now }
     {
         &self.by_group
@@ -58,8 +59,8 @@ where
 
     /// The rows of a lot, copied, in the order of their keys. Costs a look-up for each row that is or was of the lot, and the copies; a
     /// look at each row of the table, once a row was taken back that had never been put.
-    pub fn copy_of_lot(&self, alloc: Global, lot: &L) -> Result<Vec<R>, AllocError>
-        ensures { IfOk result (λ copied. copied.items ≡ filter (λ r. L.eq (R.Grouped-2.group_of r) lot.now) self.now) }
+    pub fn copy_of_lot(&self, alloc: Global, lot: &L::Group) -> Result<Vec<R>, AllocError>
+        ensures { IfOk result (λ copied. copied.items ≡ filter (λ r. L.Group.eq (L.group_of r) lot.now) self.now) }
     {
         grouped::copy_of_group::<R, L>(alloc, self.by_group.rows(), &self.index, lot)
     }
@@ -80,10 +81,7 @@ where
         requires { CanTakeBack R.Key.cmp R.key_of replaced self.old }
         ensures { self.new ≡ taken_back R.Key.cmp R.key_of replaced self.old }
     {
-        grouped::rows_may_leave::<R, L>();
-        if let Some(boxed) = &replaced.old {
-            grouped::row_comes_again::<R, L>(&mut self.index, boxed.get());
-        }
+        grouped::go_back::<R, L>(&mut self.index, &replaced);
         self.by_group.take_back(replaced);
     }
 }

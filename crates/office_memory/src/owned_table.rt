@@ -4,35 +4,26 @@ ghost use Rattle.keyed_table.specs.Replacing.{taken_back, CanTakeBack};
 ghost use Rattle.office_base.specs.Rows.{row_put};
 
 use crate::group_index::GroupIndex;
-use crate::grouped::{self, Grouped};
+use crate::grouped::{self, Grouping};
 use crate::lot_table::LotTable;
 use keyed_table::known::Known;
 use keyed_table::table::Replaced;
+use office_base::row::Row;
 use std::alloc::{AllocError, Global};
 use std::marker::Model;
 
 /// A table with indexes of its rows by their groups and by their lots, and one by their owners. A row that was an owner's stays in the index
 /// with that owner.
 #[derive(Drop)]
-pub struct OwnedTable<
-    R: Grouped<G> + Grouped<L> + Grouped<O> + Drop,
-    G: Ord + Copy,
-    L: Ord + Copy,
-    O: Ord + Copy,
->
+pub struct OwnedTable<R: Row + Drop, N: Grouping<R>, L: Grouping<R>, O: Grouping<R>>
 where
     R::Key: Known,
 {
-    by_lot: LotTable<R, G, L>,
-    index: GroupIndex<O, R::Key>,
+    by_lot: LotTable<R, N, L>,
+    index: GroupIndex<O::Group, R::Key>,
 }
 
-impl<
-    R: Grouped<G> + Grouped<L> + Grouped<O> + Drop,
-    G: Ord + Copy,
-    L: Ord + Copy,
-    O: Ord + Copy,
-> Model for OwnedTable<R, G, L, O>
+impl<R: Row + Drop, N: Grouping<R>, L: Grouping<R>, O: Grouping<R>> Model for OwnedTable<R, N, L, O>
 where
     R::Key: Known,
 {
@@ -43,20 +34,15 @@ where
 
     ghost view = { λ t. t.by_lot };
 
-    ghost invariant = { λ t. IsIndexed O.cmp R.Key.cmp R.Grouped-3.group_of R.key_of t.by_lot t.index.keys t.index.is_whole };
+    ghost invariant = { λ t. IsIndexed O.Group.cmp R.Key.cmp O.group_of R.key_of t.by_lot t.index.keys t.index.is_whole };
 }
 
-impl<
-    R: Grouped<G> + Grouped<L> + Grouped<O> + Drop,
-    G: Ord + Copy,
-    L: Ord + Copy,
-    O: Ord + Copy,
-> OwnedTable<R, G, L, O>
+impl<R: Row + Drop, N: Grouping<R>, L: Grouping<R>, O: Grouping<R>> OwnedTable<R, N, L, O>
 where
     R::Key: Known,
 {
     /// A table without rows. Takes no memory.
-    pub fn new(alloc: Global) -> OwnedTable<R, G, L, O>
+    pub fn new(alloc: Global) -> OwnedTable<R, N, L, O>
         ensures { result ≡ [] }
     {
         OwnedTable {
@@ -66,7 +52,7 @@ where
     }
 
     /// Its rows by their keys, by their groups and by their lots.
-    pub fn by_lot(&self) -> &LotTable<R, G, L>
+    pub fn by_lot(&self) -> &LotTable<R, N, L>
         ensures { result.now ≡ self.now }
     {
         &self.by_lot
@@ -74,8 +60,8 @@ where
 
     /// The rows of an owner, copied, in the order of their keys. Costs a look-up for each row that is or was the owner's, and the copies; a
     /// look at each row of the table, once a row was taken back that had never been put.
-    pub fn copy_of_owner(&self, alloc: Global, owner: &O) -> Result<Vec<R>, AllocError>
-        ensures { IfOk result (λ copied. copied.items ≡ filter (λ r. O.eq (R.Grouped-3.group_of r) owner.now) self.now) }
+    pub fn copy_of_owner(&self, alloc: Global, owner: &O::Group) -> Result<Vec<R>, AllocError>
+        ensures { IfOk result (λ copied. copied.items ≡ filter (λ r. O.Group.eq (O.group_of r) owner.now) self.now) }
     {
         let rows = self.by_lot.by_group().rows();
         grouped::copy_of_group::<R, O>(alloc, rows, &self.index, owner)
@@ -97,10 +83,7 @@ where
         requires { CanTakeBack R.Key.cmp R.key_of replaced self.old }
         ensures { self.new ≡ taken_back R.Key.cmp R.key_of replaced self.old }
     {
-        grouped::rows_may_leave::<R, O>();
-        if let Some(boxed) = &replaced.old {
-            grouped::row_comes_again::<R, O>(&mut self.index, boxed.get());
-        }
+        grouped::go_back::<R, O>(&mut self.index, &replaced);
         self.by_lot.take_back(replaced);
     }
 }

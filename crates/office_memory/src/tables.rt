@@ -1,10 +1,11 @@
 //! The tables of an office in memory.
-ghost use Rattle.std.specs.Prelude.{◌≡◌, ◌<◌, ◌≤◌, IfOk, OnOk, OnErr, not, filter, vec_len, vec_capacity, nat_eq};
+ghost use Rattle.std.specs.Prelude.{◌≡◌, ◌<◌, IfOk, OnOk, OnErr, not, filter, vec_len, vec_capacity, nat_eq};
 ghost use Rattle.office_base.specs.Tables.{Tables, after_put, after_puts, no_tables};
 ghost use Rattle.office_base.specs.declared.puts.Put.TheVariants.{Seal};
 ghost use Rattle.office_memory.specs.Inside.Drops.{without_seals};
 ghost use Rattle.office_memory.specs.MemoryTables.{tables_of, after_undo, after_undos, CanUndo, CanUndoAll};
 
+use crate::belonging::{ByLine, ByLot, ByNotice, ByTenderer};
 use crate::indexed_table::IndexedTable;
 use crate::lot_table::LotTable;
 use crate::owned_table::OwnedTable;
@@ -17,7 +18,6 @@ use office_base::records::{
 };
 use office_base::row::Row;
 use office_values::given::LastNumber;
-use office_values::id::Id;
 use office_values::moment::Moment;
 use std::alloc::{AllocError, Global};
 use std::mem;
@@ -29,12 +29,12 @@ pub struct MemoryTables {
     pub batches: Table<BatchRow>,
     pub tenderers: Table<TendererRow>,
     pub notices: Table<NoticeRow>,
-    pub lots: IndexedTable<LotRow, Id>,
-    pub envelopes: OwnedTable<EnvelopeRow, Id, (Id, Id), (Id, Id, Id)>,
+    pub lots: IndexedTable<LotRow, ByLine>,
+    pub envelopes: OwnedTable<EnvelopeRow, ByNotice, ByLot, ByTenderer>,
     pub seals: Table<SealRow>,
-    pub securities: LotTable<SecurityRow, Id, (Id, Id)>,
-    pub awards: IndexedTable<AwardRow, Id>,
-    pub contracts: IndexedTable<ContractRow, Id>,
+    pub securities: LotTable<SecurityRow, ByNotice, ByLot>,
+    pub awards: IndexedTable<AwardRow, ByNotice>,
+    pub contracts: IndexedTable<ContractRow, ByNotice>,
     pub entries: Table<EntryRow>,
     pub releases: Table<ReleaseRow>,
     pub compiled: Table<CompiledRow>,

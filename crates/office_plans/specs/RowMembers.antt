@@ -6,10 +6,11 @@ use Rattle.office_base.specs.declared.records.EntryRow.{EntryRow}
 use Rattle.office_base.specs.declared.records.LotRow.{LotRow}
 use Rattle.office_base.specs.declared.records.NoticeRow.{NoticeRow}
 use Rattle.tender_papers.specs.Evaluation.{lot_word}
+use Rattle.tender_papers.specs.Listing.{notice_word}
 use Rattle.tender_papers.specs.Register.{state_word}
 use Rattle.office_machine.specs.Replies.{OwnTender, ListedSecurity, ListedTenderer}
 use Rattle.office_plans.specs.Json.{Member, text_entry, named_entry, number_entry, count_entry, date_entry, since_entry, moment_entry, digest_entry, with_objects}
-use Rattle.office_plans.specs.Words.{notice_word, security_word, entry_word, how_word}
+use Rattle.office_plans.specs.Words.{security_word, entry_word, how_word}
 
 -- a notice in the list of them
 abbrev pub notice_entries : NoticeRow → List Member

@@ -1,18 +1,11 @@
--- The words for how far a notice has come, where a security is, what an entry does to its contract, and how a contract ended.
+-- The words for where a security is, what an entry does to its contract, and how a contract ended.
 use Rattle.std.specs.Prelude.{ℕ, List, codes}
 use Rattle.office_commands.specs.declared.contract.How.{How}
 use Rattle.office_commands.specs.declared.contract.How.TheVariants as hows
 use Rattle.office_base.specs.declared.records.EntryKind.{EntryKind}
 use Rattle.office_base.specs.declared.records.EntryKind.TheVariants as entry_kinds
-use Rattle.office_base.specs.declared.records.NoticeState.{NoticeState}
-use Rattle.office_base.specs.declared.records.NoticeState.TheVariants as notices
 use Rattle.office_base.specs.declared.records.SecurityState.{SecurityState}
 use Rattle.office_base.specs.declared.records.SecurityState.TheVariants as securities
-
-abbrev pub notice_word : NoticeState → List ℕ
-notice_word notices.Receiving = codes "receiving"
-notice_word notices.Opened = codes "opened"
-notice_word notices.Cancelled = codes "cancelled"
 
 abbrev pub security_word : SecurityState → List ℕ
 security_word securities.Held = codes "held"

@@ -1,21 +1,10 @@
-//! The words for where notices, tenders and securities are, what entries do, and how contracts ended.
+//! The words for where tenders and securities are, what entries do, and how contracts ended.
 ghost use Rattle.std.specs.Prelude.{◌≡◌, option_map};
-ghost use Rattle.office_plans.specs.Words.{entry_word, how_word, notice_word, security_word};
+ghost use Rattle.office_plans.specs.Words.{entry_word, how_word, security_word};
 ghost use Rattle.tender_papers.specs.Register.{state_word};
 
-use office_base::records::{EntryKind, EnvelopeState, NoticeState, SecurityState};
+use office_base::records::{EntryKind, EnvelopeState, SecurityState};
 use office_commands::contract::How;
-
-/// The word for how far a notice has come.
-pub fn notice_word(state: NoticeState) -> &'static str
-    ensures { result.now ≡ notice_word state }
-{
-    match state {
-        NoticeState::Receiving => "receiving",
-        NoticeState::Opened => "opened",
-        NoticeState::Cancelled => "cancelled",
-    }
-}
 
 /// The word for where a tender is.
 pub fn state_word(state: EnvelopeState) -> &'static str

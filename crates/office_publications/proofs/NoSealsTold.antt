@@ -6,7 +6,7 @@ use Rattle.serde_json.specs.Written.{compact_text}
 use Rattle.office_values.specs.Ids.{same_id}
 use Rattle.office_values.specs.declared.settings.Settings.{Settings}
 use Rattle.office_commands.specs.declared.commands.Command.{Command}
-use Rattle.office_commands.specs.declared.commands.Command.TheVariants.{Import, Register, Publish, AmendNotice, Cancel, Open, Present, Modify, Withdraw, Examine, Award, Fail, Sign, AmendContract, Pay, End}
+use Rattle.office_commands.specs.declared.commands.Command.TheVariants.{Register, Open, Award}
 use Rattle.office_commands.specs.declared.queries.Query.TheVariants as queries
 use Rattle.office_base.specs.declared.records.EnvelopeRow.{EnvelopeRow}
 use Rattle.office_base.specs.declared.records.NoticeRow.{NoticeRow}

@@ -1,5 +1,5 @@
 -- What the text of each look-up by a lot means, whatever the schema has beside its table.
-use Rattle.std.proofs.Common.{inl, inr, List, ℕ, [], ◌∷◌, refl, codes, true, None, Some}
+use Rattle.std.proofs.Common.{inl, List, ℕ, [], ◌∷◌, refl, codes, true, Some}
 use Rattle.std.specs.List.{range_with_len}
 use Rattle.sqlite_schema.specs.Names.{same_name}
 use Rattle.sqlite_schema.specs.declared.schema.Schema.{Schema}

@@ -51,8 +51,9 @@ named = let app = new_app (codes "procure") in record app { top = record app.top
 -- the program's subcommands
 abbrev pub subcommands : App
 subcommands =
-    with_subcommand (with_subcommand (with_subcommand (with_subcommand (with_subcommand named
-    (over_settings (codes "desk")).top) serve.top) (over_store (codes "ledger")).top) (over_notice (codes "minutes")).top) (over_notice (codes "record")).top
+    with_subcommand (with_subcommand (with_subcommand (with_subcommand (with_subcommand (with_subcommand (with_subcommand named
+    (over_settings (codes "desk")).top) serve.top) (over_store (codes "ledger")).top) (over_notice (codes "minutes")).top) (over_notice (codes "record")).top)
+    (over_store (codes "notices")).top) (over_notice (codes "evaluation")).top
 
 -- its command line: one of them is needed
 unfoldable pub procure : App
@@ -65,6 +66,8 @@ pub data Asked : Type 0 where
   Ledger : (config store : Text) → Asked
   Minutes : (config store notice : Text) → Asked
   Record : (config store notice : Text) → Asked
+  Notices : (config store : Text) → Asked
+  Evaluation : (config store notice : Text) → Asked
 
 -- so a job says it
 abbrev pub asked_by : Job → Asked
@@ -73,6 +76,8 @@ asked_by (job.Serve config store port count) = Serve config.now store.now port c
 asked_by (job.Ledger config store) = Ledger config.now store.now
 asked_by (job.Minutes config store notice) = Minutes config.now store.now notice.now
 asked_by (job.Record config store notice) = Record config.now store.now notice.now
+asked_by (job.Notices config store) = Notices config.now store.now
+asked_by (job.Evaluation config store notice) = Evaluation config.now store.now notice.now
 
 -- the number that a value writes in decimal digits, where it is from 1 to the most
 abbrev pub number_in : ℕ → Option Text → Option ℕ
@@ -118,6 +123,19 @@ record_in rows = do
   notice ← first_of (codes "NOTICE") rows
   Some (Record config store notice)
 
+abbrev pub notices_in : List Row → Option Asked
+notices_in rows = do
+  config ← first_of (codes "CONFIG") rows
+  store ← first_of (codes "DB") rows
+  Some (Notices config store)
+
+abbrev pub evaluation_in : List Row → Option Asked
+evaluation_in rows = do
+  config ← first_of (codes "CONFIG") rows
+  store ← first_of (codes "DB") rows
+  notice ← first_of (codes "NOTICE") rows
+  Some (Evaluation config store notice)
+
 -- by the subcommand's name
 abbrev pub asked_as : Text → List Row → Option Asked
 asked_as name rows =
@@ -126,6 +144,8 @@ asked_as name rows =
     else if pointwise nat_eq name (codes "ledger") then ledger_in rows
     else if pointwise nat_eq name (codes "minutes") then minutes_in rows
     else if pointwise nat_eq name (codes "record") then record_in rows
+    else if pointwise nat_eq name (codes "notices") then notices_in rows
+    else if pointwise nat_eq name (codes "evaluation") then evaluation_in rows
     else None
 
 -- what a subcommand that was met asks for

@@ -98,6 +98,12 @@ pub(crate) fn procure<'a>(alloc: Global, version: &'a str) -> Result<Command<'a>
     let ledger = over_store(alloc, "ledger", "Prints the ledger of an office in a file")?;
     let minutes = over_notice(alloc, "minutes", "Prints the minutes of an opening")?;
     let record = over_notice(alloc, "record", "Prints the record of a notice")?;
+    let notices = over_store(alloc, "notices", "Prints a line for each notice")?;
+    let evaluation = over_notice(
+        alloc,
+        "evaluation",
+        "Prints how the awards of a notice came about",
+    )?;
     let procure = Command::new(alloc, "procure")
         .about("A public procurement office")
         .version(version)
@@ -105,6 +111,8 @@ pub(crate) fn procure<'a>(alloc: Global, version: &'a str) -> Result<Command<'a>
         .subcommand(serve(alloc)?)?
         .subcommand(ledger)?
         .subcommand(minutes)?
-        .subcommand(record)?;
+        .subcommand(record)?
+        .subcommand(notices)?
+        .subcommand(evaluation)?;
     Ok(procure.subcommand_required(true))
 }

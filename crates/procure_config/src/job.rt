@@ -1,5 +1,5 @@
 //! What the program is asked to do, read from its words.
-ghost use Rattle.std.specs.Prelude.{◌≡◌, ◌≤◌, true, false, codes, [], ◌∷◌, map, None, Some, IfOk, IfErr, IfSome, IsSome, option_map};
+ghost use Rattle.std.specs.Prelude.{◌≡◌, true, codes, [], ◌∷◌, map, None, Some, IfOk, IfErr, IsSome, option_map};
 ghost use Rattle.clap.specs.Words.{fault_of, first_of, found_of, one_of, rows_of, subcommand_rows_of, takes};
 ghost use Rattle.procure_config.specs.Faults.{no_memory};
 ghost use Rattle.procure_config.specs.Jobs as spec;
@@ -50,6 +50,22 @@ pub enum Job<'a> {
     },
     /// The record of a notice, printed.
     Record {
+        /// The path of the settings.
+        config: &'a str,
+        /// The path of the office's file.
+        store: &'a str,
+        /// The notice, as it was written: it may be no identifier.
+        notice: &'a str,
+    },
+    /// The list of the notices, printed.
+    Notices {
+        /// The path of the settings.
+        config: &'a str,
+        /// The path of the office's file.
+        store: &'a str,
+    },
+    /// How the awards of a notice came about, printed.
+    Evaluation {
         /// The path of the settings.
         config: &'a str,
         /// The path of the office's file.
@@ -142,6 +158,27 @@ fn record_in<'a>(met: &ArgMatches<'a>) -> Option<Job<'a>>
     })
 }
 
+fn notices_in<'a>(met: &ArgMatches<'a>) -> Option<Job<'a>>
+    ensures { option_map asked_by result ≡ spec.notices_in (rows_of (found_of met.now)) }
+{
+    let config = text_of(met, "CONFIG")?;
+    let store = text_of(met, "DB")?;
+    Some(Job::Notices { config, store })
+}
+
+fn evaluation_in<'a>(met: &ArgMatches<'a>) -> Option<Job<'a>>
+    ensures { option_map asked_by result ≡ spec.evaluation_in (rows_of (found_of met.now)) }
+{
+    let config = text_of(met, "CONFIG")?;
+    let store = text_of(met, "DB")?;
+    let notice = text_of(met, "NOTICE")?;
+    Some(Job::Evaluation {
+        config,
+        store,
+        notice,
+    })
+}
+
 // What a subcommand with these values asks for.
 fn asked_as<'a>(name: &str, met: &ArgMatches<'a>) -> Option<Job<'a>>
     ensures { option_map asked_by result ≡ spec.asked_as name.now (rows_of (found_of met.now)) }
@@ -156,6 +193,10 @@ fn asked_as<'a>(name: &str, met: &ArgMatches<'a>) -> Option<Job<'a>>
         minutes_in(met)
     } else if name == "record" {
         record_in(met)
+    } else if name == "notices" {
+        notices_in(met)
+    } else if name == "evaluation" {
+        evaluation_in(met)
     } else {
         None
     }

@@ -2,7 +2,7 @@
 ghost use Rattle.std.specs.Prelude.{◌≡◌, true, false, codes, [], ◌∷◌, None, Some};
 ghost use Rattle.clap.specs.Words.{takes};
 ghost use Rattle.procure_config.specs.Jobs as spec;
-ghost use Rattle.procure_config.specs.Jobs.{Desk, Ledger, Minutes, Record, Serve, asked, faults_of};
+ghost use Rattle.procure_config.specs.Jobs.{Desk, Evaluation, Ledger, Minutes, Notices, Record, Serve, asked, faults_of};
 
 use clap::error::ErrorKind;
 
@@ -13,6 +13,8 @@ pub fn worked_jobs()
     ensures ledger { asked (codes "procure" ∷ codes "ledger" ∷ codes "a" ∷ codes "b" ∷ []) ≡ Some (Ledger (codes "a") (codes "b")) }
     ensures minutes { asked (codes "procure" ∷ codes "minutes" ∷ codes "a" ∷ codes "b" ∷ codes "N1" ∷ []) ≡ Some (Minutes (codes "a") (codes "b") (codes "N1")) }
     ensures record_of { asked (codes "procure" ∷ codes "record" ∷ codes "a" ∷ codes "b" ∷ codes "N1" ∷ []) ≡ Some (Record (codes "a") (codes "b") (codes "N1")) }
+    ensures notices { asked (codes "procure" ∷ codes "notices" ∷ codes "a" ∷ codes "b" ∷ []) ≡ Some (Notices (codes "a") (codes "b")) }
+    ensures evaluation { asked (codes "procure" ∷ codes "evaluation" ∷ codes "a" ∷ codes "b" ∷ codes "N1" ∷ []) ≡ Some (Evaluation (codes "a") (codes "b") (codes "N1")) }
     ensures taken { takes spec.procure (codes "procure" ∷ codes "serve" ∷ codes "a" ∷ codes "b" ∷ codes "65535" ∷ codes "1000000" ∷ []) ≡ true }
     ensures right { faults_of (codes "procure" ∷ codes "desk" ∷ codes "office.toml" ∷ []) ≡ [] }
 {}

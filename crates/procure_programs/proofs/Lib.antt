@@ -1,6 +1,7 @@
 pub mod ServingSteps
 mod EmptyFile
 mod EmptyOpened
+mod ListedPages
 mod OpenedFiles
 mod StoppedFiles
 pub mod Turns

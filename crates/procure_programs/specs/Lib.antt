@@ -2,6 +2,7 @@ pub mod Hosts
 pub mod FaultsTold
 pub mod Turns
 pub mod Showing
+pub mod Listing
 pub mod Serving
 pub mod Blank
 pub mod PageSize

@@ -12,10 +12,13 @@ use Rattle.office_base.specs.Tables.{Tables}
 use Rattle.office_desk.specs.Steps.{IsSeen}
 use Rattle.office_wire.specs.Sending.{AppendsPart}
 use Rattle.procure_config.specs.Faults.{no_route}
-use Rattle.procure_config.specs.Jobs.{Asked, Desk, Ledger, Minutes, Record, Serve}
+use Rattle.procure_config.specs.Jobs.{Asked, Desk, Evaluation, Ledger, Minutes, Notices, Record, Serve}
 use Rattle.procure_config.specs.declared.fault.ProgramFault.{ProgramFault}
 use Rattle.procure_config.specs.declared.fault.ProgramFault.TheVariants as fault
 use Rattle.procure_config.specs.declared.fault.ProgramFault.TheVariants.{Refused}
+use Rattle.procure_programs.specs.declared.showing.Printout.{Printout}
+use Rattle.procure_programs.specs.declared.showing.Printout.TheVariants as printouts
+use Rattle.procure_programs.specs.declared.showing.Printout.TheVariants.{Seen}
 
 -- what the public sees by a query, its refusal as the program's fault; there is no other fault
 abbrev pub IsShown : Settings → Query → Tables → Result (Vec ℕ Global) ProgramFault → Type 0
@@ -31,18 +34,20 @@ IsPrinted settings query s before after (Err fault.Output) = (text : List ℕ) �
 IsPrinted settings query s before after (Err (Refused why)) = IsSeen settings Public query s (Err why) × (after ≡ before)
 IsPrinted settings query s before after (Err _) = ⊥
 
--- the query of a notice that is named; NoRoute where the name can be no notice's
-abbrev pub AsksOfNotice : (List ℕ → Query) → List ℕ → Result (Option Query) ProgramFault → Type 0
-AsksOfNotice query notice (Ok asked) = IsId notice × (asked ≡ Some (query notice))
+-- a paper of a notice that is named; NoRoute where the name can be no notice's
+abbrev pub AsksOfNotice : (List ℕ → Query) → List ℕ → Result (Option Printout) ProgramFault → Type 0
+AsksOfNotice query notice (Ok asked) = IsId notice × (asked ≡ Some (Seen (query notice)))
 AsksOfNotice query notice (Err told) = (¬ (IsId notice)) × (told ≡ no_route)
 
 -- what the words ask to be printed; nothing by those that ask for something else
-abbrev pub AsksQuery : Asked → Result (Option Query) ProgramFault → Type 0
-AsksQuery (Desk config) result = result ≡ Ok None
-AsksQuery (Serve config store port count) result = result ≡ Ok None
-AsksQuery (Ledger config store) result = result ≡ Ok (Some queries.Ledger)
-AsksQuery (Minutes config store notice) result = AsksOfNotice queries.Minutes notice result
-AsksQuery (Record config store notice) result = AsksOfNotice queries.Record notice result
+abbrev pub AsksPrintout : Asked → Result (Option Printout) ProgramFault → Type 0
+AsksPrintout (Desk config) result = result ≡ Ok None
+AsksPrintout (Serve config store port count) result = result ≡ Ok None
+AsksPrintout (Ledger config store) result = result ≡ Ok (Some (Seen queries.Ledger))
+AsksPrintout (Minutes config store notice) result = AsksOfNotice queries.Minutes notice result
+AsksPrintout (Record config store notice) result = AsksOfNotice queries.Record notice result
+AsksPrintout (Notices config store) result = result ≡ Ok (Some printouts.Notices)
+AsksPrintout (Evaluation config store notice) result = AsksOfNotice queries.Evaluation notice result
 
 -- a fault of settings: want of memory, a faulty member, or none that can be read
 abbrev pub IsOfSettings : ProgramFault → Type 0

@@ -5,11 +5,11 @@ ghost use Rattle.procure_programs.specs.Serving.{WasServed};
 
 use crate::faults::no_memory;
 use crate::host::Computer;
-use crate::printing::print;
+use crate::printing::{print, print_notices};
 use crate::serving::serve_at;
+use crate::showing::Printout;
 use office_base::shelf::{Lookups, Shelf};
 use office_base::stored::StoredShelf;
-use office_commands::queries::Query;
 use office_desk::desk::Desk;
 use office_http::office::Office;
 use office_values::settings::Settings;
@@ -40,12 +40,21 @@ pub(crate) fn print_office<H: Shelf + Drop>(
     rt: &HostRuntime,
     settings: Settings,
     shelf: H,
-    query: Query,
+    printout: Printout,
 ) -> (H, Result<(), ProgramFault>)
     ensures { Keeps H.meaning shelf result.0 }
 {
     let mut desk = Desk::new(rt.alloc(), settings, shelf);
     let mut output = WatchedWriter::new(rt.stdout());
-    let printed = print(&mut desk, query, &mut output);
-    (desk.into_shelf(), printed)
+    match printout {
+        Printout::Seen(query) => {
+            let printed = print(&mut desk, query, &mut output);
+            (desk.into_shelf(), printed)
+        }
+        Printout::Notices => {
+            let mut shelf = desk.into_shelf();
+            let printed = print_notices(rt.alloc(), &mut shelf, &mut output);
+            (shelf, printed)
+        }
+    }
 }

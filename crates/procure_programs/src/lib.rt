@@ -11,6 +11,7 @@ pub mod host;
 pub mod jobs;
 mod kept;
 pub mod laws;
+pub mod listing;
 pub mod placing;
 pub mod printing;
 pub mod room;

@@ -1,10 +1,12 @@
 //! What a program prints.
-ghost use Rattle.std.specs.Prelude.{◌≡◌, true, IfErr, OnErr, OnOk};
+ghost use Rattle.std.specs.Prelude.{◌≡◌, true, IfErr, IfOk, OnErr, OnOk};
 ghost use Rattle.std.specs.Io.KnownBytes.{Appends};
 ghost use Rattle.office_base.specs.Shelves.{Looks};
+ghost use Rattle.tender_papers.specs.Listing.{listing_text};
 ghost use Rattle.office_wire.specs.Sending.{AppendsPart};
 ghost use Rattle.procure_programs.specs.Showing.{IsPrinted};
 
+use crate::listing::list_notices;
 use crate::showing::show;
 use office_base::shelf::{Lookups, Shelf};
 use office_commands::queries::Query;
@@ -12,6 +14,7 @@ use office_desk::desk::Desk;
 use office_wire::sending::send;
 use office_wire::watched::WatchedWriter;
 use procure_config::fault::ProgramFault;
+use std::alloc::Global;
 use std::io::Write;
 
 /// Writes a text, all of it, and hands it on. `Output` where the writer fails or takes no more: a front of it was written then, or all.
@@ -31,7 +34,7 @@ pub fn print_text<W: Write>(output: &mut WatchedWriter<W>, text: &[u8]) -> Resul
     }
 }
 
-/// Prints what the public sees at a desk by a query: what the programs `ledger`, `minutes` and `record` do. A refusal is `Refused`, and then nothing is
+/// Prints what the public sees at a desk by a query: what the programs `ledger`, `minutes`, `record` and `evaluation` do. A refusal is `Refused`, and then nothing is
 /// printed; `Output` as of `print_text`. Nothing changes.
 pub fn print<H: Shelf + Drop, W: Write>(
     desk: &mut Desk<H>,
@@ -45,5 +48,22 @@ pub fn print<H: Shelf + Drop, W: Write>(
     match show(desk, query) {
         Ok(text) => print_text(output, &text),
         Err(fault) => Err(fault),
+    }
+}
+
+/// Prints a line for each notice of an office, and hands them on: what the program `notices` does. `Output` where the writer fails, and else a refusal as
+/// `show` has it; some lines may be written then. Nothing changes.
+pub fn print_notices<H: Lookups, W: Write>(
+    alloc: Global,
+    shelf: &mut H,
+    output: &mut WatchedWriter<W>,
+) -> Result<(), ProgramFault>
+    ensures listed { Looks H.meaning shelf.old shelf.new (λ s. IfOk result (λ _. Appends output.old.contents output.new.contents (listing_text s.notices))) }
+    ensures flushed { OnOk result (output.new.is_flushed ≡ true) }
+{
+    list_notices(alloc, shelf, output)?;
+    match output.flush() {
+        Ok(()) => Ok(()),
+        Err(_) => Err(ProgramFault::Output),
     }
 }

@@ -14,7 +14,16 @@ use office_commands::queries::Query;
 use office_desk::desk::Desk;
 use procure_config::fault::ProgramFault;
 
-/// What the public sees by a query: what the programs `ledger`, `minutes` and `record` print. A refusal is `Refused`. Nothing changes.
+/// What a program prints of an office.
+#[derive(Clone, Copy)]
+pub enum Printout {
+    /// What the public sees by a query.
+    Seen(Query),
+    /// A line for each notice.
+    Notices,
+}
+
+/// What the public sees by a query: what the programs `ledger`, `minutes`, `record` and `evaluation` print. A refusal is `Refused`. Nothing changes.
 pub fn show<H: Shelf + Drop>(desk: &mut Desk<H>, query: Query) -> Result<Vec<u8>, ProgramFault>
     ensures looks { Looks H.meaning desk.old.shelf desk.new.shelf (λ s. IsShown desk.old.settings query s result) }
     ensures settings { desk.new.settings ≡ desk.old.settings }

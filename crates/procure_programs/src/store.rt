@@ -16,7 +16,7 @@ use crate::faults::{of_opening, of_shelf};
 use crate::kept::{print_office, serve_office};
 use crate::placing::place_empty;
 use crate::room::{page_size_at, room_for};
-use office_commands::queries::Query;
+use crate::showing::Printout;
 use office_machine::laws::order;
 use office_store::opened::{Opened, Origin};
 use office_store::shelf::SqlShelf;
@@ -80,11 +80,11 @@ fn print_shelf<A: Alter + Drop>(
     rt: &HostRuntime,
     settings: Settings,
     shelf: SqlShelf<A>,
-    query: Query,
+    printout: Printout,
 ) -> (SqlShelf<A>, Result<(), ProgramFault>)
     ensures { Keeps (sql_meaning A.Store) shelf result.0 }
 {
-    print_office(rt, settings, shelf, query)
+    print_office(rt, settings, shelf, printout)
 }
 
 // Opens the office in a file and serves so many connections from it.
@@ -153,13 +153,13 @@ pub fn print_from<S: Start>(
     settings: Settings,
     path: &str,
     start: S,
-    query: Query,
+    printout: Printout,
 ) -> Result<(Files<FileFrom<S>>, Result<(), ProgramFault>), ProgramFault>
     ensures keeps { IfOk result (λ left. ServesFiles ⟦<FileFrom<S> as Disk>⟧ (image_at S.Start) settings 0 left.0) }
 {
     let opened = open_office(rt, path, start)?;
     tell_origin(rt, path, opened.origin);
-    let (shelf, printed) = print_shelf(rt, settings, opened.shelf, query);
+    let (shelf, printed) = print_shelf(rt, settings, opened.shelf, printout);
     close_office(shelf, printed)
 }
 
@@ -181,8 +181,8 @@ pub fn print_file(
     rt: &HostRuntime,
     settings: Settings,
     path: &str,
-    query: Query,
+    printout: Printout,
 ) -> Result<(), ProgramFault> {
-    let (_files, printed) = print_from(rt, settings, path, Unknown, query)?;
+    let (_files, printed) = print_from(rt, settings, path, Unknown, printout)?;
     printed
 }

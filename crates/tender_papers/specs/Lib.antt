@@ -6,5 +6,6 @@ pub mod Register
 pub mod Ledger
 pub mod Minutes
 pub mod Evaluation
+pub mod Listing
 pub mod WorkedPapers
 pub mod Inside

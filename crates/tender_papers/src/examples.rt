@@ -8,6 +8,7 @@ ghost use Rattle.tender_papers.specs.Budget.{budget_of};
 ghost use Rattle.tender_papers.specs.Evaluation.{evaluation_end, evaluation_head, findings_text};
 ghost use Rattle.tender_papers.specs.Files.{csv_records};
 ghost use Rattle.tender_papers.specs.Ledger.{ledger_text};
+ghost use Rattle.tender_papers.specs.Listing.{listing_text};
 ghost use Rattle.tender_papers.specs.Minutes.{minutes_text};
 ghost use Rattle.tender_papers.specs.Register.{register_text};
 ghost use Rattle.tender_papers.specs.WorkedPapers.{worked_answer, worked_award, worked_envelope, worked_finding, worked_lot, worked_notice, worked_ledger_row, worked_reading, worked_reading_of_two, worked_row, worked_tender};
@@ -54,4 +55,6 @@ pub fn worked_printed_texts()
         ≡ codes "EVALUATION\tN1\nlot\tL1\tundecided\ntender\t1\tT1\tpriced\t500\tresponsive\t10\t70000\tadmissible\n"
         ++ codes "tender\t2\tT1\tpriced\t750\tresponsive\t35\t-\tfailed\ntender\t3\tT1\tunreadable\naward\t1\t2\t750\tfailed\n"
         ++ codes "lot\tL2\tcancelled\ntender\t4\tT1\tpriced\t300\t-\t-\t-\t-\nEND\n" }
+    ensures listing { listing_text (worked_notice ∷ [])
+        ≡ codes "N1\topened\t2026-01-05T09:00:00Z\t2026-03-01T12:00:00Z\t2026-03-01T12:00:01Z\t0\t1\tRoad repair\n" }
 {}

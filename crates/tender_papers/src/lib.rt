@@ -6,6 +6,7 @@ pub mod evaluation;
 pub mod examples;
 pub mod ledger;
 mod lines;
+pub mod listing;
 pub mod minutes;
 mod records;
 pub mod register;

@@ -1,5 +1,6 @@
 //! What is read of an office where a transcript can't say it: merges that aren't kept or that other hands wrote, releases that are missing or can't be read, the
-//! ledger's rows one at a time, what the programs show the public, and what they answer over connections that a test makes up.
+//! ledger's rows one at a time, looks at more than a request can bring, what the programs show the public, and what they answer over connections that a test
+//! makes up.
 #![tactic(auto)]
 
 #[cfg(test)]
@@ -7,7 +8,11 @@ mod copies;
 #[cfg(test)]
 mod kept_merges;
 #[cfg(test)]
+mod large_looks;
+#[cfg(test)]
 mod ledger_rows;
+#[cfg(test)]
+mod listed_notices;
 #[cfg(test)]
 mod looked_at_rows;
 #[cfg(test)]

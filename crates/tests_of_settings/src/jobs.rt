@@ -62,14 +62,23 @@ const SERVED: &[Asked<'_>] = &[
     ),
 ];
 
-// Words that ask for a ledger.
-const LEDGERS: &[Asked<'_>] = &[(
-    &["procure", "ledger", "office.toml", "office.db"],
-    Job::Ledger {
-        config: "office.toml",
-        store: "office.db",
-    },
-)];
+// Words that ask for what is of a whole office.
+const LEDGERS: &[Asked<'_>] = &[
+    (
+        &["procure", "ledger", "office.toml", "office.db"],
+        Job::Ledger {
+            config: "office.toml",
+            store: "office.db",
+        },
+    ),
+    (
+        &["procure", "notices", "office.toml", "office.db"],
+        Job::Notices {
+            config: "office.toml",
+            store: "office.db",
+        },
+    ),
+];
 
 // Words that ask for the papers of a notice.
 const PAPERS: &[Asked<'_>] = &[
@@ -87,6 +96,14 @@ const PAPERS: &[Asked<'_>] = &[
             config: "office.toml",
             store: "office.db",
             notice: "no id",
+        },
+    ),
+    (
+        &["procure", "evaluation", "office.toml", "office.db", "N1"],
+        Job::Evaluation {
+            config: "office.toml",
+            store: "office.db",
+            notice: "N1",
         },
     ),
 ];
@@ -113,6 +130,12 @@ const NO_JOBS: &[(&[&str], &str)] = &[
     (&["procure", "ledger", "a"], "<DB>"),
     (&["procure", "minutes", "a", "b"], "<NOTICE>"),
     (&["procure", "record", "a", "b"], "<NOTICE>"),
+    (&["procure", "notices", "a"], "<DB>"),
+    (
+        &["procure", "notices", "a", "b", "c"],
+        "unexpected argument 'c'",
+    ),
+    (&["procure", "evaluation", "a", "b"], "<NOTICE>"),
 ];
 
 // Words that ask to serve with a port or a count out of bounds, and a part of what is told of them.
@@ -149,13 +172,18 @@ fn words_of<'a>(job: &Job<'a>) -> (&'a str, &'a str, &'a str) {
     match *job {
         Job::Desk { config } => (config, "", ""),
         Job::Serve { config, store, .. } => (config, store, ""),
-        Job::Ledger { config, store } => (config, store, ""),
+        Job::Ledger { config, store } | Job::Notices { config, store } => (config, store, ""),
         Job::Minutes {
             config,
             store,
             notice,
         } => (config, store, notice),
         Job::Record {
+            config,
+            store,
+            notice,
+        } => (config, store, notice),
+        Job::Evaluation {
             config,
             store,
             notice,
@@ -171,6 +199,8 @@ fn numbers_of(job: &Job<'_>) -> (u8, u16, u32) {
         Job::Ledger { .. } => (2, 0, 0),
         Job::Minutes { .. } => (3, 0, 0),
         Job::Record { .. } => (4, 0, 0),
+        Job::Notices { .. } => (5, 0, 0),
+        Job::Evaluation { .. } => (6, 0, 0),
     }
 }
 
@@ -201,12 +231,12 @@ fn asks_to_serve(rt: HostRuntime) {
 }
 
 #[test]
-fn asks_for_a_ledger(rt: HostRuntime) {
+fn asks_for_what_is_of_an_office(rt: HostRuntime) {
     assert!(rt; are_asked(rt.alloc(), LEDGERS));
 }
 
 #[test]
-fn asks_for_minutes_and_a_record(rt: HostRuntime) {
+fn asks_for_papers_of_a_notice(rt: HostRuntime) {
     assert!(rt; are_asked(rt.alloc(), PAPERS));
 }
 

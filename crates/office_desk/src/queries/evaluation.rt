@@ -1,12 +1,12 @@
 //! How the awards of a notice came about: what was found of each tender, and what was decided.
 ghost use Rattle.std.specs.Prelude.{◌≡◌, ◌||◌, ◌++◌, true, IfOk, IfErr, map};
-ghost use Rattle.std.specs.List.{flat_map};
+ghost use Rattle.std.specs.List.{flat_map, list_any};
 ghost use Rattle.office_commands.specs.Rights.{is_clerk, may_look};
 ghost use Rattle.office_commands.specs.declared.command.QueryKind.TheVariants as kinds;
 ghost use Rattle.office_commands.specs.declared.queries.Query.TheVariants.{Evaluation};
 ghost use Rattle.office_values.specs.declared.refusal.Refusal.TheVariants.{Unavailable};
 ghost use Rattle.office_base.specs.Shelves.{Looks};
-ghost use Rattle.office_machine.specs.Evaluation.{awards_of_lot, evaluated_lot, evaluated_tender, evaluated_tenders, has_outcome, points_told};
+ghost use Rattle.office_machine.specs.Evaluation.{awards_of_lot, evaluated_lot, evaluated_tender, evaluated_tenders, has_outcome, is_award_of, points_told};
 ghost use Rattle.office_plans.specs.Replies.{evaluated_lines, finding_of};
 ghost use Rattle.office_desk.specs.Steps.{IsShown, read_text};
 ghost use Rattle.tender_papers.specs.Evaluation.{award_line, finding_line};
@@ -84,11 +84,18 @@ fn put_awards(text: &mut EvaluationText, lot: Id, awards: &[AwardRow]) -> Result
     Ok(())
 }
 
+// Whether one of these awards is of the lot.
+fn has_award(awards: &[AwardRow], lot: &Id) -> bool
+    ensures { result ≡ list_any (is_award_of lot.now) awards.now }
+{
+    awards.iter().any(|award| award.lot == *lot)
+}
+
 // Whether the lot has had an outcome.
 fn has_outcome(awards: &[AwardRow], lot: &LotRow) -> bool
     ensures { result ≡ has_outcome awards.now lot.now }
 {
-    lot.state != LotState::Undecided || awards.iter().any(|award| award.lot == lot.lot)
+    lot.state != LotState::Undecided || has_award(awards, &lot.lot)
 }
 
 // Whether the caller is shown the lot's tenders and awards.

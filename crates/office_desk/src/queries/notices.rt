@@ -1,5 +1,5 @@
 //! A page of the notices.
-ghost use Rattle.std.specs.Prelude.{◌≡◌, ◌+◌, true, IfOk};
+ghost use Rattle.std.specs.Prelude.{◌≡◌, true, IfOk};
 ghost use Rattle.office_commands.specs.Rights.{may_look};
 ghost use Rattle.office_commands.specs.declared.command.QueryKind.TheVariants as kinds;
 ghost use Rattle.office_commands.specs.declared.queries.Query.TheVariants.{Notices};
@@ -15,10 +15,10 @@ use office_base::records::NoticeRow;
 use office_base::shelf::Lookups;
 use office_commands::command::Caller;
 use office_plans::objects::{Plain, RowObject, rows_text, write_object};
-use office_plans::words::notice_word;
 use office_values::id::Id;
 use office_values::refusal::Refusal;
 use std::alloc::{AllocError, Global};
+use tender_papers::listing::notice_word;
 
 // A notice in the list of them.
 struct ListedNotice;

@@ -16,11 +16,11 @@ use office_commands::command::Caller;
 use office_commands::item::Item;
 use office_commands::notice::Weight;
 use office_plans::objects::{Plain, RowObject, rows_text, write_object, write_with_rows};
-use office_plans::words::notice_word;
 use office_values::id::Id;
 use office_values::refusal::{Refusal, Thing};
 use std::alloc::{AllocError, Global};
 use tender_papers::evaluation::lot_word;
+use tender_papers::listing::notice_word;
 
 // An item of a lot.
 struct ListedItem;

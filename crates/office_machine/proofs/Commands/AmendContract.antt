@@ -252,7 +252,7 @@ none_lacking xs s whole contract (Some c) is =
 pub amend_contract : (contract : ℕ) (entry : List ℕ) (kind : ChangeKind) (amount : ℕ) (rationale : List ℕ) → Lawful (AmendContract contract entry kind amount rationale)
 amend_contract contract entry kind amount rationale = record {
   touches = Entries ∷ Lines ∷ [];
-  alone = (refl, refl);
+  alone = (refl, refl, refl);
   accounts = Moving (λ readings xs s moment caller kept order own allowed. amend_contract_keeps readings xs s moment caller contract entry kind amount rationale kept order allowed);
   fates = λ readings. fates_kept readings contract entry kind amount rationale;
   tail = λ readings s moment caller have allowed.

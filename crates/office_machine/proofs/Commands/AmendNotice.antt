@@ -36,7 +36,7 @@ plain clock t (Some n) deadline = (tt, (tt, tt))
 pub amend_notice : (notice : List ℕ) (deadline : ℕ) (rationale : List ℕ) → Lawful (AmendNotice notice deadline rationale)
 amend_notice notice deadline rationale = record {
   touches = [];
-  alone = (refl, refl);
+  alone = (refl, refl, refl);
   accounts = Idle refl (λ s moment caller xs. record { moves_none = refl; held = λ _. refl; none_brought = λ _. refl; none_taken = λ _. refl });
   fates = λ readings xs s moment caller kept own allowed.
       let x = given s moment caller (AmendNotice notice deadline rationale) in

@@ -234,7 +234,7 @@ module _ (xs : List Given) (s : Tables) (whole : IsWhole xs s) (contract : ℕ) 
 pub end_contract : (contract : ℕ) (how : How) → Lawful (End contract how)
 end_contract contract how = record {
   touches = Contracts ∷ Lines ∷ [];
-  alone = (refl, refl);
+  alone = (refl, refl, refl);
   accounts = Moving (λ readings xs s moment caller kept order own allowed. end_keeps readings xs s moment caller contract how kept order allowed);
   fates = λ readings. fates_kept readings contract how;
   tail = λ readings s moment caller have allowed.

@@ -119,7 +119,7 @@ none_lacking s have receipt (Some e) is = let h = have.envelopes receipt e is in
 pub examine : (receipt : ℕ) (responsive : Bool) (quality : Option ℕ) → Lawful (Examine receipt responsive quality)
 examine receipt responsive quality = record {
   touches = Envelopes ∷ [];
-  alone = (refl, refl);
+  alone = (refl, refl, refl);
   accounts = Idle refl (λ s moment caller xs. record { moves_none = refl; held = λ _. refl; none_brought = λ _. refl; none_taken = λ _. refl });
   fates = λ readings. fates_kept readings receipt responsive quality;
   tail = λ readings s moment caller have allowed.

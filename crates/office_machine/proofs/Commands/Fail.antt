@@ -104,7 +104,7 @@ module _ (s : Tables) (have : HaveParents s s) where
 pub fail : (award : ℕ) → Lawful (Fail award)
 fail award = record {
   touches = Awards ∷ Lots ∷ Envelopes ∷ Securities ∷ [];
-  alone = (refl, refl);
+  alone = (refl, refl, refl);
   accounts = Moving (λ readings xs s moment caller kept order own allowed. fail_keeps readings xs s moment caller award kept allowed);
   fates = λ readings. fail_fates.fail_keeps readings award;
   tail = λ readings s moment caller have allowed.

@@ -31,7 +31,7 @@ fates_kept readings batch rows xs t m caller kept own allowed =
 pub import_budget : (batch : List ℕ) (rows : List BudgetRow) → Lawful (Import batch rows)
 import_budget batch rows = record {
   touches = Lines ∷ Batches ∷ [];
-  alone = (refl, refl);
+  alone = (refl, refl, refl);
   accounts = Moving (λ readings xs s moment caller kept order own allowed. import_keeps readings xs s moment caller batch rows kept order allowed);
   fates = λ readings. fates_kept readings batch rows;
   tail = λ readings s moment caller have allowed.

@@ -2,7 +2,7 @@
 use Rattle.std.specs.Prelude.{◌≡◌, ℕ, Bool, true, false, max, List, ◌∷◌, None}
 use Rattle.office_commands.specs.declared.command.Caller.{Caller}
 use Rattle.office_commands.specs.declared.commands.Command.{Command}
-use Rattle.office_commands.specs.declared.commands.Command.TheVariants.{Publish, Sign, End}
+use Rattle.office_commands.specs.declared.commands.Command.TheVariants.{Publish, Cancel, Award, Fail, Sign, End}
 use Rattle.office_base.specs.Rules.{first_of}
 use Rattle.office_base.specs.Tables.{Tables, IsSorted, after_puts}
 use Rattle.office_machine.specs.Readings.{Readings}
@@ -11,7 +11,7 @@ use Rattle.office_machine.specs.Parents.{HaveParents}
 use Rattle.office_machine.specs.Publications.{published_for}
 use Rattle.office_machine.specs.Rules.{rule_of}
 use Rattle.office_machine.proofs.Accounts.Aside.{IsIdle}
-use Rattle.office_machine.proofs.Commands.Footprint.{TableName, Contracts, LateRules, is_in}
+use Rattle.office_machine.proofs.Commands.Footprint.{TableName, Awards, Contracts, LateRules, is_in}
 use Rattle.office_machine.proofs.Accounts.Idle.{touches_books}
 use Rattle.office_machine.proofs.Accounts.Kept.{AccountsStand}
 use Rattle.office_machine.proofs.FateLaws.FatesHold.{Keeps}
@@ -39,11 +39,18 @@ abbrev pub puts_late_rules : Command → Bool
 puts_late_rules (Publish notice content) = true
 puts_late_rules _ = false
 
+abbrev pub puts_awards : Command → Bool
+puts_awards (Cancel notice rationale) = true
+puts_awards (Award notice lot) = true
+puts_awards (Fail award) = true
+puts_awards (Sign award named) = true
+puts_awards _ = false
+
 pub record Lawful (command : Command) : Type 0 where
   -- the tables of its own rows
   pub touches : List TableName
-  -- a signing and an end alone put contracts, a publication alone says something of late withdrawals
-  pub alone : (is_in touches Contracts ≡ puts_contracts command) × (is_in touches LateRules ≡ puts_late_rules command)
+  -- a signing and an end alone put contracts, a publication alone says something of late withdrawals, and four commands put awards
+  pub alone : (is_in touches Contracts ≡ puts_contracts command) × (is_in touches LateRules ≡ puts_late_rules command) × (is_in touches Awards ≡ puts_awards command)
   -- the books stay balanced
   pub accounts : KeepsBooks command touches
   -- tenders and securities go on as told

@@ -65,7 +65,7 @@ none_lacking s have receipt (Some e) is = ap not (have.envelopes receipt e is).n
 pub modify : (receipt : ℕ) (bytes : List ℕ) → Lawful (Modify receipt bytes)
 modify receipt bytes = record {
   touches = Envelopes ∷ Seals ∷ [];
-  alone = (refl, refl);
+  alone = (refl, refl, refl);
   accounts = Idle refl (λ s moment caller xs. record { moves_none = refl; held = λ _. refl; none_brought = λ _. refl; none_taken = λ _. refl });
   fates = λ readings. modify_fates.modify_keeps readings receipt bytes;
   tail = λ readings s moment caller have allowed.

@@ -164,7 +164,7 @@ none_lacking s have contract (Some c) is = ap not (have.contracts contract c is)
 pub pay : (contract : ℕ) (entry : List ℕ) (amount : ℕ) → Lawful (Pay contract entry amount)
 pay contract entry amount = record {
   touches = Entries ∷ [];
-  alone = (refl, refl);
+  alone = (refl, refl, refl);
   accounts = Moving (λ readings xs s moment caller kept order own allowed. pay_keeps readings xs s moment caller contract entry amount kept order allowed);
   fates = λ readings. fates_kept readings contract entry amount;
   tail = λ readings s moment caller have allowed.

@@ -94,7 +94,7 @@ plain s t notice content =
 pub publish : (notice : List ℕ) (content : NewNotice) → Lawful (Publish notice content)
 publish notice content = record {
   touches = Lines ∷ Lots ∷ LateRules ∷ [];
-  alone = (refl, refl);
+  alone = (refl, refl, refl);
   accounts = Moving (λ readings xs s moment caller kept order own allowed. publish_keeps readings xs s moment caller notice content kept order own allowed);
   fates = λ readings. publish_fates.publish_keeps readings notice content;
   tail = λ readings s moment caller have allowed.

@@ -13,7 +13,7 @@ use Rattle.office_machine.proofs.Commands.Tail.{front, quiet}
 pub register : (tenderer name address key : List ℕ) → Lawful (Register tenderer name address key)
 register tenderer name address key = record {
   touches = Tenderers ∷ [];
-  alone = (refl, refl);
+  alone = (refl, refl, refl);
   accounts = Idle refl (λ s moment caller xs. record { moves_none = refl; held = λ _. refl; none_brought = λ _. refl; none_taken = λ _. refl });
   fates = λ readings xs s moment caller kept own allowed.
       let x = given s moment caller (Register tenderer name address key) in

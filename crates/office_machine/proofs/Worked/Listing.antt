@@ -1,11 +1,10 @@
 -- Worked examples of lists, computed.
 use Rattle.std.proofs.Common.{refl}
-use Rattle.std.specs.List.{flat_map}
 use Rattle.office_base.specs.Rows.{row_at, row_put, row_drop}
 use Rattle.office_machine.specs.Worked.Listing.{ListingWorked}
 
 pub listing_worked : ListingWorked
-unfolding row_at row_put row_drop flat_map
+unfolding row_at row_put row_drop
 listing_worked = record {
   nothing_yet = refl;
   one_notice = refl;

@@ -1,5 +1,5 @@
 -- In two worlds replies are alike.
-use Rattle.std.proofs.Common.{◌≡◌, ℕ, suc, ◌+◌, Bool, true, false, cond, ◌&&◌, List, [], ◌∷◌, length, map, filter, Option, Some, None, option_map, refl, sym, ◌∙◌, ap, subst}
+use Rattle.std.proofs.Common.{◌≡◌, ℕ, suc, ◌+◌, Bool, true, false, cond, ◌&&◌, List, [], ◌∷◌, length, filter, Option, Some, None, option_map, refl, sym, ◌∙◌, ap, subst}
 use Rattle.office_values.specs.Ids.{same_id}
 use Rattle.office_commands.specs.declared.command.Caller.{Caller}
 use Rattle.office_commands.specs.declared.command.Caller.TheVariants.{Public, Clerk, Tenderer}
@@ -32,7 +32,7 @@ use Rattle.office_machine.specs.Sights.{Packages, tender_told, registered, regis
 use Rattle.office_machine.specs.Seals.{ButDigest, PackagesHideSeals, without_digest, ToldAlike}
 use Rattle.office_base.proofs.ExactKeys.{equal_ids, same_itself}
 use Rattle.office_machine.proofs.Worlds.TendersShown.{pairs-same, evaluation_same, others_own, own_but_digest}
-use Rattle.office_machine.proofs.Worlds.WorldsPut.{Alike, AlikeOptions, IsBlind, blind, blind-option, pairs-filter}
+use Rattle.office_machine.proofs.Worlds.WorldsPut.{Alike, AlikeOptions, blind-option, pairs-filter}
 use Rattle.office_machine.proofs.Worlds.WorldsRows.{envelope_pair, lot_pairs, notice_pairs, pairs-winner}
 
 pub told_same : (th : ChosenTender) (caller : Caller) (r r' : Reply) → r' ≡ r → ToldAlike th caller r r'

@@ -1,7 +1,6 @@
 -- In two worlds the same is found of the tenders of a lot, and a tenderer's own tenders are the same but for their digests, which nobody else is shown.
-use Rattle.std.proofs.Common.{◌≡◌, ℕ, Bool, true, false, cond, ◌&&◌, ◌||◌, List, [], ◌∷◌, ◌++◌, map, filter, Option, Some, None, unwrap_or, refl, sym, ◌∙◌, ap, subst}
+use Rattle.std.proofs.Common.{◌≡◌, ℕ, Bool, true, false, cond, ◌&&◌, ◌||◌, List, [], ◌∷◌, ◌++◌, map, filter, Option, Some, None, unwrap_or, refl, ◌∙◌, ap}
 use Rattle.std.specs.List.{flat_map}
-use Rattle.std.proofs.lemmas.Bool.{and_parts}
 use mathlib.Core.Path.{fun_ext}
 use Rattle.office_values.specs.Ids.{same_id}
 use Rattle.office_values.specs.declared.refusal.Refusal.TheVariants.{NotOpened}
@@ -14,10 +13,10 @@ use Rattle.office_base.specs.declared.records.LotRow.{LotRow}
 use Rattle.office_base.specs.declared.records.EnvelopeRow.{EnvelopeRow}
 use Rattle.office_base.specs.declared.records.SealRow.{SealRow}
 use Rattle.office_base.specs.declared.records.AwardRow.{AwardRow}
-use Rattle.office_base.specs.Tables.{Tables, of_tenderer, envelopes_of_lot, envelopes_of_tenderer}
+use Rattle.office_base.specs.Tables.{Tables, of_tenderer, envelopes_of_lot}
 use Rattle.award_core.specs.Best.{lowest_in}
 use Rattle.office_machine.specs.Worlds.{ChosenTender, is_theirs, is_for_chosen_lot, Pairs}
-use Rattle.office_machine.specs.Replies.{Refused, OwnTendersSeen, EvaluationSeen, OwnTender}
+use Rattle.office_machine.specs.Replies.{Refused, OwnTendersSeen, EvaluationSeen}
 use Rattle.office_machine.specs.Evaluation.{evaluated_tender, evaluated_tenders, awards_of_lot, has_outcome, lot_told, evaluated_lot, evaluation_told}
 use Rattle.office_machine.specs.Sights.{own_tender, own_of_lot, own_tenders_told}
 use Rattle.office_machine.specs.Seals.{bare_tender, without_digest}
@@ -25,16 +24,19 @@ use Rattle.office_base.proofs.ExactKeys.{equal_ids}
 use Rattle.office_machine.proofs.Worlds.WorldsPut.{Alike, IsBlind, blind, pairs-filter}
 use Rattle.office_machine.proofs.Worlds.WorldsRows.{lot_pairs, pairs-lowest}
 
+both_parts : (a b : Bool) → (a && b) ≡ true → (a ≡ true) × (b ≡ true)
+both_parts true b e = (refl, e)
+both_parts false b e = cc
+
 pairs-append : {X Y : Type 0} (R : X → Y → Type 0) (xs zs : List X) (ys ws : List Y) → Pairs R xs ys → Pairs R zs ws → Pairs R (xs ++ zs) (ys ++ ws)
 pairs-append R [] zs [] ws a b = b
 pairs-append R [] zs (y ∷ ys) ws a b = absurd a
 pairs-append R (x ∷ xs) zs [] ws a b = absurd a
 pairs-append R (x ∷ xs) zs (y ∷ ys) ws a b = (a.0, pairs-append R xs zs ys ws a.1 b)
 
-pairs-flat : {A X Y : Type 0} (R : X → Y → Type 0) (f : A → List X) (g : A → List Y) → ((a : A) → Pairs R (f a) (g a)) → (as : List A) → Pairs R (flat_map f as) (flat_map g as)
-unfolding flat_map
+pairs-flat : {A X Y : Type 0} (R : X → Y → Type 0) (f : A → List X) (g : A → List Y) → ((a : A) → Pairs R (f a) (g a)) → (zs : List A) → Pairs R (flat_map f zs) (flat_map g zs)
 pairs-flat R f g each [] = tt
-pairs-flat R f g each (a ∷ as) = pairs-append R (f a) (flat_map f as) (g a) (flat_map g as) (each a) (pairs-flat R f g each as)
+pairs-flat R f g each (z ∷ zs) = pairs-append R (f z) (flat_map f zs) (g z) (flat_map g zs) (each z) (pairs-flat R f g each zs)
 
 module _ (th : ChosenTender) (W : ℕ → Bool) where
   pub pairs-same : {A : Type 0} (f : EnvelopeRow → A) → IsBlind th W f → (es es' : List EnvelopeRow) → Pairs (Alike th W) es es' → map f es' ≡ map f es
@@ -60,8 +62,8 @@ module _ (th : ChosenTender) (W : ℕ → Bool) where
     -- another's
     elses : same_id id th.who ≡ false → (e : EnvelopeRow) → own e ≡ true → is_theirs th e ≡ false
     elses out e mine =
-        let parts : (same_id e.notice notice && same_id e.lot lot ≡ true) × (same_id e.tenderer id ≡ true) = and_parts _ _ mine in
-        ap (λ k. same_id k th.who && is_for_chosen_lot th e) (equal_ids e.tenderer id parts.1) ∙ ap (λ b. b && is_for_chosen_lot th e) out
+        ap (λ k. same_id k th.who && is_for_chosen_lot th e) (equal_ids e.tenderer id (both_parts (same_id e.notice notice && same_id e.lot lot) (same_id e.tenderer id) mine).1)
+        ∙ ap (λ b. b && is_for_chosen_lot th e) out
 
     elses_same : same_id id th.who ≡ false → (es es' : List EnvelopeRow) → Pairs (Alike th W) es es' → filter own es' ≡ filter own es
     elses_same out [] [] all = refl

@@ -7,5 +7,5 @@ use Rattle.office_memory.proofs.grouped.indexed.Given as goal
 abbrev pub invariant-loop-key : goal.invariant-loop-key
 invariant-loop-key g l =
     map (λ row. row.now) l.found.items
-    ++ filter (λ r. g.G.PartialEq.eq (g.R.Grouped.group_of r) l.group) (filter_map (row_at g.R.Key.Ord.cmp g.R.Row.key_of l.rows) l.key-iterator)
-    ≡ filter (λ r. g.G.PartialEq.eq (g.R.Grouped.group_of r) l.group) l.rows
+    ++ filter (λ r. g.N.Group.PartialEq.eq (g.N.Grouping.group_of r) l.group) (filter_map (row_at g.R.Key.Ord.cmp g.R.Row.key_of l.rows) l.key-iterator)
+    ≡ filter (λ r. g.N.Group.PartialEq.eq (g.N.Grouping.group_of r) l.group) l.rows

@@ -23,6 +23,14 @@ pub returns-clause-record_of : goal.returns-clause-record_of
 unfolding clap_on_literals procure
 returns-clause-record_of c = refl
 
+pub returns-clause-notices : goal.returns-clause-notices
+unfolding clap_on_literals procure
+returns-clause-notices c = refl
+
+pub returns-clause-evaluation : goal.returns-clause-evaluation
+unfolding clap_on_literals procure
+returns-clause-evaluation c = refl
+
 pub returns-clause-taken : goal.returns-clause-taken
 unfolding clap_on_literals procure
 returns-clause-taken c = refl

@@ -18,3 +18,7 @@ returns-clause-minutes c = refl
 pub returns-clause-evaluation : goal.returns-clause-evaluation
 unfolding digits
 returns-clause-evaluation c = refl
+
+pub returns-clause-listing : goal.returns-clause-listing
+unfolding digits moment_text month_after year_after
+returns-clause-listing c = refl

@@ -2,6 +2,7 @@ use Rattle.std.proofs.Common.{arith, ◌≡◌, ◌++◌, take, ap, sym, refl, �
 use Rattle.std.specs.List.{flat_map}
 use Rattle.std.proofs.lemmas.List.{take_all}
 use Rattle.std.proofs.lemmas.List.Folds.{flat_map-map}
+use Rattle.office_base.specs.declared.records.LotRow.{LotRow}
 use Rattle.office_machine.specs.Evaluation.{evaluated_lot}
 use Rattle.office_plans.specs.Replies.{evaluated_lines}
 use Rattle.office_desk.proofs.Listed.{one_more}
@@ -15,7 +16,7 @@ loop-lot-preserved g c =
       c.looks_follow.ensures _ _ _ before.0 step.0,
       λ honest s held.
           let mid = step.0.before honest in
-          let lines = λ l. evaluated_lines (evaluated_lot c.args.caller.now c.args.weight c.args.awards.now s l) in
+          let lines = λ (l : LotRow). evaluated_lines (evaluated_lot c.args.caller.now c.args.weight c.args.awards.now s l) in
           one_more lines c.args.begun c.args.lots.now c.loop-lot.lot-index lot c.loop-lot.text c.put_lot.new.text (lines lot)
           c.loop-lot-test.true c.lot-item.is (before.1 mid s held) refl (step.1 honest s (before.0.same mid s held)),
     )

@@ -1,4 +1,4 @@
-use Rattle.std.proofs.Common.{[], sym, refl}
+use Rattle.std.proofs.Common.{[]}
 use Rattle.office_commands.specs.declared.command.Caller.TheVariants.{Tenderer}
 use Rattle.office_machine.specs.Sights.{own_of_lot}
 use Rattle.office_desk.proofs.Listed.{one_more}

@@ -1,5 +1,5 @@
-use Rattle.std.proofs.Common.{◌≡◌, ◌∙◌, sym, ap, map, [], codes, subst}
-use Rattle.std.specs.Prelude.{List, ℕ, IfOk}
+use Rattle.std.proofs.Common.{◌≡◌, sym, [], codes, subst}
+use Rattle.std.specs.Prelude.{List, IfOk}
 use Rattle.std.proofs.lemmas.Simd.{map-map}
 use Rattle.office_plans.specs.Json.{Member, object_text, with_objects}
 use Rattle.office_plans.specs.RowMembers.{own_tender_entries}

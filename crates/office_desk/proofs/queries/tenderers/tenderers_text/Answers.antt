@@ -1,4 +1,4 @@
-use Rattle.std.proofs.Common.{◌≡◌, [], ◌∷◌, ◌∙◌, sym, ap, map, take, codes, subst}
+use Rattle.std.proofs.Common.{◌≡◌, sym, map, take, codes, subst}
 use Rattle.std.specs.Prelude.{List, ℕ, Option, IfOk}
 use Rattle.std.proofs.lemmas.Simd.{map-map}
 use Rattle.office_base.specs.declared.records.TendererRow.{TendererRow}
@@ -12,7 +12,7 @@ use Rattle.office_desk.proofs.queries.tenderers.tenderers_text.Goals as goal
 
 pub returns : goal.returns
 returns c =
-    let text = λ next rows. object_text (page_entries next (codes "tenderers") rows) in
+    let text = λ (next : Option (List ℕ)) (rows : List (List Member)). object_text (page_entries next (codes "tenderers") rows) in
     let one : Option (List ℕ) → Type 0 = λ next. IfOk c.rows_text.result (λ t. t.items ≡ text next (map (λ r. listed_tenderer_entries (listed_tenderer r)) c.page_of-page.result.now)) in
     let two : List TendererRow → Type 0 = λ page. IfOk c.rows_text.result (λ t. t.items
     ≡ text (next_after tenderer_key page_limit c.args.rows.now) (map (λ r. listed_tenderer_entries (listed_tenderer r)) page)) in

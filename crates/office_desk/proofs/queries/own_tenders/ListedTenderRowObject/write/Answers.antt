@@ -1,0 +1,6 @@
+use Rattle.std.proofs.Common.{sym}
+use Rattle.office_desk.proofs.queries.own_tenders.ListedTenderRowObject.write.Goals as goal
+
+pub returns : goal.returns
+returns c =
+    rw (sym c.get-length.ensures.value, sym c.get-receipt.ensures.value, sym c.number_of-security.ensures, sym c.state_word-word.ensures) c.write_object.ensures

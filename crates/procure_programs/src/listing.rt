@@ -1,0 +1,82 @@
+//! The list of an office's notices, page by page.
+ghost use Rattle.std.specs.Prelude.{◌≡◌, IfOk};
+ghost use Rattle.std.specs.Io.KnownBytes.{Appends};
+ghost use Rattle.office_base.specs.Limits.{page_limit};
+ghost use Rattle.office_base.specs.Pages.{next_after};
+ghost use Rattle.office_base.specs.Shelves.{Looks};
+ghost use Rattle.office_base.specs.Tables.{notice_key};
+ghost use Rattle.tender_papers.specs.Listing.{listing_text};
+ghost use Rattle.procure_programs.specs.Listing.{WritesPage};
+
+use office_base::laws;
+use office_base::records::NoticeRow;
+use office_base::shelf::Lookups;
+use office_values::id::Id;
+use office_values::refusal::Refusal;
+use office_wire::sending::send;
+use office_wire::watched::WatchedWriter;
+use procure_config::fault::ProgramFault;
+use std::alloc::Global;
+use std::io::Write;
+use tender_papers::listing::listing_text;
+
+// As many rows as a page has, and as many as are looked up for one.
+const PAGE_ROWS: usize = 100;
+
+const ASKED_ROWS: u32 = 101;
+
+// Of one row more than a page has: the name of the last of the page, where one more is there.
+fn next_of(rows: &[NoticeRow]) -> Option<Id>
+    ensures { result ≡ next_after notice_key page_limit rows.now }
+{
+    if rows.len() > PAGE_ROWS {
+        Some(rows[PAGE_ROWS - 1].notice)
+    } else {
+        None
+    }
+}
+
+// Writes a page of the notices behind this one, or of all, and answers the last of them, where one more follows.
+fn write_page<H: Lookups, W: Write>(
+    alloc: Global,
+    shelf: &mut H,
+    writer: &mut WatchedWriter<W>,
+    after: Option<Id>,
+) -> Result<Option<Id>, ProgramFault>
+    ensures { Looks H.meaning shelf.old shelf.new (λ s. IfOk result (WritesPage after s writer.old.contents writer.new.contents)) }
+{
+    let mut rows = match shelf.list_notices_after(after, ASKED_ROWS) {
+        Ok(rows) => rows,
+        Err(fault) => return Err(ProgramFault::Refused(Refusal::from(fault))),
+    };
+    let next = next_of(&rows);
+    rows.truncate(PAGE_ROWS);
+    let text = listing_text(alloc, &rows)?;
+    match send(writer, text.as_slice()) {
+        Ok(()) => Ok(next),
+        Err(_) => Err(ProgramFault::Output),
+    }
+}
+
+/// Writes a line for each notice, in the order of their identifiers, as `procure notices` prints them: page by page, so that no more than a page
+/// of them is held. `Output` where the writer fails, and else a refusal as `show` has it; some lines may be written then. Nothing changes, and nothing is
+/// flushed.
+pub fn list_notices<H: Lookups, W: Write>(
+    alloc: Global,
+    shelf: &mut H,
+    writer: &mut WatchedWriter<W>,
+) -> Result<(), ProgramFault>
+    ensures { Looks H.meaning shelf.old shelf.new (λ s. IfOk result (λ _. Appends writer.old.contents writer.new.contents (listing_text s.notices))) }
+{
+    laws::pages();
+    laws::looks_follow::<H>();
+    let mut after = None;
+    'turns: for _ in 0..u64::MAX {
+        let next = write_page(alloc, shelf, writer, after)?;
+        match next {
+            Some(last) => after = Some(last),
+            None => return Ok(()),
+        }
+    }
+    Err(ProgramFault::Refused(Refusal::Unavailable))
+}

@@ -1,0 +1,7 @@
+use Rattle.std.proofs.Common.{◌≡◌, take}
+use Rattle.std.specs.List.{flat_map}
+use Rattle.tender_papers.specs.Listing.{listing_line}
+use Rattle.tender_papers.proofs.listing.listing_text.Given as goal
+
+abbrev pub invariant-loop-row : goal.invariant-loop-row
+invariant-loop-row l = l.lines ≡ flat_map listing_line (take l.row-index l.rows)

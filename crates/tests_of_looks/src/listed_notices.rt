@@ -1,0 +1,117 @@
+//! The list of all notices, as it is printed: page by page, each notice once, and a writer that takes no more.
+use office_base::puts::Put;
+use office_base::records::{NoticeRow, NoticeState};
+use office_base::shelf::Shelf;
+use office_memory::memory::MemoryShelf;
+use office_values::id::Id;
+use office_wire::watched::WatchedWriter;
+use procure_config::fault::ProgramFault;
+use procure_programs::printing::print_notices;
+use std::alloc::Global;
+use std::io::Cursor;
+use std::test::Fail;
+use tests_sql_office::office::in_sql;
+use tests_transcripts::session::played;
+use tests_transcripts::setup::{MONEY, NOTICE, TENDERERS};
+
+// How many notices there are beside the last: they are one page, just a page, a page and one more, two pages, and more.
+const COUNTS: [u64; 5] = [0, 99, 100, 199, 205];
+
+// The row under the name of this number; the first was opened.
+fn numbered(alloc: Global, row: &NoticeRow, number: u64) -> Option<NoticeRow> {
+    let name = format!(in alloc; "A{}", number.saturating_add(100)).ok()?;
+    let mut row = row.clone().ok()?;
+    row.notice = Id::read(name.as_bytes())?;
+    if number == 0 {
+        row.state = NoticeState::Opened;
+        row.opened = Some(row.deadline);
+    }
+    Some(row)
+}
+
+// An office with so many notices before `N1`.
+fn with_notices<H: Shelf + Drop>(alloc: Global, shelf: H, count: u64) -> Option<H> {
+    let mut shelf = played(alloc, shelf, 0, &[MONEY, TENDERERS, NOTICE]).ok()?;
+    let notice = Id::read(b"N1")?;
+    let row = shelf.get_notice(&notice).ok()??;
+    let mut puts = Vec::new(alloc);
+    for number in 0..count {
+        puts.push(Put::Notice(numbered(alloc, &row, number)?)).ok()?;
+    }
+    shelf.apply(puts).ok()?;
+    Some(shelf)
+}
+
+// The lines of such an office.
+fn lines_of(alloc: Global, count: u64) -> Option<Vec<u8>> {
+    let mut lines = Vec::new(alloc);
+    for number in 0..count {
+        let (state, opened) = if number == 0 {
+            ("opened", "2026-03-01T12:00:00Z")
+        } else {
+            ("receiving", "-")
+        };
+        let number = number.saturating_add(100);
+        let line = format!(in alloc;
+            "A{number}\t{state}\t2026-02-01T09:00:00Z\t2026-03-01T12:00:00Z\t{opened}\t0\t1\tRoad repair\n"
+        ).ok()?;
+        lines.extend_from_slice(line.as_bytes()).ok()?;
+    }
+    let last = b"N1\treceiving\t2026-02-01T09:00:00Z\t2026-03-01T12:00:00Z\t-\t0\t1\tRoad repair\n";
+    lines.extend_from_slice(last).ok()?;
+    Some(lines)
+}
+
+// Whether all notices of such an office are listed; None where memory is wanting.
+fn is_listed<H: Shelf + Drop>(alloc: Global, shelf: H, count: u64) -> Option<bool> {
+    let mut shelf = with_notices(alloc, shelf, count)?;
+    let mut output = WatchedWriter::new(Vec::new(alloc));
+    print_notices(alloc, &mut shelf, &mut output).ok()?;
+    let is_flushed = output.is_flushed();
+    let lines = output.into_inner();
+    Some(is_flushed && lines.as_slice() == lines_of(alloc, count)?.as_slice())
+}
+
+fn listed_in_memory(alloc: Global, count: u64) -> bool {
+    matches!(is_listed(alloc, MemoryShelf::new(alloc), count), Some(true))
+}
+
+fn listed_in_sql(alloc: Global, count: u64) -> bool {
+    match in_sql(alloc) {
+        Some(shelf) => matches!(is_listed(alloc, shelf, count), Some(true)),
+        None => false,
+    }
+}
+
+// At a second try where the first isn't right: one allocation of a test may be refused.
+#[test]
+fn all_notices_are_listed(rt: HostRuntime) -> Result<(), Fail> {
+    let alloc = rt.alloc();
+    for count in COUNTS {
+        assert!(rt;
+            listed_in_memory(alloc, count) || listed_in_memory(alloc, count),
+            "in memory"
+        );
+        assert!(rt;
+            listed_in_sql(alloc, count) || listed_in_sql(alloc, count),
+            "in SQL"
+        );
+    }
+    Ok(())
+}
+
+// Whether a writer that has no more room is told.
+fn is_full_writer_told(alloc: Global) -> bool {
+    let Some(mut shelf) = with_notices(alloc, MemoryShelf::new(alloc), 1) else {
+        return false;
+    };
+    let mut output = WatchedWriter::new(Cursor::new([0u8; 20]));
+    let listed = print_notices(alloc, &mut shelf, &mut output);
+    matches!(&listed, Err(ProgramFault::Output))
+}
+
+#[test]
+fn a_writer_is_full(rt: HostRuntime) {
+    let alloc = rt.alloc();
+    assert!(rt; is_full_writer_told(alloc) || is_full_writer_told(alloc));
+}

@@ -1,0 +1,301 @@
+"""The rules of `tools/audit` on what anybody may look at beside the releases: the list of notices, their terms, and the evaluation of their tenders; and on
+contracts, as the clerk or their tenderers are shown them. With a file each is held against its rows, and else against the releases; what was saved must stay.
+"""
+from collections.abc import Iterator
+from typing import Any
+
+from audit_answers import Answers
+from audit_earlier import Later
+from audit_office import Found, Json, Office, rule, text_of
+from audit_outside import Seen, Tender, read_minutes
+from audit_releases import difference, text_with, unlike
+from audit_story import Story
+
+# What an amended deadline, the opening, an award and a cancellation change of the terms.
+CHANGES = ("deadline", "opened", "state")
+# The states of a lot that has an outcome, and those that are final.
+OUTCOMES = ("awarded", "contracted", "unsuccessful", "cancelled")
+FINAL = OUTCOMES[1:]
+
+
+# ---- What is due by the rows.
+
+def listed_of(office: Office) -> dict[str, Json]:
+    """What the list says of each notice, by the rows."""
+    return {notice: {"amendments": row["amendments"], "deadline": text_of(row["deadline"]), "notice": notice, "opened": text_of(row["opened"]),
+                     "published": text_of(row["published"]), "releases": row["releases"], "state": row["state"], "title": row["title"]}
+            for (notice,), row in office.table("notices").items()}
+
+
+def items_of(text: str) -> list[Json]:
+    """The items of a lot, by their text in its row."""
+    return [{"id": name, "quantity": int(quantity), "title": title} for name, quantity, title in (item.split("\t") for item in text.split("\n")[:-1])]
+
+
+def terms_of(office: Office, notice: str) -> Json:
+    """The terms of a notice, by the rows."""
+    row = office.table("notices")[(notice,)]
+    lots = [{"estimate": estimate, "id": lot, "items": items_of(items), "line": line, "security": security, "state": state, "title": title}
+            for lot, title, line, estimate, security, items, state in office.rows(
+                "SELECT lot, title, line, estimate, security, items, state FROM lots WHERE notice = ? ORDER BY lot", notice)]
+    return {"criteria": "points" if row["weight"] else "price", "deadline": text_of(row["deadline"]),
+            "late_withdrawal": "forfeits" if (notice,) in office.table("late_rules") else "refused", "lots": lots, "notice": notice,
+            "opened": text_of(row["opened"]), "performance": row["performance"], "price_weight": row["weight"] or None,
+            "published": text_of(row["published"]), "standstill_days": row["standstill"], "state": row["state"], "title": row["title"],
+            "validity_days": row["validity"]}
+
+
+def may_win(finding: Any) -> bool:
+    """Whether a tender has a price, was found responsive, and is neither passed over nor withdrawn late."""
+    _, _, reading, _, responsive, _, failed = finding
+    return reading == "priced" and responsive == 1 and not failed
+
+
+def line_of(finding: Any, weight: int, lowest: int) -> list[object]:
+    """The line of a tender."""
+    receipt, tenderer, reading, price, responsive, quality, failed = finding
+    if reading != "priced":
+        return ["tender", receipt, tenderer, reading]
+    answer = {None: "-", 0: "unresponsive", 1: "responsive"}[responsive]
+    points = (weight * 1000 * lowest // price if price else weight * 1000) + 1000 * (quality or 0) if weight and may_win(finding) else "-"
+    standing = "failed" if failed else "admissible" if may_win(finding) else "-"
+    return ["tender", receipt, tenderer, reading, price, answer, "-" if quality is None else quality, points, standing]
+
+
+def evaluation_of(office: Office, notice: str) -> str | None:
+    """What the public is shown of a notice's evaluation, by the rows; None where it isn't opened."""
+    about = office.table("notices")[(notice,)]
+    due: list[Any] = [["EVALUATION", notice]]
+    for lot, state in office.rows("SELECT lot, state FROM lots WHERE notice = ? ORDER BY lot", notice):
+        awards = office.rows("SELECT 'award', award, receipt, price, state FROM awards WHERE notice = ? AND lot = ? ORDER BY award", notice, lot)
+        due.append(["lot", lot, state])
+        if state != "undecided" or awards:
+            findings = office.rows("""SELECT receipt, tenderer, reading, corrected, responsive, quality, failed FROM envelopes
+                WHERE notice = ? AND lot = ? AND state = 'opened' ORDER BY receipt""", notice, lot)
+            lowest = min((it[3] for it in findings if may_win(it)), default=0)
+            due += [line_of(it, about["weight"], lowest) for it in findings] + awards
+    return text_with([*due, ["END"]]) if about["state"] == "opened" else None
+
+
+def contract_of(office: Office, contract: int) -> Json | None:
+    """What is shown of a contract, by the rows, or None."""
+    row = office.table("contracts").get((contract,))
+    if row is None:
+        return None
+    entries = [{"amount": amount, "entry": entry, "kind": kind, "moment": text_of(moment), "rationale": rationale}
+               for amount, entry, kind, moment, rationale in office.rows(
+                   "SELECT amount, entry, kind, moment, rationale FROM entries WHERE contract = ? ORDER BY entry", contract)]
+    sums = {kind: sum(it["amount"] for it in entries if it["kind"] == kind) for kind in ("raise", "cut", "payment")}
+    return {"contract": contract, "ended": text_of(row["ended"]), "entries": entries, "how": row["how"], "lot": row["lot"], "moment": text_of(row["moment"]),
+            "notice": row["notice"], "outstanding": row["signed"] + sums["raise"] - sums["cut"] - sums["payment"] - row["released"],
+            "paid": sums["payment"], "released": row["released"], "signed": row["signed"], "tenderer": row["tenderer"]}
+
+
+# ---- Beside the file.
+
+@rule("list")
+def listed_notices_are_of_the_rows(office: Office, listed: list[Json]) -> Found:
+    """The list of notices has each notice of the file, in order, once, with what the file says of it."""
+    due, names = listed_of(office), [str(it.get("notice")) for it in listed]
+    there = dict(zip(names, listed))
+    for name in sorted({*due, *names}):
+        found = difference(there.get(name), due.get(name))
+        if found:
+            yield f"notices {name}", "in the list {} is {}, and the file says {}".format(*found)
+    if names != sorted(set(names)):
+        yield "office 1", "the list isn't in order, or has a notice twice"
+
+
+@rule("looks")
+def terms_are_of_the_rows(office: Office, answers: Answers, notice: str) -> Found:
+    """The terms of a notice say what the file says."""
+    terms = answers.terms(notice)
+    if terms is None:
+        yield from [(f"notices {notice}", "is in the file, and no terms are answered")] if answers.has_looks() else []
+    elif found := difference(terms, terms_of(office, notice)):
+        yield f"notices {notice}", "its terms at {} answer {}, and the file says {}".format(*found)
+
+
+@rule("looks")
+def evaluations_are_of_the_rows(office: Office, answers: Answers, notice: str) -> Found:
+    """The evaluation of an opened notice shows what the file says of each lot that has an outcome, and of others nothing; no other one is answered."""
+    due, text = evaluation_of(office, notice), answers.of_notice(notice, "evaluation")
+    if due is None:
+        yield from [(f"notices {notice}", "an evaluation is answered, and it isn't opened")] if text is not None else []
+    elif text is None:
+        yield from [(f"notices {notice}", "is opened, and no evaluation is answered")] if answers.has_looks() else []
+    else:
+        yield from unlike(f"notices {notice}", text, due)
+
+
+@rule("contracts")
+def contracts_are_of_the_rows(office: Office, answers: Answers) -> Found:
+    """A contract is shown as the file has it, with all its changes and payments."""
+    for contract, shown in answers.contracts([number for number, in office.table("contracts")]):
+        found = difference(shown, contract_of(office, contract))
+        if found:
+            yield f"contracts {contract}", "what is shown of it at {} is {}, and the file says {}".format(*found)
+
+
+# ---- Without the file.
+
+def due_in_list(notice: str, releases: list[Json]) -> Json:
+    """What the list says of a notice once these releases were made."""
+    story = Story(notice, releases)
+    state = "opened" if story.opened else "cancelled" if story.status() == "cancelled" else "receiving"
+    amendments = sum("tenderAmendment" in release.get("tag", []) for release in releases)
+    return {"amendments": amendments, "deadline": story.deadline, "notice": notice, "opened": story.opened, "published": story.published,
+            "releases": len(releases), "state": state, "title": story.title}
+
+
+@rule("outside")
+def listed_notices_are_of_the_releases(seen: Seen) -> Found:
+    """The list says of each notice what its releases say; where all notices are there, it has these and no others."""
+    for it in seen.listed or []:
+        releases = seen.releases.get(str(it.get("notice")))
+        if releases is None:
+            yield from [(f"notices {it.get('notice')}", "is in the list, and there are no releases of it")] if seen.complete else []
+        elif found := difference(it, due_in_list(it["notice"], releases[:it["releases"]])):
+            yield f"notices {it['notice']}", "in the list {} is {}, and its releases say {}".format(*found)
+    names = [it.get("notice") for it in seen.listed or []]
+    for notice in seen.releases if seen.complete and seen.listed is not None else ():
+        yield from [(f"notices {notice}", "isn't in the list")] if notice not in names else []
+
+
+def due_in_terms(releases: list[Json]) -> dict[str, object]:
+    """What terms say of a notice that its releases say too."""
+    first = releases[0]["tender"]
+    items = {lot["id"]: [{"id": item["id"].removeprefix(lot["id"] + "/"), "quantity": item["quantity"], "title": item["description"]}
+                         for item in first["items"] if item["relatedLot"] == lot["id"]] for lot in first["lots"]}
+    lots = [{"estimate": lot["value"]["amount"], "id": lot["id"], "items": items[lot["id"]], "title": lot["title"]} for lot in first["lots"]]
+    return {"criteria": {"priceOnly": "price", "ratedCriteria": "points"}.get(first["awardCriteria"]), "lots": lots,
+            "published": first["tenderPeriod"]["startDate"], "title": first["title"]}
+
+
+@rule("outside")
+def terms_are_of_the_releases(seen: Seen) -> Found:
+    """Terms say of title, publication, criteria, lots and items what the first release says."""
+    for notice, terms in seen.terms.items():
+        due = due_in_terms(seen.releases[notice])
+        told: Json = {name: terms.get(name) for name in due}
+        told["lots"] = [{name: lot.get(name) for name in ("estimate", "id", "items", "title")} for lot in terms.get("lots", [])]
+        found = difference(told, due)
+        if found:
+            yield f"notices {notice}", "its terms at {} are {}, and its releases say {}".format(*found)
+
+
+class Evaluation:
+    """What an evaluation says: of each lot its state, its tenders by receipt and its awards by number, each as the fields behind."""
+
+    def __init__(self, text: str) -> None:
+        lines = [line.split("\t") for line in text.split("\n")]
+        (self.word, self.notice), self.ends = lines[0], [line[0] for line in lines[-2:]]
+        self.states: dict[str, str] = {}
+        self.tenders: dict[str, dict[int, list[str]]] = {}
+        self.awards: dict[str, dict[int, list[str]]] = {}
+        for word, *fields in lines[1:-2]:
+            if word == "lot":
+                lot, self.states[fields[0]] = fields[0], fields[1]
+                self.tenders[lot], self.awards[lot] = {}, {}
+            else:
+                {"tender": self.tenders, "award": self.awards}[word][lot][int(fields[0])] = fields[1:]
+
+
+def read_evaluation(text: str) -> Evaluation | None:
+    """The evaluation, or None where the text is of another form."""
+    try:
+        found = Evaluation(text)
+    except (ValueError, KeyError, IndexError, UnboundLocalError):
+        return None
+    return found if found.word == "EVALUATION" and found.ends == ["END", ""] else None
+
+
+def evaluation_found(evaluation: Evaluation, story: Story, tenders: list[Tender] | None, complete: bool) -> Iterator[str]:
+    """What doesn't go together in the evaluation, the releases and the minutes of a notice. (It was asked for behind these, so it may have an award more.)"""
+    if evaluation.notice != story.notice or list(evaluation.states) != sorted(story.lots):
+        yield f"the evaluation is of {evaluation.notice} and the lots {list(evaluation.states)}"
+    for lot, awards in evaluation.awards.items():
+        told = {int(number): str(award["price"]) for number, award in story.awards.items() if award["lot"] == lot}
+        shown = {number: price for number, (_, price, _) in awards.items()}
+        if not told.items() <= shown.items() or complete and shown != told:
+            yield f"the evaluation of lot {lot} has the awards {awards}, and the releases {told}"
+    for lot, there in evaluation.tenders.items() if tenders is not None else ():
+        here = {receipt: ["T-" + who, reading, *figures[:1]] for receipt, (who, reading, *figures) in there.items()}
+        due = {it.receipt: [it.tenderer, it.reading, *([str(it.corrected)] if it.reading == "priced" else [])] for it in tenders or [] if it.lot == lot}
+        if evaluation.states[lot] in OUTCOMES and here != due:
+            yield f"the evaluation of lot {lot} has the tenders {here}, and the minutes {due}"
+
+
+@rule("outside")
+def evaluations_are_of_the_minutes(seen: Seen) -> Found:
+    """An evaluation has the lots and awards of the releases, and of a lot with an outcome the tenders of the minutes, with their prices."""
+    for notice, text in seen.evaluations.items():
+        evaluation, minutes = read_evaluation(text), read_minutes(seen.minutes[notice] or "")
+        if evaluation is None:
+            yield f"notices {notice}", "the evaluation has another form"
+            continue
+        for what in evaluation_found(evaluation, seen.stories[notice], minutes.tenders if minutes else None, seen.complete):
+            yield f"notices {notice}", what
+
+
+# ---- Saved before.
+
+def fixed_in(terms: Json) -> Json:
+    """What no command changes of terms."""
+    lots = [{**lot, "state": None} for lot in terms.get("lots", [])]
+    return {**{name: value for name, value in terms.items() if name not in CHANGES}, "lots": lots}
+
+
+@rule("saved")
+def saved_terms_stay(later: Later, office: Office | None, saved: Answers, notice: str) -> Found:
+    """Terms that were saved are still the terms: of a notice its deadline alone may have been moved, and it and its lots may have gone on."""
+    before, here = saved.terms(notice), later.terms(notice) if notice in later.notices else None
+    if before is not None and here is not None:
+        found = difference(fixed_in(here), fixed_in(before))
+        if found:
+            yield f"notices {notice}", "its terms at {} are {}, and were {} in {}".format(*found, saved.place)
+        if str(here.get("deadline")) < str(before.get("deadline")) or before.get("opened") not in (None, here.get("opened")):
+            yield f"notices {notice}", f"its deadline or its opening was another in the terms of {saved.place}"
+
+
+def went_otherwise(before: Evaluation, here: Evaluation) -> Iterator[str]:
+    """What can't have come of an evaluation. (What the clerk is shown may have tenders of a lot of which others aren't shown any yet.)"""
+    for lot, tenders in before.tenders.items():
+        state, there = here.states.get(lot), here.tenders.get(lot, {})
+        if state != before.states[lot] and before.states[lot] in FINAL:
+            yield f"lot {lot} is {state}, and was {before.states[lot]}"
+        for receipt, was in tenders.items() if there or state != "undecided" else ():
+            now = there.get(receipt, [])
+            # Who presented it, how it reads and its price stay; so do an answer and a quality, once they are there. Points and standing go on.
+            if now[:3] != was[:3] or any(new != old for old, new in zip(was[3:5], now[3:5]) if old != "-"):
+                yield f"tender {receipt} is {now}, and was {was}"
+        for award, was in before.awards[lot].items():
+            now = here.awards.get(lot, {}).get(award, ["", "", ""])
+            if now[:2] != was[:2] or was[2] not in ("active", now[2]):
+                yield f"award {award} is {now}, and was {was}"
+
+
+@rule("saved")
+def saved_evaluations_stay(later: Later, office: Office | None, saved: Answers, notice: str) -> Found:
+    """What an evaluation that was saved shows is so: who presented what, what was found of it, and the awards."""
+    before, here = saved.of_notice(notice, "evaluation"), later.evaluation(notice) if notice in later.notices else None
+    if before is not None and here is not None:
+        was, now = read_evaluation(before), read_evaluation(here)
+        for what in went_otherwise(was, now) if was and now else ["the evaluation has another form"]:
+            yield f"notices {notice}", f"{what} in {saved.place}"
+
+
+@rule("held")
+def contracts_are_as_shown(office: Office, saved: Answers) -> Found:
+    """A contract that the clerk or its tenderer was shown is there, with each change and payment of then; one that had ended is as it was."""
+    for number, shown in saved.held("contract"):
+        here = contract_of(office, shown.get("contract", 0))
+        if here is None:
+            yield f"contracts {shown.get('contract')}", f"{saved.place} has what was shown of it, and it isn't there"
+            continue
+        entries = {it["entry"]: it for it in here["entries"]}
+        stays = [name for name in ("lot", "moment", "notice", "signed", "tenderer") if shown.get(name) != here[name]]
+        stays += [f"entry {it.get('entry')}" for it in shown.get("entries", []) if it != entries.get(it.get("entry"))]
+        stays += ["end"] if shown.get("ended") is not None and shown != here else []
+        for what in stays:
+            yield f"contracts {here['contract']}", f"{what} is another than was shown in {saved.place}"
