@@ -1,8 +1,9 @@
 -- How long the response to a refusal is at most.
 use Rattle.std.proofs.Common.{◌≡◌, ℕ, ◌+◌, ◌≤◌, List, ◌++◌, length, Option, None, Some, refl, sym, ap, subst, arith, ◌∙◌, append_assoc, length-append}
 use Rattle.std.specs.Fmt.{digits}
-use Rattle.std.specs.Prelude.{codes, decimal}
-use Rattle.office_values.specs.Refusals.{About, Named, Record, field_name, name_of_refusal, number_of_refusal, status_of_refusal, subject_of_refusal, thing_name}
+use Rattle.std.specs.Prelude.{codes, decimal, option_map}
+use Rattle.office_values.specs.Refusals.{About, Named, Record, field_name, name_of_refusal, number_of_refusal, status_of_refusal, subject_of_refusal, thing_name, told}
+use Rattle.office_values.specs.declared.refusal.What.{What}
 use Rattle.office_values.specs.declared.refusal.Field.{Field}
 use Rattle.office_values.specs.declared.refusal.Field.TheVariants as fields
 use Rattle.office_values.specs.declared.refusal.BadPart.TheVariants as parts
@@ -12,7 +13,7 @@ use Rattle.office_values.specs.declared.refusal.Refusal.{Refusal}
 use Rattle.office_values.specs.declared.refusal.Refusal.TheVariants.{BadHead, TooLong, Coding, NoRoute, WrongMethod, BadKey, Forbidden, BadBody, NoSuch, Exists, NotYourTender, DeadlinePassed, DeadlineEarlier, NotOpenForTenders, AlreadyPresented, SecurityMissing, SecurityTooSmall, SecurityNotAsked, NotSealed, TooEarlyToOpen, AlreadyOpened, NotOpened, AlreadyDecided, NotAllExamined, Expired, Standstill, InsufficientFunds, MoreThanOutstanding, ContractEnded, NothingToCancel, LimitReached, Unavailable}
 use Rattle.office_requests.specs.declared.route.Allow.{Allow}
 use Rattle.office_requests.specs.declared.route.Allow.TheVariants as allow
-use Rattle.office_http.specs.Response.{allow_field, challenge_field, head_start, json, phrase_of, refusal_body, response_of, response_with, what_member}
+use Rattle.office_http.specs.Response.{IsShortNumber, allow_field, challenge_field, head_start, json, phrase_of, refusal_body, response_of, response_with, what_member}
 use Rattle.office_http.specs.declared.reply.Reply.TheVariants.{Refused}
 
 -- ---- the parts of a row
@@ -227,6 +228,17 @@ thing_short things.Tender = omega arith
 thing_short things.Award = omega arith
 thing_short things.Contract = omega arith
 thing_short things.Security = omega arith
+
+-- what names no record, and what names this one
+pub numbers_none : (w : Option What) → option_map told w ≡ None → IsShortNumber w
+numbers_none w is n at = absurd (cc (sym is ∙ at))
+
+pub numbers_named : (w : Option What) (name : List ℕ) → option_map told w ≡ Some (Named name) → IsShortNumber w
+numbers_named w name is n at = absurd (cc (sym is ∙ at))
+
+pub numbers_row : (w : Option What) (number : ℕ) → option_map told w ≡ Some (Record number) → length (decimal number) ≤ 10 → IsShortNumber w
+numbers_row w number is few n at =
+    let same : number ≡ n = cc (sym is ∙ at) in subst (λ (k : ℕ). length (decimal k) ≤ 10) same few
 
 -- the number of a record has ten digits at most
 row_short : (n : ℕ) → length (decimal n) ≤ 10 → length (what_member (Some (Record n))) ≤ 40

@@ -1,9 +1,9 @@
 //! The response to a refusal, in a place of its own: so that no refusal waits for memory.
-ghost use Rattle.std.specs.Prelude.{◌≡◌, ◌≤◌, [], ◌++◌, ℕ, List, Some, decimal, length, option_map};
+ghost use Rattle.std.specs.Prelude.{◌≡◌, ◌≤◌, Some, decimal, length, option_map};
 ghost use Rattle.http.specs.StatusCode.{IsStatusCode};
-ghost use Rattle.office_values.specs.Refusals.{Record, told};
+ghost use Rattle.office_values.specs.Refusals.{Named, Record, told};
 ghost use Rattle.office_wire.specs.Short.{FitsBehind};
-ghost use Rattle.office_http.specs.Response.{head_start, json, refusal_body, response_of, what_member};
+ghost use Rattle.office_http.specs.Response.{IsShortNumber, head_start, json, refusal_body, response_of, what_member};
 ghost use Rattle.office_http.specs.declared.reply.Reply.TheVariants.{Refused};
 
 use crate::response::{allow_field, challenge_field, phrase};
@@ -12,23 +12,34 @@ use office_requests::route::Allow;
 use office_values::refusal::{Refusal, What};
 use office_wire::short::ShortText;
 
+// The member that names a field or a thing, behind what is there.
+fn put_name(out: &mut ShortText, name: &str)
+    ensures { FitsBehind out.old (what_member (Some (Named name.now))) out.new }
+{
+    out.put(b",\"what\":\"");
+    out.put(name.as_bytes());
+    out.put(b"\"");
+}
+
+// The member that names a record, behind what is there.
+fn put_row(out: &mut ShortText, number: u32)
+    ensures put { FitsBehind out.old (what_member (Some (Record number))) out.new }
+    ensures few { length (decimal number) ≤ 10 }
+{
+    out.put(b",\"what\":\"row ");
+    out.put(Buffer::new().format(number).as_bytes());
+    out.put(b"\"");
+}
+
 // The member that says what a refusal is about, behind what is there.
 fn put_what(out: &mut ShortText, what: Option<What>)
     ensures put { FitsBehind out.old (what_member (option_map told what)) out.new }
-    ensures number { (n : ℕ) → option_map told what ≡ Some (Record n) → length (decimal n) ≤ 10 }
+    ensures number { IsShortNumber what }
 {
     match what {
         None => {}
-        Some(What::Name(name)) => {
-            out.put(b",\"what\":\"");
-            out.put(name.as_bytes());
-            out.put(b"\"");
-        }
-        Some(What::Row(number)) => {
-            out.put(b",\"what\":\"row ");
-            out.put(Buffer::new().format(number).as_bytes());
-            out.put(b"\"");
-        }
+        Some(What::Name(name)) => put_name(out, name),
+        Some(What::Row(number)) => put_row(out, number),
     }
 }
 

@@ -1,19 +1,37 @@
-use Rattle.std.proofs.Common.{◌≡◌, ◌≤◌, ℕ, List, ◌∙◌, length, subst}
-use Rattle.std.specs.Prelude.{decimal}
-use Rattle.office_http.proofs.ShortTexts.{fits_as, fits_then}
+use Rattle.std.proofs.Common.{◌≡◌, Option, None, Some, ap, append-nil, option_map, rules, subst, sym}
+use Rattle.office_values.specs.Refusals.{told}
+use Rattle.office_values.specs.declared.refusal.What.{What}
+use Rattle.office_values.specs.declared.refusal.What.TheVariants.{Name, Row}
+use Rattle.office_wire.specs.Short.{FitsBehind}
+use Rattle.office_http.specs.Response.{what_member}
+use Rattle.office_http.proofs.ShortRefusals.{numbers_named, numbers_none, numbers_row}
 use Rattle.office_http.proofs.refusing.put_what.Goals as goal
+
+pub returns-in-None-clause-put : goal.returns-in-None-clause-put
+returns-in-None-clause-put c =
+    let is : None ≡ c.args.what = search rules in
+    subst (λ (w : Option What). FitsBehind c.args.out.now (what_member (option_map told w)) c.args.out.now) is (λ room. sym (append-nil c.args.out.now))
 
 pub returns-in-Some-Name-clause-put : goal.returns-in-Some-Name-clause-put
 returns-in-Some-Name-clause-put c =
-    fits_then _ _ _ _ _ c.put.ensures (fits_then _ _ _ _ _ (fits_as _ _ _ _ c.put-2.ensures c.as_bytes.ensures.value) c.put-3.ensures)
+    let is : Some (Name c.in-Some-Name.name) ≡ c.args.what = search rules in
+    subst (λ (w : Option What). FitsBehind c.args.out.now (what_member (option_map told w)) c.put_name.new.out) is c.put_name.ensures
 
 pub returns-in-Some-Row-clause-put : goal.returns-in-Some-Row-clause-put
 returns-in-Some-Row-clause-put c =
-    let number = c.as_bytes-in-Some-Row.ensures.value ∙ c.format.ensures.text in
-    fits_then _ _ _ _ _ c.put-in-Some-Row.ensures (fits_then _ _ _ _ _ (fits_as _ _ _ _ c.put-in-Some-Row-2.ensures number) c.put-in-Some-Row-3.ensures)
+    let is : Some (Row c.in-Some-Row.number) ≡ c.args.what = search rules in
+    subst (λ (w : Option What). FitsBehind c.args.out.now (what_member (option_map told w)) c.put_row.new.out) is c.put_row.ensures.put
+
+pub returns-in-None-clause-number : goal.returns-in-None-clause-number
+returns-in-None-clause-number c =
+    let is : None ≡ c.args.what = search rules in numbers_none c.args.what (ap (λ (w : Option What). option_map told w) (sym is))
+
+pub returns-in-Some-Name-clause-number : goal.returns-in-Some-Name-clause-number
+returns-in-Some-Name-clause-number c =
+    let is : Some (Name c.in-Some-Name.name) ≡ c.args.what = search rules in
+    numbers_named c.args.what c.in-Some-Name.name.now (ap (λ (w : Option What). option_map told w) (sym is))
 
 pub returns-in-Some-Row-clause-number : goal.returns-in-Some-Row-clause-number
-returns-in-Some-Row-clause-number c n is =
-    let same : c.in-Some-Row.number ≡ n = cc is in
-    let few = subst (λ (t : List ℕ). length t ≤ 10) c.format.ensures.text c.format.ensures.fits in
-    subst (λ (k : ℕ). length (decimal k) ≤ 10) same few
+returns-in-Some-Row-clause-number c =
+    let is : Some (Row c.in-Some-Row.number) ≡ c.args.what = search rules in
+    numbers_row c.args.what c.in-Some-Row.number (ap (λ (w : Option What). option_map told w) (sym is)) c.put_row.ensures.few
