@@ -28,7 +28,8 @@ try:
 test:
 	$(RT) ci
 	@mkdir -p build && cp crates/procure/out/procure build/procure.new && mv build/procure.new build/procure
-	@if command -v python3 >/dev/null && command -v cc >/dev/null; then tests/refused_rows --short; else echo 'tests/refused_rows was not run: it wants python3 and cc'; fi
+	@if command -v python3 >/dev/null && command -v cc >/dev/null; then tests/refused_rows --short; \
+	else echo 'tests/refused_rows was not run: it wants python3 and cc'; fi
 
 check:
 	@tools/check
