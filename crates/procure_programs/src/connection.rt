@@ -13,7 +13,7 @@ use office_http::office::{Office, serve_one};
 use office_values::moment::Moment;
 use office_wire::counted::CountedReader;
 use office_wire::fault::{ReadFault, RunFault};
-use office_wire::sending::send;
+use office_wire::sending::send_flushed;
 use office_wire::watched::WatchedWriter;
 use std::alloc::Global;
 use std::io::{BufReader, Read, Write};
@@ -25,8 +25,7 @@ fn refuse<W: Write>(writer: &mut WatchedWriter<W>) -> Result<(), RunFault>
     ensures fault { IfErr result (λ fault. fault ≡ RunFault.Write) }
     ensures flushed { OnOk result (writer.new.is_flushed ≡ true) }
 {
-    send(writer, fault_response(ReadFault::Unavailable))?;
-    writer.flush()?;
+    send_flushed(writer, fault_response(ReadFault::Unavailable))?;
     Ok(())
 }
 

@@ -11,7 +11,7 @@ use crate::showing::show;
 use office_base::shelf::{Lookups, Shelf};
 use office_commands::queries::Query;
 use office_desk::desk::Desk;
-use office_wire::sending::send;
+use office_wire::sending::send_flushed;
 use office_wire::watched::WatchedWriter;
 use procure_config::fault::ProgramFault;
 use std::alloc::Global;
@@ -25,11 +25,8 @@ pub fn print_text<W: Write>(output: &mut WatchedWriter<W>, text: &[u8]) -> Resul
     ensures fault { IfErr result (λ fault. fault ≡ ProgramFault.Output) }
     ensures cause { OnErr result (output.new.has_failed ≡ true) }
 {
-    match send(output, text) {
-        Ok(()) => match output.flush() {
-            Ok(()) => Ok(()),
-            Err(_) => Err(ProgramFault::Output),
-        },
+    match send_flushed(output, text) {
+        Ok(()) => Ok(()),
         Err(_) => Err(ProgramFault::Output),
     }
 }
