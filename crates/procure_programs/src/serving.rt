@@ -101,8 +101,8 @@ pub fn serve_at<N: Network, H: StoredShelf + Drop>(
     ensures at { ServesAt N.binds (hosting N.Opened.events N.Opened.Reader.remaining N.Opened.Writer.contents) H.meaning H.store network.now port count office.old office.new result }
     ensures fault { IfErr result (λ fault. (fault ≡ ProgramFault.Store) ⊎ (fault ≡ ProgramFault.Input)) }
 {
-    let Some(mut host) = network.bind(loopback(port)) else {
-        return Err(ProgramFault::Input);
-    };
-    serve(alloc, &mut host, office, count)
+    match network.bind(loopback(port)) {
+        Some(mut host) => serve(alloc, &mut host, office, count),
+        None => Err(ProgramFault::Input),
+    }
 }
