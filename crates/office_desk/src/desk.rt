@@ -13,7 +13,7 @@ ghost use Rattle.office_values.specs.declared.settings.Settings.{Settings as Set
 ghost use Rattle.office_plans.specs.Asking.{given};
 ghost use Rattle.office_base.specs.Shutting.{TellsShut};
 ghost use Rattle.office_desk.specs.Callers.{caller_of, names_no_tenderer};
-ghost use Rattle.office_plans.specs.Published.{IsPlan, IsPlanned};
+ghost use Rattle.office_plans.specs.Published.{IsPlan, IsPlanned, TellsRefusal, gathers_lines};
 ghost use Rattle.office_desk.specs.Steps.{Does, HasShown, IsReplyOrRefusal, IsSeen, Joins, read_text};
 
 use crate::callers::{clerk_with_key, is_clerk_name, tenderer_named};
@@ -95,6 +95,8 @@ impl<H: Shelf + Drop> Desk<H> {
         ensures no_name { IsNone name.entry → IsSome key.entry → result ≡ Err Refusal.BadKey }
         ensures no_tenderer { names_no_tenderer (option_map (λ x. x.now) name.entry) (option_map (λ x. x.now) key.entry) ≡ true → (s : Tables)
             → result ≡ caller_of self.old.settings s (option_map (λ x. x.now) name.entry) (option_map (λ x. x.now) key.entry) }
+        ensures risen { result ≡ Err Refusal.Unavailable → HasRisen (H.meaning.fault_count self.old.shelf) (H.meaning.fault_count self.new.shelf) }
+        ensures counted { OnOk result (H.meaning.fault_count self.new.shelf ≡ H.meaning.fault_count self.old.shelf) }
     {
         match name {
             Some(name) => match key {
@@ -114,7 +116,7 @@ impl<H: Shelf + Drop> Desk<H> {
         }
     }
 
-    /// What a command would do, and its reply. Nothing changes.
+    /// What a command would do, and its reply. Nothing changes. A refusal of a command that names no budget lines is told, or the store's count of faults rose.
     pub fn plan(
         &mut self,
         moment: Moment,
@@ -124,6 +126,7 @@ impl<H: Shelf + Drop> Desk<H> {
         ensures looks { Looks H.meaning self.old.shelf self.new.shelf (λ s. IsPlanned self.old.settings (given s moment caller.now command.entry) result) }
         ensures settings { self.new.settings ≡ self.old.settings }
         ensures forbidden { may caller.now (commands.kind_of command.entry) ≡ false → result ≡ Err Refusal.Forbidden }
+        ensures tells { gathers_lines command.entry ≡ false → TellsRefusal H.meaning self.old.shelf self.new.shelf (λ s. given s moment caller.now command.entry) result }
     {
         if !may(caller, command.kind()) {
             return Err(Refusal::Forbidden);

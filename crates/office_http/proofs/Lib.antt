@@ -7,6 +7,7 @@ pub mod AnswerSteps
 pub mod RequestSteps
 pub mod SightSteps
 pub mod AlwaysTold
+pub mod CertainSteps
 pub mod WorkedRequests
 pub mod AskedCommands
 pub mod MeantSteps

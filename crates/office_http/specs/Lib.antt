@@ -2,6 +2,7 @@ pub mod Response
 pub mod Credentials
 pub mod Meaning
 pub mod AtSight
+pub mod Certain
 pub mod Answering
 pub mod Joined
 pub mod Stops

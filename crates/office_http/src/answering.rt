@@ -1,10 +1,13 @@
 //! Requests answered in bytes.
-ghost use Rattle.std.specs.Prelude.{◌≡◌, ◌⊎◌, None, Ok, Err, true};
+ghost use Rattle.std.specs.Prelude.{◌≡◌, ◌⊎◌, None, Ok, Err, OnOk, true};
 ghost use Rattle.office_values.specs.declared.refusal.Refusal.{Refusal as RefusalOf};
 ghost use Rattle.office_values.specs.declared.refusal.Refusal.TheVariants.{Unavailable};
 ghost use Rattle.office_base.specs.Tables.{Tables};
 ghost use Rattle.office_base.specs.Shelves.{Looks};
 ghost use Rattle.office_http.specs.AtSight.{TellsAtSight, is_known_at_sight};
+ghost use Rattle.office_requests.specs.Routing.{routed};
+ghost use Rattle.office_base.specs.Faults.{HasRisen};
+ghost use Rattle.office_http.specs.Certain.{IsCertain, is_path_told};
 ghost use Rattle.office_http.specs.Credentials.{credentials_of};
 ghost use Rattle.office_http.specs.Meaning.{Gives, Sees, meant, meant_asked, who};
 ghost use Rattle.office_http.specs.Answering.{AnswersRequest, ChangesOnlyAccepting, IsAnswered, IsTold, RefusesBytes, ShowsOnlyWhole, fault_text};
@@ -55,6 +58,7 @@ fn answer_command<H: Shelf + Drop>(
     ensures answered { AnswersMeant H.meaning desk.old.settings desk.old.shelf desk.new.shelf moment (λ s. Gives caller.now command.entry) result }
     ensures changes { ChangesOnlyAccepting H.meaning desk.old.shelf desk.new.shelf (λ s. Gives caller.now command.entry) result }
     ensures told { IsTold H.meaning desk.old.settings desk.old.shelf desk.new.shelf moment (λ s. Gives caller.now command.entry) result }
+    ensures certain { IsCertain H.meaning desk.old.shelf desk.new.shelf moment (λ s. Gives caller.now command.entry) result }
 {
     keeping();
     let planned = match desk.plan(moment, caller, command) {
@@ -102,6 +106,8 @@ fn caller_of<H: Shelf + Drop>(desk: &mut Desk<H>, request: &Request) -> Result<C
         (result ≡ who desk.old.settings s (credentials_of request.now.head.fields)) ⊎ (result ≡ Err Unavailable)) }
     ensures sight { is_known_at_sight (credentials_of request.now.head.fields) ≡ true → (s : Tables)
         → result ≡ who desk.old.settings s (credentials_of request.now.head.fields) }
+    ensures risen { result ≡ Err Unavailable → HasRisen (H.meaning.fault_count desk.old.shelf) (H.meaning.fault_count desk.new.shelf) }
+    ensures counted { OnOk result (H.meaning.fault_count desk.new.shelf ≡ H.meaning.fault_count desk.old.shelf) }
     ensures settings { desk.new.settings ≡ desk.old.settings }
 {
     let credentials = credentials_of(request)?;
@@ -122,6 +128,7 @@ fn answer_asked<H: Shelf + Drop>(
     ensures answered { AnswersMeant H.meaning desk.old.settings desk.old.shelf desk.new.shelf moment (λ s. meant_asked caller.now asked.entry) result }
     ensures changes { ChangesOnlyAccepting H.meaning desk.old.shelf desk.new.shelf (λ s. meant_asked caller.now asked.entry) result }
     ensures told { IsTold H.meaning desk.old.settings desk.old.shelf desk.new.shelf moment (λ s. meant_asked caller.now asked.entry) result }
+    ensures certain { IsCertain H.meaning desk.old.shelf desk.new.shelf moment (λ s. meant_asked caller.now asked.entry) result }
     ensures refused { (why : RefusalOf) → asked.entry ≡ Err why → result ≡ response_of (Refused why None) }
     ensures shown { ShowsOnlyWhole H.meaning desk.old.shelf desk.new.shelf (λ s. meant_asked caller.now asked.entry) result }
 {
@@ -146,6 +153,8 @@ fn answer_read<H: Shelf + Drop>(
     ensures answered { IsAnswered H.meaning desk.old.settings desk.old.shelf desk.new.shelf moment (meant desk.old.settings request.now) result }
     ensures changes { ChangesOnlyAccepting H.meaning desk.old.shelf desk.new.shelf (meant desk.old.settings request.now) result }
     ensures told { IsTold H.meaning desk.old.settings desk.old.shelf desk.new.shelf moment (meant desk.old.settings request.now) result }
+    ensures certain { is_path_told (routed request.now.head.method request.now.head.target) ≡ true
+        → IsCertain H.meaning desk.old.shelf desk.new.shelf moment (meant desk.old.settings request.now) result }
     ensures sight { TellsAtSight desk.old.settings request.now result }
     ensures shown { ShowsOnlyWhole H.meaning desk.old.shelf desk.new.shelf (meant desk.old.settings request.now) result }
 {
@@ -178,6 +187,8 @@ pub fn answer_request<H: Shelf + Drop>(
     ensures answered { IsAnswered H.meaning desk.old.settings desk.old.shelf desk.new.shelf moment (meant desk.old.settings request.now) result }
     ensures changes { ChangesOnlyAccepting H.meaning desk.old.shelf desk.new.shelf (meant desk.old.settings request.now) result }
     ensures told { IsTold H.meaning desk.old.settings desk.old.shelf desk.new.shelf moment (meant desk.old.settings request.now) result }
+    ensures certain { is_path_told (routed request.now.head.method request.now.head.target) ≡ true
+        → IsCertain H.meaning desk.old.shelf desk.new.shelf moment (meant desk.old.settings request.now) result }
     ensures sight { TellsAtSight desk.old.settings request.now result }
     ensures shown { ShowsOnlyWhole H.meaning desk.old.shelf desk.new.shelf (meant desk.old.settings request.now) result }
     ensures kept { IsKeptAnswering H.meaning desk.old.settings desk.old.shelf desk.new.shelf moment (meant desk.old.settings request.now) result }

@@ -4,6 +4,8 @@ use Rattle.office_requests.specs.declared.asked.Asked.{Asked}
 use Rattle.office_requests.specs.declared.asked.Asked.TheVariants.{Does, Looks}
 use Rattle.office_http.specs.Inside.Meant.{AnswersMeant}
 use Rattle.office_http.specs.Answering.{ChangesOnlyAccepting, IsTold, ShowsMeant}
+use Rattle.office_http.specs.Certain.{IsCertain}
+use Rattle.office_http.proofs.CertainSteps.{certain_refusal}
 use Rattle.office_http.specs.Meaning.{Refuses, meant_asked}
 use Rattle.office_http.specs.Response.{response_of}
 use Rattle.office_http.specs.declared.reply.Reply.TheVariants.{Refused}
@@ -72,3 +74,22 @@ returns-in-Err-clause-told g c =
     subst (λ (a : Result Asked Refusal). IsTold g.H.Lookups.meaning c.args.desk.now.settings c.args.desk.now.shelf c.args.desk.now.shelf c.args.moment
     (λ s. meant_asked c.args.caller.now a) c.refuse.result) is
     (λ honest s held needs. (false, c.refuse.ensures, λ none. held))
+
+pub returns-in-Ok-Does-clause-certain : goal.returns-in-Ok-Does-clause-certain
+returns-in-Ok-Does-clause-certain g c =
+    let is : Ok (Does c.in-Ok-Does.command) ≡ c.args.asked = search rules in
+    subst (λ (a : Result Asked Refusal). IsCertain g.H.Lookups.meaning c.args.desk.now.shelf c.answer_command.new.desk.shelf c.args.moment
+    (λ s. meant_asked c.args.caller.now a) c.answer_command.result) is c.answer_command.ensures.certain
+
+pub returns-in-Ok-Looks-clause-certain : goal.returns-in-Ok-Looks-clause-certain
+returns-in-Ok-Looks-clause-certain g c =
+    let is : Ok (Looks c.in-Ok-Looks.query) ≡ c.args.asked = search rules in
+    subst (λ (a : Result Asked Refusal). IsCertain g.H.Lookups.meaning c.args.desk.now.shelf c.answer_query.new.desk.shelf c.args.moment
+    (λ s. meant_asked c.args.caller.now a) c.answer_query.result) is (λ honest s held none why refused. absurd (cc refused))
+
+pub returns-in-Err-clause-certain : goal.returns-in-Err-clause-certain
+returns-in-Err-clause-certain g c =
+    let is : Err c.in-Err.refusal ≡ c.args.asked = search rules in
+    subst (λ (a : Result Asked Refusal). IsCertain g.H.Lookups.meaning c.args.desk.now.shelf c.args.desk.now.shelf c.args.moment
+    (λ s. meant_asked c.args.caller.now a) c.refuse.result) is
+    (λ honest s held none. certain_refusal c.refuse.result _ s c.args.moment (Refuses c.in-Err.refusal None) c.in-Err.refusal None refl c.refuse.ensures)

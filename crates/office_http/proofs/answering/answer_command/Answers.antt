@@ -1,6 +1,8 @@
 use Rattle.std.proofs.Common.{◌∙◌, ap, ℕ, List, inl, inr}
 use Rattle.office_http.specs.Response.{response_of}
 use Rattle.office_http.specs.declared.reply.Reply.TheVariants.{Json}
+use Rattle.office_values.specs.declared.refusal.Refusal.{Refusal}
+use Rattle.office_http.proofs.CertainSteps.{certain_command, nothing_certain}
 use Rattle.office_http.proofs.AlwaysTold.{tells_done_command, tells_refused_command, tells_unavailable}
 use Rattle.office_http.specs.Meaning.{Gives}
 use Rattle.office_http.proofs.AnswerSteps.{command_done, command_refused, command_undone}
@@ -50,3 +52,18 @@ returns-in-Err-commit-clause-told g c honest s held needs =
     let before = c.in-Err-commit.ensures.alters.before honest in
     tells_unavailable c.args.desk.now.settings s c.args.moment c.constant-in-Err-commit.result _ (Gives c.args.caller.now c.args.command)
     (c.constant-in-Err-commit.ensures ∙ c.unavailable-in-Err-commit.ensures) (c.in-Err-commit.ensures.alters.none honest s (c.in-Ok.ensures.looks.0.same before s held))
+
+pub returns-in-Err-clause-certain : goal.returns-in-Err-clause-certain
+returns-in-Err-clause-certain g c honest s held =
+    certain_command s c.args.moment c.args.caller.now c.args.command c.refuse.result _ c.in-Err.refusal c.refuse.ensures
+    (λ none why refused. elim (c.in-Err.ensures.tells none honest s held why refused) [ inl same ↦ inl (cc same) | inr rises ↦ inr rises ])
+
+pub returns-in-Ok-commit-clause-certain : goal.returns-in-Ok-commit-clause-certain
+returns-in-Ok-commit-clause-certain g c honest s held none =
+    let before = c.in-Ok-commit.ensures.alters.before honest in
+    nothing_certain s c.args.moment c.args.caller.now c.args.command c.built.result _ (c.in-Ok.ensures.looks.1 before s held).allowed
+
+pub returns-in-Err-commit-clause-certain : goal.returns-in-Err-commit-clause-certain
+returns-in-Err-commit-clause-certain g c honest s held none =
+    let before = c.in-Err-commit.ensures.alters.before honest in
+    nothing_certain s c.args.moment c.args.caller.now c.args.command c.constant-in-Err-commit.result _ (c.in-Ok.ensures.looks.1 before s held).allowed

@@ -1,0 +1,106 @@
+-- What is certain.
+use Rattle.std.proofs.Common.{◌≡◌, ℕ, ◌⊎◌, inl, inr, Bool, true, false, not, List, Option, Some, None, Result, Ok, Err, refl, sym, ap, ◌∙◌, subst}
+use Rattle.std.specs.Prelude.{option_map}
+use Rattle.office_commands.specs.declared.command.Caller.{Caller}
+use Rattle.office_commands.specs.declared.commands.Command.{Command}
+use Rattle.office_values.specs.declared.refusal.Refusal.{Refusal}
+use Rattle.office_values.specs.declared.refusal.Refusal.TheVariants.{Unavailable}
+use Rattle.office_values.specs.declared.settings.Settings.{Settings}
+use Rattle.office_base.specs.Tables.{Tables}
+use Rattle.office_machine.specs.Machine.{refusal_of}
+use Rattle.office_plans.specs.Asking.{given}
+use Rattle.office_plans.specs.Published.{gathers_lines}
+use Rattle.office_wire.specs.Request.{RequestView}
+use Rattle.office_requests.specs.Asking.{asked_by_route, is_told_by_path}
+use Rattle.office_requests.specs.Routing.{routed}
+use Rattle.office_requests.specs.declared.asked.Asked.{Asked}
+use Rattle.office_requests.specs.declared.route.Allow.{Allow}
+use Rattle.office_requests.specs.declared.route.Route.{Route}
+use Rattle.office_http.specs.Certain.{is_path_told, refusal_meant, takes_none}
+use Rattle.office_http.specs.Credentials.{credentials_of}
+use Rattle.office_http.specs.Meaning.{Meant, Refuses, Gives, meant, meant_asked, meant_at, meant_by, who}
+use Rattle.office_http.specs.Response.{response_of}
+use Rattle.office_http.specs.declared.reply.Reply.TheVariants.{Refused}
+
+abbrev Reason : Type 0
+Reason = Refusal × Option Allow
+
+-- what is refused and told so
+pub certain_refusal : (text : List ℕ) (Rises : Type 0) (s : Tables) (moment : ℕ) (m : Meant) (refusal : Refusal) (method : Option Allow) → m ≡ Refuses refusal method
+    → text ≡ response_of (Refused refusal method) → (why : Reason) → refusal_meant s moment m ≡ Some why → (text ≡ response_of (Refused why.0 why.1)) ⊎ Rises
+certain_refusal text Rises s moment m refusal method means is why refused =
+    let same : (refusal, method) ≡ why = cc (sym (ap (λ (n : Meant). refusal_meant s moment n) means) ∙ refused) in
+    inl (subst (λ (w : Reason). text ≡ response_of (Refused w.0 w.1)) same is)
+
+-- ---- a command
+
+module _ (s : Tables) (moment : ℕ) (caller : Caller) (command : Command) where
+  not_gathers : takes_none (Gives caller command) ≡ true → gathers_lines command ≡ false
+  not_gathers none = by (gathers_lines command) none
+    where
+      by : (b : Bool) → not b ≡ true → b ≡ false
+      by true is = absurd (cc is)
+      by false is = refl
+
+  -- its own refusal
+  own : (refusal : Option Refusal) (why : Reason) → option_map (λ (w : Refusal). (w, (let none : Option Allow = None in none))) refusal ≡ Some why → (refusal ≡ Some why.0) × (why.1 ≡ None)
+  own None why is = absurd (cc is)
+  own (Some w) why is = let same : (w, None) ≡ why = cc is in (ap (λ (r : Reason). Some r.0) same, ap (λ (r : Reason). r.1) (sym same))
+
+  pub certain_command : (text : List ℕ) (Rises : Type 0) (refusal : Refusal) → text ≡ response_of (Refused refusal None)
+      → (gathers_lines command ≡ false → (why : Refusal) → refusal_of (given s moment caller command) ≡ Some why → (refusal ≡ why) ⊎ Rises)
+      → takes_none (Gives caller command) ≡ true → (why : Reason) → refusal_meant s moment (Gives caller command) ≡ Some why
+      → (text ≡ response_of (Refused why.0 why.1)) ⊎ Rises
+  certain_command text Rises refusal is tells none why refused =
+      let it = own (refusal_of (given s moment caller command)) why refused in
+      elim (tells (not_gathers none) why.0 it.0) [
+        | inl same ↦ inl (is ∙ ap (λ (w : Refusal). response_of (Refused w None)) same ∙ ap (λ (m : Option Allow). response_of (Refused why.0 m)) (sym it.1))
+        | inr rises ↦ inr rises
+      ]
+
+  -- none is there where it is allowed
+  pub nothing_certain : (text : List ℕ) (Rises : Type 0) → refusal_of (given s moment caller command) ≡ None → (why : Reason)
+      → refusal_meant s moment (Gives caller command) ≡ Some why → (text ≡ response_of (Refused why.0 why.1)) ⊎ Rises
+  nothing_certain text Rises allowed why refused =
+      let it = own (refusal_of (given s moment caller command)) why refused in
+      absurd (cc (sym allowed ∙ it.0))
+
+-- ---- what a request means
+
+module _ (settings : Settings) (s : Tables) (moment : ℕ) (text : List ℕ) (Rises : Type 0) (request : RequestView) where
+  -- what is certain of what is meant
+  abbrev pub Certain : Meant → Type 0
+  Certain m = takes_none m ≡ true → (why : Reason) → refusal_meant s moment m ≡ Some why → (text ≡ response_of (Refused why.0 why.1)) ⊎ Rises
+
+  abbrev takes : Result Route Reason
+  takes = routed request.head.method request.head.target
+
+  abbrev asker : Result Caller Refusal
+  asker = who settings s (credentials_of request.head.fields)
+
+  abbrev no_caller : Result Caller Refusal
+  no_caller = Err Unavailable
+
+  pub certain_route : (refusal : Refusal) (method : Option Allow) → takes ≡ Err (refusal, method) → text ≡ response_of (Refused refusal method) → Certain (meant settings request s)
+  certain_route refusal method at is none =
+      certain_refusal text Rises s moment (meant settings request s) refusal method (ap (λ (r : Result Route Reason). meant_at settings request s r) at) is
+
+  means : (route : Route) (caller : Result Caller Refusal) → takes ≡ Ok route → asker ≡ caller → meant settings request s ≡ meant_by route request caller
+  means route caller at by =
+      ap (λ (r : Result Route Reason). meant_at settings request s r) at ∙ ap (λ (c : Result Caller Refusal). meant_by route request c) by
+
+  pub certain_nobody : (route : Route) (refusal : Refusal) → takes ≡ Ok route → (Err refusal ≡ asker) ⊎ (Err refusal ≡ no_caller) → (Err refusal ≡ no_caller → Rises)
+      → text ≡ response_of (Refused refusal None) → Certain (meant settings request s)
+  certain_nobody route refusal at (inl by) risen is none =
+      certain_refusal text Rises s moment (meant settings request s) refusal None (means route (Err refusal) at (sym by)) is
+  certain_nobody route refusal at (inr wanting) risen is none why refused = inr (risen wanting)
+
+  pub certain_asked : (route : Route) (caller : Caller) (read : Result Asked Refusal) → takes ≡ Ok route → (Ok caller ≡ asker) ⊎ (Ok caller ≡ no_caller)
+      → read ≡ asked_by_route caller route request → Certain (meant_asked caller read) → Certain (meant settings request s)
+  certain_asked route caller read at (inr never) is certain = absurd (cc never)
+  certain_asked route caller read at (inl by) is certain =
+      subst (λ (m : Meant). Certain m) (ap (λ (r : Result Asked Refusal). meant_asked caller r) is ∙ sym (means route (Ok caller) at (sym by))) certain
+
+  -- the path alone says what is asked by this route
+  pub by_path : (route : Route) → takes ≡ Ok route → is_path_told takes ≡ true → is_told_by_path route.endpoint ≡ true
+  by_path route at told = sym (ap (λ (r : Result Route Reason). is_path_told r) at) ∙ told
