@@ -14,7 +14,7 @@ ghost use Rattle.office_plans.specs.Asking.{given};
 ghost use Rattle.office_base.specs.Shutting.{TellsShut};
 ghost use Rattle.office_desk.specs.Callers.{caller_of, names_no_tenderer};
 ghost use Rattle.office_plans.specs.Published.{IsPlan, IsPlanned, TellsRefusal, gathers_lines};
-ghost use Rattle.office_desk.specs.Steps.{Does, HasShown, IsReplyOrRefusal, IsSeen, Joins, read_text};
+ghost use Rattle.office_desk.specs.Steps.{Does, HasShown, IsReplyOrRefusal, IsSeen, Joins, TellsQuery, read_text};
 
 use crate::callers::{clerk_with_key, is_clerk_name, tenderer_named};
 use crate::queries::look_at;
@@ -199,12 +199,14 @@ impl<H: Shelf + Drop> Desk<H> {
         self.commit(planned)
     }
 
-    /// Answers a query. Nothing changes. A package is shown only where each release that its notice's row counts is there, and can be merged.
+    /// Answers a query. Nothing changes. A package is shown only where each release that its notice's row counts is there, and can be merged. A refusal is told,
+    /// or the store's count of faults rose.
     pub fn look(&mut self, caller: &Caller, query: Query) -> Result<Vec<u8>, Refusal>
         ensures looks { Looks H.meaning self.old.shelf self.new.shelf (λ s. IsSeen self.old.settings caller.now query s (read_text result)) }
         ensures shown { H.meaning.honest self.new.shelf → (s : Tables) → H.meaning.holds self.old.shelf s → OnOk result (HasShown query s) }
         ensures settings { self.new.settings ≡ self.old.settings }
         ensures forbidden { may_look caller.now (queries.query_kind_of query) ≡ false → result ≡ Err Refusal.Forbidden }
+        ensures tells { TellsQuery H.meaning self.old.shelf self.new.shelf caller.now query result }
     {
         if !may_look(caller, query.kind()) {
             return Err(Refusal::Forbidden);

@@ -9,7 +9,7 @@ ghost use Rattle.office_base.specs.Shelves.{Looks};
 ghost use Rattle.office_machine.specs.Replies.{ContractSeen};
 ghost use Rattle.office_plans.specs.Replies.{reply_text};
 ghost use Rattle.office_plans.specs.RowMembers.{entry_entries};
-ghost use Rattle.office_desk.specs.Steps.{IsShown, read_text};
+ghost use Rattle.office_desk.specs.Steps.{IsShown, TellsQuery, read_text};
 
 use crate::queries::security::is_by_clerk_or;
 use award_core::entries::{is_overdrawn, outstanding, paid};
@@ -116,6 +116,7 @@ fn contract_text(
 }
 
 /// A contract with its entries. It is shown to its tenderer and to the clerk.
+#[tactic(auto, using(crate::proofs::Rising::has_risen))]
 pub(crate) fn look<H: Lookups>(
     alloc: Global,
     shelf: &mut H,
@@ -123,7 +124,8 @@ pub(crate) fn look<H: Lookups>(
     contract: AskedNumber,
 ) -> Result<Vec<u8>, Refusal>
     requires { may_look caller.now kinds.Contract ≡ true }
-    ensures { Looks H.meaning shelf.old shelf.new (λ s. IsShown caller.now (Contract contract) s (read_text result)) }
+    ensures looks { Looks H.meaning shelf.old shelf.new (λ s. IsShown caller.now (Contract contract) s (read_text result)) }
+    ensures tells { TellsQuery H.meaning shelf.old shelf.new caller.now (Contract contract) result }
 {
     let Some(row) = shelf.get_contract(contract)? else {
         return Err(Refusal::NoSuch(Thing::Contract));
