@@ -62,14 +62,14 @@ def line_of(finding: Any, weight: int, lowest: int) -> list[object]:
     return ["tender", receipt, tenderer, reading, price, answer, "-" if quality is None else quality, points, standing]
 
 
-def evaluation_of(office: Office, notice: str) -> str | None:
-    """What the public is shown of a notice's evaluation, by the rows; None where it isn't opened."""
+def evaluation_of(office: Office, notice: str, is_whole: bool = False) -> str | None:
+    """What the public is shown of a notice's evaluation, by the rows, or, where it is whole, what the clerk is; None where the notice isn't opened."""
     about = office.table("notices")[(notice,)]
     due: list[Any] = [["EVALUATION", notice]]
     for lot, state in office.rows("SELECT lot, state FROM lots WHERE notice = ? ORDER BY lot", notice):
         awards = office.rows("SELECT 'award', award, receipt, price, state FROM awards WHERE notice = ? AND lot = ? ORDER BY award", notice, lot)
         due.append(["lot", lot, state])
-        if state != "undecided" or awards:
+        if is_whole or state != "undecided" or awards:
             findings = office.rows("""SELECT receipt, tenderer, reading, corrected, responsive, quality, failed FROM envelopes
                 WHERE notice = ? AND lot = ? AND state = 'opened' ORDER BY receipt""", notice, lot)
             lowest = min((it[3] for it in findings if may_win(it)), default=0)
@@ -118,13 +118,13 @@ def terms_are_of_the_rows(office: Office, answers: Answers, notice: str) -> Foun
 
 @rule("looks")
 def evaluations_are_of_the_rows(office: Office, answers: Answers, notice: str) -> Found:
-    """The evaluation of an opened notice shows what the file says of each lot that has an outcome, and of others nothing; no other one is answered."""
+    """The evaluation of an opened notice shows what the file says of each lot with an outcome, and of others nothing, but for one that the clerk saved."""
     due, text = evaluation_of(office, notice), answers.of_notice(notice, "evaluation")
     if due is None:
         yield from [(f"notices {notice}", "an evaluation is answered, and it isn't opened")] if text is not None else []
     elif text is None:
         yield from [(f"notices {notice}", "is opened, and no evaluation is answered")] if answers.has_looks() else []
-    else:
+    elif answers.base or text != evaluation_of(office, notice, is_whole=True):
         yield from unlike(f"notices {notice}", text, due)
 
 
@@ -163,7 +163,7 @@ def listed_notices_are_of_the_releases(seen: Seen) -> Found:
 
 
 def due_in_terms(releases: list[Json]) -> dict[str, object]:
-    """What terms say of a notice that its releases say too."""
+    """What terms say of a notice that its first release says too."""
     first = releases[0]["tender"]
     items = {lot["id"]: [{"id": item["id"].removeprefix(lot["id"] + "/"), "quantity": item["quantity"], "title": item["description"]}
                          for item in first["items"] if item["relatedLot"] == lot["id"]] for lot in first["lots"]}
@@ -172,9 +172,17 @@ def due_in_terms(releases: list[Json]) -> dict[str, object]:
             "published": first["tenderPeriod"]["startDate"], "title": first["title"]}
 
 
+def went_back(terms: Json, due: Json, complete: bool) -> Iterator[str]:
+    """What of the terms that commands change isn't as the releases say. (They were asked for behind these, so it may have gone on where not all was told.)"""
+    goes_on = {"deadline": str(terms.get("deadline")) > str(due["deadline"]), "opened": due["opened"] is None, "state": due["state"] == "receiving"}
+    for name in CHANGES:
+        if terms.get(name) != due[name] and (complete or not goes_on[name]):
+            yield f"its terms at /{name} are {terms.get(name)}, and its releases say {due[name]}"
+
+
 @rule("outside")
 def terms_are_of_the_releases(seen: Seen) -> Found:
-    """Terms say of title, publication, criteria, lots and items what the first release says."""
+    """Terms say of title, publication, criteria, lots and items what the first release says, and of deadline, opening and state what all of them say."""
     for notice, terms in seen.terms.items():
         due = due_in_terms(seen.releases[notice])
         told: Json = {name: terms.get(name) for name in due}
@@ -182,6 +190,8 @@ def terms_are_of_the_releases(seen: Seen) -> Found:
         found = difference(told, due)
         if found:
             yield f"notices {notice}", "its terms at {} are {}, and its releases say {}".format(*found)
+        for what in went_back(terms, due_in_list(notice, seen.releases[notice]), seen.complete):
+            yield f"notices {notice}", what
 
 
 class Evaluation:
@@ -222,14 +232,17 @@ def evaluation_found(evaluation: Evaluation, story: Story, tenders: list[Tender]
     for lot, there in evaluation.tenders.items() if tenders is not None else ():
         here = {receipt: ["T-" + who, reading, *figures[:1]] for receipt, (who, reading, *figures) in there.items()}
         due = {it.receipt: [it.tenderer, it.reading, *([str(it.corrected)] if it.reading == "priced" else [])] for it in tenders or [] if it.lot == lot}
-        if evaluation.states[lot] in OUTCOMES and here != due:
+        if (here or evaluation.awards[lot] or evaluation.states[lot] in OUTCOMES) and here != due:
             yield f"the evaluation of lot {lot} has the tenders {here}, and the minutes {due}"
 
 
 @rule("outside")
 def evaluations_are_of_the_minutes(seen: Seen) -> Found:
-    """An evaluation has the lots and awards of the releases, and of a lot with an outcome the tenders of the minutes, with their prices."""
+    """An evaluation, of an opened notice alone, has the lots and awards of the releases, and of each lot with an outcome the tenders of the minutes."""
     for notice, text in seen.evaluations.items():
+        if seen.stories[notice].opened is None:
+            yield f"notices {notice}", "an evaluation is answered, and no release tells of its opening"
+            continue
         evaluation, minutes = read_evaluation(text), read_minutes(seen.minutes[notice] or "")
         if evaluation is None:
             yield f"notices {notice}", "the evaluation has another form"
@@ -266,8 +279,8 @@ def went_otherwise(before: Evaluation, here: Evaluation) -> Iterator[str]:
             yield f"lot {lot} is {state}, and was {before.states[lot]}"
         for receipt, was in tenders.items() if there or state != "undecided" else ():
             now = there.get(receipt, [])
-            # Who presented it, how it reads and its price stay; so do an answer and a quality, once they are there. Points and standing go on.
-            if now[:3] != was[:3] or any(new != old for old, new in zip(was[3:5], now[3:5]) if old != "-"):
+            # Who presented it, how it reads and its price stay; so do an answer and a quality, once they are there, and that it failed. Points go on.
+            if now[:3] != was[:3] or any(new != old for old, new in zip(was[3:5], now[3:5]) if old != "-") or was[6:] == ["failed"] != now[6:]:
                 yield f"tender {receipt} is {now}, and was {was}"
         for award, was in before.awards[lot].items():
             now = here.awards.get(lot, {}).get(award, ["", "", ""])
@@ -288,7 +301,7 @@ def saved_evaluations_stay(later: Later, office: Office | None, saved: Answers, 
 @rule("held")
 def contracts_are_as_shown(office: Office, saved: Answers) -> Found:
     """A contract that the clerk or its tenderer was shown is there, with each change and payment of then; one that had ended is as it was."""
-    for number, shown in saved.held("contract"):
+    for _, shown in saved.held("contract"):
         here = contract_of(office, shown.get("contract", 0))
         if here is None:
             yield f"contracts {shown.get('contract')}", f"{saved.place} has what was shown of it, and it isn't there"

@@ -41,6 +41,8 @@ class Front:
         """What is saved of a path, or None."""
         if path in ("/ledger", "/notices"):
             return self.read({"/ledger": "ledger.txt", "/notices": "notices.json"}[path])
+        if path.startswith("/notices?after="):
+            return self.read(f"notices-{path.partition('=')[2]}.json")
         found = re.fullmatch(r"/notices/([0-9A-Za-z_.-]+)/(releases|record|minutes|terms|evaluation)", path)
         if not found or found[1] == self.lacking:
             return None

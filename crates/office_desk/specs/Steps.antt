@@ -1,5 +1,5 @@
 -- What a desk answers: the machine's step, or want of memory or of the store.
-use Rattle.std.specs.Prelude.{◌≡◌, ℕ, ◌⊎◌, List, ◌∷◌, Some, None, Result, Ok, Err, IfErr, OnOk, OnErr, Vec}
+use Rattle.std.specs.Prelude.{◌≡◌, ℕ, false, ◌⊎◌, List, Option, ◌∷◌, Some, None, Result, Ok, Err, IfErr, OnOk, OnErr, Vec}
 use Rattle.std.specs.declared.alloc.Global.{Global}
 use Rattle.office_commands.specs.declared.command.Caller.{Caller}
 use Rattle.office_commands.specs.declared.queries.Query.{Query}
@@ -7,8 +7,11 @@ use Rattle.office_commands.specs.declared.queries.Query.TheVariants as queries
 use Rattle.office_values.specs.declared.refusal.Refusal.{Refusal}
 use Rattle.office_values.specs.declared.refusal.Refusal.TheVariants.{Unavailable}
 use Rattle.office_values.specs.declared.settings.Settings.{Settings}
-use Rattle.office_base.specs.Tables.{Tables}
 use Rattle.office_base.specs.Faults.{HasRisen}
+use Rattle.office_base.specs.Joined.{is_overdrawn}
+use Rattle.office_base.specs.Tables.{Tables, contract_at, entries_of_contract}
+use Rattle.office_base.specs.declared.records.ContractRow.{ContractRow}
+use Rattle.office_base.specs.declared.records.EntryRow.{EntryRow}
 use Rattle.office_base.specs.Shelves.{Meaning}
 use Rattle.office_machine.specs.Machine.{Given, refusal_of, Reaches}
 use Rattle.office_machine.specs.Accounts.{AccountsHold}
@@ -60,11 +63,17 @@ abbrev pub IsSeen : Settings → Caller → Query → Tables → Result (List �
 IsSeen settings caller query s result =
     Needs settings query s → (result ≡ text_of (told (packages settings) s caller query)) ⊎ (result ≡ Err Unavailable)
 
--- what a package shows is there, be the office one that no commands lead to: each release that the notice's row counts, and for a record the merge
--- that is kept, an object
+-- no more went from a contract, by these entries, than came
+abbrev pub IsNotOverdrawn : Option ContractRow → List EntryRow → Type 0
+IsNotOverdrawn None entries = Unit {0}
+IsNotOverdrawn (Some c) entries = is_overdrawn entries c ≡ false
+
+-- what is shown is there, be the office one that no commands lead to: of a package each release that the notice's row counts, and for a record the merge
+-- that is kept, an object; of a contract what is outstanding
 abbrev pub HasShown : Query → Tables → Type 0
 HasShown (queries.Releases notice) s = HasReleases notice s
 HasShown (queries.Record notice) s = HasReleases notice s × HasMerge notice s
+HasShown (queries.Contract contract) s = IsNotOverdrawn (contract_at contract s) (entries_of_contract contract s)
 HasShown query s = Unit {0}
 
 -- what is seen where no packages are asked for

@@ -8,6 +8,7 @@ pub mod NamedTenderers
 pub mod NextRelease
 pub mod OnContracts
 pub mod OwnTenders
+pub mod AwardedLots
 pub mod Printed
 pub mod Publishing
 pub mod ReadTenders

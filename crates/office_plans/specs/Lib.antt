@@ -5,6 +5,7 @@ pub mod Replies
 pub mod Plans
 pub mod Asking
 pub mod OwnTenders
+pub mod AwardedLots
 pub mod LookedUp
 pub mod Named
 pub mod Opening

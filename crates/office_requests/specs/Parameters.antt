@@ -8,7 +8,7 @@ use Rattle.office_values.specs.declared.refusal.Field.TheVariants as fields
 use Rattle.office_values.specs.declared.refusal.Refusal.{Refusal}
 use Rattle.office_commands.specs.declared.tender.NamedSecurity.{NamedSecurity}
 use Rattle.office_requests.specs.Forms.{identifier_of, amount_of}
-use Rattle.office_requests.specs.Fields.{field_or_refusal}
+use Rattle.office_requests.specs.Fields.{◌>>=◌, field_or_refusal}
 use Rattle.office_requests.specs.Paths.{behind}
 use Rattle.office_requests.specs.declared.parameters.Given.{Given}
 use Rattle.office_requests.specs.declared.parameters.Given.TheVariants.{Absent, Wrong, Right}

@@ -410,5 +410,6 @@ pub(crate) fn rows_of<H: Lookups>(
     for row in shelf.list_notices_after(None, u32::MAX)? {
         put_of_notice(&mut lines, shelf, &row)?;
     }
-    Ok(lines.bytes)
+    let Lines { alloc: _, bytes } = lines;
+    Ok(bytes)
 }

@@ -1,19 +1,21 @@
 //! A contract with its entries, and what they come to.
-ghost use Rattle.std.specs.Prelude.{◌≡◌, true, IfOk, IfErr, option_map};
+ghost use Rattle.std.specs.Prelude.{◌≡◌, true, false, IfOk, IfErr, OnOk, option_map};
 ghost use Rattle.office_commands.specs.Rights.{may_look};
 ghost use Rattle.office_commands.specs.declared.command.QueryKind.TheVariants as kinds;
 ghost use Rattle.office_commands.specs.declared.queries.Query.TheVariants.{Contract};
 ghost use Rattle.office_values.specs.declared.refusal.Refusal.TheVariants.{Unavailable};
-ghost use Rattle.office_base.specs.Joined.{outstanding, paid_under};
+ghost use Rattle.office_base.specs.Joined.{is_overdrawn, outstanding, paid_under};
 ghost use Rattle.office_base.specs.Shelves.{Looks};
+ghost use Rattle.office_base.specs.Tables.{Tables};
 ghost use Rattle.office_machine.specs.Replies.{ContractSeen};
 ghost use Rattle.office_plans.specs.Replies.{reply_text};
 ghost use Rattle.office_plans.specs.RowMembers.{entry_entries};
-ghost use Rattle.office_desk.specs.Steps.{IsShown, TellsQuery, read_text};
+ghost use Rattle.office_desk.specs.Steps.{HasShown, IsShown, TellsQuery, read_text};
 
 use crate::queries::security::is_by_clerk_or;
 use award_core::entries::{is_overdrawn, outstanding, paid};
 use json::Writer;
+use office_base::laws;
 use office_base::records::{ContractRow, EntryRow};
 use office_base::shelf::Lookups;
 use office_commands::command::Caller;
@@ -64,6 +66,7 @@ impl RowObject for ListedEntry {
 // What is outstanding of a contract. `Unavailable` where more has gone than came, or it is above every sum of money, as in no office that commands lead to.
 fn left_of(entries: &[EntryRow], row: &ContractRow) -> Result<Total, Refusal>
     ensures sum { IfOk result (λ sum. sum ≡ outstanding entries.now row.now) }
+    ensures covered { IfOk result (λ _. is_overdrawn entries.now row.now ≡ false) }
     ensures fault { IfErr result (λ e. e ≡ Unavailable) }
 {
     if is_overdrawn(entries, row) {
@@ -126,7 +129,9 @@ pub(crate) fn look<H: Lookups>(
     requires { may_look caller.now kinds.Contract ≡ true }
     ensures looks { Looks H.meaning shelf.old shelf.new (λ s. IsShown caller.now (Contract contract) s (read_text result)) }
     ensures tells { TellsQuery H.meaning shelf.old shelf.new caller.now (Contract contract) result }
+    ensures shown { H.meaning.honest shelf.new → (s : Tables) → H.meaning.holds shelf.old s → OnOk result (HasShown (Contract contract) s) }
 {
+    laws::looks_follow::<H>();
     let Some(row) = shelf.get_contract(contract)? else {
         return Err(Refusal::NoSuch(Thing::Contract));
     };

@@ -1,6 +1,6 @@
 //! The award of a lot, planned: its reply, its release, and what it puts.
 ghost use Rattle.std.specs.Prelude.{◌≡◌, ◌+◌, ℕ, List, IfErr, IfOk, None, Some, option_map, true};
-ghost use Rattle.award_core.specs.Rules.Award.{award_rows, winner};
+ghost use Rattle.award_core.specs.Rules.Award.{winner};
 ghost use Rattle.office_commands.specs.Rights.{may};
 ghost use Rattle.office_commands.specs.declared.command.CommandKind.TheVariants as kinds;
 ghost use Rattle.office_commands.specs.declared.commands.Command.TheVariants.{Award};
@@ -8,6 +8,7 @@ ghost use Rattle.office_base.specs.Shelves.{Looks, LooksUp};
 ghost use Rattle.office_base.specs.Tables.{Tables};
 ghost use Rattle.office_machine.specs.Replies as replies;
 ghost use Rattle.office_plans.specs.Asking.{given_by};
+ghost use Rattle.office_plans.specs.AwardedLots.{awarded_rows, securities_unless_won};
 ghost use Rattle.office_plans.specs.Published.{IsPlanned, TellsRefusal, accepted_reply};
 ghost use Rattle.office_plans.specs.Released.{IsReleased};
 ghost use Rattle.office_plans.specs.Replies.{award_number, award_price, award_tender, reply_text};
@@ -24,7 +25,8 @@ use award_core::award::{AwardRows, best_tender, puts, refusal};
 use award_core::best::price_of;
 use ocds_release::event::{Awarded, Event, NotAwarded};
 use office_base::laws::looks_follow;
-use office_base::records::{ClockRow, EnvelopeRow, LotState};
+use office_base::records::{ClockRow, EnvelopeRow, LotState, SecurityRow};
+use office_base::rows::Rows;
 use office_base::shelf::{Lookups, ShelfFault};
 use office_values::given::GivenNumber;
 use office_values::id::Id;
@@ -34,24 +36,47 @@ use office_values::settings::Settings;
 use std::alloc::{AllocError, Global};
 use tender_core::asking::Asking;
 
+// The securities of a lot, in the order of their numbers, where nobody wins it; none where somebody does, since then none goes back.
+fn securities_unless_won<H: Lookups>(
+    alloc: Global,
+    shelf: &mut H,
+    best: Option<&EnvelopeRow>,
+    notice: &Id,
+    lot: &Id,
+) -> Result<Rows<SecurityRow>, ShelfFault>
+    ensures { LooksUp H.meaning shelf.old shelf.new result (λ s rows.
+        rows ≡ securities_unless_won (option_map (λ e. e.now) best.entry) notice.now lot.now s) }
+{
+    match best {
+        Some(_) => Ok(Rows::from_vec(Vec::new(alloc))),
+        None => securities_of_lot(shelf, notice, lot),
+    }
+}
+
 // The rows that it is decided on.
-fn load<H: Lookups>(shelf: &mut H, notice: &Id, lot: &Id) -> Result<AwardRows, ShelfFault>
-    ensures { LooksUp H.meaning shelf.old shelf.new result (λ s rows. rows ≡ award_rows s notice.now lot.now) }
+fn load<H: Lookups>(
+    alloc: Global,
+    shelf: &mut H,
+    notice: &Id,
+    lot: &Id,
+) -> Result<AwardRows, ShelfFault>
+    ensures { LooksUp H.meaning shelf.old shelf.new result (λ s rows. rows ≡ awarded_rows s notice.now lot.now) }
 {
     let clock = shelf.get_clock()?;
     let lot_row = shelf.get_lot(notice, lot)?;
     let line = line_of_lot(shelf, &lot_row)?;
     let notice_row = shelf.get_notice(notice)?;
-    let securities = securities_of_lot(shelf, notice, lot)?;
     let envelopes = envelopes_of_lot(shelf, notice, lot)?;
-    Ok(AwardRows {
+    let mut rows = AwardRows {
         notice: notice_row,
         lot: lot_row,
         line,
         envelopes,
-        securities,
+        securities: Rows::from_vec(Vec::new(alloc)),
         clock,
-    })
+    };
+    rows.securities = securities_unless_won(alloc, shelf, best_tender(&rows), notice, lot)?;
+    Ok(rows)
 }
 
 // Of the winner: the number of the award that is made, the price and the tender; none where nobody wins.
@@ -107,7 +132,7 @@ fn reply(
     lot: Id,
     best: Option<&EnvelopeRow>,
 ) -> Result<Vec<u8>, AllocError>
-    ensures { IfOk result (λ text. (s : Tables) (notice : List ℕ) → rows.now ≡ award_rows s notice lot
+    ensures { IfOk result (λ text. (s : Tables) (notice : List ℕ) → rows.now ≡ awarded_rows s notice lot
         → option_map (λ e. e.now) best.entry ≡ winner rows.now.notice rows.now.envelopes
         → text.items ≡ reply_text (accepted_reply (given_by asking.now s (Award notice lot)))) }
 {
@@ -128,7 +153,7 @@ fn won<H: Lookups>(
     lot: Id,
     best: &EnvelopeRow,
 ) -> Result<Released, Refusal>
-    ensures looks { Looks H.meaning shelf.old shelf.new (λ s. IfOk result (λ release. rows.now ≡ award_rows s notice lot
+    ensures looks { Looks H.meaning shelf.old shelf.new (λ s. IfOk result (λ release. rows.now ≡ awarded_rows s notice lot
         → Some best.now ≡ winner rows.now.notice rows.now.envelopes → IsReleased settings.now (given_by asking.now s (Award notice lot)) release)) }
     ensures none { IfErr result (λ why. why ≡ Unavailable) }
 {
@@ -160,7 +185,7 @@ fn lost<H: Lookups>(
     notice: Id,
     lot: Id,
 ) -> Result<Released, Refusal>
-    ensures looks { Looks H.meaning shelf.old shelf.new (λ s. IfOk result (λ release. rows.now ≡ award_rows s notice lot
+    ensures looks { Looks H.meaning shelf.old shelf.new (λ s. IfOk result (λ release. rows.now ≡ awarded_rows s notice lot
         → None ≡ winner rows.now.notice rows.now.envelopes → IsReleased settings.now (given_by asking.now s (Award notice lot)) release)) }
     ensures none { IfErr result (λ why. why ≡ Unavailable) }
 {
@@ -186,7 +211,7 @@ fn release<H: Lookups>(
     lot: Id,
     best: Option<&EnvelopeRow>,
 ) -> Result<Released, Refusal>
-    ensures looks { Looks H.meaning shelf.old shelf.new (λ s. IfOk result (λ release. rows.now ≡ award_rows s notice lot
+    ensures looks { Looks H.meaning shelf.old shelf.new (λ s. IfOk result (λ release. rows.now ≡ awarded_rows s notice lot
         → option_map (λ e. e.now) best.entry ≡ winner rows.now.notice rows.now.envelopes
         → IsReleased settings.now (given_by asking.now s (Award notice lot)) release)) }
     ensures none { IfErr result (λ why. why ≡ Unavailable) }
@@ -211,7 +236,7 @@ pub fn plan<H: Lookups>(
     ensures tells { TellsRefusal H.meaning shelf.old shelf.new (λ s. given_by asking.now s (Award notice lot)) result }
 {
     looks_follow::<H>();
-    let rows = load(shelf, &notice, &lot)?;
+    let rows = load(alloc, shelf, &notice, &lot)?;
     let t = asking.time(&rows.clock);
     let best = best_tender(&rows);
     if let Some(why) = refusal(t, &rows, best) {

@@ -1,7 +1,7 @@
 use Rattle.std.specs.Prelude.{◌≡◌, List, None, Option, Some, map, max, refl}
 use Rattle.std.proofs.Common.{◌∙◌, ap, sym}
 use Rattle.office_commands.specs.declared.commands.Command.TheVariants.{Award}
-use Rattle.award_core.specs.Rules.Award.{award_rows, winner}
+use Rattle.award_core.specs.Rules.Award.{winner}
 use Rattle.award_core.specs.declared.award.AwardRows.{AwardRows}
 use Rattle.ocds_release.specs.TenderStatuses.{state_with, tender_status_of}
 use Rattle.ocds_release.specs.declared.event.Event.{Event}
@@ -12,6 +12,7 @@ use Rattle.office_base.specs.declared.records.LotRow.{LotRow}
 use Rattle.office_base.specs.declared.records.LotState.TheVariants.{Unsuccessful}
 use Rattle.office_publications.specs.AwardEvents.{award_event, status_with}
 use Rattle.office_plans.specs.Asking.{given_by}
+use Rattle.office_plans.specs.AwardedLots.{awarded_rows}
 use Rattle.office_plans.proofs.Maybe.{if_ok}
 use Rattle.office_plans.proofs.commands.award.lost.Goals as goal
 
@@ -26,7 +27,7 @@ returns-clause-looks g c =
           c.in_ok-status.ensures.status ∙ ap (λ (lots : List LotRow). tender_status_of (map (state_with a.lot Unsuccessful) lots)) (c.as_slice.ensures.value ∙ looked.1 honest s held) in
           if_ok c.make_release.result c.make_release.ensures.release
           (λ made holds are here.
-          let lost : None ≡ winner (award_rows s a.notice a.lot).notice (award_rows s a.notice a.lot).envelopes =
+          let lost : None ≡ winner (awarded_rows s a.notice a.lot).notice (awarded_rows s a.notice a.lot).envelopes =
           here ∙ ap (λ (rows : AwardRows). winner rows.notice rows.envelopes) are in
           holds (given_by a.asking.now s (Award a.notice a.lot))
           (ap (λ (w : Option EnvelopeRow). Some (award_event s a.notice a.lot w)) (sym lost) ∙ sym (ap (λ (st : TenderStatus). Some (told st)) status))

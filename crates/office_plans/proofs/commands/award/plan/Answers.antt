@@ -1,17 +1,20 @@
 use Rattle.std.specs.Prelude.{List, ℕ}
 use Rattle.std.proofs.Common.{◌∙◌, refl}
-use Rattle.award_core.specs.Rules.Award.{award_puts, award_rows, award_tests}
+use Rattle.award_core.specs.Rules.Award.{award_puts, award_tests}
 use Rattle.award_core.specs.declared.award.AwardRows.{AwardRows}
 use Rattle.office_commands.specs.declared.commands.Command.TheVariants.{Award}
 use Rattle.office_base.specs.Tables.{Tables}
+use Rattle.office_machine.specs.Machine.{time_of}
+use Rattle.office_plans.proofs.AwardedLots.{same_puts}
 use Rattle.office_plans.proofs.Publishing.{IsTested, not_planned, puts_on, refused_on, three_looks}
 use Rattle.office_plans.proofs.Telling.{fault_told, none_to_tell, refusal_told}
 use Rattle.office_plans.proofs.commands.award.plan.Goals as goal
 use Rattle.office_plans.specs.Asking.{given_by}
+use Rattle.office_plans.specs.AwardedLots.{awarded_rows}
 use Rattle.tender_core.specs.declared.asking.Asking.{Asking}
 
 -- its tests are those of the rows that it loads
-rule : (asking : Asking) (notice : List ℕ) (lot : List ℕ) → IsTested asking (Award notice lot) (λ (s : Tables). award_rows s notice lot) (λ (rows : AwardRows). rows.clock)
+rule : (asking : Asking) (notice : List ℕ) (lot : List ℕ) → IsTested asking (Award notice lot) (λ (s : Tables). awarded_rows s notice lot) (λ (rows : AwardRows). rows.clock)
     (λ (rows : AwardRows) (t : ℕ). award_tests rows t)
 rule asking notice lot = record { clock = λ s. refl; tested = λ s. refl }
 
@@ -28,7 +31,7 @@ returns-clause-looks g c =
     three_looks _ c.looks_follow.ensures _ _ _ _ _ _ _ _ c.in_ok-rows.ensures.0 c.in_ok-release.ensures.looks c.published.ensures
     (λ s are released joined.
     let allowed = refused_on ruled _ _ moment _ c.requires c.refusal.ensures s are ∙ c.in_default.is in
-    let puts = puts_on ruled _ _ moment (λ (rows : AwardRows) (t : ℕ). award_puts rows t) _ c.in_ok-puts.ensures.puts s are refl in
+    let puts = puts_on ruled _ _ moment (λ (rows : AwardRows) (t : ℕ). award_puts rows t) _ c.in_ok-puts.ensures.puts s are (same_puts a.notice a.lot s (time_of (given_by a.asking.now s (Award a.notice a.lot)))) in
     joined a.settings.now (given_by a.asking.now s (Award a.notice a.lot)) refl tt allowed puts (c.in_ok-text.ensures s a.notice are c.best_tender-best.ensures) (released are c.best_tender-best.ensures))
 
 pub returns-in_err-rows-clause-tells : goal.returns-in_err-rows-clause-tells

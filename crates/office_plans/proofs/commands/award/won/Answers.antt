@@ -1,7 +1,7 @@
 use Rattle.std.specs.Prelude.{◌≡◌, ℕ, ◌+◌, Option, Some, max, refl}
 use Rattle.std.proofs.Common.{◌∙◌, ap, sym}
 use Rattle.office_commands.specs.declared.commands.Command.TheVariants.{Award}
-use Rattle.award_core.specs.Rules.Award.{award_rows, price_of, winner}
+use Rattle.award_core.specs.Rules.Award.{price_of, winner}
 use Rattle.award_core.specs.declared.award.AwardRows.{AwardRows}
 use Rattle.ocds_release.specs.declared.event.Event.{Event}
 use Rattle.ocds_release.specs.declared.event.Event.TheVariants as events
@@ -11,6 +11,7 @@ use Rattle.office_base.specs.declared.records.EnvelopeRow.{EnvelopeRow}
 use Rattle.office_base.specs.declared.records.TendererRow.{TendererRow}
 use Rattle.office_publications.specs.AwardEvents.{award_event, name_in}
 use Rattle.office_plans.specs.Asking.{given_by}
+use Rattle.office_plans.specs.AwardedLots.{awarded_rows}
 use Rattle.office_plans.proofs.Maybe.{if_ok}
 use Rattle.office_plans.proofs.commands.award.won.Goals as goal
 
@@ -27,7 +28,7 @@ returns-clause-looks g c =
           if_ok c.make_release.result c.make_release.ensures.release
           (λ made holds are here.
           let number : c.in-Some-read.award ≡ s.clock.awards + 1 = c.in-Some-read.ensures.found ∙ ap (λ n. n + 1) (c.get.ensures.value ∙ ap (λ (rows : AwardRows). rows.clock.awards) are) in
-          let won : Some best ≡ winner (award_rows s a.notice a.lot).notice (award_rows s a.notice a.lot).envelopes =
+          let won : Some best ≡ winner (awarded_rows s a.notice a.lot).notice (awarded_rows s a.notice a.lot).envelopes =
           here ∙ ap (λ (rows : AwardRows). winner rows.notice rows.envelopes) are in
           let event : Some (told c.in-Some-read.award c.in-Some.winner c.price_of.result)
           ≡ Some (told (s.clock.awards + 1) (named (tenderer_at best.tenderer s)) (price_of best)) =
