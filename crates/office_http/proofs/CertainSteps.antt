@@ -3,22 +3,26 @@ use Rattle.std.proofs.Common.{◌≡◌, ℕ, ◌⊎◌, inl, inr, Bool, true, f
 use Rattle.std.specs.Prelude.{option_map}
 use Rattle.office_commands.specs.declared.command.Caller.{Caller}
 use Rattle.office_commands.specs.declared.commands.Command.{Command}
+use Rattle.office_commands.specs.declared.queries.Query.{Query}
 use Rattle.office_values.specs.declared.refusal.Refusal.{Refusal}
 use Rattle.office_values.specs.declared.refusal.Refusal.TheVariants.{Unavailable}
 use Rattle.office_values.specs.declared.settings.Settings.{Settings}
 use Rattle.office_base.specs.Tables.{Tables}
 use Rattle.office_machine.specs.Machine.{refusal_of}
+use Rattle.office_machine.specs.Sights.{told}
 use Rattle.office_plans.specs.Asking.{given}
 use Rattle.office_plans.specs.Published.{gathers_lines}
+use Rattle.office_plans.specs.Replies.{text_of}
+use Rattle.office_desk.specs.Steps.{no_packages}
 use Rattle.office_wire.specs.Request.{RequestView}
 use Rattle.office_requests.specs.Asking.{asked_by_route, is_told_by_path}
 use Rattle.office_requests.specs.Routing.{routed}
 use Rattle.office_requests.specs.declared.asked.Asked.{Asked}
 use Rattle.office_requests.specs.declared.route.Allow.{Allow}
 use Rattle.office_requests.specs.declared.route.Route.{Route}
-use Rattle.office_http.specs.Certain.{is_path_told, refusal_meant, takes_none}
+use Rattle.office_http.specs.Certain.{is_path_told, refusal_in, refusal_meant, takes_none}
 use Rattle.office_http.specs.Credentials.{credentials_of}
-use Rattle.office_http.specs.Meaning.{Meant, Refuses, Gives, meant, meant_asked, meant_at, meant_by, who}
+use Rattle.office_http.specs.Meaning.{Meant, Refuses, Gives, Sees, meant, meant_asked, meant_at, meant_by, who}
 use Rattle.office_http.specs.Response.{response_of}
 use Rattle.office_http.specs.declared.reply.Reply.TheVariants.{Refused}
 
@@ -64,6 +68,26 @@ module _ (s : Tables) (moment : ℕ) (caller : Caller) (command : Command) where
   nothing_certain text Rises allowed why refused =
       let it = own (refusal_of (given s moment caller command)) why refused in
       absurd (cc (sym allowed ∙ it.0))
+
+-- ---- a query
+
+module _ (s : Tables) (moment : ℕ) (caller : Caller) (query : Query) where
+  -- it is what is told of the query
+  is_refusal : (shown : Result (List ℕ) Refusal) (why : Reason) → option_map (λ (w : Refusal). (w, (let none : Option Allow = None in none))) (refusal_in shown) ≡ Some why
+      → (shown ≡ Err why.0) × (why.1 ≡ None)
+  is_refusal (Ok text) why is = absurd (cc is)
+  is_refusal (Err w) why is = let same : (w, None) ≡ why = cc is in (ap (λ (r : Reason). Err r.0) same, ap (λ (r : Reason). r.1) (sym same))
+
+  pub certain_query : {T : Type 0} (text : List ℕ) (Rises : Type 0) (result : Result T Refusal)
+      → ((why : Refusal) → text_of (told no_packages s caller query) ≡ Err why → (result ≡ Err why) ⊎ Rises)
+      → ((why : Refusal) → result ≡ Err why → text ≡ response_of (Refused why None))
+      → (why : Reason) → refusal_meant s moment (Sees caller query) ≡ Some why → (text ≡ response_of (Refused why.0 why.1)) ⊎ Rises
+  certain_query text Rises result tells says why refused =
+      let it = is_refusal (text_of (told no_packages s caller query)) why refused in
+      elim (tells why.0 it.0) [
+        | inl same ↦ inl (says why.0 same ∙ ap (λ (m : Option Allow). response_of (Refused why.0 m)) (sym it.1))
+        | inr rises ↦ inr rises
+      ]
 
 -- ---- what a request means
 

@@ -5,8 +5,11 @@ use Rattle.office_base.specs.Faults.{HasRisen}
 use Rattle.office_base.specs.Shelves.{Meaning}
 use Rattle.office_base.specs.Tables.{Tables}
 use Rattle.office_machine.specs.Machine.{refusal_of}
+use Rattle.office_machine.specs.Sights.{told}
 use Rattle.office_plans.specs.Asking.{given}
 use Rattle.office_plans.specs.Published.{gathers_lines}
+use Rattle.office_plans.specs.Replies.{text_of}
+use Rattle.office_desk.specs.Steps.{no_packages}
 use Rattle.office_requests.specs.Asking.{is_told_by_path}
 use Rattle.office_requests.specs.declared.route.Allow.{Allow}
 use Rattle.office_requests.specs.declared.route.Route.{Route}
@@ -14,11 +17,16 @@ use Rattle.office_http.specs.Meaning.{Meant, Refuses, Gives, Sees}
 use Rattle.office_http.specs.Response.{response_of}
 use Rattle.office_http.specs.declared.reply.Reply.TheVariants.{Refused}
 
--- the refusal of what is meant, with the method of the path where the request has another; a query's isn't told here
+-- the refusal that an answer is
+abbrev pub refusal_in : Result (List ℕ) Refusal → Option Refusal
+refusal_in (Ok text) = None
+refusal_in (Err why) = Some why
+
+-- the refusal of what is meant, with the method of the path where the request has another
 abbrev pub refusal_meant : Tables → ℕ → Meant → Option (Refusal × Option Allow)
 refusal_meant s moment (Refuses why method) = Some (why, method)
 refusal_meant s moment (Gives caller command) = option_map (λ (why : Refusal). (why, None)) (refusal_of (given s moment caller command))
-refusal_meant s moment (Sees caller query) = None
+refusal_meant s moment (Sees caller query) = option_map (λ (why : Refusal). (why, None)) (refusal_in (text_of (told no_packages s caller query)))
 
 -- it is found without memory: the command names no budget lines
 abbrev pub takes_none : Meant → Bool

@@ -88,6 +88,7 @@ fn answer_query<H: Shelf + Drop>(
     ensures answered { AnswersMeant H.meaning desk.old.settings desk.old.shelf desk.new.shelf moment (λ s. Sees caller.now query) result }
     ensures changes { ChangesOnlyAccepting H.meaning desk.old.shelf desk.new.shelf (λ s. Sees caller.now query) result }
     ensures told { IsTold H.meaning desk.old.settings desk.old.shelf desk.new.shelf moment (λ s. Sees caller.now query) result }
+    ensures certain { IsCertain H.meaning desk.old.shelf desk.new.shelf moment (λ s. Sees caller.now query) result }
     ensures shown { ShowsOnlyWhole H.meaning desk.old.shelf desk.new.shelf (λ s. Sees caller.now query) result }
 {
     let text = match desk.look(caller, query) {

@@ -85,7 +85,7 @@ pub returns-in-Ok-Looks-clause-certain : goal.returns-in-Ok-Looks-clause-certain
 returns-in-Ok-Looks-clause-certain g c =
     let is : Ok (Looks c.in-Ok-Looks.query) ≡ c.args.asked = search rules in
     subst (λ (a : Result Asked Refusal). IsCertain g.H.Lookups.meaning c.args.desk.now.shelf c.answer_query.new.desk.shelf c.args.moment
-    (λ s. meant_asked c.args.caller.now a) c.answer_query.result) is (λ honest s held none why refused. absurd (cc refused))
+    (λ s. meant_asked c.args.caller.now a) c.answer_query.result) is c.answer_query.ensures.certain
 
 pub returns-in-Err-clause-certain : goal.returns-in-Err-clause-certain
 returns-in-Err-clause-certain g c =
