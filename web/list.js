@@ -82,7 +82,7 @@ function search(filters, entries, data) {
 export async function drawList(text) {
   const [list, data] = await Promise.all([notices(), tables("notices", "lots", "tenders", "budget")]);
   const entries = entriesOf(list, data, officeNow());
-  return { title: "", told: say("see.list.all", { count: list.length }), content: [title(say("see.list.title")),
+  return { title: "", told: say("see.list.all", { count: list.length }), content: [title(say("see.page.list")),
     element("p", { class: "intro" }, say("see.list.intro")), data ? null : element("p", { class: "note" }, say("see.nodata")),
     list.length === 0 ? element("p", {}, say("see.list.empty")) : search(filtersOf(text), entries, data),
     data ? element("p", {}, link(say("see.list.feed"), "/data/feed.atom"), " · ", link(say("see.about.data"), "/data/")) : null] };

@@ -55,7 +55,7 @@ function lotPart(notice, lot, folds) {
     facts([[say("see.estimate"), money(lot.value.amount, currency)], [say("see.line"), line], [say("see.security.asked"), asked(own.security, currency)]]),
     items(notice, lot), listed(4, say("see.awards", { count: made.length }), made.map((award) => awardPart(notice, lot, award)), { class: "awards" }),
     element("h4", {}, say("see.tenders")), tenderPart(notice, lot), notice.ofLot?.(lot),
-    contracts.map(([one, award]) => contractPart(one, award, lot, notice.terms, notice.ofContract?.(one)))];
+    contracts.map(([one, award]) => contractPart(one, award, lot, notice, notice.ofContract?.(one)))];
   return element("article", { id: `lot-${lot.id}`, tabindex: "-1", class: "card", "aria-label": say("see.lot", { lot: lot.id }) },
     folds ? folded(`${notice.name}/${lot.id}`, notice.isPressing?.(lot), head, content) : [element("h3", {}, head), content]);
 }
