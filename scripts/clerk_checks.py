@@ -177,7 +177,7 @@ def award_part(desk: Desk) -> None:
     desk.says("Award lot L2 of N1 to nobody")
     desk.confirm("Award it", "Lot L2 is decided.")
     desk.says("Lot L1: the award is to be signed")
-    check(f"a standstill is told that never was: {desk.told()}", "standstill" not in desk.told())
+    check(f"a standstill is told that never was: {desk.told()}", "The standstill" not in desk.told())
     desk.press("Letters to those who tendered")
     desk.settle("letter/N1/L1")
     tells(desk, "Your tender is accepted, at 540 EUR.", "Your security G2, of 60 EUR, is held until the lot's contract is signed, and goes back then.",
@@ -272,7 +272,7 @@ def journal_part(desk: Desk) -> None:
     text = desk.page.run("Promise.all([import('/clerk/session.js'), import('/clerk/journal.js')]).then(([{ journal }, { fileOf }]) => fileOf(journal()))")
     check("the key is in the journal", '"abc"' not in text and "Office-Key" not in text)
     other = Desk(desk.scene, place="#notice/N1")
-    tells(other, "Whether it ended as agreed or by default is not published.", "Worth at its end", "Contract 2 ended: 500 EUR of 630 EUR were paid")
+    tells(other, "Whether it ended as agreed or by default is not published.", "Worth at its end", "Contract 2 ended, 500 EUR of 630 EUR paid.")
     other.go("journal")
     other.drop(text.replace("More kerbs", "Less kerbs"), "journal.jsonl")
     other.says("What was sent doesn't match its SHA-256")

@@ -165,7 +165,7 @@ def life(scene: Scene) -> None:
     check(f"a default isn't red: {red}", str(red).endswith("Ended by default"))
     check("a default is green", not desks["T1"].page.run("document.querySelector('main .badge.done') !== null"))
     page = page_checks.page_of(scene, "#notice/N1")
-    for text in ("Its price wasn't the lowest.", "540 EUR", "All contracts ended", "Given back", "Contract 2 ended: 0 EUR of 290 EUR were paid"):
+    for text in ("Its price wasn't the lowest.", "540 EUR", "All contracts ended", "Given back", "Contract 2 ended, 0 EUR of 290 EUR paid."):
         check(f"the public sees {page.text()}", text in page.text())
     for one in (clerk.page, *(desk.page for desk in desks.values())):
         page_checks.keeps_nothing(scene, one)
