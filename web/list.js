@@ -1,10 +1,9 @@
 // The list of all procurements: newest first, those that take tenders above with a clock to their deadline; what is looked for stands in the address.
-import { clock } from "./common/clock.js";
 import { tables } from "./common/data.js";
 import { element, fresh, given, link, placeOf, title } from "./common/draw.js";
 import { NAMES, STATES, addressOf, chosen, entriesOf, filtersOf, noticeOf } from "./common/filters.js";
 import { field, form, growing } from "./common/forms.js";
-import { day, money, moment } from "./common/money.js";
+import { clock, day, money, moment } from "./common/money.js";
 import { notices, officeNow } from "./common/office.js";
 import { stateBadge } from "./common/states.js";
 import { say } from "./common/texts.js";

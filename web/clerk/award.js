@@ -111,7 +111,7 @@ function awarded(notice, lot, again) {
   const told = element("span", {}, momentAndSpan(standstillUntil));
   return element("div", { class: "award" }, element("h4", {}, say("award.made")),
     element("p", {}, sayParts("award.to", { ...ofAward(active, notice.currency), award: active.id })),
-    lot.hasStandstill ? element("p", {}, isRunning ? sayParts("standstill.until", { until: told }) : sayParts("standstill.over", { since: told })) : null,
+    lot.hasStandstill ? element("p", {}, sayParts(isRunning ? "standstill.until" : "standstill.over", { until: told })) : null,
     element("p", {}, letters(notice, lot)), notice.stage.isExpired ? note("bad", say("award.expired")) : null,
     signing(notice, lot, again, isRunning), passing(notice, lot, again, isRunning));
 }
@@ -143,7 +143,8 @@ function amountFault(amount, asked) {
 }
 
 function signOrder(notice, lot, named) {
-  const [{ name, releases, currency }, { active }] = [notice, lot];
+  const { name, releases, currency } = notice;
+  const { active } = lot;
   const secured = named ? say("sign.held", { security: named.security, amount: number(named.amount) }) : say("sign.none");
   return { kind: "sign", values: valuesOf(notice, lot), path: `/awards/${active.id}/sign`, body: named ? jsonBody(named) : null, isFinal: true,
     says: [element("span", {}, sayParts("sign.does", ofAward(active, currency))), secured, say("sign.back")],
@@ -158,7 +159,8 @@ function passing(notice, lot, again, isRunning) {
 }
 
 function failOrder(notice, lot) {
-  const [{ name, releases }, { id, active }] = [notice, lot];
+  const { name, releases } = notice;
+  const { id, active } = lot;
   return { kind: "fail", values: valuesOf(notice, lot), path: `/awards/${active.id}/fail`, body: null, word: say("fail.word"),
     says: [say("fail.does", { name: active.suppliers[0].name }), say("fail.again", { lot: id })],
     again: "AlreadyDecided", find: () => ofRelease(name, releases.length, own.fail(active.id)) };

@@ -48,7 +48,7 @@ export default {
   "award.standstill": "Die Stillhaltefrist beginnt.", "award.send": "Zuschlag erteilen …",
   "award.expired": "Die Bindefrist ist abgelaufen: Es kann weder zugeschlagen noch unterzeichnet noch übergangen werden. Heben Sie die Bekanntmachung auf.",
   "award.nobody.name": "niemanden", "award.made": "Zuschlag erteilt", "award.to": "An {name} für {price} (Zuschlag {award}).",
-  "standstill.until": "Die Stillhaltefrist läuft bis {until}", "standstill.over": "Die Stillhaltefrist endete {since}",
+  "standstill.until": "Die Stillhaltefrist läuft bis {until}", "standstill.over": "Die Stillhaltefrist endete {until}",
   "sign.security": "Zeichen der Vertragserfüllungssicherheit",
   "sign.security.hint": "Ihre Nummer bei dem, der sie gibt: 1 bis 32 Buchstaben ohne Umlaute, Ziffern, _ . oder -", "sign.amount": "Ihr Betrag",
   "sign.asked": "Mindestens {amount}.", "sign.small": "Die Bekanntmachung verlangt mindestens {amount}.", "sign.send": "Unterzeichnen …",

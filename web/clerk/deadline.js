@@ -1,8 +1,7 @@
 // Up to the opening: the deadline is moved, the register grows, and tenders are opened; and all that isn't contracted is cancelled.
-import { clock } from "../common/clock.js";
 import { element, given, link, section } from "../common/draw.js";
 import { areRight, button, field, form, lineText, note, steps, table } from "../common/forms.js";
-import { money, moment, number } from "../common/money.js";
+import { clock, money, moment, number } from "../common/money.js";
 import { officeNow, registerText, securities, sentenceOf } from "../common/office.js";
 import { say } from "../common/texts.js";
 import { ofOpening, ofRelease, own } from "./fate.js";

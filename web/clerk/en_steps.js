@@ -42,7 +42,7 @@ export default {
   "award.standstill": "The standstill begins.",
   "award.send": "Award …", "award.expired": "The days of validity are over: nothing can be awarded, signed or passed over. Cancel the notice.",
   "award.nobody.name": "nobody", "award.made": "Awarded", "award.to": "To {name} for {price} (award {award}).",
-  "standstill.until": "The standstill lasts until {until}", "standstill.over": "The standstill ended {since}",
+  "standstill.until": "The standstill lasts until {until}", "standstill.over": "The standstill ended {until}",
   "sign.security": "Reference of the performance security",
   "sign.security.hint": "Its number at whoever gave it: 1 to 32 letters, digits, _ . or -", "sign.amount": "Its amount", "sign.asked": "At least {amount}.",
   "sign.small": "The notice asks for at least {amount}.", "sign.send": "Sign …", "sign.does": "The contract with {name} is made, for {price}.",

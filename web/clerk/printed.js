@@ -58,8 +58,8 @@ export async function drawLetter(again, name, lotId) {
     return { title: head, content: [title(head), note("look", say("letters.none")), back] };
   }
   const isWinner = (one) => `T-${one.tenderer}` === lot.active.suppliers[0].id;
-  const letters = [...lot.tenders.filter(isWinner).map((one) => letter(notice, lot, one, won(notice, lot))),
-    ...lot.tenders.filter((one) => !isWinner(one)).map((one) => letter(notice, lot, one, lost(notice, lot, one)))];
+  const letters = lot.tenders.toSorted((one, other) => isWinner(other) - isWinner(one))
+    .map((one) => letter(notice, lot, one, isWinner(one) ? won(notice, lot) : lost(notice, lot, one)));
   return { title: head, isSheet: true, content: [title(head), element("p", {}, say("letters.what", { count: letters.length })), back, steps(printButton()),
     letters.map((parts) => sheet(parts))] };
 }

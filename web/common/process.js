@@ -1,10 +1,9 @@
 // A procurement, from its record, its releases, its terms, its minutes and its evaluation.
-import { clock } from "./clock.js";
 import { against, contractPart } from "./contract.js";
 import { badge, below, element, facts, given, link, listed, placeOf, section, title } from "./draw.js";
 import { addedTo, awardsOf, contractOf, kindOfSigned, paidOf, passedOver, stateOf, stateOfLot } from "./findings.js";
 import { table } from "./forms.js";
-import { money, moment, number } from "./money.js";
+import { clock, money, moment, number } from "./money.js";
 import { officeNow } from "./office.js";
 import { seenOf } from "./seen.js";
 import { say } from "./texts.js";

@@ -1,9 +1,8 @@
 // The caller's tenders, looked for notice by notice, each with its state and security; changed or withdrawn.
-import { clock } from "../common/clock.js";
 import { inGroups } from "../common/digest.js";
 import { badge, below, element, facts, given, link, placeOf, section, title } from "../common/draw.js";
 import { button, note, steps, table, tick } from "../common/forms.js";
-import { money, moment } from "../common/money.js";
+import { clock, money, moment } from "../common/money.js";
 import { Refused, notices, officeNow, ownTenders, security, sentenceOf, tender, withdraw } from "../common/office.js";
 import { hasText, say } from "../common/texts.js";
 import { factsOf } from "./receipt.js";
