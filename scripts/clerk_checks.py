@@ -32,7 +32,7 @@ def firms(scene: Scene) -> Client[Answer]:
 
 
 def budget_part(desk: Desk) -> None:
-    """A file with semicolons is told, one that is right shows what it changes, and is taken in."""
+    """A file with semicolons is told, one that is right shows what it changes, and is taken in; the same under another name is warned of."""
     desk.go("budget")
     desk.drop(BUDGET.replace(",", ";"), "budget.csv")
     desk.says("The fields are parted by semicolons")
@@ -55,7 +55,7 @@ def budget_part(desk: Desk) -> None:
     desk.says("Careful: the same amounts were taken in already, under B1.")
     desk.says("Careful: 2 lines would have twice what they have: 1000, 2000.")
     desk.press("Take the file in")
-    desk.says("Careful: the same amounts were taken in already, under B1.")
+    desk.page.wait("document.querySelector('dialog[open] .wrong')?.innerText.includes('under B1')")
     desk.press("Not yet")
 
 

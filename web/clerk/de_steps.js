@@ -134,7 +134,7 @@ export default {
   "order.award.after.Expired": "Es kann nicht mehr zugeschlagen werden: Heben Sie die Bekanntmachung auf.",
   "order.fail.title": "{name} übergehen: Los {lot} von {notice} (Zuschlag {award})", "order.fail.send": "Übergehen",
   "order.fail.done": "Der Gewinner des Zuschlags {award} wurde übergangen.", "order.fail.after.Standstill": "Warten Sie, bis die Stillhaltefrist um ist.",
-  "order.sign.title": "Los {lot} von {notice} mit {name} unterzeichnen (Zuschlag {award})", "order.sign.send": "Unterzeichnen",
+  "order.sign.title": "Vertrag für Los {lot} von {notice} mit {name} unterzeichnen (Zuschlag {award})", "order.sign.send": "Unterzeichnen",
   "order.sign.done": "Der Vertrag {contract} ist unterzeichnet.",
   "order.sign.after.Standstill": "Warten Sie, bis die Stillhaltefrist um ist.",
   "order.sign.after.SecurityMissing": "Lassen Sie sich die Vertragserfüllungssicherheit geben, oder übergehen Sie den Gewinner.",
