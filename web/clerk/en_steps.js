@@ -133,7 +133,7 @@ export default {
   "order.pay.after.LimitReached": "A contract has at most 200 changes and payments; it can still be ended.", "order.end.title": "End contract {contract}",
   "order.end.send": "End it", "order.end.done": "Contract {contract} has ended.",
   "refusal.BadBody.body": "What was sent isn't in the form that the office reads.", "refusal.BadBody.name": "The name is missing or wrong.",
-  "refusal.BadBody.address": "The address is missing or wrong.", "refusal.BadBody.key": "The digest of the key is missing or wrong: 64 hexadecimal digits.",
+  "refusal.BadBody.address": "The address is missing or wrong.", "refusal.BadBody.key": "The SHA-256 of the key is missing or wrong: 64 hexadecimal digits.",
   "refusal.BadBody.title": "The title is missing or wrong.", "refusal.BadBody.deadline": "The deadline is missing or wrong.",
   "refusal.BadBody.validity_days": "The days of validity are missing or wrong: 1 to 365.",
   "refusal.BadBody.standstill_days": "The days of standstill are missing or wrong: 0 to 90.", "refusal.BadBody.criteria": "It isn't said what decides.",

@@ -27,7 +27,7 @@ export default {
     + "ändern und zurückziehen.",
   "key.saved": "Das ist der Schlüssel, den Sie hier gemacht haben: Seine Datei ist gespeichert.", "key.ask": "Fragen, ob er eingetragen ist",
   "key.away": "Weglegen", "key.away.done": "Der Schlüssel ist weggelegt.", "key.registered": "Die Vergabestelle kennt {name} mit diesem Schlüssel.",
-  "key.unknown": "Die Vergabestelle hat ihn noch nicht eingetragen, oder eine andere Prüfsumme. Es gilt die Prüfsumme auf Ihrem Blatt.",
+  "key.unknown": "Die Vergabestelle hat ihn noch nicht eingetragen, oder eine andere SHA-256. Es gilt die auf Ihrem Blatt.",
   "key.new": "Einen Schlüssel machen", "key.make": "Schlüssel machen und Datei speichern",
   "key.make.why": "Was eingetragen ist, kann nicht geändert werden, und ein verlorener Schlüssel ist nicht wieder herzustellen: Bewahren Sie die Datei auf "
     + "wie den Schlüssel Ihres Büros.",
@@ -146,7 +146,7 @@ export default {
   "send.open": "Es kam keine Antwort. Ob es geschehen ist, ist noch nicht bekannt.",
   "send.open.what": "Es ist ganz geschehen oder gar nicht. Welches von beiden, kann man die Vergabestelle fragen; schließen Sie diesen Tab nicht vorher.",
   "send.going": "Es wird gesendet …", "send.nothing": "In diesem Tab ist kein Angebot.",
-  "help.BadKey": "Sehen Sie nach, ob die Vergabestelle die Prüfsumme des Schlüssels eingetragen hat und ob es die richtige Datei ist.",
+  "help.BadKey": "Sehen Sie nach, ob die Vergabestelle die SHA-256 des Schlüssels eingetragen hat und ob es die richtige Datei ist.",
   "help.AlreadyPresented": "Ändern Sie das Angebot, das Sie haben, oder ziehen Sie es zuerst zurück: Es steht unter Ihren Angeboten.",
   "help.SecurityMissing": "Nennen Sie sie bei den Preisen: Nummer und Betrag.", "help.SecurityTooSmall": "Wie viel verlangt ist, sagen die Vergabeunterlagen.",
   "help.SecurityNotAsked": "Lassen Sie beide Felder der Sicherheit leer.",
