@@ -32,7 +32,7 @@ def firms(scene: Scene) -> Client[Answer]:
 
 
 def budget_part(desk: Desk) -> None:
-    """A file with semicolons is told, one that is right shows what it changes, and is taken in."""
+    """A file with semicolons is told, one that is right shows what it changes, and is taken in; the same under another name is warned of."""
     desk.go("budget")
     desk.drop(BUDGET.replace(",", ";"), "budget.csv")
     desk.says("The fields are parted by semicolons")
@@ -50,7 +50,13 @@ def budget_part(desk: Desk) -> None:
     desk.picture("order")
     told = desk.confirm("Take it in", "The budget file B1 was taken in.")
     check(f"the receipt is shown: {told}", '"rows":2' in told)
-    desk.page.wait("document.querySelector('main').innerText.includes('5,000')")
+    desk.page.wait("[...document.querySelectorAll('main section')].at(-1).innerText.includes('5,000')")
+    desk.drop(BUDGET.replace("Roads", "Roads and paths"), "B2.csv")
+    desk.says("Careful: the same amounts were taken in already, under B1.")
+    desk.says("Careful: 2 lines would have twice what they have: 1000, 2000.")
+    desk.press("Take the file in")
+    desk.page.wait("document.querySelector('dialog[open] .wrong')?.innerText.includes('under B1')")
+    desk.press("Not yet")
 
 
 def tenderers_part(desk: Desk) -> None:
@@ -165,17 +171,23 @@ def award_part(desk: Desk) -> None:
     desk.says("Lot L1 goes to Beta Ltd for 540 EUR.")
     examined_elsewhere(other)
     desk.press("Award \u2026", place="Lot L1")
+    desk.says("Award lot L1 of N1 to Beta Ltd")
     desk.confirm("Award it", "Lot L1 is decided. Price: 540; receipt: 2.")
     desk.press("Award \u2026", place="Lot L2")
+    desk.says("Award lot L2 of N1 to nobody")
     desk.confirm("Award it", "Lot L2 is decided.")
+    desk.says("Lot L1: the award is to be signed")
+    check(f"a standstill is told that never was: {desk.told()}", "The standstill" not in desk.told())
     desk.press("Letters to those who tendered")
     desk.settle("letter/N1/L1")
-    check(f"there is a letter to each: {desk.told()}", "Your tender is accepted, at 540 EUR." in desk.told() and "Your price isn't the lowest." in desk.told())
+    tells(desk, "Your tender is accepted, at 540 EUR.", "Your security G2, of 60 EUR, is held until the lot's contract is signed, and goes back then.",
+          "it isn't accepted. Its price wasn't the lowest.", "Your security G1, of 50 EUR, is held", "From: City Office, Anna", "Signature: City Office, Anna")
     desk.picture("letters")
     desk.go("notice/N1")
     desk.press("The winner doesn't sign")
     desk.picture("awarded")
     desk.press("Pass over \u2026")
+    desk.says("Pass over Beta Ltd: lot L1 of N1 (award 1)")
     desk.confirm("Pass over", "The winner of award 1 was passed over.")
     desk.says("It won; then the winner didn't sign.")
     short_of_money(desk)
@@ -187,7 +199,17 @@ def award_part(desk: Desk) -> None:
     desk.says("The notice asks for at least 70.")
     desk.field("Its amount", "70")
     desk.press("Sign \u2026")
+    desk.says("Sign lot L1 of N1 with Alpha & S\u00f6hne (award 2)")
     desk.confirm("Sign", "Contract 2 is signed.")
+    desk.go("letter/N1/L1")
+    tells(desk, "Your security G1, of 50 EUR, was given back.", "It won; then the winner didn't sign.", "Your security G2, of 60 EUR, is forfeited.")
+    desk.go("notice/N1")
+
+
+def tells(desk: Desk, *texts: str) -> None:
+    """The screen says each of these."""
+    missing = [text for text in texts if text not in desk.told()]
+    check(f"{missing} is missing: {desk.told()}", not missing)
 
 
 def short_of_money(desk: Desk) -> None:
@@ -235,7 +257,7 @@ def contract_part(desk: Desk) -> None:
     desk.says("This number was used in this contract.")
     desk.picture("contract")
     desk.press("End the contract")
-    desk.press("End regularly \u2026")
+    desk.press("End as agreed \u2026")
     desk.confirm("End it", "Contract 2 has ended.")
     desk.says("P1: Given back")
     check(f"how it ended is told: {desk.told()}", "Ended as agreed" in desk.told())
@@ -250,7 +272,7 @@ def journal_part(desk: Desk) -> None:
     text = desk.page.run("Promise.all([import('/clerk/session.js'), import('/clerk/journal.js')]).then(([{ journal }, { fileOf }]) => fileOf(journal()))")
     check("the key is in the journal", '"abc"' not in text and "Office-Key" not in text)
     other = Desk(desk.scene, place="#notice/N1")
-    check(f"without the key it tells how a contract ended: {other.told()}", "Whether it ended as agreed or by default is not published." in other.told())
+    tells(other, "Whether it ended as agreed or by default is not published.", "Worth at its end", "Contract 2 ended, 500 EUR of 630 EUR paid.")
     other.go("journal")
     other.drop(text.replace("More kerbs", "Less kerbs"), "journal.jsonl")
     other.says("What was sent doesn't match its SHA-256")

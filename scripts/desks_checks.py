@@ -125,7 +125,7 @@ def pay(clerk: clerk_desk.Desk) -> None:
     clerk.field("Number of the invoice or the change", "I-1", place="Lot L2")
     clerk.says("Careful: the number I-1 was used in contract 1 too.")
     clerk.press("End the contract", place="Lot L1")
-    clerk.press("End regularly …", place="Lot L1")
+    clerk.press("End as agreed …", place="Lot L1")
     clerk.confirm("End it", "Contract 1 has ended.")
     clerk.press("End the contract", place="Lot L2")
     clerk.press("End by the contractor's default …", place="Lot L2")
@@ -165,7 +165,7 @@ def life(scene: Scene) -> None:
     check(f"a default isn't red: {red}", str(red).endswith("Ended by default"))
     check("a default is green", not desks["T1"].page.run("document.querySelector('main .badge.done') !== null"))
     page = page_checks.page_of(scene, "#notice/N1")
-    for text in ("Its price wasn't the lowest.", "540 EUR", "All contracts ended", "Given back"):
+    for text in ("Its price wasn't the lowest.", "540 EUR", "All contracts ended", "Given back", "Contract 2 ended, 0 EUR of 290 EUR paid."):
         check(f"the public sees {page.text()}", text in page.text())
     for one in (clerk.page, *(desk.page for desk in desks.values())):
         page_checks.keeps_nothing(scene, one)

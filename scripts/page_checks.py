@@ -25,7 +25,7 @@ NAMED = ("link", "button", "textbox", "image", "table", "region", "article", "na
 MANY = 2000
 # Moments, days, clocks and years: what is another at each run.
 MOVING = [(re.compile(r"\d{1,2} [A-Z][a-z]+ \d{4},? (at )?\d\d:\d\d:\d\d UTC \(here: [^)]*\)"), "MOMENT"), (re.compile(r"\d{1,2} [A-Z][a-z]+ \d{4}"), "DAY"),
-          (re.compile(r"closes in [^\n]*"), "closes in CLOCK"), (re.compile(r"^20\d\d$", re.M), "YEAR")]
+          (re.compile(r"closes in [^\n]*"), "closes in CLOCK"), (re.compile(r"^20\d\d(?=$|:)", re.M), "YEAR")]
 ZONE = "Europe/Berlin"
 # Texts whose contrast is below 4.5 to 1 (WCAG 2.2, 1.4.3), and edges of bars and fields below 3 to 1 (1.4.11).
 PALE = """(() => {

@@ -85,9 +85,9 @@ def open_data(scene: Scene) -> None:
     is_quiet(page)
 
 
-def type_words(page: Page, words: str) -> None:
+def type_words(page: Page, words: str, field: str = "by-words") -> None:
     page.run(f"""(() => {{
-      const at = document.getElementById("by-words");
+      const at = document.getElementById("{field}");
       at.value = {json.dumps(words)};
       at.dispatchEvent(new Event("input", {{ bubbles: true }}));
     }})()""")
@@ -111,6 +111,11 @@ def search(scene: Scene) -> None:
     page.wait(f"document.querySelector('.clock').textContent !== '{before}'")
     page.go(scene.front.address("#firms?name=gamma"))
     check("a firm is found by the address", page.run("[...document.querySelectorAll('tbody th a')].map((at) => at.textContent)") == ["Gamma O'Neill"])
+    page.go(scene.front.address("#ledger"))
+    for words, line in (("POOL", "Line 2000"), ("3100", "Line 3100")):
+        type_words(page, words, "by-line")
+        found = page.run("[...document.querySelectorAll('.lines h3 a')].map((at) => at.textContent)")
+        check(f"{words} finds the lines {found}", found == [line])
     page.go(scene.front.address("#notice/n6"))
     check("n6 is N6", page.run("location.hash") == "#notice/N6" and page.text().startswith("Street lamps\n"))
     is_quiet(page)

@@ -49,7 +49,7 @@ function timeToContract(days) {
     const name = most === Infinity ? say("see.chart.days.more", { most: least - 1 }) : say("see.chart.days.most", { least, most });
     return { name, parts: [{ kind: "paid", amount: count }], told: number(count) };
   });
-  const middle = days.length === 0 ? "–" : say("span.days", { count: days[Math.floor((days.length - 1) / 2)] });
+  const middle = days.length === 0 ? "–" : say("see.days", { count: days[Math.floor((days.length - 1) / 2)] });
   return card(say("see.chart.days"), element("p", {}, say("see.chart.days.what", { count: days.length, middle })),
     bars(say("see.chart.days"), rows));
 }
@@ -64,9 +64,9 @@ function charts(data, year) {
 /** The view of all charts; the year, of which the notices are, stands in the address. */
 export async function drawFigures(text) {
   const data = await tables("notices", "lots", "contracts", "budget");
-  const heading = title(say("see.figures"));
+  const heading = title(say("see.page.figures"));
   if (data === null) {
-    return { title: say("see.figures"), told: say("see.nodata"), content: [heading, element("p", { class: "note" }, say("see.nodata"))] };
+    return { title: say("see.page.figures"), told: say("see.nodata"), content: [heading, element("p", { class: "note" }, say("see.nodata"))] };
   }
   const years = [...new Set(data.notices.map(({ published }) => published.slice(0, 4)))].sort().reverse();
   const asked = new URLSearchParams(text).get("year") ?? "";
@@ -78,6 +78,6 @@ export async function drawFigures(text) {
     shown.replaceChildren(...charts(data, input.value));
   });
   const currency = data.lots[0]?.currency ?? "";
-  return { title: say("see.figures"), told: say("see.figures"), content: [heading, element("p", { class: "intro" }, say("see.figures.intro")),
+  return { title: say("see.page.figures"), told: say("see.page.figures"), content: [heading, element("p", { class: "intro" }, say("see.figures.intro")),
     byLine(data.budget, currency), made, shown] };
 }

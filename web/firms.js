@@ -1,5 +1,5 @@
 // Firms: what each tendered for, what it won, and what it was paid; by the tables of the mirror.
-import { grouped, sum, tables } from "./common/data.js";
+import { grouped, sum, tables, worthNow } from "./common/data.js";
 import { badge, below, element, facts, given, link, placeOf, title } from "./common/draw.js";
 import { plain } from "./common/filters.js";
 import { kindOfSigned } from "./common/findings.js";
@@ -17,7 +17,7 @@ function firmsOf({ tenders, contracts, payments }) {
   const [contracted, paid] = [grouped(contracts, ({ tenderer }) => tenderer), grouped(payments, ({ tenderer }) => tenderer)];
   const firms = [...grouped(tenders, ({ tenderer }) => tenderer)].map(([tenderer, own]) => {
     const won = contracted.get(tenderer) ?? [];
-    return { tenderer, name: own.at(-1).name, address: own.at(-1).address, tenders: own.length, won: won.length, worth: sum(won.map(({ worth }) => worth)),
+    return { tenderer, name: own.at(-1).name, address: own.at(-1).address, tenders: own.length, won: won.length, worth: sum(won.map(worthNow)),
       paid: sum((paid.get(tenderer) ?? []).map((one) => one.amount)) };
   });
   return firms.sort((one, other) => other.paid - one.paid || other.worth - one.worth || other.tenders - one.tenders || (one.name < other.name ? -1 : 1));
@@ -31,8 +31,8 @@ function firmTable(firms, currency) {
 }
 
 function without() {
-  return { title: say("see.firms"), told: say("see.nodata"),
-    content: [title(say("see.firms")), element("p", { class: "note" }, say("see.nodata"))] };
+  return { title: say("see.page.firms"), told: say("see.nodata"),
+    content: [title(say("see.page.firms")), element("p", { class: "note" }, say("see.nodata"))] };
 }
 
 /** All firms that tendered; what is looked for stands in the address. */
@@ -50,8 +50,8 @@ export async function drawFirms(text) {
     history.replaceState(history.state, "", value() ? `#firms?${new URLSearchParams({ name: value() })}` : "#firms");
     found.replaceChildren(chosen());
   });
-  return { title: say("see.firms"), told: say("see.firms.count", { count: firms.length }),
-    content: [title(say("see.firms")), element("p", { class: "intro" }, say("see.firms.intro")),
+  return { title: say("see.page.firms"), told: say("see.firms.count", { count: firms.length }),
+    content: [title(say("see.page.firms")), element("p", { class: "intro" }, say("see.firms.intro")),
       firms.length === 0 ? element("p", {}, say("see.firms.none")) : [made, found]] };
 }
 
@@ -91,14 +91,16 @@ export async function drawFirm(tenderer) {
     const { title: text, opened } = notices.get(tender.notice);
     const found = outcome(tender, lots.get(`${tender.notice}/${tender.lot}`), ofTender(data.awards, tender), contract);
     return [[link(given(text), placeOf("notice", tender.notice)), below(say("see.lot", { lot: tender.lot }), " ", day(opened))],
-    amount(tender.corrected), found, amount(contract?.worth ?? null), amount(contract?.paid ?? null)];
+    amount(tender.corrected), found, amount(contract ? worthNow(contract) : null), amount(contract?.paid ?? null)];
   });
   const currency = data.notices[0].currency;
+  const years = [...grouped(data.payments.filter((row) => row.tenderer === tenderer), ({ date }) => date.slice(0, 4))].sort().reverse();
+  const byYear = years.map(([year, some]) => below(`${year}: ${number(sum(some.map((one) => one.amount)))}`));
   const heads = [say("see.procurement"), say("see.price"), say("see.found"), say("see.worth"), say("see.paid")];
   return { title: firm.name, told: firm.name, content: [title(given(firm.name)),
     element("p", { class: "quiet" }, given(firm.address)),
     facts([[say("see.tenders"), number(firm.tenders)], [say("see.contracts"), number(firm.won)], [say("see.worth"), `${number(firm.worth)} ${currency}`],
-      [say("see.paid"), `${number(firm.paid)} ${currency}`]]),
+      [say("see.paid"), [`${number(firm.paid)} ${currency}`, byYear]]]),
     table(say("see.firm.table", { count: own.length, currency }), heads, cells, { figures: [1, 3, 4] }),
     element("p", {}, link(say("see.firms.back"), "#firms"))] };
 }

@@ -1,8 +1,8 @@
 // The budget: a bar for each line, of what is paid, contracted, reserved and free of its appropriation; and a line with its procurements.
-import { grouped, rows, sum, tables } from "./common/data.js";
+import { grouped, rows, sum, tables, worthNow } from "./common/data.js";
 import { bar, element, given, key, link, placeOf, section, title } from "./common/draw.js";
-import { entriesOf } from "./common/filters.js";
-import { growing, table } from "./common/forms.js";
+import { entriesOf, plain } from "./common/filters.js";
+import { field, growing, table } from "./common/forms.js";
 import { number } from "./common/money.js";
 import { ledger, line as lookAtLine, notices, officeNow, part } from "./common/office.js";
 import { POTS, pots } from "./common/pots.js";
@@ -31,21 +31,33 @@ function card(line, titles, counts) {
     counts ? element("p", { class: "quiet" }, say("see.line.procurements", { count })) : null);
 }
 
+/** All lines; where they are many, those whose number or title has what is typed. */
+function search(lines, titles, counts) {
+  const shown = (some) => growing(element("ul", { class: "lines" }), some, (line) => card(line, titles, counts), AT_ONCE);
+  const { made, input, value } = field(say("see.budget.search"), { id: "by-line", kind: "search" });
+  const found = element("div", {}, shown(lines));
+  input.addEventListener("input", () => {
+    const asked = plain(value());
+    found.replaceChildren(...shown(lines.filter(({ line }) => plain(`${line} ${titles.get(line) ?? ""}`).includes(asked))));
+  });
+  return [lines.length > AT_ONCE ? made : null, found];
+}
+
 /** The whole budget. */
 export async function drawBudget() {
   const [lines, budget, lots] = await Promise.all([ledger(), rows("budget"), rows("lots")]);
   const told = say("see.budget.lines", { count: lines.length });
   if (lines.length === 0) {
-    return { title: say("see.budget"), told, content: [title(say("see.budget")), element("p", {}, say("see.budget.none"))] };
+    return { title: say("see.page.ledger"), told, content: [title(say("see.page.ledger")), element("p", {}, say("see.budget.none"))] };
   }
   const all = Object.fromEntries(["appropriation", ...POTS].map((name) => [name, sum(lines.map((line) => line[name]))]));
   const whole = section(told, potsOf(say("see.budget.all"), all));
   whole.classList.add("card");
   const titles = new Map((budget ?? []).map(({ line, title: text }) => [line, text]));
   const counts = lots && grouped(lots, ({ line }) => line);
-  return { title: say("see.budget"), told, content: [title(say("see.budget")), element("p", { class: "intro" }, say("see.budget.intro")),
+  return { title: say("see.page.ledger"), told, content: [title(say("see.page.ledger")), element("p", { class: "intro" }, say("see.budget.intro")),
     Number.isSafeInteger(all.appropriation) ? whole : null,
-    section(say("see.budget.each"), growing(element("ul", { class: "lines" }), lines, (line) => card(line, titles, counts), AT_ONCE)),
+    section(say("see.budget.each"), search(lines, titles, counts)),
     element("p", {}, say("see.from"), " ", link("/ledger", "/ledger"))] };
 }
 
@@ -53,10 +65,11 @@ function lotTable(lots, entries, currency) {
   const known = new Map(entries.map((one) => [one.notice, one]));
   const cells = lots.filter(({ notice }) => known.has(notice)).map((lot) => {
     const { title: text, state } = known.get(lot.notice);
-    const own = lot.status === "active" ? state : lot.status === "complete" && lot.contract_status === "active" ? "running" : lot.status;
+    const own = lot.status === "active" ? (lot.winner && state === "opened" ? "awarded" : state)
+      : lot.status === "complete" && lot.contract_status === "active" ? "running" : lot.status;
     const amount = (value) => (value === null ? "–" : number(value));
     return [link(given(text), placeOf("notice", lot.notice)), [`${lot.lot} `, given(lot.title)], stateBadge(own),
-      amount(lot.estimate), amount(lot.worth ?? lot.price), amount(lot.paid)];
+      amount(lot.estimate), amount(worthNow(lot) ?? lot.price), amount(lot.paid)];
   });
   return table(say("see.line.table", { currency }), [say("see.procurement"), say("see.lot.short"), say("see.state"), say("see.estimate"), say("see.worth"),
     say("see.paid")], cells, { figures: [3, 4, 5] });

@@ -1,10 +1,9 @@
 // The list of all procurements: newest first, those that take tenders above with a clock to their deadline; what is looked for stands in the address.
-import { clock } from "./common/clock.js";
 import { tables } from "./common/data.js";
 import { element, fresh, given, link, placeOf, title } from "./common/draw.js";
 import { NAMES, STATES, addressOf, chosen, entriesOf, filtersOf, noticeOf } from "./common/filters.js";
 import { field, form, growing } from "./common/forms.js";
-import { day, money, moment } from "./common/money.js";
+import { clock, day, money, moment } from "./common/money.js";
 import { notices, officeNow } from "./common/office.js";
 import { stateBadge } from "./common/states.js";
 import { say } from "./common/texts.js";
@@ -82,7 +81,7 @@ function search(filters, entries, data) {
 export async function drawList(text) {
   const [list, data] = await Promise.all([notices(), tables("notices", "lots", "tenders", "budget")]);
   const entries = entriesOf(list, data, officeNow());
-  return { title: "", told: say("see.list.all", { count: list.length }), content: [title(say("see.list.title")),
+  return { title: "", told: say("see.list.all", { count: list.length }), content: [title(say("see.page.list")),
     element("p", { class: "intro" }, say("see.list.intro")), data ? null : element("p", { class: "note" }, say("see.nodata")),
     list.length === 0 ? element("p", {}, say("see.list.empty")) : search(filtersOf(text), entries, data),
     data ? element("p", {}, link(say("see.list.feed"), "/data/feed.atom"), " · ", link(say("see.about.data"), "/data/")) : null] };

@@ -43,7 +43,7 @@ async function view([word, text]) {
 }
 
 function back() {
-  return link(say("see.list.title"), "#list");
+  return link(say("see.page.list"), "#list");
 }
 
 showViews({ place, around, view, site: () => site, back });

@@ -1,15 +1,49 @@
-// A lot is awarded, its standstill runs, and the award is signed or passed over.
+// A lot from the opening to its contract: its tenders are examined, it is awarded, its standstill runs, and the award is signed or passed over.
 import { isId } from "../common/csv.js";
 import { element, given, link, placeOf } from "../common/draw.js";
 import { DIGITS, ID, areRight, button, field, form, note, steps } from "../common/forms.js";
 import { money, number } from "../common/money.js";
 import { line, officeNow } from "../common/office.js";
 import { say, sayParts } from "../common/texts.js";
-import { ofRelease, own } from "./fate.js";
+import { ofExamination, ofRelease, own } from "./fate.js";
 import { momentAndSpan } from "./load.js";
-import { jsonBody, sendThen } from "./send.js";
-import { outlookOf } from "./stage.js";
+import { jsonBody, send, sendThen } from "./send.js";
+import { isWaiting, outlookOf } from "./stage.js";
 import { MOST, digitsOf, wholeNumber } from "./values.js";
+
+/** The tenders of a lot that wait for their examination, each with what can be said of it. */
+export function examinations(notice, lot, again) {
+  const waiting = lot.tenders.filter(isWaiting);
+  if (lot.state !== "undecided" || waiting.length === 0) {
+    return null;
+  }
+  return element("div", {}, element("h4", {}, say("examine.title", { count: waiting.length })), element("p", {}, say("examine.what")),
+    waiting.map((one) => examination(notice, one, again)));
+}
+
+function examination(notice, one, again) {
+  const { terms, stage: { byPoints }, currency } = notice;
+  const most = 100 - (terms.price_weight ?? 0);
+  const quality = field(say("examine.quality"), { hint: say("examine.quality.hint", { most }), maxlength: "3", ...DIGITS });
+  const examine = async (responsive) => {
+    const points = responsive && byPoints ? wholeNumber(quality.value(), 0, most) : 0;
+    if (areRight([[quality, points === null ? say("examine.quality.wrong", { most }) : ""]])) {
+      await send(examinationOrder(notice, one, responsive && byPoints ? { responsive, quality: points } : { responsive }));
+      // (that it was decided elsewhere is news too)
+      again();
+    }
+  };
+  const told = `${say("see.tender.receipt", { receipt: String(one.receipt) })}, ${money(one.corrected, currency)}`;
+  return element("div", { class: "examination", role: "group", "aria-label": say("examine.of", { name: one.name, receipt: String(one.receipt) }) },
+    element("p", {}, element("b", {}, given(one.name)), " ", element("span", { class: "quiet" }, told)), byPoints ? quality.made : null,
+    steps(button(say("examine.yes"), () => examine(true)), button(say("examine.no"), () => examine(false), "second")));
+}
+
+function examinationOrder(notice, { name, receipt }, body) {
+  return { kind: "examine", values: { receipt: String(receipt), name }, path: `/tenders/${receipt}/examine`, body: jsonBody(body), isFinal: true,
+    says: [say(body.responsive ? "examine.does.yes" : "examine.does.no", { name }), say("examine.stays"), say("examine.reasons")],
+    again: "AlreadyDecided", find: () => ofExamination(notice.name, receipt, body.responsive) };
+}
 
 /** What a lot is waiting for. */
 export function awardPart(notice, lot, again) {
@@ -36,7 +70,7 @@ function undecided(notice, lot, again) {
   if (outlook.code === "best" && outlook.tender.corrected > lot.reserved) {
     tellLacking(lot, outlook.tender.corrected - lot.reserved, currency, award, lacking).catch(() => {});
   }
-  return element("div", { class: "award" }, element("h4", {}, say("award.title")), element("p", {}, outlookText(lot, outlook, currency)),
+  return element("div", { class: "award" }, element("h4", {}, say("step.award")), element("p", {}, outlookText(lot, outlook, currency)),
     isOver ? element("p", { class: "wrong" }, say("award.expired")) : null, lacking, steps(award));
 }
 
@@ -60,7 +94,8 @@ function awardOrder(notice, lot, outlook) {
   const told = element("span", {}, outlookText(lot, outlook, currency));
   const standstill = notice.terms.standstill_days > 0 ? [say("award.standstill")] : [];
   const more = outlook.code === "best" ? [moneyText(lot, outlook.tender, currency), ...standstill] : [];
-  return { kind: "award", values: { lot: lot.id, notice: name }, path: `/notices/${name}/lots/${lot.id}/award`, body: null, isFinal: true,
+  const values = { lot: lot.id, notice: name, name: outlook.tender?.name ?? (outlook.code === "nobody" ? say("award.nobody.name") : "…") };
+  return { kind: "award", values, path: `/notices/${name}/lots/${lot.id}/award`, body: null, isFinal: true,
     says: [told, ...more], again: "AlreadyDecided", find: () => ofRelease(name, releases.length, own.award(lot.id)) };
 }
 
@@ -76,9 +111,14 @@ function awarded(notice, lot, again) {
   const told = element("span", {}, momentAndSpan(standstillUntil));
   return element("div", { class: "award" }, element("h4", {}, say("award.made")),
     element("p", {}, sayParts("award.to", { ...ofAward(active, notice.currency), award: active.id })),
-    element("p", {}, isRunning ? sayParts("standstill.until", { until: told }) : sayParts("standstill.over", { since: told })),
+    lot.hasStandstill ? element("p", {}, sayParts(isRunning ? "standstill.until" : "standstill.over", { until: told })) : null,
     element("p", {}, letters(notice, lot)), notice.stage.isExpired ? note("bad", say("award.expired")) : null,
     signing(notice, lot, again, isRunning), passing(notice, lot, again, isRunning));
+}
+
+/** What stands in the titles of a lot's award that was made. */
+function valuesOf({ name }, { id, active }) {
+  return { award: active.id, lot: id, notice: name, name: active.suppliers[0].name };
 }
 
 /** The signing, with the performance security where the notice asks for one. */
@@ -93,18 +133,20 @@ function signing(notice, lot, again, isRunning) {
     }
   };
   const fields = performance === 0 ? [element("p", {}, say("sign.none"))] : [security.made, amount.made];
-  const made = form(say("sign.title"), fields, say("sign.send"), run);
+  const made = form(say("step.signing"), fields, say("sign.send"), run);
   made.querySelector("button[type=submit]").disabled = isRunning || notice.stage.isExpired;
-  return element("div", {}, element("h5", {}, say("sign.title")), made);
+  return element("div", {}, element("h5", {}, say("step.signing")), made);
 }
 
 function amountFault(amount, asked) {
   return amount === null ? say("amount.wrong") : amount < asked ? say("sign.small", { amount: asked }) : "";
 }
 
-function signOrder({ name, releases, currency }, { active }, named) {
+function signOrder(notice, lot, named) {
+  const { name, releases, currency } = notice;
+  const { active } = lot;
   const secured = named ? say("sign.held", { security: named.security, amount: number(named.amount) }) : say("sign.none");
-  return { kind: "sign", values: { award: active.id }, path: `/awards/${active.id}/sign`, body: named ? jsonBody(named) : null, isFinal: true,
+  return { kind: "sign", values: valuesOf(notice, lot), path: `/awards/${active.id}/sign`, body: named ? jsonBody(named) : null, isFinal: true,
     says: [element("span", {}, sayParts("sign.does", ofAward(active, currency))), secured, say("sign.back")],
     again: "AlreadyDecided", find: () => ofRelease(name, releases.length, own.sign(active.id)) };
 }
@@ -116,8 +158,10 @@ function passing(notice, lot, again, isRunning) {
   return element("details", {}, element("summary", {}, say("fail.open")), element("p", {}, say("fail.what")), steps(pass));
 }
 
-function failOrder({ name, releases }, { id, active }) {
-  return { kind: "fail", values: { award: active.id }, path: `/awards/${active.id}/fail`, body: null, word: say("fail.word"),
+function failOrder(notice, lot) {
+  const { name, releases } = notice;
+  const { id, active } = lot;
+  return { kind: "fail", values: valuesOf(notice, lot), path: `/awards/${active.id}/fail`, body: null, word: say("fail.word"),
     says: [say("fail.does", { name: active.suppliers[0].name }), say("fail.again", { lot: id })],
     again: "AlreadyDecided", find: () => ofRelease(name, releases.length, own.fail(active.id)) };
 }

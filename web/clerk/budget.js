@@ -1,9 +1,10 @@
 // A budget file as the office takes it in: its rows, what is wrong in each record, what the office would answer, and what the file would change.
 import { binaryOf, contentOf, isId, isTextLine, isUtf8, numberOf, recordsOf, textOf, whyNoNumber } from "../common/csv.js";
+import { bytesOf } from "../common/digest.js";
 import { MOST } from "./values.js";
 
 const HEAD = ["line", "kind", "amount", "title"];
-const SEPARATORS = { ";": "semicolons", "\t": "tabs", "|": "strokes" };
+const SEPARATORS = { ";": "separator.semicolons", "\t": "separator.tabs", "|": "separator.strokes" };
 // How files begin that are no text of this kind.
 const KINDS = [[[0x50, 0x4b, 3, 4], "workbook"], [[0xd0, 0xcf, 0x11, 0xe0], "workbook"], [[0x25, 0x50, 0x44, 0x46], "pdf"], [[0xff, 0xfe], "utf16"],
   [[0xfe, 0xff], "utf16"]];
@@ -102,6 +103,16 @@ export function changesOf(rows, lines) {
     change.title = row.title;
   }
   return { changes: [...changes.values()], faults };
+}
+
+/** By what a file may be one that was taken in before: the names under which entries of the journal have the same amounts of the same lines, and the lines that
+ * would have twice what they have. */
+export function repeatsOf(rows, changes, entries) {
+  const amounts = (some) => JSON.stringify(some.map(({ id, kind, amount }) => [id, kind, amount]).sort());
+  const isSame = ({ path, status, found, body }) => path.startsWith("/budget/") && (status === 200 || found === "done") && body !== null
+    && amounts(readBudget(bytesOf(body)).rows) === amounts(rows);
+  const isDouble = ({ before, appropriation }) => before.appropriation > 0n && appropriation === 2n * before.appropriation;
+  return { names: entries.filter(isSame).map(({ path }) => path.slice("/budget/".length)), lines: changes.filter(isDouble).map(({ id }) => id) };
 }
 
 /** A line before the first of its rows. */

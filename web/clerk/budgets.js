@@ -6,14 +6,14 @@ import { number } from "../common/money.js";
 import { ledger, line as lineOf, sentenceOf } from "../common/office.js";
 import { POTS, pots } from "../common/pots.js";
 import { hasText, say } from "../common/texts.js";
-import { changesOf, readBudget } from "./budget.js";
+import { changesOf, readBudget, repeatsOf } from "./budget.js";
 import { ofBudget } from "./fate.js";
 import { isUsed } from "./journal.js";
 import { sendThen } from "./send.js";
 import { journal } from "./session.js";
 import { MOST, isAskable } from "./values.js";
 
-const MOST_SHOWN = 50;
+const MOST_SHOWN = 50, MOST_NAMED = 5;
 const COLUMNS = POTS.toReversed();
 // The titles of lines, which change with a budget file alone: the front takes only so many looks a second.
 const titles = new Map();
@@ -83,7 +83,16 @@ async function checked(name, bytes, lines, again) {
   if (all.length > 0) {
     return [head, note("bad", say("budget.refused", { count: all.length }), say("budget.refused.whole")), faultTable(all)];
   }
-  return [head, note("good", say("budget.right"), say("budget.right.more")), await changeTable(changes), sending(name, bytes, changes, again)];
+  const warnings = warningsOf(repeatsOf(reading.rows, changes, journal().entries));
+  return [head, note(warnings.length > 0 ? "look" : "good", say("budget.right"), say("budget.right.more"), warnings), await changeTable(changes),
+    sending(name, bytes, changes, warnings, again)];
+}
+
+/** That a file may have been taken in before. */
+function warningsOf({ names, lines }) {
+  const some = lines.length > MOST_NAMED ? [...lines.slice(0, MOST_NAMED), "…"] : lines;
+  return [names.length > 0 ? say("budget.again", { names: names.join(", ") }) : "",
+    lines.length > 0 ? say("budget.double", { lines: some.join(", "), count: lines.length }) : ""].filter(Boolean);
 }
 
 function limits({ bytes, rows }) {
@@ -117,7 +126,7 @@ function mendText(fault) {
 /** What each line has before and after, and its title where another one comes. */
 async function changeTable(changes) {
   const before = await Promise.all(changes.slice(0, MOST_SHOWN).map(({ id, isNew }) => (isNew ? null : titleOf(id))));
-  const heads = [say("see.line"), say("see.appropriation"), say("budget.difference"), say("see.pot.free"), say("budget.newtitle")];
+  const heads = [say("see.line"), say("see.appropriation"), say("budget.difference"), say("see.pot.free"), say("column.title")];
   const step = (from, to) => [number(from), " → ", element("b", {}, number(to))];
   const rows = changes.slice(0, MOST_SHOWN).map((change, at) => {
     const difference = change.appropriation - change.before.appropriation;
@@ -134,12 +143,12 @@ function nameOf(file) {
   return file.replace(/\.csv$/i, "").replace(/[^A-Za-z0-9_.-]/g, "-").slice(0, 32);
 }
 
-function sending(name, bytes, changes, again) {
+function sending(name, bytes, changes, warnings, again) {
   const batch = field(say("budget.batch"), { hint: say("budget.batch.hint"), value: nameOf(name), ...ID });
   const run = () => {
     const typed = batch.value();
     if (areRight([[batch, !isAskable(typed) ? say("id.wrong") : isUsed(journal(), `/budget/${typed}`) ? say("budget.used") : ""]])) {
-      return sendThen(importOrder(typed, bytes, changes), () => {
+      return sendThen(importOrder(typed, bytes, changes, warnings), () => {
         titles.clear();
         again();
       });
@@ -152,9 +161,10 @@ function signed(amount) {
   return `${amount < 0n ? "−" : "+"}${number(amount < 0n ? -amount : amount)}`;
 }
 
-function importOrder(batch, bytes, changes) {
+function importOrder(batch, bytes, changes, warnings) {
   const sum = changes.reduce((all, change) => all + change.appropriation - change.before.appropriation, 0n);
   return { kind: "budget", values: { batch }, path: `/budget/${batch}`, body: bytes, again: "Exists", find: () => ofBudget(changes),
-    says: [say("budget.does", { count: changes.length, sum: signed(sum) }), say("budget.once", { batch })],
+    says: [say("budget.does", { count: changes.length, sum: signed(sum) }), say("budget.once", { batch }),
+      ...warnings.map((text) => element("span", { class: "wrong" }, text))],
     explain: (fault) => (/^row \d+$/.test(fault.what) ? say("budget.row", { row: fault.what.slice(4) }) : sentenceOf(fault)) };
 }

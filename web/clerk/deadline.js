@@ -1,10 +1,11 @@
-// Until the opening: the deadline is moved, the register grows, and all that isn't contracted is cancelled.
+// Up to the opening: the deadline is moved, the register grows, and tenders are opened; and all that isn't contracted is cancelled.
 import { element, given, link, section } from "../common/draw.js";
-import { areRight, field, form, lineText, note, table } from "../common/forms.js";
-import { money, moment, number } from "../common/money.js";
+import { areRight, button, field, form, lineText, note, steps, table } from "../common/forms.js";
+import { clock, money, moment, number } from "../common/money.js";
 import { officeNow, registerText, securities, sentenceOf } from "../common/office.js";
 import { say } from "../common/texts.js";
-import { ofRelease, own } from "./fate.js";
+import { ofOpening, ofRelease, own } from "./fate.js";
+import { momentAndSpan } from "./load.js";
 import { jsonBody, sendThen } from "./send.js";
 import { caller } from "./session.js";
 import { localMilliseconds, localText, momentText } from "./values.js";
@@ -47,7 +48,7 @@ export function movePart(notice, again) {
 
 function moveOrder({ name, releases }, body) {
   return { kind: "amend", values: { notice: name }, path: `/notices/${name}/amend`, body: jsonBody(body), isFinal: true,
-    says: [[say("move.does"), " ", moment(body.deadline)], say("published.reason"), say("move.stays")],
+    says: [[say("editor.does.deadline"), " ", moment(body.deadline)], say("published.reason"), say("move.stays")],
     // (sent again it would be moved again)
     again: null, find: () => ofRelease(name, releases.length, own.amend(body.deadline)) };
 }
@@ -69,6 +70,19 @@ function cancelOrder({ name, stage, releases }, ending, body) {
   return { kind: "cancel", values: { notice: name }, path: `/notices/${name}/cancel`, body: jsonBody(body), word: say("cancel.word"),
     says: [say("cancel.does", ending), say(stage.kind === "opened" ? "cancel.opened" : "cancel.sealed"), say("published.reason"), say("cancel.stays")],
     again: "NothingToCancel", find: () => ofRelease(name, releases.length, own.cancel()) };
+}
+
+/** The opening, by a button that is there from the deadline on. */
+export function openingPart({ name, stage, terms }, again) {
+  const isDue = stage.deadline <= officeNow();
+  const order = { kind: "open", values: { notice: name }, path: `/notices/${name}/open`, body: null, isFinal: true, again: "AlreadyOpened",
+    find: () => ofOpening(name), says: [say("open.does"), say("open.late"), say("open.minutes")] };
+  const open = button(say("open.send"), () => sendThen(order, again));
+  open.disabled = !isDue;
+  // (a second later the office's own clock has come there too)
+  const told = isDue ? [say("open.now"), " ", ...momentAndSpan(stage.deadline)]
+    : [say("see.deadline"), ": ", clock(terms.deadline, () => setTimeout(again, 1000))];
+  return section(say("step.opening"), element("p", {}, say("open.what")), element("p", {}, told), steps(open));
 }
 
 /** The register and the securities, asked again while they are shown and may grow. */
@@ -115,14 +129,14 @@ function registerTable(text) {
     counts.set(lot, (counts.get(lot) ?? 0) + (state === "sealed" || state === "opened" ? 1 : 0));
   }
   const heads = [say("receipt"), say("see.lot.short"), say("register.came"), say("register.length"), say("see.state")];
-  const cells = rows.map(([receipt, lot, came, length, state]) => [receipt, lot, moment(came), number(Number(length)), say(`tender.${state}`)]);
+  const cells = rows.map(([receipt, lot, came, length, state]) => [receipt, lot, moment(came), number(Number(length)), say(`state.${state}`)]);
   const told = [...counts].map(([lot, count]) => `${lot}: ${count}`).join(", ");
   return [element("p", {}, say("register.counts", { counts: told })), table(say("register.table", { count: rows.length }), heads, cells, { figures: [0, 3] })];
 }
 
 /** Whose each security is isn't told before the opening. */
 function securityTable(held, currency) {
-  const heads = [say("register.reference"), say("see.lot.short"), say("contract.amount"), say("see.state"), say("see.tenderer")];
+  const heads = [say("see.security"), say("see.lot.short"), say("contract.amount"), say("see.state"), say("see.tenderer")];
   return held.length === 0 ? [] : [table(say("register.securities", { count: held.length }), heads, held.map(({ reference, lot, amount, state, tenderer }) =>
     [given(reference), lot, money(amount, currency), say(`security.${state}`), tenderer ?? say("register.sealed")]), { figures: [2] })];
 }

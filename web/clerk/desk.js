@@ -13,7 +13,7 @@ const MENU = ["today", "budget", "tenderers", "new", "journal"];
 const LATER = { budget: [() => import("./budgets.js"), "drawBudget"], tenderers: [() => import("./tenderers.js"), "drawTenderers"],
   new: [() => import("./editor.js"), "drawEditor"], preview: [() => import("./preview.js"), "drawPreview"],
   journal: [() => import("./journals.js"), "drawJournal"], notice: [() => import("./procurement.js"), "drawProcurement"],
-  minutes: [() => import("./minutes.js"), "drawMinutes"], letter: [() => import("./letters.js"), "drawLetter"] };
+  minutes: [() => import("./printed.js"), "drawMinutes"], letter: [() => import("./printed.js"), "drawLetter"] };
 // The screens by the first word of the address; what stands behind it is given to them.
 const SCREENS = { today: drawToday, key: drawKey,
   ...Object.fromEntries(Object.entries(LATER).map(([page, [load, name]]) => [page, async (...asked) => (await load())[name](...asked)])) };
@@ -28,14 +28,14 @@ function place() {
 
 function around([page]) {
   drawAround({ site: say("site"), foot: say("foot"), current: `#${page}`,
-    pages: [...MENU.map((name) => [`#${name}`, say(`page.${name}`)]), ["/", say("page.public")]] });
+    pages: [...MENU.map((name) => [`#${name}`, say(`page.${name}`)]), ["/", say("frame.public")]] });
   const bar = document.getElementById("who");
   const held = caller() !== null;
   const forget = button(say("key.forget"), () => {
     forgetKey();
     redraw();
   }, "second");
-  bar.setAttribute("aria-label", say("key.bar"));
+  bar.setAttribute("aria-label", say("key.key"));
   bar.replaceChildren(element("span", { class: held ? "right" : "" }, held ? say("key.held", { who: who() }) : say("key.none")),
     held ? forget : link(say("key.give"), "#key"));
 }

@@ -24,7 +24,7 @@ export async function drawEditor(again) {
     drawSummary(editor);
   };
   const content = [title(say("page.new")), element("p", { class: "intro" }, say("editor.intro")), earlier(editor),
-    section(say("editor.terms"), terms(editor)), section(say("editor.lots"), pasting(editor), editor.lots), section(say("editor.check"), editor.summary)];
+    section(say("see.terms"), terms(editor)), section(say("editor.lots"), pasting(editor), editor.lots), section(say("editor.check"), editor.summary)];
   editor.redrawLots();
   return { title: say("page.new"), content };
 }

@@ -3,12 +3,10 @@ import { element, link, placeOf, section } from "../common/draw.js";
 import { note } from "../common/forms.js";
 import { drawProcess } from "../common/process.js";
 import { say } from "../common/texts.js";
-import { awardPart } from "./award.js";
+import { awardPart, examinations } from "./award.js";
 import { contractPart } from "./contracts.js";
-import { cancelPart, movePart, registerPart } from "./deadline.js";
-import { examinations } from "./evaluation.js";
+import { cancelPart, movePart, openingPart, registerPart } from "./deadline.js";
 import { loadNotice, tasks } from "./load.js";
-import { openingPart } from "./opening.js";
 import { STEPS, stepOf } from "./stage.js";
 
 export async function drawProcurement(again, name) {
@@ -34,7 +32,7 @@ function path(stage) {
 /** What is to be done next. */
 function doing(stage) {
   const list = tasks(stage);
-  return list.length === 0 ? element("p", { class: "note" }, say("task.none")) : note("look", say("task.title"), element("ul", {}, list));
+  return list.length === 0 ? element("p", { class: "note" }, say("task.none")) : note("look", say("today.next"), element("ul", {}, list));
 }
 
 function parts(notice, again) {

@@ -13,9 +13,9 @@ import { momentText, textOf } from "./values.js";
 const LONGEST_SHOWN = 6000;
 
 /** An order: `kind` names its texts, `values` stand in them; `says` is what it will do; `path` and `body` (bytes, or null) are sent. One that `isFinal` can't
- * be undone and is confirmed by a tick, one with a `word` by typing it; that one `isSad` is told once it is done without green. `find` looks whether it was done where no answer came (true, false, or null where no
- * look tells), and `again` is the refusal that tells it when the same is sent once more, or null where that would do it twice. Gives the office's answer once
- * it is done, else null. */
+ * be undone and is confirmed by a tick, one with a `word` by typing it; that one `isSad` is told once it is done without green. `find` looks whether it was
+ * done where no answer came (true, false, or null where no look tells), and `again` is the refusal that tells it when the same is sent once more, or null
+ * where that would do it twice. Gives the office's answer once it is done, else null. */
 export function send(order) {
   return new Promise((finish) => {
     const dialog = element("dialog", { class: "order", "aria-labelledby": "order-title" });

@@ -20,7 +20,7 @@ function lotOf(lot, { compiled, terms, tenders, shown, byPoints }) {
   const active = awardsOf(compiled, lot).find(({ status }) => status === "active") ?? null;
   // (what a winner had who was passed over stays reserved)
   return { ...lot, shown, active, contract: active ? contractOf(compiled, active) ?? null : null, tenders: ranked(own, byPoints, shown),
-    reserved: awardsOf(compiled, lot).at(-1)?.value.amount ?? lot.estimate,
+    reserved: awardsOf(compiled, lot).at(-1)?.value.amount ?? lot.estimate, hasStandstill: terms.standstill_days > 0,
     standstillUntil: active ? Date.parse(active.date) + terms.standstill_days * DAY : null };
 }
 
@@ -63,23 +63,40 @@ function stepOfLot({ state, tenders, contract }) {
   return state === "awarded" ? "signing" : state === "contracted" && contract?.status !== "terminated" ? "contract" : "over";
 }
 
-/** What is to be done next with a notice, in the order in which it presses: codes with a lot, a contract or a moment. */
+/** When a task is due, or since when; what has no moment comes last, and first that nothing binds any more. */
+function momentOf({ code, until, since }) {
+  return code === "expired" ? 0 : until ?? since ?? Infinity;
+}
+
+/** The stage of a notice of the list. Of one whose tenders come, the list tells all: its stage is made of that. */
+export function stageOfEntry({ state, deadline, stage }) {
+  return stage ?? { kind: state === "open" ? "receiving" : "due", deadline: Date.parse(deadline), lots: [] };
+}
+
+/** Notices of the list by when the first thing is due that is to be done with each, whatever it is. */
+export function inOrder(entries, now) {
+  const due = (entry) => Math.min(...tasksOf(stageOfEntry(entry), now).map(momentOf));
+  return entries.toSorted((one, other) => due(one) - due(other));
+}
+
+/** What is to be done next with a notice, what is due first above: codes with a lot, a contract or a moment. */
 export function tasksOf(stage, now) {
   const { kind, deadline, bindsUntil, isExpired, lots } = stage;
   if (kind !== "opened") {
     return { receiving: [{ code: "wait", until: deadline }], due: [{ code: "open", since: deadline }], cancelled: [] }[kind];
   }
   const isBinding = lots.some(({ state }) => state === "undecided" || state === "awarded");
-  return [...(isBinding ? [{ code: isExpired ? "expired" : "binds", until: bindsUntil }] : []), ...lots.flatMap((lot) => tasksOfLot(lot, now))];
+  return [...(isBinding ? [{ code: isExpired ? "expired" : "binds", until: bindsUntil }] : []), ...lots.flatMap((lot) => tasksOfLot(lot, now))]
+    .sort((one, other) => momentOf(one) - momentOf(other));
 }
 
-function tasksOfLot({ id, state, tenders, contract, standstillUntil }, now) {
+function tasksOfLot({ id, state, tenders, contract, standstillUntil, hasStandstill }, now) {
   if (state === "undecided") {
     const waiting = tenders.filter(isWaiting).length;
     return [waiting > 0 ? { code: "examine", lot: id, count: waiting } : { code: "award", lot: id }];
   }
   if (state === "awarded") {
-    return [{ code: now >= standstillUntil ? "sign" : "standstill", lot: id, until: standstillUntil }];
+    return [{ code: !hasStandstill ? "unsigned" : now >= standstillUntil ? "sign" : "standstill", lot: id, until: standstillUntil }];
   }
   if (state !== "contracted" || !contract || contract.status === "terminated") {
     return [];

@@ -7,7 +7,7 @@ import { notices, officeNow, sentenceOf } from "../common/office.js";
 import { stateBadge } from "../common/states.js";
 import { say } from "../common/texts.js";
 import { stageBadge, stageOfOpened, tasks } from "./load.js";
-import { stepOf } from "./stage.js";
+import { inOrder, stageOfEntry, stepOf } from "./stage.js";
 
 const OVER = ["complete", "unsuccessful", "cancelled"];
 // Of so many opened notices it is asked at once where they stand.
@@ -19,23 +19,11 @@ function staged(entry) {
   return stageOfOpened(entry.notice).then((stage) => ({ ...entry, stage }), (fault) => ({ ...entry, fault }));
 }
 
-/** What presses most comes first: what waits for its opening, then what was opened, by when its tenders cease to bind, then what takes tenders. */
-function place({ state, stage, deadline }) {
-  return [state === "waiting" ? 0 : state === "open" ? 2 : stage && stepOf(stage) === "contract" ? 3 : 1, stage?.bindsUntil ?? Date.parse(deadline)];
-}
-
-function isBefore(one, other) {
-  const [[first, when], [second, then]] = [place(one), place(other)];
-  return first - second || when - then;
-}
-
-/** Of a notice whose tenders come, the list tells all: its stage is made of that. */
-function tasksOfEntry({ state, deadline, stage, fault }) {
-  if (fault) {
-    return sentenceOf(fault);
+function tasksOfEntry(entry) {
+  if (entry.fault) {
+    return sentenceOf(entry.fault);
   }
-  const until = Date.parse(deadline);
-  const found = tasks(stage ?? { kind: state === "open" ? "receiving" : "due", deadline: until, lots: [] });
+  const found = tasks(stageOfEntry(entry));
   return found.length === 0 ? say("task.none") : element("ul", {}, found);
 }
 
@@ -52,13 +40,13 @@ export async function drawToday(again) {
   const opened = entries.filter((entry) => !coming.includes(entry) && !OVER.includes(entry.state))
     .sort((one, other) => (one.state === "running") - (other.state === "running"));
   const found = await Promise.all(opened.slice(0, asked.count).map(staged));
-  const shown = [...coming, ...found.filter(({ stage }) => !stage || stepOf(stage) !== "over")].sort(isBefore);
+  const shown = inOrder([...coming, ...found.filter(({ stage }) => !stage || stepOf(stage) !== "over")], officeNow());
   const left = opened.length - found.length;
   const more = button(say("list.more", { count: left }), () => {
     asked.count += AT_ONCE;
     again();
   }, "second");
-  return { title: say("today.title"), content: [title(say("today.title")), element("p", { class: "intro" }, say("today.intro")),
+  return { title: say("page.today"), content: [title(say("page.today")), element("p", { class: "intro" }, say("today.intro")),
     shown.length > 0 ? noticeTable(shown) : note("look", say(list.length === 0 ? "see.list.empty" : "task.none")), left > 0 ? steps(more) : null,
     section(say("today.open"), opening(list))] };
 }

@@ -1,6 +1,6 @@
 // A contract: its price against the estimate, what changes added, what was paid, and the security for its performance.
 import { badge, bar, below, element, facts, given, key, listed } from "./draw.js";
-import { addedTo, paidOf } from "./findings.js";
+import { addedTo, endOf, paidOf } from "./findings.js";
 import { money, moment } from "./money.js";
 import { language, say, sayParts } from "./texts.js";
 
@@ -41,9 +41,9 @@ function performance({ performance: asked }, held, ended, currency) {
   return asked > 0 ? [money(asked, currency), below(say(ended ? "see.performance.ended" : "see.performance.held"))] : null;
 }
 
-/** The contract of an award for a lot. Whom it concerns sees what the office tells of it to them too (`seen`), its performance security (`held`), and `more`.
- */
-export function contractPart(one, award, lot, terms, { seen = null, held = undefined, more = null } = {}) {
+/** The contract of an award for a lot of a notice. Whom it concerns sees what the office tells of it to them too (`seen`), its performance security (`held`),
+ * and `more`. */
+export function contractPart(one, award, lot, { terms, releases }, { seen = null, held = undefined, more = null } = {}) {
   const { currency } = one.value;
   const paid = paidOf(one);
   const left = Math.max(one.value.amount - paid, 0);
@@ -54,10 +54,10 @@ export function contractPart(one, award, lot, terms, { seen = null, held = undef
   const payments = (one.implementation?.transactions ?? []).map(({ id, date, value }) =>
     [moment(date), ": ", money(value.amount, currency), " (", given(id), ")"]);
   const secured = performance(terms, held, ended, currency);
-  const told = [[say("see.worth"), money(one.value.amount, currency)],
+  const told = [[say(ended ? "see.worth.end" : "see.worth"), money(one.value.amount, currency)],
     [say("see.price"), [money(award.value.amount, currency), below(against(award.value, lot.value))]],
     [say("see.added"), changes.length === 0 ? say("see.nothing") : addedText(addedTo(one, award), award.value)],
-    [say("see.signed"), moment(one.dateSigned)],
+    [say("see.signed"), moment(one.dateSigned)], ended ? [say("see.ended"), moment(endOf(releases, one))] : null,
     seen ? [say("see.outstanding"), money(seen.outstanding, currency)] : null, secured ? [say("see.performance"), secured] : null].filter(Boolean);
   const name = say("see.contract", { contract: one.id });
   return element("section", { class: "contract", "aria-label": name }, element("h4", {}, name, " ", standing(ended, seen)),

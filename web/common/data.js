@@ -42,6 +42,11 @@ export function grouped(all, by) {
   return groups;
 }
 
+/** What the contract of a row is worth now: once it ended, what was paid of it, since the rest is free again. */
+export function worthNow({ worth, paid, status, contract_status: own = status }) {
+  return own === "terminated" ? paid : worth;
+}
+
 export function sum(numbers) {
   return numbers.reduce((one, other) => one + other, 0);
 }

@@ -16,6 +16,11 @@ export function contractOf(compiled, award) {
   return (compiled.contracts ?? []).find(({ awardID }) => awardID === award.id);
 }
 
+/** When a contract ended, by the release that says so; undefined while it runs. */
+export function endOf(releases, contract) {
+  return releases.find(({ tag, contracts }) => tag.includes("contractTermination") && contracts.some(({ id }) => id === contract.id))?.date;
+}
+
 /** What was paid of a contract. */
 export function paidOf(contract) {
   return (contract.implementation?.transactions ?? []).reduce((sum, { value }) => sum + value.amount, 0);

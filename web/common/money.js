@@ -1,5 +1,6 @@
-// Amounts and moments as they are shown, and amounts as they are typed.
+// Amounts and moments as they are shown, amounts as they are typed, and how long it is to a deadline.
 import { element } from "./draw.js";
+import { officeNow } from "./office.js";
 import { language, say } from "./texts.js";
 
 // Each form of numbers and moments, made once: making one takes longer than a hundred uses of it.
@@ -71,4 +72,30 @@ export function span(seconds) {
   const told = seconds < 1 ? [["seconds", 1]] : units.slice(at, at + 2);
   return told.map(([name, unit], place) => [name, Math.floor((place === 0 ? seconds : seconds % units[at][1]) / unit)])
     .filter(([, count], place) => place === 0 || count > 0).map(([name, count]) => say(`span.${name}`, { count })).join(", ");
+}
+
+// From so many seconds on it presses.
+const CLOSE = 600;
+
+/** How long it is to a deadline by the server's clock, told anew each second for as long as it stands in the page; `over` is called once the deadline has
+ * come. The last second is one in which tenders are taken. */
+export function clock(deadline, over = () => {}) {
+  const shown = element("span", { role: "timer", "aria-live": "off" });
+  const tell = () => {
+    const left = Math.ceil((Date.parse(deadline) - officeNow()) / 1000);
+    shown.textContent = left > 0 ? say("clock.left", { span: span(left) }) : say("clock.over");
+    shown.className = left < CLOSE ? "clock wrong" : "clock";
+    return left > 0;
+  };
+  if (tell()) {
+    const timer = setInterval(() => {
+      if (!shown.isConnected) {
+        clearInterval(timer);
+      } else if (!tell()) {
+        clearInterval(timer);
+        over();
+      }
+    }, 1000);
+  }
+  return shown;
 }

@@ -1,10 +1,9 @@
 // A procurement, from its record, its releases, its terms, its minutes and its evaluation.
-import { clock } from "./clock.js";
 import { against, contractPart } from "./contract.js";
 import { badge, below, element, facts, given, link, listed, placeOf, section, title } from "./draw.js";
 import { addedTo, awardsOf, contractOf, kindOfSigned, paidOf, passedOver, stateOf, stateOfLot } from "./findings.js";
 import { table } from "./forms.js";
-import { money, moment, number } from "./money.js";
+import { clock, money, moment, number } from "./money.js";
 import { officeNow } from "./office.js";
 import { seenOf } from "./seen.js";
 import { say } from "./texts.js";
@@ -55,7 +54,7 @@ function lotPart(notice, lot, folds) {
     facts([[say("see.estimate"), money(lot.value.amount, currency)], [say("see.line"), line], [say("see.security.asked"), asked(own.security, currency)]]),
     items(notice, lot), listed(4, say("see.awards", { count: made.length }), made.map((award) => awardPart(notice, lot, award)), { class: "awards" }),
     element("h4", {}, say("see.tenders")), tenderPart(notice, lot), notice.ofLot?.(lot),
-    contracts.map(([one, award]) => contractPart(one, award, lot, notice.terms, notice.ofContract?.(one)))];
+    contracts.map(([one, award]) => contractPart(one, award, lot, notice, notice.ofContract?.(one)))];
   return element("article", { id: `lot-${lot.id}`, tabindex: "-1", class: "card", "aria-label": say("see.lot", { lot: lot.id }) },
     folds ? folded(`${notice.name}/${lot.id}`, notice.isPressing?.(lot), head, content) : [element("h3", {}, head), content]);
 }

@@ -15,7 +15,7 @@ function criteria({ criteria: kind, price_weight: weight }) {
 
 /** The terms as a list. */
 export function termList(terms, currency) {
-  const days = (count) => say("span.days", { count });
+  const days = (count) => say("see.days", { count });
   const told = [[say("see.criteria"), criteria(terms)], [say("see.validity"), days(terms.validity_days)], [say("see.standstill"), days(terms.standstill_days)],
     [say("see.late"), say(`see.late.${terms.late_withdrawal}`)], [say("see.performance"), asked(terms.performance, currency)]];
   return element("dl", { class: "terms" }, told.map(([name, value]) => [element("dt", {}, name), element("dd", {}, value)]));

@@ -3,6 +3,7 @@ import { money, moment } from "./money.js";
 import { say, sayParts } from "./texts.js";
 import { changeOf, reason } from "./contract.js";
 import { element, given } from "./draw.js";
+import { paidOf } from "./findings.js";
 
 const TOLD = [
   ["tenderCancellation", cancelled],
@@ -74,8 +75,10 @@ function paid({ contracts: [contract] }) {
   return ["paid", sayParts("see.told.paid", { amount: amountOf(value), name: given(payee.name), contract: contract.id })];
 }
 
-function ended({ contracts: [contract] }) {
-  return ["ended", [say("see.told.ended", { contract: contract.id })]];
+/** (The release has the contract's number alone.) */
+function ended({ contracts: [{ id }] }, lots, compiled) {
+  const { value, ...contract } = compiled.contracts.find((one) => one.id === id);
+  return ["ended", [say("see.told.ended", { contract: id, paid: money(paidOf(contract), value.currency), amount: amountOf(value) })]];
 }
 
 /** One release as an entry; one whose tag isn't known is shown by its tag. */

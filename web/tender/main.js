@@ -1,19 +1,30 @@
-// Which view of the desk is shown, by the address, and whose key is in this tab.
-import { link } from "../common/draw.js";
+// Which view of the desk is shown, by the address, where one begins, and whose key is in this tab.
+import { badge, element, link, title } from "../common/draw.js";
 import { drawAround, showViews, words } from "../common/frame.js";
 import { addTexts, say } from "../common/texts.js";
-import { drawHome } from "./home.js";
 import { drawKey } from "./key.js";
 import { drawOffer } from "./offer.js";
 import { drawCheck } from "./receipt.js";
 import { drawSend } from "./send.js";
-import { session } from "./session.js";
+import { readyOf, session } from "./session.js";
 
 await addTexts({ en: () => import("./en.js"), de: () => import("./de.js") });
 // (what shows own tenders is loaded where it is wanted alone)
 const own = (name) => async (...asked) => (await import("./tenders.js"))[name](...asked);
 const VIEWS = { "": drawHome, key: drawKey, offer: drawOffer, send: drawSend, tenders: own("drawTenders"), tender: own("drawTender"), check: drawCheck };
-const MENU = { "": "home.short", key: "key.title", offer: "offer.short", tenders: "tenders.title", check: "check.short" };
+const MENU = { "": "home.short", key: "key.title", offer: "offer.short", tenders: "tenders.title", check: "receipt.number" };
+
+function step(number, name, isDone) {
+  return element("li", { class: "card" }, element("h2", {}, `${number}. ${say(`home.${name}`)} `, isDone ? badge("done", say("home.done")) : null),
+    element("p", {}, say(`home.${name}.why`)), element("p", {}, link(say(`home.${name}.go`), `#${name}`, isDone ? "button second" : "button")));
+}
+
+/** Where to begin: the steps of a tender, each with how far it is. */
+function drawHome() {
+  return { title: say("home.title"), content: [title(say("home.title")), element("p", {}, say("home.why")),
+    element("ol", { class: "lines stepwise" }, step(1, "key", session.caller !== null), step(2, "offer", readyOf(session.offer) !== null),
+      step(3, "tenders", false), step(4, "check", false)), element("p", { class: "quiet" }, say("home.keeps"))] };
+}
 
 /** The page and the names behind it in the address. */
 function place() {

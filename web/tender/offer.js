@@ -1,10 +1,9 @@
 // An offer: the notices that are open, a notice's terms and lots, and a lot's prices, typed or from a file.
-import { clock } from "../common/clock.js";
 import { isId } from "../common/csv.js";
 import { badge, element, facts, given, link, placeOf, section, title } from "../common/draw.js";
 import { noticeOf as meant } from "../common/filters.js";
 import { DIGITS, ID, areRight, button, field, form, growing, note, save, steps } from "../common/forms.js";
-import { money, moment, number, typed } from "../common/money.js";
+import { clock, money, moment, number, typed } from "../common/money.js";
 import { notices, officeNow } from "../common/office.js";
 import { asked, termList } from "../common/terms.js";
 import { say } from "../common/texts.js";

@@ -19,9 +19,9 @@ function securityOf(number, { named, currency }) {
 /** What a receipt says, as facts; `known` is what else is known: `named`, the security, in a `currency`, and `more` facts. */
 export function factsOf(receipt, known = {}) {
   const { tenderer, notice, lot, state, security } = receipt;
-  return facts([[say("receipt.number"), String(receipt.receipt)], tenderer ? [say("send.as"), given(String(tenderer))] : null,
+  return facts([[say("receipt.number"), String(receipt.receipt)], tenderer ? [say("see.tenderer"), given(String(tenderer))] : null,
     notice ? [say("see.notice"), given(String(notice))] : null, lot ? [say("see.lot.short"), given(String(lot))] : null,
-    [say("receipt.moment"), moment(String(receipt.moment))], [say("receipt.state"), hasText(`state.${state}`) ? say(`state.${state}`) : String(state)],
+    [say("receipt.moment"), moment(String(receipt.moment))], [say("see.state"), hasText(`state.${state}`) ? say(`state.${state}`) : String(state)],
     [say("see.security"), securityOf(security, known)], ...(known.more ?? [])].filter(Boolean));
 }
 

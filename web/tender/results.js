@@ -13,7 +13,7 @@ import { session } from "./session.js";
 /** What was read of the tender, by the minutes, and what became of it. A contract that ended isn't green: it may have ended by default. */
 function readPart({ reading, corrected, stated, corrections }, [kind, name], contract, currency) {
   if (reading !== "priced") {
-    return note("bad", say(`results.${reading}`), say("results.lost"));
+    return note("bad", say(`see.why.${reading}`), say("results.lost"));
   }
   const values = { price: money(corrected, currency), stated: money(stated, currency), count: corrections };
   return note(corrections > 0 ? "look" : "good", say("results.priced", values), corrections > 0 ? say("results.corrected", values) : null,
@@ -21,14 +21,14 @@ function readPart({ reading, corrected, stated, corrections }, [kind, name], con
 }
 
 /** A contract of the caller's, as the office tells it to its tenderer. */
-async function ownContract(one, award, lot, terms) {
+async function ownContract(one, award, lot, notice) {
   const [seen, held] = await Promise.all([contract(one.id, session.caller), performance(one.id, session.caller).catch((fault) => {
     if (fault.name !== "NoSuch") {
       throw fault;
     }
     return null;
   })]);
-  return contractPart(one, award, lot, terms, { seen, held });
+  return contractPart(one, award, lot, notice, { seen, held });
 }
 
 /** The parts of a tender's view that the opening and what came behind it fill. */
@@ -44,6 +44,6 @@ export async function drawResults(found) {
   const outcome = read ? outcomeOf(read, shown, terms.criteria === "points") : null;
   return [element("h2", {}, say("results.title")), read ? readPart(read, outcome, contracts.at(-1)?.[0], lot.value.currency) : null,
     element("h3", {}, say("see.lot", { lot: lot.id }), " ", given(lot.title)), tenders.length > 0 ? tenderTable(notice, lot, tenders, shown) : null,
-    await Promise.all(contracts.map(([one, award]) => ownContract(one, award, lot, terms))),
+    await Promise.all(contracts.map(([one, award]) => ownContract(one, award, lot, notice))),
     element("p", {}, link(say("offer.public"), `/#notice/${found.notice}`))];
 }

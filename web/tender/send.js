@@ -4,9 +4,8 @@ import { inGroups, sha256 } from "../common/digest.js";
 import { element, facts, given, link, placeOf, section, title } from "../common/draw.js";
 import { button, note, steps, table, tick } from "../common/forms.js";
 import { money, number } from "../common/money.js";
-import { Refused, modify, officeNow, ownTenders, present, sentenceOf, tender } from "../common/office.js";
+import { Refused, modify, officeNow, ownTenders, present, security, sentenceOf, tender } from "../common/office.js";
 import { hasText, say } from "../common/texts.js";
-import { becameOf } from "./became.js";
 import { deadlineOf, securityFaults, securityOf } from "./offer.js";
 import { drawReceipt } from "./receipt.js";
 import { keep, keptOf, noticeOf, readyOf, session } from "./session.js";
@@ -29,7 +28,7 @@ function placeOfLot(offer) {
 
 /** What hinders the sending, as sentences with where it is mended. */
 function hindrances(offer, ready) {
-  const found = [session.caller ? null : ["send.noKey", "#key", "key.title"], ready ? null : ["send.notReady", placeOfLot(offer), "send.back"],
+  const found = [session.caller ? null : ["who.none", "#key", "key.title"], ready ? null : ["send.notReady", placeOfLot(offer), "send.back"],
     Object.keys(securityFaults(offer)).length > 0 ? ["send.wrongSecurity", placeOfLot(offer), "see.security"] : null].filter(Boolean);
   return found.map(([sentence, href, text]) => note("bad", say(sentence), link(say(text), href)));
 }
@@ -76,7 +75,31 @@ export function refusedPart(fault, help) {
     link(say("tenders.title"), "#tenders"));
 }
 
-/** What became of a sending that got no answer, once the office tells it. */
+/** A withdrawal before the deadline shows in the tender's state; a late one in its security alone, and without a security nowhere. */
+async function ofWithdrawal({ isLate }, old, caller) {
+  if (old.state === "withdrawn") {
+    return "done";
+  }
+  if (!isLate) {
+    return old.state === "sealed" ? "not" : "other";
+  }
+  return old.security === null ? "unknown" : (await security(old.security, caller)).state === "forfeited" ? "done" : "not";
+}
+
+/** What became of a command that got no answer: it was done whole or not at all, and the caller's own tenders tell which. `done`, with the caller's tender as
+ * it stands; `not` (up to now); `other`, where something else became of the tender; or `unknown`. `sent` has the notice, the receipt of the tender that is
+ * changed or withdrawn, and of one that is sent its lot, its digest, and the last receipt that was there before. */
+export async function becameOf(sent, caller) {
+  const own = await ownTenders(sent.notice, caller);
+  const old = own.find(({ receipt }) => receipt === sent.receipt) ?? null;
+  if (sent.kind === "withdraw") {
+    return { kind: await ofWithdrawal(sent, old, caller), tender: old };
+  }
+  const found = own.find((one) => one.receipt > sent.known && one.lot === sent.lot && one.digest === sent.digest && one.state !== "withdrawn");
+  return found ? { kind: "done", tender: found } : { kind: old === null || old.state === "sealed" ? "not" : "other", tender: old };
+}
+
+/** The same of a sending, once the office tells it. */
 async function settle(sent, where, redraw) {
   const again = steps(button(say("became.ask"), () => settle(sent, where, redraw)));
   try {
@@ -151,8 +174,8 @@ async function drawBefore(offer, { redraw }) {
   const ready = readyOf(offer);
   const digest = ready ? await sha256(ready.bytes) : "";
   const named = ready ? securityOf(offer) : null;
-  const what = facts([[say("see.notice"), `${offer.terms.notice}, ${say("see.lot", { lot: offer.lot.id })}`], [say("send.as"), session.caller?.caller ?? "–"],
-    [say("see.deadline"), deadlineOf(offer.terms)],
+  const what = facts([[say("see.notice"), `${offer.terms.notice}, ${say("see.lot", { lot: offer.lot.id })}`],
+    [say("see.tenderer"), session.caller?.caller ?? "–"], [say("see.deadline"), deadlineOf(offer.terms)],
     offer.changes === null ? [say("see.security"), named ? `${named.security}, ${money(named.amount, offer.terms.currency)}` : say("send.noSecurity")]
       : [say("send.replaces"), String(offer.changes)]]);
   const hindered = hindrances(offer, ready);

@@ -1,15 +1,13 @@
 // The caller's tenders, looked for notice by notice, each with its state and security; changed or withdrawn.
-import { clock } from "../common/clock.js";
 import { inGroups } from "../common/digest.js";
 import { badge, below, element, facts, given, link, placeOf, section, title } from "../common/draw.js";
 import { button, note, steps, table, tick } from "../common/forms.js";
-import { money, moment } from "../common/money.js";
+import { clock, money, moment } from "../common/money.js";
 import { Refused, notices, officeNow, ownTenders, security, sentenceOf, tender, withdraw } from "../common/office.js";
 import { hasText, say } from "../common/texts.js";
-import { becameOf } from "./became.js";
 import { factsOf } from "./receipt.js";
 import { drawResults } from "./results.js";
-import { openPart, refusedPart } from "./send.js";
+import { becameOf, openPart, refusedPart } from "./send.js";
 import { keep, keptOf, noticeOf, session } from "./session.js";
 
 const KINDS = { sealed: "open", opened: "ended", withdrawn: "stopped", returned: "stopped" };
@@ -33,7 +31,7 @@ function list() {
   if (session.tenders.length === 0) {
     return element("p", {}, say("tenders.none"));
   }
-  const heads = ["receipt.number", "tenders.what", "receipt.moment", "receipt.state", "tenders.do"].map((name) => say(name));
+  const heads = ["receipt.number", "tenders.what", "receipt.moment", "see.state", "tenders.do"].map((name) => say(name));
   return table(say("tenders.caption", { count: session.tenders.length }), heads, session.tenders.map(({ receipt, moment: came, state, isOpen, ...one }) => [
     String(receipt), [given(one.title), below(given(one.notice), ", ", say("see.lot", { lot: one.lot }))], moment(came), stateBadge({ ...one, receipt, state }),
     link(say(state === "sealed" && isOpen ? "tenders.do.change" : "tenders.do.look", { receipt: String(receipt) }), placeOf("tender", String(receipt)))]));
@@ -65,7 +63,7 @@ async function lookThrough(rows, where, redraw) {
 }
 
 function withoutKey() {
-  return { title: say("tenders.title"), content: [title(say("tenders.title")), note("bad", say("send.noKey"), link(say("key.title"), "#key"))] };
+  return { title: say("tenders.title"), content: [title(say("tenders.title")), note("bad", say("who.none"), link(say("key.title"), "#key"))] };
 }
 
 /** The view of all tenders. Notices that take tenders, and those that were opened last, are looked into at once. */
@@ -152,7 +150,7 @@ function changePart(found, one) {
 /** A tender's security as it stands. */
 function securityPart(held, currency) {
   return section(say("see.security"), facts([[say("offer.reference"), given(held.reference)], [say("security.amount"), money(held.amount, currency)],
-    [say("security.state"), say(`security.${held.state}`)]]), element("p", { class: "quiet" }, say(`security.${held.state}.why`)));
+    [say("see.state"), say(`security.${held.state}`)]]), element("p", { class: "quiet" }, say(`security.${held.state}.why`)));
 }
 
 /** The view of one tender, asked for anew. */
